@@ -1,0 +1,5 @@
+pub mod DigitsLemmas
+pub mod FormLemmas
+pub mod KeyOrder
+pub mod LibraryText
+pub mod MapLemmas

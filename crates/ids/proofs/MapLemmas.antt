@@ -1,0 +1,99 @@
+-- What a `BTreeMap`'s calls do to the finite map that it is seen as, for any keys in a total order. The key lemmas are
+-- get-map_of, insert-map_of, remove-map_of, len-map_of, entries-map_of
+-- and insert-same.
+use Rattle.std.proofs.Common.{◌≡◌, ℕ, Bool, true, false, cond, List, [], ◌∷◌, length, None, Some, refl, sym, ap, ◌∙◌, arith, ◌<◌, zero, suc, true≢false}
+use Rattle.std.specs.BTreeMap as tree
+use Rattle.std.specs.BTreeMap.{BTreeMap, IsLowerBound, UpdatesBy, is_at, IsOrdered, btree_map_len}
+use Rattle.std.specs.BTreeMap.Range.{IsRangeOf}
+use Rattle.std.specs.Cmp.{Equal-is, IsTotalOrder, eq_by_cmp_equiv}
+use Rattle.std.specs.FinMap as map
+use Rattle.std.specs.List.{AllByRecursion}
+use Rattle.std.specs.List.Sorted.{IsStrictlySortedBy}
+use Rattle.std.specs.Map.{lookup, keys_of}
+use Rattle.std.specs.Ordering.{is_eq, eq_by_cmp}
+use Rattle.std.specs.declared.cmp.Ordering.{Ordering}
+use Rattle.std.specs.declared.cmp.Ordering.TheVariants.{Less}
+use Rattle.std.specs.declared.ops.Bound.TheVariants.{Excluded, Unbounded}
+use Rattle.ids.specs.MapView.{IsLeastAbove, map_of}
+
+no_items : {A : Type 0} (es : List A) → length es ≡ 0 → es ≡ []
+no_items [] e = refl
+no_items (x ∷ es) e = absurd (omega arith)
+
+-- a number that is not above 0
+pub no_number : (n : ℕ) → (0 < n → false ≡ true) → n ≡ 0
+no_number zero h = refl
+no_number (suc n) h = absurd (true≢false (sym (h (omega arith))))
+
+module _ {K X : Type 0} (R : K → K → Ordering) where
+  entries-empty : map.entries (map.empty {X = X} {R = R}) ≡ []
+  entries-empty = no_items (map.entries (map.empty {X = X} {R = R})) (sym (map.len-entries (map.empty {X = X} {R = R})) ∙ map.len-empty R X)
+
+  find-lookup : (q : K) (es : List (K × X)) → map.find R q es ≡ lookup (is_at (R q)) es
+  find-lookup q [] = refl
+  find-lookup q (e ∷ es) = ap (cond (is_eq (R q e.0)) (Some e.1)) (find-lookup q es)
+
+  put_first : (e : K × X) (es : List (K × X)) → AllByRecursion (λ y. R e.0 y ≡ Less) (keys_of es) → map.put R e.0 e.1 es ≡ e ∷ es
+  put_first e [] below = refl
+  put_first e (f ∷ fs) below = rw below.0 refl
+
+module _ {K X : Type 0} {R : K → K → Ordering} (o : IsTotalOrder R) where
+  pub get-map_of : (m : BTreeMap K X) (q : K) → map.get (map_of R m) q ≡ tree.get R m q
+  get-map_of m q = map.get-from_entries o m.entries q ∙ find-lookup R q m.entries
+
+  entries-sorted : (es : List (K × X)) → IsStrictlySortedBy R (keys_of es) → map.entries (map.from_entries {R = R} es) ≡ es
+  unfolding IsStrictlySortedBy
+  entries-sorted [] is = entries-empty R
+  entries-sorted (e ∷ es) is =
+      map.entries-insert o (map.from_entries {R = R} es) e.0 e.1 ∙ ap (map.put R e.0 e.1) (entries-sorted es is.1) ∙ put_first R e es is.0
+
+  pub entries-map_of : (m : BTreeMap K X) → IsOrdered R m → map.entries (map_of R m) ≡ m.entries
+  entries-map_of m is = entries-sorted m.entries is
+
+  pub len-map_of : (m : BTreeMap K X) → IsOrdered R m → map.len (map_of R m) ≡ btree_map_len m
+  len-map_of m is = map.len-entries (map_of R m) ∙ ap length (entries-map_of m is)
+
+  -- the first of a map's entries above a key
+  pub least_above-range : (m : BTreeMap K X) (after : K) (r : List (K × X)) (e : K × X) (t : List (K × X))
+      → IsRangeOf R (Excluded after) Unbounded m r → r ≡ e ∷ t → IsLeastAbove (map_of R m) (Some after) e.0
+  least_above-range m after r e t is first =
+      let entry = rw first at is.1 in record {
+        there = rw (get-map_of m e.0, entry.1) refl;
+        above = entry.0.0;
+        least = λ q above there. rw first at (is.2 q (above, tt) (rw (get-map_of m q) at there));
+      }
+
+  pub none_above-range : (m : BTreeMap K X) (after : K) (r : List (K × X)) → IsRangeOf R (Excluded after) Unbounded m r → r ≡ []
+      → (q : K) → R after q ≡ Less → map.get (map_of R m) q ≡ None
+  none_above-range m after r is none q above = get-map_of m q ∙ is.5 none q (above, tt)
+
+  -- the first of a map's entries
+  pub least-first : (m : BTreeMap K X) (key : K) (value : X) → tree.get R m key ≡ Some value → IsLowerBound R m key
+      → IsLeastAbove (map_of R m) None key
+  least-first m key value found lower = record {
+    there = rw (get-map_of m key, found) refl;
+    above = tt;
+    least = λ q _ there. lower q (rw (get-map_of m q) at there);
+  }
+
+  pub none-first : (m : BTreeMap K X) → btree_map_len m ≡ 0 → (q : K) → map.get (map_of R m) q ≡ None
+  none-first m none q = get-map_of m q ∙ ap (lookup (is_at (R q))) (no_items m.entries none)
+
+  module _ (exact : map.IsAntisymmetric R) where
+    pub insert-map_of : (m n : BTreeMap K X) (k : K) (v : X) → UpdatesBy R (R k) m n (Some v) → map_of R n ≡ map.insert (map_of R m) k v
+    insert-map_of m n k v updates = map.same_map o exact (map_of R n) (map.insert (map_of R m) k v) (λ q.
+        get-map_of n q ∙ updates.0 q ∙ ap (λ b. cond b (Some v) (tree.get R m q)) ((eq_by_cmp_equiv o).symm k q)
+        ∙ ap (cond (eq_by_cmp R q k) (Some v)) (sym (get-map_of m q)) ∙ sym (map.get-insert o (map_of R m) k v q))
+
+    pub remove-map_of : (m n : BTreeMap K X) (k : K) → UpdatesBy R (R k) m n None → map_of R n ≡ map.remove (map_of R m) k
+    remove-map_of m n k updates = map.same_map o exact (map_of R n) (map.remove (map_of R m) k) (λ q.
+        get-map_of n q ∙ updates.0 q ∙ ap (λ b. cond b None (tree.get R m q)) ((eq_by_cmp_equiv o).symm k q)
+        ∙ ap (cond (eq_by_cmp R q k) None) (sym (get-map_of m q)) ∙ sym (map.get-remove o (map_of R m) k q))
+
+    -- to put what stands at a key changes nothing
+    pub insert-same : (m : map.FinMap R X) (k : K) (v : X) → map.get m k ≡ Some v → map.insert m k v ≡ m
+    insert-same m k v found = map.same_map o exact (map.insert m k v) m (λ q. map.get-insert o m k v q ∙ there q (eq_by_cmp R q k) refl)
+      where
+        there : (q : K) (b : Bool) → eq_by_cmp R q k ≡ b → cond b (Some v) (map.get m q) ≡ map.get m q
+        there q true e = sym found ∙ map.get_tied o m q k ((Equal-is (R q k)).0 e)
+        there q false e = refl

@@ -1,0 +1,9 @@
+pub mod Digits
+pub mod FaultCount
+pub mod Form
+pub mod Key
+pub mod Kind
+pub mod LibraryId
+pub mod MapView
+pub mod ObjectId
+pub mod Outcome
