@@ -1,0 +1,6 @@
+use Rattle.std.proofs.Common.{rules}
+use Rattle.turnstile.proofs.PassLemmas.{joins}
+use Rattle.turnstile.proofs.steps.Turnstile+V.merge.Goals as goal
+
+pub join_seat-requires : goal.join_seat-requires
+join_seat-requires g c = (c.requires.own.0, c.requires.own.1, c.requires.free.2, search rules, joins _ _ _ _ _ _ c.requires.free.0 c.requires.free.1 c.requires.part)

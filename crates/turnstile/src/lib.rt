@@ -1,0 +1,37 @@
+//! A ticket lock over one value that counts its history.
+//!
+//! Shown upward: `Turnstile`, its `Pass`es and `Held`, a turn; and `Story`, which says when a value
+//! stands for a list of entries.
+//! Definitions: `specs/Rule.antt` (the rule), `specs/Steps.antt` (the steps), `specs/PassView.antt`
+//! and `specs/HeldTurn.antt` (words for callers). Promises: the clauses of the calls, and `laws.rt`.
+//! Steps and rule in words: docs/CONCURRENCY.md. Nothing is promised of when a turn comes.
+#![tactic(auto)]
+
+mod held;
+mod laws;
+mod lock;
+mod pass;
+mod rule;
+mod seated;
+mod steps;
+mod story;
+#[cfg(test)]
+mod tests;
+mod turnstile;
+mod view;
+
+pub use held::Held;
+pub use laws::{
+    at_most_one_participant_has_the_turn, each_entry_is_in_one_book,
+    no_more_than_all_turns_are_drawn, the_value_stands_for_the_history_whenever_the_turn_is_free,
+    what_is_known_begins_the_history,
+};
+pub use lock::{Lock, Turnstile};
+pub use pass::Spent;
+pub use rule::Turns;
+pub use seated::{Pass, Seated};
+pub use story::Story;
+pub use view::{About, Parcel, View};
+
+/// The greatest number of turns of one turnstile, 2^61.
+pub const TURNS: u64 = 2_305_843_009_213_693_952;

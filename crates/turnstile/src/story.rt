@@ -1,0 +1,16 @@
+//! The values that a turnstile keeps: a value stands, from a start, for the list of entries made since.
+ghost use Rattle.std.specs.Prelude.{List, []};
+
+/// A value with a history of entries.
+///
+/// `stands start entries value` says that `value` is what the entries, in their order, make of
+/// `start`. The start is a value of the same type as clauses see it.
+pub trait Story {
+    /// One change. The list of them exists in proofs alone, so an entry is never stored.
+    type Entry: Send + Sync;
+
+    ghost stands: { Self → List Self.Entry → Self → Type 0 };
+
+    /// Each value stands for the empty list from itself.
+    ghost begins: { (x : Self) → stands x [] x };
+}
