@@ -1,0 +1,3 @@
+pub mod ChunkBoundaries
+pub mod ChunkerProgress
+pub mod RollingHash
