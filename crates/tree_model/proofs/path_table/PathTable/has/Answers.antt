@@ -1,0 +1,7 @@
+use Rattle.std.proofs.Common.{sym, ap, ◌∙◌, is_some}
+use Rattle.tree_model.specs.PathOrder.{paths_total}
+use Rattle.ids.proofs.MapLemmas.{get-map_of}
+use Rattle.tree_model.proofs.path_table.PathTable.has.Goals as goal
+
+pub returns : goal.returns
+returns g c = record { value = rw (← c.self.view_is) (c.contains_key.ensures ∙ ap is_some (sym (get-map_of paths_total c.self.inside.held c.args.path.now))) }

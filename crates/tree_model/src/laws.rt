@@ -1,0 +1,93 @@
+//! Theorems on names, paths and trees, each the contract of a function that does nothing.
+ghost use Rattle.std.specs.Prelude.{◌≡◌, ◌↔◌, ◌⊎◌, ◌∷◌, ◌++◌, List, filter, All, Some, true, false};
+ghost use Rattle.std.specs.FinMap as map;
+ghost use Rattle.std.specs.Ordering.{nat_cmp};
+ghost use Rattle.std.specs.Cmp.Lexicographic.{slice_cmp};
+ghost use Rattle.tree_model.specs.Path.{PathV, IsPath, path_cmp, path_text};
+ghost use Rattle.tree_model.specs.Tree.{Tree, IsTree, Fits, IsAlike, file_at};
+ghost use Rattle.tree_model.specs.ConflictCopies.{stands_in, copies_alone, leavers, Naming, conflicts, in_trees, places_of, IsLeastFree};
+ghost use Rattle.tree_model.specs.ThreeWayMerge.{merge, merged, MergedTree, MergesLike, IsNaming, HasVersion};
+ghost use Rattle.tree_model.specs.DirectorySurvival.{Sides, AgreeBelow, Stays, stays, kept_dir, HasKeptEntry, is_under};
+ghost use Rattle.tree_model.specs.FileMerge.{same_file};
+ghost use Rattle.tree_model.specs.declared.node.FileVersion.{FileVersion};
+
+/// Paths stand in the byte order of their texts: names joined by `/`.
+pub fn paths_are_ordered_by_the_bytes_of_their_texts()
+    ensures { (p : PathV) → (q : PathV) → IsPath p → IsPath q → path_cmp p q ≡ slice_cmp nat_cmp (path_text p) (path_text q) }
+{}
+
+/// The text of a path tells the path.
+pub fn two_paths_have_two_texts()
+    ensures { (p : PathV) → (q : PathV) → IsPath p → IsPath q → path_text p ≡ path_text q → p ≡ q }
+{}
+
+/// Merging an unchanged push gives the head as it is.
+///
+/// A naming is any way to name conflict copies; nothing of it is asked here.
+pub fn merging_an_unchanged_push_gives_the_head()
+    ensures { (naming : Naming) → (base : Tree) → (head : Tree) → (pushed : Tree) → IsTree base → Fits head → IsTree pushed
+        → IsAlike base pushed → merge naming base head pushed ≡ MergedTree head }
+{}
+
+/// Merging into a head that didn't move gives the pushed tree, up to times and authors: a fast-forward loses nothing.
+pub fn merging_into_an_unmoved_head_gives_the_pushed_tree()
+    ensures { (naming : Naming) → (base : Tree) → (head : Tree) → (pushed : Tree) → IsTree base → IsTree head → Fits pushed
+        → IsAlike base head → MergesLike naming base head pushed pushed }
+{}
+
+/// No version of the head is lost: where base hasn't it, the merged tree has its bytes and mode, at its path or as its
+/// conflict copy.
+pub fn no_version_of_the_head_is_lost()
+    ensures { (naming : Naming) → (s : Sides) → IsNaming naming → IsTree s.head → IsTree s.pushed
+        → (path : PathV) → (version : FileVersion) → file_at s.head path ≡ Some version
+        → same_file (file_at s.base path) (Some version) ≡ false → HasVersion naming s path version }
+{}
+
+/// No pushed version is lost.
+pub fn no_pushed_version_is_lost()
+    ensures { (naming : Naming) → (s : Sides) → IsNaming naming → IsTree s.head → IsTree s.pushed
+        → (path : PathV) → (version : FileVersion) → file_at s.pushed path ≡ Some version
+        → same_file (file_at s.base path) (Some version) ≡ false → HasVersion naming s path version }
+{}
+
+/// No conflict copy takes a path of any of the three trees.
+pub fn no_conflict_copy_takes_a_path_of_the_trees()
+    ensures { (naming : Naming) → (s : Sides) → IsNaming naming → All (λ copy. in_trees s copy.1 ≡ false) (conflicts naming s) }
+{}
+
+/// What a merge gives is a tree within the limits: each entry stands in a directory, and each path is one of good names.
+pub fn a_merge_gives_a_tree_within_the_limits()
+    ensures { (naming : Naming) → (base : Tree) → (head : Tree) → (pushed : Tree) → (tree : Tree) → IsNaming naming
+        → Fits base → Fits head → Fits pushed → merge naming base head pushed ≡ MergedTree tree → Fits tree }
+{}
+
+/// A directory survives a merge exactly by the three rules: it is kept itself, a file gets its place below it, or a
+/// directory below it survives.
+pub fn a_directory_survives_by_its_rules()
+    ensures { (s : Sides) → (dir : PathV) → (stays s dir ≡ true) ↔ Stays s dir }
+{}
+
+/// Each conflict copy has the least number from 1 on whose path is in none of the three trees and wasn't taken before.
+pub fn each_conflict_copy_has_the_least_free_number()
+    ensures { (naming : Naming) → (s : Sides) → IsNaming naming
+        → (before : List ((PathV × FileVersion) × PathV)) → (copy : (PathV × FileVersion) × PathV) → (after : List ((PathV × FileVersion) × PathV))
+        → conflicts naming s ≡ before ++ copy ∷ after → IsLeastFree naming s (places_of before) copy }
+{}
+
+/// Directories survive level by level: a directory by its own kind, or by an entry of its own.
+pub fn directories_survive_level_by_level()
+    ensures { (s : Sides) → (dir : PathV) → (stays s dir ≡ true) ↔ ((kept_dir s dir ≡ true) ⊎ HasKeptEntry s dir) }
+{}
+
+/// What lies below a directory stays the head's, as it is, where pushed has there what base has, or what the head has.
+pub fn a_part_that_pushed_left_alone_is_the_heads()
+    ensures { (naming : Naming) → (s : Sides) → IsNaming naming → IsTree s.base → IsTree s.head → IsTree s.pushed
+        → (dir : PathV) → (AgreeBelow dir s.pushed s.base) ⊎ (AgreeBelow dir s.pushed s.head)
+        → (path : PathV) → is_under dir path ≡ true → map.get (merged naming s) path ≡ map.get s.head path }
+{}
+
+/// The copies of a directory's files are named as if no file of another directory left its name.
+pub fn conflict_copies_depend_on_their_directory_alone()
+    ensures { (naming : Naming) → (s : Sides) → (dir : PathV)
+        → filter (λ copy. stands_in dir copy.0.0) (conflicts naming s) ≡ copies_alone naming s (filter (λ file. stands_in dir file.0) (map.entries (leavers s))) }
+{}

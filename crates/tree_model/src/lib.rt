@@ -1,0 +1,18 @@
+//! Names, paths and trees: what a library holds, without object ids.
+//!
+//! Shown upward: `Name`, `Path`, `PathTable`, the theorems of `laws`, and the definitions of `specs/`.
+//! It knows no ids, no bytes of objects and no calendar.
+#![tactic(auto)]
+
+pub mod laws;
+mod name;
+mod node;
+mod path;
+mod path_table;
+#[cfg(test)]
+mod tests;
+
+pub use name::{BadName, MAX_NAME, Name, NameFault};
+pub use node::{FileVersion, Node};
+pub use path::Path;
+pub use path_table::PathTable;
