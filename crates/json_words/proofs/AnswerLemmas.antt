@@ -1,0 +1,16 @@
+-- A reader's fault handed on by the reader above it.
+use Rattle.std.proofs.Common.{◌≡◌, Result, Err}
+use Rattle.json_words.specs.Answer.{AnswersAs, Answers}
+use Rattle.json_words.specs.declared.answer.ReadFault.{ReadFault}
+use Rattle.json_words.specs.declared.answer.ReadFault.TheVariants.{Bad, NoMemory}
+
+-- where a fault of one check is the fault of the whole, it may be handed on
+pub AnswersAs-handed_on : {A B C D E : Type 0} (meaning : A → B) (whole_meaning : C → D) (fault : ReadFault E) (part : Result B E) (whole : Result D E)
+    → ((bad : E) → part ≡ Err bad → whole ≡ Err bad) → AnswersAs meaning (Err fault) part → AnswersAs whole_meaning (Err fault) whole
+AnswersAs-handed_on meaning whole_meaning (Bad bad) part whole hands is = hands bad is
+AnswersAs-handed_on meaning whole_meaning NoMemory part whole hands is = tt
+
+-- the same of values that stand for themselves
+pub Answers-handed_on : {A C E : Type 0} (fault : ReadFault E) (part : Result A E) (whole : Result C E)
+    → ((bad : E) → part ≡ Err bad → whole ≡ Err bad) → Answers (Err fault) part → Answers (Err fault) whole
+Answers-handed_on fault part whole hands is = AnswersAs-handed_on (λ a. a) (λ c. c) fault part whole hands is

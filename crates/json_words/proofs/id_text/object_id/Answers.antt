@@ -1,0 +1,14 @@
+-- `ObjId::read` accepts exactly the texts of ids.
+use Rattle.std.proofs.Common.{sym, refl}
+use Rattle.std.proofs.lemmas.Bool.{false≢true}
+use Rattle.json_words.proofs.IdLemmas.{object_id_of-good, object_id_of-bad}
+use Rattle.json_words.proofs.id_text.object_id.Goals as goal
+
+pub returns-in-Ok : goal.returns-in-Ok
+returns-in-Ok c = record {
+  value = sym (object_id_of-good c.args.text.now c.in-Ok.id (c.in-Ok.ensures.good.0 refl) c.in-Ok.ensures.decoded);
+}
+
+pub returns-in-Err : goal.returns-in-Err
+returns-in-Err c =
+    record { value = sym (object_id_of-bad c.args.text.now (λ is. false≢true (c.in-Err.ensures.good.1 is))) }
