@@ -1,0 +1,10 @@
+pub mod Directory
+pub mod File
+pub mod FsKey
+pub mod FsObject
+pub mod Mode
+pub mod Placing
+pub mod Reading
+pub mod Proper
+pub mod Spelling
+pub mod Typed

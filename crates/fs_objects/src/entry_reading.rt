@@ -1,0 +1,148 @@
+//! Reading of directory objects: entries one after another, each in full.
+ghost use Rattle.std.specs.Prelude.{◌≡◌, ◌||◌, false, [], map, All, IfOk, IsTrue};
+ghost use Rattle.serde_json.specs.View.{view};
+ghost use Rattle.tree_model.specs.Name.{name_fault};
+ghost use Rattle.json_words.specs.Answer.{Answers};
+ghost use Rattle.json_words.specs.Check.{result_map};
+ghost use Rattle.fs_objects.specs.Directory.{head_of, details_of, entry_from, entries_after, directory_of};
+ghost use Rattle.fs_objects.specs.Mode.{is_file_mode, is_directory_mode};
+ghost use Rattle.fs_objects.specs.Proper.{IsProperEntry};
+ghost use Rattle.fs_objects.specs.Reading.{head_seen, details_seen};
+
+use crate::dir_object::DirObject;
+use crate::dirent::Dirent;
+use crate::fault::{BadFs, FsFault, FsKey};
+use crate::fields::{array_at, id_at, integer_at, is_file_mode, mode_in, number_at, text_at};
+use ids::{Items, ObjId, Text};
+use json_words::ReadFault;
+use serde_json::Value;
+use std::alloc::Global;
+use std::collections::BTreeSet;
+use tree_model::{Name, NameFault};
+
+/// What is read of an entry up to its name.
+#[derive(Clone, Copy)]
+pub struct Head<'a> {
+    pub id: ObjId,
+    pub mode: u32,
+    pub mtime: i64,
+    pub name: &'a str,
+}
+
+/// Who changed a file last, and its size.
+#[derive(Clone, Copy)]
+pub struct Details<'a> {
+    pub modifier: &'a str,
+    pub size: u64,
+}
+
+/// The directory that a value of type 3 is.
+#[tactic(auto, unfolding(crate::specs::Directory::directory_of))]
+pub fn read_directory(alloc: Global, value: &Value) -> Result<DirObject, FsFault>
+    ensures value { Answers result (directory_of (view value.now)) }
+    ensures proper { IfOk result (All IsProperEntry) }
+{
+    let items = array_at(value, FsKey::KDirents)?;
+    read_entries(alloc, items)
+}
+
+/// The entries that the items of an array are.
+fn read_entries(alloc: Global, items: &[Value]) -> Result<DirObject, FsFault>
+    ensures value { Answers result (entries_after [] (map view items.now)) }
+    ensures proper { IfOk result (All IsProperEntry) }
+{
+    let mut entries = Items::new(alloc);
+    let mut names = BTreeSet::new(alloc);
+    for item in items {
+        let place = entries.len() as u64;
+        let head = match head_of(item, place) {
+            Ok(head) => head,
+            Err(bad) => return Err(ReadFault::Bad(bad)),
+        };
+        let is_new = match names.insert(head.name) {
+            Ok(is_new) => is_new,
+            Err(_) => return Err(ReadFault::NoMemory),
+        };
+        if !is_new {
+            return Err(ReadFault::Bad(BadFs::Twice(place)));
+        }
+        let entry = match entry_from(alloc, head, item) {
+            Ok(entry) => entry,
+            Err(fault) => return Err(fault),
+        };
+        match entries.push(entry) {
+            Ok(()) => {}
+            Err(_) => return Err(ReadFault::NoMemory),
+        }
+    }
+    Ok(DirObject { entries })
+}
+
+/// The whole entry, of which the head was read.
+#[tactic(auto, unfolding(crate::specs::Directory::entry_from))]
+fn entry_from(alloc: Global, head: Head<'_>, item: &Value) -> Result<Dirent, FsFault>
+    requires good { name_fault head.name.now ≡ None }
+    requires known { IsTrue (is_file_mode head.mode || is_directory_mode head.mode) }
+    ensures value { Answers result (entry_from (head_seen head.entry) (view item.now)) }
+    ensures proper { IfOk result IsProperEntry }
+{
+    let details = details_of(item, head.mode)?;
+    let name = match Name::read(alloc, head.name) {
+        Ok(name) => name,
+        Err(NameFault::NoMemory) => return Err(ReadFault::NoMemory),
+        Err(NameFault::Bad(_)) => unreachable!(),
+    };
+    let modifier = Text::copy(alloc, details.modifier)?;
+    Ok(Dirent {
+        name,
+        id: head.id,
+        mode: head.mode,
+        mtime: head.mtime,
+        modifier,
+        size: details.size,
+    })
+}
+
+/// An entry up to its name, at its place from 0.
+#[tactic(auto, unfolding(crate::specs::Directory::head_of))]
+fn head_of<'a>(item: &'a Value, place: u64) -> Result<Head<'a>, BadFs>
+    ensures value { result_map head_seen result ≡ head_of place (view item.now) }
+    ensures good { IfOk result (λ head. name_fault head.name.now ≡ None) }
+    ensures known { IfOk result
+        (λ head. IsTrue (is_file_mode head.mode || is_directory_mode head.mode)) }
+{
+    if !item.is_object() {
+        return Err(BadFs::WrongType(FsKey::KDirents));
+    }
+    let id = id_at(item, FsKey::KId)?;
+    let mode = mode_in(item)?;
+    let mtime = integer_at(item, FsKey::KMtime)?;
+    let name = text_at(item, FsKey::KName)?;
+    if Name::check(name).is_err() {
+        return Err(BadFs::BadName(place));
+    }
+    Ok(Head {
+        id,
+        mode,
+        mtime,
+        name,
+    })
+}
+
+/// What follows the name: a file's modifier and size, and nothing of a directory.
+#[tactic(auto, unfolding(crate::specs::Directory::details_of, crate::specs::Directory::file_details_of))]
+fn details_of<'a>(item: &'a Value, mode: u32) -> Result<Details<'a>, BadFs>
+    ensures value { result_map details_seen result ≡ details_of mode (view item.now) }
+    ensures plain { IfOk result (λ details. is_file_mode mode ≡ false
+        → (details.modifier.now ≡ []) × (details.size ≡ 0)) }
+{
+    if !is_file_mode(mode) {
+        return Ok(Details {
+            modifier: "",
+            size: 0,
+        });
+    }
+    let modifier = text_at(item, FsKey::KModifier)?;
+    let size = number_at(item, FsKey::KSize)?;
+    Ok(Details { modifier, size })
+}

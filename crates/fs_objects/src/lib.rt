@@ -1,0 +1,23 @@
+//! File and directory objects: their one grammar, read and written exactly.
+//!
+//! Shown upward: `FsObject` with `read` and `write`, `FileObject`, `DirObject`, `Dirent`, and the faults.
+//! Definitions: `specs/FsObject.antt` (`fs_of`), `specs/Spelling.antt` (`text_of`). It stores nothing.
+#![tactic(auto)]
+
+mod dir_object;
+mod dirent;
+mod entry_reading;
+mod fault;
+mod fields;
+mod file_object;
+mod file_reading;
+mod fs_object;
+#[cfg(test)]
+mod tests;
+mod writing;
+
+pub use crate::dir_object::DirObject;
+pub use crate::dirent::Dirent;
+pub use crate::fault::{BadFs, FsFault, FsKey};
+pub use crate::file_object::FileObject;
+pub use crate::fs_object::FsObject;

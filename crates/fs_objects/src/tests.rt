@@ -1,0 +1,99 @@
+//! Outside vectors, and each call once with ample memory.
+use crate::{BadFs, FsKey, FsObject};
+use ids::ObjId;
+use json_words::ReadFault;
+use std::alloc::Global;
+use std::test::Fail;
+
+const FILE: &[u8] =
+    b"{\"block_ids\":[\"a9993e364706816aba3e25717850c26c9cd0d89d\"],\"size\":3,\"type\":1,\"version\":1}";
+
+const DIRECTORY: &[u8] =
+    b"{\"dirents\":[{\"id\":\"0000000000000000000000000000000000000000\",\"mode\":16384,\"mtime\":5,\"name\":\"b\"},{\"id\":\"0000000000000000000000000000000000000000\",\"mode\":33188,\"modifier\":\"me\",\"mtime\":5,\"name\":\"a\",\"size\":0}],\"type\":3,\"version\":1}";
+
+fn fault_of(alloc: Global, text: &[u8]) -> Option<BadFs> {
+    match FsObject::read(alloc, text) {
+        Err(ReadFault::Bad(bad)) => Some(bad),
+        _ => None,
+    }
+}
+
+// Hand-written texts; each is wrong at one place, or the earlier place counts.
+#[test]
+fn the_first_failing_check_is_answered(rt: HostRuntime) {
+    for (text, wanted, code) in [
+        ("[]", BadFs::NotJson, 1),
+        ("{}", BadFs::Missing(FsKey::KType), 2),
+        (
+            "{\"type\":2,\"version\":1}",
+            BadFs::WrongType(FsKey::KType),
+            3,
+        ),
+        ("{\"type\":1,\"version\":2}", BadFs::BadVersion(2), 4),
+        (
+            "{\"type\":1,\"version\":1,\"size\":-1}",
+            BadFs::Missing(FsKey::KBlockIds),
+            2,
+        ),
+        (
+            "{\"type\":1,\"version\":1,\"block_ids\":[\"0000000000000000000000000000000000000000\"],\"size\":1}",
+            BadFs::WrongType(FsKey::KBlockIds),
+            3,
+        ),
+        (
+            "{\"type\":3,\"version\":1,\"dirents\":[1,{}]}",
+            BadFs::WrongType(FsKey::KDirents),
+            3,
+        ),
+        (
+            "{\"type\":3,\"version\":1,\"dirents\":[{\"id\":\"0000000000000000000000000000000000000000\",\"mode\":40960}]}",
+            BadFs::WrongType(FsKey::KMode),
+            3,
+        ),
+        (
+            "{\"type\":3,\"version\":1,\"dirents\":[{\"id\":\"0000000000000000000000000000000000000000\",\"mode\":33188,\"mtime\":0,\"name\":\"..\"}]}",
+            BadFs::BadName(0),
+            5,
+        ),
+        (
+            "{\"type\":3,\"version\":1,\"dirents\":[{\"id\":\"0000000000000000000000000000000000000000\",\"mode\":16384,\"mtime\":0,\"name\":\"a\"},{\"id\":\"0000000000000000000000000000000000000000\",\"mode\":33188,\"mtime\":0,\"name\":\"a\"}]}",
+            BadFs::Twice(1),
+            6,
+        ),
+    ] {
+        assert_eq!(rt;
+            fault_of(rt.alloc(), text.as_bytes()),
+            Some(wanted),
+            "{text}"
+        );
+        assert_eq!(rt; wanted.code(), code, "{text}");
+    }
+}
+
+#[test]
+fn a_file_object_of_one_block_has_88_bytes(rt: HostRuntime) -> Result<(), Fail> {
+    assert_eq!(rt; FILE.len(), 88);
+    let object = FsObject::read(rt.alloc(), FILE)?;
+    let text = object.write(rt.alloc())?;
+    assert!(rt; text.slice() == FILE);
+    match &object {
+        FsObject::File(file) => {
+            assert_eq!(rt; file.size, 3);
+            assert!(rt; file.blocks.slice() == [ObjId::of(b"abc")].as_slice());
+        }
+        FsObject::Dir(_) => return Err("a directory".into()),
+    }
+    Ok(())
+}
+
+// A text as stock clients write it, with blanks and a further key, and with the entries the other way round.
+#[test]
+fn entries_are_written_in_descending_order(rt: HostRuntime) -> Result<(), Fail> {
+    let text =
+        b"{\"dirents\": [{\"id\": \"0000000000000000000000000000000000000000\", \"mode\": 33188, \"modifier\": \"me\", \"mtime\": 5, \"name\": \"a\", \"size\": 0}, {\"id\": \"0000000000000000000000000000000000000000\", \"mode\": 16384, \"modifier\": \"me\", \"mtime\": 5, \"name\": \"b\", \"size\": 7}], \"type\": 3, \"version\": 1, \"more\": null}";
+    let written = FsObject::read(rt.alloc(), text)?.write(rt.alloc())?;
+    assert!(rt; written.slice() == DIRECTORY);
+    let again = FsObject::read(rt.alloc(), DIRECTORY)?.write(rt.alloc())?;
+    assert!(rt; again.slice() == DIRECTORY);
+    Ok(())
+}
