@@ -1,0 +1,100 @@
+//! Outside vectors, and each call once with ample memory.
+use crate::{BadCommit, Commit, CommitKey};
+use ids::{LibId, ObjId, Text};
+use json_words::ReadFault;
+use std::alloc::Global;
+use std::test::Fail;
+
+fn fault_of(alloc: Global, text: &[u8]) -> Option<BadCommit> {
+    match Commit::read(alloc, text) {
+        Err(ReadFault::Bad(bad)) => Some(bad),
+        _ => None,
+    }
+}
+
+// Hand-written texts; each is wrong at one place, or the earlier key counts.
+#[test]
+fn the_first_failing_check_is_answered(rt: HostRuntime) {
+    for (text, wanted, code) in [
+        ("7", BadCommit::NotJson, 1),
+        ("{}", BadCommit::Missing(CommitKey::KCommitId), 2),
+        (
+            "{\"commit_id\":null}",
+            BadCommit::WrongType(CommitKey::KCommitId),
+            3,
+        ),
+        (
+            "{\"commit_id\":\"\",\"root_id\":1}",
+            BadCommit::BadId(CommitKey::KCommitId),
+            4,
+        ),
+        (
+            "{\"commit_id\":\"0000000000000000000000000000000000000000\"}",
+            BadCommit::BadId(CommitKey::KCommitId),
+            4,
+        ),
+        (
+            "{\"commit_id\":\"cccccccccccccccccccccccccccccccccccccccc\",\"root_id\":\"0000000000000000000000000000000000000000\",\"repo_id\":\"11111111-2222-4333-8444-55555555555A\"}",
+            BadCommit::BadId(CommitKey::KRepoId),
+            4,
+        ),
+        (
+            "{\"commit_id\":\"cccccccccccccccccccccccccccccccccccccccc\",\"root_id\":\"0000000000000000000000000000000000000000\",\"repo_id\":\"11111111-2222-4333-8444-555555555555\",\"ctime\":1,\"conflict\":1.0}",
+            BadCommit::WrongType(CommitKey::KConflict),
+            3,
+        ),
+    ] {
+        assert_eq!(rt;
+            fault_of(rt.alloc(), text.as_bytes()),
+            Some(wanted),
+            "{text}"
+        );
+        assert_eq!(rt; wanted.code(), code, "{text}");
+    }
+}
+
+// The shortest commit, and a text as stock clients write it, with blanks and further keys.
+#[test]
+fn absent_and_null_keys_have_their_meaning(rt: HostRuntime) -> Result<(), Fail> {
+    let short =
+        b"{\"commit_id\":\"cccccccccccccccccccccccccccccccccccccccc\",\"ctime\":1,\"repo_id\":\"11111111-2222-4333-8444-555555555555\",\"root_id\":\"0000000000000000000000000000000000000000\"}";
+    let commit = Commit::read(rt.alloc(), short)?;
+    assert_eq!(rt; commit.ctime, 1);
+    assert_eq!(rt; commit.root, ObjId::NIL);
+    assert!(rt; commit.parent.is_none() && !commit.conflict && commit.creator.is_empty());
+    let stock =
+        b"{\"commit_id\": \"a9993e364706816aba3e25717850c26c9cd0d89d\", \"root_id\": \"0000000000000000000000000000000000000000\", \"repo_id\": \"11111111-2222-4333-8444-555555555555\", \"creator_name\": \"me@x.org\", \"creator\": \"0000000000000000000000000000000000000000\", \"description\": \"Added \\\"a.txt\\\".\", \"ctime\": 1700000000, \"parent_id\": \"2aae6c35c94fcfb415dbe95f408b9ce91ee846ed\", \"second_parent_id\": null, \"conflict\": 1, \"repo_name\": \"docs\", \"repo_desc\": \"\", \"no_local_history\": 1, \"version\": 1}";
+    let commit = Commit::read(rt.alloc(), stock)?;
+    assert!(rt; commit.parent == Some(ObjId::of(b"hello world")));
+    assert!(rt; commit.conflict && commit.description.slice() == "Added \"a.txt\".");
+    Ok(())
+}
+
+// The opening commit of a library; its text was named by sha1sum.
+#[test]
+fn a_made_commit_is_named_by_its_text(rt: HostRuntime) -> Result<(), Fail> {
+    let lib = match LibId::read("11111111-2222-4333-8444-555555555555") {
+        Ok(lib) => lib,
+        Err(_) => return Err("no library id".into()),
+    };
+    let name = Text::copy(rt.alloc(), "me")?;
+    let description = Text::copy(rt.alloc(), "Created library")?;
+    let commit = Commit::make(
+        rt.alloc(),
+        lib,
+        ObjId::NIL,
+        None,
+        None,
+        &name,
+        &description,
+        5,
+        false,
+    )?;
+    let text = commit.write(rt.alloc())?;
+    let wanted =
+        b"{\"commit_id\":\"9f7ea5927722503247c784490db49ebbbde3e6cb\",\"creator\":\"0000000000000000000000000000000000000000\",\"creator_name\":\"me\",\"ctime\":5,\"description\":\"Created library\",\"parent_id\":null,\"repo_id\":\"11111111-2222-4333-8444-555555555555\",\"root_id\":\"0000000000000000000000000000000000000000\",\"second_parent_id\":null,\"version\":1}";
+    assert!(rt; text.slice() == wanted.as_slice());
+    let again = Commit::read(rt.alloc(), text.slice())?;
+    assert_eq!(rt; again.id, commit.id);
+    Ok(())
+}
