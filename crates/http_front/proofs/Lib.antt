@@ -1,0 +1,15 @@
+pub mod BrokenTextLemmas
+pub mod CallLemmas
+pub mod ElementLemmas
+pub mod FieldLemmas
+pub mod HeadLemmas
+pub mod IdLemmas
+pub mod MemoryLinkLemmas
+pub mod NumberLemmas
+pub mod ReplyLemmas
+pub mod RouteLemmas
+pub mod StreamLemmas
+pub mod TagLemmas
+pub mod TargetFrontLemmas
+pub mod TargetLemmas
+pub mod TokenLemmas

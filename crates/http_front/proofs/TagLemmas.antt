@@ -1,0 +1,135 @@
+-- The text of a tag, read and written: numbers in decimal, with a hyphen between them, in quotes.
+use Rattle.std.proofs.Common.{◌≡◌, ◌≢◌, ℕ, zero, suc, ◌+◌, ◌^◌, ◌<◌, ◌==◌, true, false, List, [], ◌∷◌, ◌++◌, length, get_or, take, drop, refl, sym, ap, subst, ◌∙◌, arith, length-append, Option, None, Some, MatchOption, IsUtf8, inl, inr, Bor, decimal}
+use Rattle.std.specs.List.{list_all, position_or_len}
+use Rattle.std.specs.Char.{is_ascii_digit}
+use Rattle.std.specs.Int.{IsInRange}
+use Rattle.std.specs.Str.Parse.{IsNumeral, digits_value, without_leading_plus}
+use Rattle.std.proofs.lemmas.Bool.{and_parts, and_from}
+use Rattle.std.proofs.lemmas.Bool.Decides.{nat_tests, leb_tells}
+use Rattle.std.proofs.lemmas.Fmt.{decimal_is_IsNumeral, decimal-digits_value, digits_decimal, decimal_digit, first_decimal, IsAscii-decimal}
+use Rattle.std.proofs.lemmas.List.{take_at, drop_at, get_or_at, get_or_append_left, drop-drop, take-append-drop, drop_more}
+use Rattle.std.proofs.lemmas.List.Sums.{AllPass-from_list_all, position_or_len_is}
+use Rattle.std.proofs.lemmas.Str.{IsUtf8-from_ascii}
+use Rattle.std.proofs.lemmas.Str.Parse.{IsDigitsTest, IsNumeralModel, numerals_by_value, without_leading_plus_none}
+use Rattle.http_front.specs.EntityTag.{quoted}
+use Rattle.http_front.proofs.ElementLemmas.{test_fails}
+
+-- ---- numbers
+
+digit_in_range : (c : ℕ) → is_ascii_digit c ≡ true → IsInRange 48 57 c
+digit_in_range c h = grind (arith, nat_tests)
+
+range_is_digit : (c : ℕ) → IsInRange 48 57 c → is_ascii_digit c ≡ true
+range_is_digit c h = grind (arith, nat_tests, h)
+
+are_digits_told : IsDigitsTest (λ ds. list_all is_ascii_digit ds ≡ true)
+are_digits_told = record {
+  empty = refl;
+  parts = λ c cs p. let both = and_parts _ _ p in (digit_in_range c both.0, both.1);
+  more = λ c cs k p. and_from _ _ (range_is_digit c k) p;
+}
+
+own : IsNumeralModel (λ ds. list_all is_ascii_digit ds ≡ true) (digits_value 10)
+own = numerals_by_value _ are_digits_told
+
+-- a number's text has digits alone
+pub decimal_digits : (n : ℕ) → n < 2 ^ 64 → list_all is_ascii_digit (decimal n) ≡ true
+decimal_digits n fits = digits_decimal own n fits
+
+-- a number's text begins with no zero but its own
+pub no_leading_zero : (n : ℕ) → n < 2 ^ 64 → get_or (decimal n) 0 0 ≡ 48 → 1 < length (decimal n) → ⊥
+no_leading_zero zero fits first long =
+    omega (arith, ap length (decimal_digit 0 (omega arith)))
+no_leading_zero (suc n) fits first long =
+    omega (arith, first_decimal (suc n) (omega arith) fits)
+
+no_plus : (text : List ℕ) → list_all is_ascii_digit text ≡ true → get_or text 0 0 ≢ 43
+no_plus [] all plus = omega arith
+no_plus (c ∷ cs) all plus =
+    let range = digit_in_range c (and_parts _ _ all).0 in
+    omega (arith, range)
+
+-- what parses as a number is its text
+pub number_read : (text : List ℕ) (v : ℕ) → list_all is_ascii_digit text ≡ true → (1 < length text → get_or text 0 0 ≢ 48)
+    → IsNumeral 10 (without_leading_plus text) → digits_value 10 (without_leading_plus text) < 2 ^ 64
+    → v ≡ digits_value 10 (without_leading_plus text) → text ≡ decimal v
+number_read text v all zero_alone numeral below told =
+    let same : without_leading_plus text ≡ text = without_leading_plus_none text (no_plus text all) in
+    let some : 0 < length text = rw same at numeral.0 in
+    let fits : digits_value 10 text < 2 ^ 64 = rw same at below in
+    let value : v ≡ digits_value 10 text = told ∙ ap (digits_value 10) same in
+    let alone : get_or text 0 0 ≡ 48 → length text ≡ 1 = λ first. one_byte text some (λ long. zero_alone long first) in
+    sym (ap decimal value ∙ decimal-digits_value own text all some alone fits)
+  where
+    one_byte : (text : List ℕ) → 0 < length text → (1 < length text → ⊥) → length text ≡ 1
+    one_byte text some not_long = elim (leb_tells (length text) 1) [
+      | inl short ↦ omega (arith, short.1)
+      | inr long ↦ absurd (not_long long.1)
+    ]
+
+-- a number's text parses
+pub number_parses : (text : List ℕ) (n : ℕ) → list_all is_ascii_digit text ≡ true → n < 2 ^ 64 → text ≡ decimal n
+    → IsNumeral 10 (without_leading_plus text) × (digits_value 10 (without_leading_plus text) < 2 ^ 64)
+number_parses text n all fits same =
+    let bare : without_leading_plus text ≡ decimal n = without_leading_plus_none text (no_plus text all) ∙ same in
+    let numeral = decimal_is_IsNumeral n fits in
+    rw bare (numeral.0, rw numeral.1 fits)
+
+-- a number's text is UTF-8
+pub decimal_is_text : (text : List ℕ) (n : ℕ) → n < 2 ^ 64 → text ≡ decimal n → IsUtf8 text
+decimal_is_text text n fits same = subst IsUtf8 (sym same) (IsUtf8-from_ascii (decimal n) (IsAscii-decimal n fits))
+
+-- ---- two numbers
+
+-- where the first hyphen of two numbers stands
+pub record CutsAt (text front back : List ℕ) (place : ℕ) : Type 0 where
+  pub inside : place < length text
+  pub front_is : take place text ≡ front
+  pub back_is : drop (place + 1) text ≡ back
+
+pub cut_at_hyphen : (text : List ℕ) (opening : ℕ) (back : List ℕ) (place : ℕ) → opening < 2 ^ 64
+    → text ≡ decimal opening ++ 45 ∷ back → place ≡ position_or_len (λ c. c == 45) text
+    → CutsAt text (decimal opening) back place
+cut_at_hyphen text opening back place fits same at =
+    let front = decimal opening in
+    let size : length text ≡ length front + (length back + 1) =
+    ap length same ∙ length-append front (45 ∷ back) ∙ one_more (length front) (length back) in
+    let before : (k : ℕ) → k < length front → (get_or text k 0 == 45) ≡ false = λ k inside.
+    ap (λ (t : List ℕ). get_or t k 0 == 45) same ∙ ap (λ (b : ℕ). b == 45) (get_or_append_left front (45 ∷ back) 0 k inside)
+    ∙ digit_is_other (get_or front k 0) (AllPass-from_list_all is_ascii_digit front (decimal_digits opening fits) k 0 inside) in
+    let here : get_or text (length front) 0 ≡ 45 = ap (λ (t : List ℕ). get_or t (length front) 0) same ∙ get_or_at front 45 back 0 (length front) refl in
+    let found : place ≡ length front =
+    at ∙ position_or_len_is (λ c. c == 45) text (length front) 0 (omega (arith, size)) before (λ _. ap (λ (b : ℕ). b == 45) here) in
+    record {
+      inside = omega (arith, size, found);
+      front_is = rw (found, same) (take_at front (45 ∷ back) (length front) refl);
+      back_is = rw (found, same) (drop_after front back);
+    }
+  where
+    one_more : (a b : ℕ) → a + suc b ≡ a + (b + 1)
+    one_more a b = omega arith
+
+    digit_is_other : (c : ℕ) → is_ascii_digit c ≡ true → (c == 45) ≡ false
+    digit_is_other c digit = let range = digit_in_range c digit in test_fails c 45 (λ same. omega (arith, range, same))
+
+    drop_after : (front back : List ℕ) → drop (length front + 1) (front ++ 45 ∷ back) ≡ back
+    drop_after front back =
+        sym (drop-drop 1 (length front) (front ++ 45 ∷ back)) ∙ ap (drop 1) (drop_at front (45 ∷ back) (length front) refl)
+
+-- a text is what stands before and after a hyphen
+pub joined_at_hyphen : (text : List ℕ) (place : ℕ) → place < length text → get_or text place 0 ≡ 45
+    → text ≡ take place text ++ 45 ∷ drop (place + 1) text
+joined_at_hyphen text place inside is =
+    sym (take-append-drop place text) ∙ ap (λ d. take place text ++ d) (drop_more text place 0 inside
+    ∙ ap (λ b. b ∷ drop (place + 1) text) is)
+
+-- ---- quotes
+
+pub unquotes : (text rest : List ℕ) (r : Option (Bor (List ℕ))) → text ≡ 34 ∷ rest
+    → MatchOption r ((front : List ℕ) → rest ≢ front ++ 34 ∷ []) (λ x. rest ≡ x.now ++ 34 ∷ [])
+    → MatchOption r ((inner : List ℕ) → text ≡ quoted inner → ⊥) (λ x. text ≡ quoted x.now)
+unquotes text rest None first none = λ inner same. none inner (tails rest (inner ++ 34 ∷ []) (sym first ∙ same))
+  where
+    tails : (a b : List ℕ) → 34 ∷ a ≡ 34 ∷ b → a ≡ b
+    tails a b same = cc
+unquotes text rest (Some x) first last = first ∙ ap (λ t. 34 ∷ t) last

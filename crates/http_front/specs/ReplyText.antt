@@ -1,0 +1,94 @@
+-- The bytes of a reply: status line, fields, an empty line and the body (RFC 9112, section 2.1). Which fields and bodies
+-- there are is our own. Read text first, at the end.
+use Rattle.std.specs.Prelude.{◌==◌, ◌||◌, ℕ, Bool, true, if◌then◌else◌, Option, None, Some, List, [], ◌∷◌, ◌++◌, length, codes, decimal}
+use Rattle.library_state.specs.declared.reply.Reply.{Reply}
+use Rattle.library_state.specs.declared.reply.Reply.TheVariants as reply
+use Rattle.library_state.specs.declared.refusal.Refusal.{Refusal}
+use Rattle.library_state.specs.declared.tag.Tag.{Tag}
+use Rattle.serde_json.specs.Data.{object}
+use Rattle.serde_json.specs.Written.{compact_text}
+use Rattle.http_front.specs.EntityTag.{tag_text}
+use Rattle.http_front.specs.Status.{status_words}
+use Rattle.http_front.specs.RefusalText.{because, refused_body, refused_status}
+use Rattle.http_front.specs.declared.outcome.Outcome.{Outcome}
+use Rattle.http_front.specs.declared.outcome.Outcome.TheVariants.{Plain, Refused}
+use Rattle.http_front.specs.declared.status.Status.{Status}
+use Rattle.http_front.specs.declared.status.Status.TheVariants.{Success, NotModified, BadRequest, ContentTooLarge, HeadTooLarge, NotImplemented}
+
+-- what a reply is made of. The content type counts only where there is a body
+pub record Parts : Type 0 where
+  pub status : Status
+  pub content_type : List ℕ
+  pub tag : Option Tag
+  pub body : List ℕ
+
+abbrev pub end_of_line : List ℕ
+end_of_line = 13 ∷ 10 ∷ []
+
+-- a name or the version, its value, and the end of the line
+unfoldable pub line : List ℕ → List ℕ → List ℕ
+line name value = name ++ value ++ end_of_line
+
+abbrev pub type_line : List ℕ → List ℕ → List ℕ
+type_line content_type body = if length body == 0 then [] else line (codes "Content-Type: ") content_type
+
+abbrev pub length_line : Status → ℕ → List ℕ
+length_line NotModified size = []
+length_line _ size = line (codes "Content-Length: ") (decimal size)
+
+abbrev pub tag_line : Option Tag → List ℕ
+tag_line None = []
+tag_line (Some tag) = line (codes "ETag: ") (tag_text tag)
+
+abbrev pub close_line : Bool → List ℕ
+close_line closes = if closes then line (codes "Connection: ") (codes "close") else []
+
+-- the bytes of a reply's parts, and of the wish to close the connection after it
+unfoldable pub written : Parts → Bool → List ℕ
+written parts closes =
+    line (codes "HTTP/1.1 ") (status_words parts.status) ++ type_line parts.content_type parts.body ++ length_line parts.status (length parts.body)
+    ++ tag_line parts.tag ++ close_line closes ++ end_of_line ++ parts.body
+
+abbrev pub parts_by : Status → List ℕ → Option Tag → List ℕ → Parts
+parts_by status content_type tag body = record { status = status; content_type = content_type; tag = tag; body = body }
+
+abbrev pub json_parts : Status → List ℕ → Parts
+json_parts status body = parts_by status (codes "application/json") None body
+
+abbrev pub octet_parts : List ℕ → Parts
+octet_parts body = parts_by Success (codes "application/octet-stream") None body
+
+abbrev pub refused_parts : Refusal → Parts
+refused_parts refusal = json_parts (refused_status refusal) (refused_body refusal)
+
+-- what is replied to a call
+abbrev pub reply_parts : Reply → Parts
+reply_parts (reply.Got bytes) = octet_parts bytes
+reply_parts (reply.Stored is_new) = json_parts Success []
+reply_parts (reply.Refused refusal) = refused_parts refusal
+
+abbrev pub parts_of : Outcome → Parts
+parts_of (Plain reply tag) = reply_parts reply
+parts_of (Refused refusal) = refused_parts refusal
+
+-- the reply to a request, which ends the connection where it closes
+unfoldable pub text : Outcome → Bool → List ℕ
+text outcome closes = written (parts_of outcome) closes
+
+-- the statuses that end a connection, where what was read is no request that is served
+abbrev pub is_bad_status : ℕ → Bool
+is_bad_status status = (status == 400) || (status == 413) || (status == 431) || (status == 501)
+
+abbrev pub bad_body : List ℕ → List ℕ
+bad_body reason = compact_text (object (because reason))
+
+-- what is replied where no request can be read
+abbrev pub bad_parts : ℕ → Parts
+bad_parts status =
+    if status == 400 then json_parts BadRequest (bad_body (codes "malformed"))
+    else if status == 413 then json_parts ContentTooLarge (bad_body (codes "body-too-large"))
+    else if status == 431 then json_parts HeadTooLarge (bad_body (codes "head-too-large"))
+    else json_parts NotImplemented (bad_body (codes "coding"))
+
+unfoldable pub bad_text : ℕ → List ℕ
+bad_text status = written (bad_parts status) true

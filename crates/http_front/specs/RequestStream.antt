@@ -1,0 +1,65 @@
+-- The requests that a stream of bytes spells, one after the other, and where they end. The head is read
+-- from the first 16,384 bytes of what is left, and has at most 64 fields. Read first: RequestHead.
+use Rattle.std.specs.Prelude.{ℕ, ◌≡◌, ◌≢◌, ◌<◌, ◌≤◌, true, false, Ok, Err, List, [], ◌∷◌, ◌++◌, length, take, ⊤}
+use Rattle.httparse.specs.Grammar.{RequestHead, ReadsRequest, print_request, HasNoRequest}
+use Rattle.httparse.specs.Spans.{RequestOverflows}
+use Rattle.http_front.specs.TargetFront.{MayBecomeHead}
+use Rattle.http_front.specs.RequestHead.{judge, closes, is_plain}
+
+-- a request: its head and its body
+pub record Request : Type 0 where
+  pub head : RequestHead
+  pub body : List ℕ
+
+-- the input is that head, and then the rest
+pub record IsHeadAt (input : List ℕ) (head : RequestHead) (rest : List ℕ) : Type 0 where
+  pub reads : ReadsRequest input head rest
+  pub few : length head.fields ≤ 64
+  pub short : length (print_request head) ≤ 16384
+
+-- the input is that request, whose head is accepted, and then the rest
+pub record IsRequest (input : List ℕ) (request : Request) (rest : List ℕ) : Type 0 where
+  pub head : IsHeadAt input request.head (request.body ++ rest)
+  pub accepted : judge request.head ≡ Ok (length request.body)
+
+-- after a request that closes no other is read
+abbrev pub MayFollow : Request → List Request → Type 0
+MayFollow request [] = ⊤
+MayFollow request (next ∷ more) = closes request.head ≡ false
+
+-- the input is those requests, and then the rest
+abbrev pub Reads : List ℕ → List Request → List ℕ → Type 0
+Reads input [] rest = input ≡ rest
+Reads input (request ∷ more) rest =
+    (middle : List ℕ) × IsRequest input request middle × MayFollow request more × Reads middle more rest
+
+-- the bytes of which a head is read
+abbrev pub front_of : List ℕ → List ℕ
+front_of rest = take 16384 rest
+
+-- no head stands there yet, and one may still come
+pub record IsOpen (rest : List ℕ) : Type 0 where
+  pub none : HasNoRequest (front_of rest)
+  pub may : MayBecomeHead (front_of rest)
+
+-- the input ends within a request
+pub data IsCutAfter (rest : List ℕ) : Type 0 where
+  in_head : rest ≢ [] → length rest < 16384 → IsOpen rest → IsCutAfter rest
+  in_body : (head : RequestHead) (after : List ℕ) (length_due : ℕ) → IsHeadAt rest head after
+      → judge head ≡ Ok length_due → length after < length_due → IsCutAfter rest
+
+-- what is left begins with no request, for the cause that the status tells
+pub data IsRefused (rest : List ℕ) (status : ℕ) : Type 0 where
+  by_head : (head : RequestHead) (after : List ℕ) → IsHeadAt rest head after → judge head ≡ Err status
+      → IsRefused rest status
+  by_bytes : status ≡ 400 → RequestOverflows 64 (front_of rest) → IsRefused rest status
+  by_length : status ≡ 431 → 16384 ≤ length rest → IsOpen rest → IsRefused rest status
+
+-- a request without any `Expect` field
+pub record IsPlain (input : List ℕ) (request : Request) (rest : List ℕ) : Type 0 where
+  pub is : IsRequest input request rest
+  pub plain : is_plain request.head ≡ true
+
+-- the input begins with no such request
+abbrev pub HasNoPlain : List ℕ → Type 0
+HasNoPlain input = (request : Request) (rest : List ℕ) → IsPlain input request rest → ⊥

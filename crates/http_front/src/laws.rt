@@ -1,0 +1,18 @@
+//! Theorems about the table of calls.
+ghost use Rattle.std.specs.Prelude.{◌≡◌, ℕ, List, Some};
+ghost use Rattle.http_front.specs.Route.{IsCall, method_in, path_in, route_of};
+ghost use Rattle.http_front.specs.Target.{path_of};
+ghost use Rattle.http_front.specs.declared.method.Method.{Method};
+ghost use Rattle.http_front.specs.declared.route.Route.{Route};
+
+/// A request names a call by that call's method and path alone, but for a slash at the end and a query.
+pub fn a_request_names_a_call_by_its_method_and_path()
+    ensures { (method : Method) (target : List ℕ) (route : Route) → route_of method target ≡ Some route
+        → (method ≡ method_in route) × (path_of target ≡ path_in route) }
+{}
+
+/// A call's own method and path name it.
+pub fn a_call_is_named_by_its_own_method_and_path()
+    ensures { (target : List ℕ) (route : Route) → IsCall route → path_of target ≡ path_in route
+        → route_of (method_in route) target ≡ Some route }
+{}

@@ -1,0 +1,41 @@
+//! HTTP/1.1 as this server speaks it: links, the buffer, request heads, the stream of requests, what a request asks
+//! for, and the bytes of each reply.
+//!
+//! Shown upward: `Link`, `Sink` and their kinds in memory; `next_head`, `order_of`; `reply_bytes`, `bad_bytes`; and
+//! laws.rt. It answers no call itself.
+#![tactic(auto)]
+
+mod body_limit;
+mod buffer;
+mod entity_tag;
+mod expectation;
+mod fields;
+mod head;
+mod judgement;
+pub mod laws;
+mod link;
+mod memory_link;
+mod memory_sink;
+mod method;
+mod order;
+mod outcome;
+mod refusal_text;
+mod reply_text;
+mod route;
+mod status;
+mod target;
+mod target_front;
+mod token;
+
+pub use buffer::{Buffer, FillFault};
+pub use head::{Head, Next, next_head, next_plain_head};
+pub use link::{Link, LinkFailed, Sink};
+pub use memory_link::MemoryLink;
+pub use memory_sink::MemorySink;
+pub use method::Method;
+pub use order::{Order, OrderFault, What, order_of};
+pub use outcome::Outcome;
+pub use reply_text::{bad_bytes, reply_bytes};
+
+#[cfg(test)]
+mod tests;

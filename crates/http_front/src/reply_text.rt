@@ -1,0 +1,195 @@
+//! The bytes of replies.
+ghost use Rattle.std.specs.Prelude.{◌≡◌, ◌++◌, length, codes, decimal, true, IfOk, OnOk, IsTrue};
+ghost use Rattle.http_front.specs.EntityTag.{tag_text};
+ghost use Rattle.http_front.specs.ReplyText.{bad_body, bad_text, close_line, is_bad_status, json_parts, length_line, line, octet_parts, parts_by, refused_parts, reply_parts, tag_line, text, type_line, written};
+
+use crate::outcome::Outcome;
+use crate::refusal_text::{reason_body, refused_body, refused_status};
+use crate::status::{Status, status_words};
+use ids::Bytes;
+use itoa::Buffer;
+use library_state::{Refusal, Reply, Tag};
+use std::alloc::{AllocError, Global};
+
+/// Room for the longest head of a reply, so that what is made grows no more than once.
+const HEAD_ROOM: usize = 256;
+
+/// The bytes of the reply to a request, with `Connection: close` where the connection ends after it.
+///
+/// The form of a reply is that of HTTP/1.1 (RFC 9112); statuses, fields and bodies are our own
+/// (docs/FORMATS.md, "Replies"). The body of a `Got` is copied once.
+#[tactic(auto, unfolding(crate::specs::ReplyText::text))]
+pub fn reply_bytes(alloc: Global, outcome: &Outcome, closes: bool) -> Result<Bytes, AllocError>
+    ensures value { IfOk result (λ bytes. bytes ≡ text outcome.now closes) }
+{
+    match outcome {
+        Outcome::Plain(reply, _) => answer_bytes(alloc, reply, closes),
+        Outcome::Refused(refusal) => refused_bytes(alloc, refusal, closes),
+    }
+}
+
+/// The bytes of the reply that ends a connection on which no further request can be read.
+///
+/// The statuses are 400 (no request), 413 (its body is too large), 431 (its head is too large) and 501 (a transfer
+/// coding that is not served).
+#[tactic(auto, unfolding(crate::specs::ReplyText::bad_text))]
+pub fn bad_bytes(alloc: Global, status: u16) -> Result<Bytes, AllocError>
+    requires fits { IsTrue (is_bad_status status) }
+    ensures value { IfOk result (λ bytes. bytes ≡ bad_text status) }
+{
+    if status == 400 {
+        reason_bytes(alloc, Status::BadRequest, "malformed")
+    } else if status == 413 {
+        reason_bytes(alloc, Status::ContentTooLarge, "body-too-large")
+    } else if status == 431 {
+        reason_bytes(alloc, Status::HeadTooLarge, "head-too-large")
+    } else {
+        reason_bytes(alloc, Status::NotImplemented, "coding")
+    }
+}
+
+/// The reply to a call.
+fn answer_bytes(alloc: Global, reply: &Reply, closes: bool) -> Result<Bytes, AllocError>
+    ensures value { IfOk result (λ bytes. bytes ≡ written (reply_parts reply.now) closes) }
+{
+    match reply {
+        Reply::Got(bytes) => octet_bytes(alloc, bytes.slice(), closes),
+        Reply::Stored(_) => json_bytes(alloc, Status::Success, &[], closes),
+        Reply::Refused(refusal) => refused_bytes(alloc, refusal, closes),
+    }
+}
+
+fn refused_bytes(alloc: Global, refusal: &Refusal, closes: bool) -> Result<Bytes, AllocError>
+    ensures value { IfOk result (λ bytes. bytes ≡ written (refused_parts refusal.now) closes) }
+{
+    let body = refused_body(alloc, refusal)?;
+    json_bytes(alloc, refused_status(refusal), body.as_slice(), closes)
+}
+
+/// A reply that ends the connection and whose body has a reason alone.
+fn reason_bytes(alloc: Global, status: Status, reason: &str) -> Result<Bytes, AllocError>
+    ensures value { IfOk result (λ bytes. bytes ≡ written (json_parts status (bad_body reason.now)) true) }
+{
+    let body = reason_body(alloc, reason)?;
+    json_bytes(alloc, status, body.as_slice(), true)
+}
+
+fn json_bytes(alloc: Global, status: Status, body: &[u8], closes: bool) -> Result<Bytes, AllocError>
+    ensures value { IfOk result (λ bytes. bytes ≡ written (json_parts status body.now) closes) }
+{
+    write_reply(alloc, status, b"application/json", None, body, closes)
+}
+
+fn octet_bytes(alloc: Global, body: &[u8], closes: bool) -> Result<Bytes, AllocError>
+    ensures value { IfOk result (λ bytes. bytes ≡ written (octet_parts body.now) closes) }
+{
+    write_reply(
+        alloc,
+        Status::Success,
+        b"application/octet-stream",
+        None,
+        body,
+        closes,
+    )
+}
+
+/// The reply of these parts.
+#[tactic(auto, unfolding(crate::specs::ReplyText::written))]
+fn write_reply(
+    alloc: Global,
+    status: Status,
+    content_type: &[u8],
+    tag: Option<Tag>,
+    body: &[u8],
+    closes: bool,
+) -> Result<Bytes, AllocError>
+    ensures value { IfOk result (λ bytes. bytes
+        ≡ written (parts_by status content_type.now tag body.now) closes) }
+{
+    let mut out = Vec::with_capacity(alloc, HEAD_ROOM.saturating_add(body.len()))?;
+    push_line(&mut out, b"HTTP/1.1 ", status_words(status))?;
+    push_type(&mut out, content_type, body)?;
+    push_length(&mut out, status, body.len())?;
+    push_tag(&mut out, tag)?;
+    push_close(&mut out, closes)?;
+    out.extend_from_slice(b"\r\n")?;
+    out.extend_from_slice(body)?;
+    Ok(Bytes::from_vec(out))
+}
+
+/// Appends a line. After an error some of it may stand there; so for every `push_` here.
+#[tactic(auto, unfolding(crate::specs::ReplyText::line))]
+fn push_line(out: &mut Vec<u8>, name: &[u8], value: &[u8]) -> Result<(), AllocError>
+    ensures ok { OnOk result (out.new.items ≡ out.old.items ++ line name.now value.now) }
+{
+    out.extend_from_slice(name)?;
+    out.extend_from_slice(value)?;
+    out.extend_from_slice(b"\r\n")?;
+    Ok(())
+}
+
+/// The field `Content-Type`, where there is a body.
+fn push_type(out: &mut Vec<u8>, content_type: &[u8], body: &[u8]) -> Result<(), AllocError>
+    ensures ok { OnOk result (out.new.items ≡ out.old.items ++ type_line content_type.now body.now) }
+{
+    if body.is_empty() {
+        Ok(())
+    } else {
+        push_line(out, b"Content-Type: ", content_type)
+    }
+}
+
+/// The field `Content-Length`, unless the status is 304, which has no body by itself.
+fn push_length(out: &mut Vec<u8>, status: Status, size: usize) -> Result<(), AllocError>
+    ensures ok { OnOk result (out.new.items ≡ out.old.items ++ length_line status size) }
+{
+    match status {
+        Status::NotModified => Ok(()),
+        _ => push_size(out, size),
+    }
+}
+
+fn push_size(out: &mut Vec<u8>, size: usize) -> Result<(), AllocError>
+    ensures ok { OnOk result (out.new.items ≡ out.old.items ++ line (codes "Content-Length: ") (decimal size)) }
+{
+    let mut buffer = Buffer::new();
+    push_line(out, b"Content-Length: ", buffer.format(size).as_bytes())
+}
+
+/// The field `ETag`, where there is a tag.
+fn push_tag(out: &mut Vec<u8>, tag: Option<Tag>) -> Result<(), AllocError>
+    ensures ok { OnOk result (out.new.items ≡ out.old.items ++ tag_line tag) }
+{
+    match tag {
+        None => Ok(()),
+        Some(tag) => push_quoted(out, tag),
+    }
+}
+
+#[tactic(auto, unfolding(crate::specs::ReplyText::line))]
+fn push_quoted(out: &mut Vec<u8>, tag: Tag) -> Result<(), AllocError>
+    ensures ok { OnOk result (out.new.items ≡ out.old.items ++ line (codes "ETag: ") (tag_text tag)) }
+{
+    let mut opening = Buffer::new();
+    let mut count = Buffer::new();
+    out.extend_from_slice(b"ETag: \"")?;
+    out.extend_from_slice(opening.format(tag.opening).as_bytes())?;
+    out.extend_from_slice(b"-")?;
+    out.extend_from_slice(count.format(tag.count).as_bytes())?;
+    out.extend_from_slice(b"\"\r\n")?;
+    Ok(())
+}
+
+/// The field `Connection: close`, where the connection ends after the reply.
+fn push_close(out: &mut Vec<u8>, closes: bool) -> Result<(), AllocError>
+    ensures ok { OnOk result (out.new.items ≡ out.old.items ++ close_line closes) }
+{
+    if closes {
+        push_line(out, b"Connection: ", b"close")
+    } else {
+        Ok(())
+    }
+}
+
+#[cfg(test)]
+mod tests;

@@ -1,0 +1,125 @@
+//! The calls that a method and a path name.
+ghost use Rattle.std.specs.Prelude.{◌≡◌, ◌∷◌, []};
+ghost use Rattle.http_front.specs.IdText.{id_of, lib_of};
+ghost use Rattle.http_front.specs.Route.{kind_of, library_route, object_route, path_route, repo_route, route_of, top_route};
+ghost use Rattle.http_front.specs.Target.{parts};
+
+use crate::method::Method;
+use crate::target::path_of;
+use ids::{Key, Kind, LibId, ObjId};
+
+/// A call that a method and a path name, with the names that stand in the path.
+#[derive(Debug, Drop)]
+pub enum Route {
+    /// An object of a library is asked for.
+    Get(LibId, Key),
+    /// The body is to be stored as an object of a library.
+    Put(LibId, Key),
+}
+
+/// The call that a method and a target name, if they name one. A query changes nothing.
+#[tactic(auto, unfolding(crate::specs::Route::route_of))]
+pub fn route_of(method: Method, target: &str) -> Option<Route>
+    ensures value { result ≡ route_of method target.now }
+{
+    path_route(method, path_of(target))
+}
+
+/// A path begins with a slash.
+fn path_route(method: Method, path: &str) -> Option<Route>
+    ensures { result ≡ path_route method (parts path.now) }
+{
+    match path.split_once('/') {
+        Some((front, rest)) => {
+            if front.is_empty() {
+                top_route(method, rest)
+            } else {
+                None
+            }
+        }
+        None => None,
+    }
+}
+
+/// What follows the first slash.
+fn top_route(method: Method, path: &str) -> Option<Route>
+    ensures { result ≡ top_route method (parts path.now) }
+{
+    match path.split_once('/') {
+        Some((word, rest)) => {
+            if word == "repo" {
+                repo_route(method, rest)
+            } else {
+                None
+            }
+        }
+        None => None,
+    }
+}
+
+/// What follows `/repo/`.
+fn repo_route(method: Method, path: &str) -> Option<Route>
+    ensures { result ≡ repo_route method (parts path.now) }
+{
+    match path.split_once('/') {
+        Some((name, rest)) => match lib_of(name) {
+            Some(lib) => library_route(method, lib, rest),
+            None => None,
+        },
+        None => None,
+    }
+}
+
+/// What follows `/repo/LIB/`.
+fn library_route(method: Method, lib: LibId, path: &str) -> Option<Route>
+    ensures { result ≡ library_route method lib (parts path.now) }
+{
+    match path.split_once('/') {
+        Some((word, name)) => match name.split_once('/') {
+            Some(_) => None,
+            None => named_route(method, lib, word, name),
+        },
+        None => None,
+    }
+}
+
+/// What a kind of object and an id name.
+fn named_route(method: Method, lib: LibId, word: &str, name: &str) -> Option<Route>
+    ensures { result ≡ library_route method lib (word.now ∷ name.now ∷ []) }
+{
+    let kind = kind_of(word)?;
+    let id = id_of(name)?;
+    object_route(method, lib, Key { kind, id })
+}
+
+fn object_route(method: Method, lib: LibId, key: Key) -> Option<Route>
+    ensures { result ≡ object_route method lib key }
+{
+    match method {
+        Method::Get => Some(Route::Get(lib, key)),
+        Method::Put => Some(Route::Put(lib, key)),
+        Method::Post | Method::Other => None,
+    }
+}
+
+fn kind_of(word: &str) -> Option<Kind>
+    ensures { result ≡ kind_of word.now }
+{
+    if word == "block" {
+        Some(Kind::Block)
+    } else {
+        None
+    }
+}
+
+fn id_of(text: &str) -> Option<ObjId>
+    ensures { result ≡ id_of text.now }
+{
+    ObjId::read(text).ok()
+}
+
+fn lib_of(text: &str) -> Option<LibId>
+    ensures { result ≡ lib_of text.now }
+{
+    LibId::read(text).ok()
+}

@@ -1,0 +1,34 @@
+//! The status lines of replies.
+ghost use Rattle.std.specs.Prelude.{◌≡◌};
+ghost use Rattle.http_front.specs.Status.{status_words};
+
+/// The status of a reply (RFC 9110, section 15; 431 is of RFC 6585).
+#[derive(Clone, Copy, Debug, PartialEq, Eq)]
+pub enum Status {
+    Success,
+    NotModified,
+    BadRequest,
+    NotFound,
+    Conflict,
+    ContentTooLarge,
+    HeadTooLarge,
+    NotImplemented,
+    Unavailable,
+}
+
+/// The number and the words of a status, as its line shows them.
+pub fn status_words(status: Status) -> &'static [u8]
+    ensures { result.now ≡ status_words status }
+{
+    match status {
+        Status::Success => b"200 OK",
+        Status::NotModified => b"304 Not Modified",
+        Status::BadRequest => b"400 Bad Request",
+        Status::NotFound => b"404 Not Found",
+        Status::Conflict => b"409 Conflict",
+        Status::ContentTooLarge => b"413 Content Too Large",
+        Status::HeadTooLarge => b"431 Request Header Fields Too Large",
+        Status::NotImplemented => b"501 Not Implemented",
+        Status::Unavailable => b"503 Service Unavailable",
+    }
+}
