@@ -1,0 +1,4 @@
+pub mod CallLemmas
+pub mod ReadingLemmas
+pub mod RequestLemmas
+pub mod SessionLemmas

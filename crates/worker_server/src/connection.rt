@@ -1,0 +1,138 @@
+//! A connection: one request after another is read, answered and replied to.
+ghost use Rattle.std.specs.Prelude.{◌≡◌, ◌==◌, ◌||◌, ℕ, List, Some, IsTrue};
+ghost use Rattle.ids.specs.FaultCount.{Rose};
+ghost use Rattle.http_front.specs.Buffer.{to_read};
+ghost use Rattle.http_front.specs.ReplyText.{is_bad_status};
+ghost use Rattle.worker_server.specs.Calls.{Told, Ran};
+ghost use Rattle.worker_server.specs.RequestSteps.{CountsGive, CountsServed, HasPlainStatus, OneServed, RefusesSo, StopsSo};
+ghost use Rattle.worker_server.specs.ServedConnection.{CountsEnd, Session};
+
+use crate::answering::reply_to;
+use crate::host::Host;
+use crate::reading::{End, next_request};
+use crate::served::Served;
+use http_front::{Buffer, Head, Link, bad_bytes};
+use std::alloc::Global;
+
+/// The most requests that are answered on one connection.
+const MOST_REQUESTS: u64 = 10_000;
+
+/// Serves one connection: reads requests from the link, asks them of the host through the pass, and gives the replies
+/// in the order of the requests.
+///
+/// Only whole requests are answered so far: those whose head and body stand in full in what the link gives, and that
+/// ask for no interim reply. Where something else is left, the end is `Refused(501)`. Memory is bounded by one request
+/// and a piece of 65,536 bytes. After a fault or want of memory each reply was given whole but the last, of which a
+/// front was given.
+pub fn serve_session<H: Host, L: Link>(
+    alloc: Global,
+    host: &H,
+    pass: &mut H::Pass,
+    link: &mut L,
+) -> Served
+    requires ready { H.ready host.now pass.old }
+    ensures ready { H.ready host.now pass.new }
+
+    // Where the link tells what it has left: the bytes given are the texts of the outcomes of the requests that those
+    // bytes spell.
+    ensures session { (input : List ℕ) → L.left link.old ≡ Some input
+        → Session H.asks input (L.given link.old) (L.given link.new) (H.view pass.old) (H.view pass.new) result }
+
+    // Of every link: the calls that were asked.
+    ensures ran { (calls : List (Told H.Line)) × Ran H.asks (H.view pass.old) calls (H.view pass.new) }
+
+    // The link's count of faults rose in the first two cases, and stayed in every other.
+    ensures read_fault { result ≡ Served.ReadFault → Rose (L.faults link.old) (L.faults link.new) }
+    ensures write_fault { result ≡ Served.WriteFault → Rose (L.faults link.old) (L.faults link.new) }
+    ensures faults { CountsEnd (L.faults link.old) (L.faults link.new) result }
+{
+    let mut buffer = match Buffer::new(alloc) {
+        Ok(buffer) => buffer,
+        Err(_) => return Served::NoMemory,
+    };
+    for number in 0..MOST_REQUESTS - 1 {
+        match serve_one(alloc, host, pass, link, &mut buffer, number) {
+            Ok(false) => {}
+            Ok(true) => return Served::Ended,
+            Err(how) => return how,
+        }
+    }
+    match serve_one(alloc, host, pass, link, &mut buffer, MOST_REQUESTS - 1) {
+        Ok(_) => Served::Limit,
+        Err(how) => how,
+    }
+}
+
+/// Serves the request of this number, counted from 0, and says whether the connection closes after it.
+fn serve_one<H: Host, L: Link>(
+    alloc: Global,
+    host: &H,
+    pass: &mut H::Pass,
+    link: &mut L,
+    buffer: &mut Buffer,
+    number: u64,
+) -> Result<bool, Served>
+    requires ready { H.ready host.now pass.old }
+    ensures ready { H.ready host.now pass.new }
+    ensures one { (rest : List ℕ) → to_read buffer.old (L.left link.old) ≡ Some rest
+        → OneServed H.asks number rest (to_read buffer.new (L.left link.new)) (H.view pass.old) (H.view pass.new) (L.given link.old) (L.given link.new) result }
+    ensures ran { (calls : List (Told H.Line)) × Ran H.asks (H.view pass.old) calls (H.view pass.new) }
+    ensures faults { CountsServed (L.faults link.old) (L.faults link.new) result }
+{
+    let head = match next_request(alloc, link, buffer) {
+        Ok(head) => head,
+        Err(end) => return Err(stop(alloc, link, end)),
+    };
+    let closes = closes_at(&head, number);
+    let front = buffer.front();
+    let start = head.used as usize;
+    let end = start + head.body as usize;
+    let reply = match reply_to(alloc, host, pass, &head, &front[start..end], closes) {
+        Some(reply) => reply,
+        None => return Err(Served::NoMemory),
+    };
+    match link.give(reply.slice()) {
+        Ok(()) => {}
+        Err(_) => return Err(Served::WriteFault),
+    }
+    buffer.skip(end);
+    Ok(closes)
+}
+
+/// Whether the connection closes after the request of this number.
+fn closes_at(head: &Head, number: u64) -> bool
+    ensures value { result ≡ (head.now.closes || number == 9999) }
+{
+    head.closes || number == MOST_REQUESTS - 1
+}
+
+/// Ends the connection where no further request was read.
+fn stop<L: Link>(alloc: Global, link: &mut L, end: End) -> Served
+    requires status { HasPlainStatus end }
+    ensures value { StopsSo end (L.given link.old) (L.given link.new) result }
+    ensures faults { CountsGive (L.faults link.old) (L.faults link.new) result }
+{
+    match end {
+        End::Over => Served::Ended,
+        End::Cut(read) => Served::Cut(read),
+        End::Refused(status) => refuse(alloc, link, status),
+        End::ReadFault => Served::ReadFault,
+        End::NoMemory => Served::NoMemory,
+    }
+}
+
+/// Gives the reply to bytes that are no request.
+fn refuse<L: Link>(alloc: Global, link: &mut L, status: u16) -> Served
+    requires fits { IsTrue (is_bad_status status) }
+    ensures value { RefusesSo status (L.given link.old) (L.given link.new) result }
+    ensures faults { CountsGive (L.faults link.old) (L.faults link.new) result }
+{
+    let text = match bad_bytes(alloc, status) {
+        Ok(text) => text,
+        Err(_) => return Served::NoMemory,
+    };
+    match link.give(text.slice()) {
+        Ok(()) => Served::Refused(status),
+        Err(_) => Served::WriteFault,
+    }
+}

@@ -1,0 +1,49 @@
+//! What calls are asked of: one library, or a participant in the history of many.
+use ids::LibId;
+use library_state::{Call, Reply};
+use std::alloc::Global;
+
+/// A library's answer to a call.
+///
+/// `opening` and `place` tell the state that the reply tells of: which opening of the library, and
+/// how many changes were made since. Both are 0 where the host keeps no such count.
+#[derive(Debug, Drop)]
+pub struct Answer {
+    pub reply: Reply,
+    pub opening: u64,
+    pub place: u64,
+}
+
+/// What calls are asked of.
+///
+/// A host is shared, and what changes as it answers is the pass that it is lent at each call: the
+/// library itself, or a participant that has seen a part of a history. Contracts see a pass by a
+/// view, and a call by a relation between the view before, the answer, the lines that it left (a
+/// record of operations, empty where none is kept) and the view after.
+pub trait Host {
+    ghost use Rattle.std.specs.Prelude.{List, ℕ};
+    ghost use Rattle.library_state.specs.declared.call.Call.{Call};
+    ghost use Rattle.worker_server.specs.declared.host.Answer.{Answer};
+
+    type Pass;
+
+    // What a call leaves in the record of operations.
+    ghost Line: { Type 0 };
+
+    // What contracts see of a pass.
+    ghost View: { Type 0 };
+
+    ghost view: { Self.Pass → View };
+
+    // The host takes calls through this pass.
+    ghost ready: { Self → Self.Pass → Type 0 };
+
+    // A call on a library may be answered so.
+    ghost asks: { View → List ℕ → Call → Answer → List Line → View → Type 0 };
+
+    /// Asks a call of a library.
+    fn ask(&self, alloc: Global, pass: &mut Self::Pass, lib: LibId, call: Call) -> Answer
+        requires ready { ready self.now pass.old }
+        ensures ready { ready self.now pass.new }
+        ensures asks { (lines : List Line) × asks (view pass.old) lib call result lines (view pass.new) };
+}

@@ -1,0 +1,16 @@
+//! A served connection: requests are read from a link, asked of a host and answered, in their order.
+//!
+//! Shown upward: `Served`, `Host` with its `Answer`, and `serve_session`.
+//! Definition: specs/ServedConnection.antt. Promise: the clauses of `serve_session`.
+//! It keeps no library: what answers the calls is the host's.
+#![tactic(auto)]
+
+mod answering;
+mod connection;
+mod host;
+mod reading;
+mod served;
+
+pub use connection::serve_session;
+pub use host::{Answer, Host};
+pub use served::Served;
