@@ -1,0 +1,3 @@
+pub mod Library
+pub mod CommandLine
+pub mod Runs
