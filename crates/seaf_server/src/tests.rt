@@ -123,3 +123,68 @@ fn a_link_that_fails_leaves_a_front_of_the_replies(rt: HostRuntime) -> Result<()
     }
     Ok(())
 }
+
+/// What is given where no whole request stands at the front of what is left.
+const NO_WHOLE_REQUEST: &str =
+    "HTTP/1.1 501 Not Implemented\r\nContent-Type: application/json\r\nContent-Length: 19\r\nConnection: close\r\n\r\n{\"reason\":\"coding\"}";
+
+#[test]
+fn what_is_no_whole_request_ends_the_connection(rt: HostRuntime) -> Result<(), Fail> {
+    let cut = "GET / HT";
+    let garbage = "x\r\n";
+    let expecting =
+        "PUT /repo/11111111-2222-4333-8444-555555555555/block/a9993e364706816aba3e25717850c26c9cd0d89d HTTP/1.1\r\nHost: x\r\nContent-Length: 3\r\nExpect: 100-continue\r\n\r\nabc";
+    for input in [cut, garbage, expecting] {
+        let ran = ran(rt.alloc(), &INETD, input, 1_000, &[], 100)?;
+        assert_eq!(rt; ran.given.slice(), NO_WHOLE_REQUEST.as_bytes(), "{input}");
+        assert_eq!(rt; ran.status, 1, "{input}");
+    }
+    Ok(())
+}
+
+/// What is given where a request is none of the calls, and the input then ends.
+const NO_CALL: &str =
+    "HTTP/1.1 501 Not Implemented\r\nContent-Type: application/json\r\nContent-Length: 19\r\n\r\n{\"reason\":\"method\"}";
+
+#[test]
+fn a_request_that_is_no_call_is_refused_by_its_method(rt: HostRuntime) -> Result<(), Fail> {
+    let posted =
+        "POST /repo/11111111-2222-4333-8444-555555555555/block/a9993e364706816aba3e25717850c26c9cd0d89d HTTP/1.1\r\nHost: x\r\n\r\n";
+    let of_another_library =
+        "GET /repo/11111111-2222-4333-8444-555555555556/block/a9993e364706816aba3e25717850c26c9cd0d89d HTTP/1.1\r\nHost: x\r\n\r\n";
+    let elsewhere = "GET /x HTTP/1.1\r\nHost: x\r\n\r\n";
+    for input in [posted, of_another_library, elsewhere] {
+        let ran = ran(rt.alloc(), &INETD, input, 1_000, &[], 100)?;
+        assert_eq!(rt; ran.given.slice(), NO_CALL.as_bytes(), "{input}");
+        assert_eq!(rt; ran.status, 0, "{input}");
+    }
+    Ok(())
+}
+
+/// The requests that put a block of 70,000 letters, which is longer than a piece, and get it back.
+fn long_block_requests(alloc: Global, block: &str) -> Result<String, AllocError> {
+    let mut input = String::from_str(
+        alloc,
+        "PUT /repo/11111111-2222-4333-8444-555555555555/block/49dc0e9304ca87f2151de32f6c5291bf09c5e652 HTTP/1.1\r\nHost: x\r\nContent-Length: 70000\r\n\r\n",
+    )?;
+    input.push_str(block)?;
+    input.push_str(
+        "GET /repo/11111111-2222-4333-8444-555555555555/block/49dc0e9304ca87f2151de32f6c5291bf09c5e652 HTTP/1.1\r\nHost: x\r\n\r\n",
+    )?;
+    Ok(input)
+}
+
+#[test]
+fn a_block_longer_than_a_piece_is_given_back(rt: HostRuntime) -> Result<(), Fail> {
+    let block = "a".repeat(rt.alloc(), 70_000)?;
+    let input = long_block_requests(rt.alloc(), block.as_str())?;
+    let bytes = Bytes::copy(rt.alloc(), input.as_bytes())?;
+    let mut link = MemoryLink::new(rt.alloc(), bytes, 65_536, 100_000, Items::new(rt.alloc()))?;
+    let mut out = MemorySink::new(rt.alloc(), 100, Items::new(rt.alloc()))?;
+    let words = words_of(rt.alloc(), &INETD)?;
+    let status = run(&(), rt.alloc(), words.slice(), &mut link, &mut out);
+    assert_eq!(rt; status, 0);
+    assert!(rt; link.given().ends_with(block.as_bytes()));
+    assert_eq!(rt; link.given().len(), 38 + 82 + 70_000);
+    Ok(())
+}
