@@ -78,7 +78,7 @@ bad_end buffer left rest status e (inl bad) =
     inl (subst (λ z. IsRefused z status) (sym ahead.2) (refused_on buffer ahead.0 status bad))
 bad_end buffer left rest status e (inr expecting) =
     let ahead = to_read-some buffer left rest e in
-    inr (subst (λ z. HasExpecting (front_of z)) (sym ahead.2) (HasExpecting-on buffer ahead.0 expecting.1))
+    inr (expecting.0, subst (λ z. HasExpecting (front_of z)) (sym ahead.2) (HasExpecting-on buffer ahead.0 expecting.1))
 
 -- the body of the head in the buffer isn't read in full
 pub body_end : (buffer : List ℕ) (left : Option (List ℕ)) (rest : List ℕ) (head : Head) (request : RequestHead) (how : End)
@@ -206,7 +206,7 @@ pub IsPlainEnd-from_end : (rest : List ℕ) (how : End) → IsEnd rest how → I
 IsPlainEnd-from_end rest end.Over is = is
 IsPlainEnd-from_end rest (end.Cut read) is = (refl, cut_unreadable rest is.1)
 IsPlainEnd-from_end rest (end.Refused status) (inl refused) = (refl, (refused_some rest status refused, no_plain_refused rest status refused))
-IsPlainEnd-from_end rest (end.Refused status) (inr is) =
+IsPlainEnd-from_end rest (end.Refused status) (inr (coded, is)) =
     let at = expecting_at rest is in
     (refl, (head_some rest is.request at.0 at.1, no_plain_expects rest is.request at.0 at.1 is.expecting))
 IsPlainEnd-from_end rest end.ReadFault is = tt

@@ -37,7 +37,7 @@ end_at (byte ∷ bytes) = end.Cut (length (byte ∷ bytes))
 abbrev pub IsEnd : List ℕ → End → Type 0
 IsEnd rest end.Over = rest ≡ []
 IsEnd rest (end.Cut read) = (read ≡ length rest) × IsCutAfter rest
-IsEnd rest (end.Refused status) = IsRefused rest status ⊎ HasExpecting (front_of rest)
+IsEnd rest (end.Refused status) = IsRefused rest status ⊎ ((status ≡ 501) × HasExpecting (front_of rest))
 IsEnd rest end.ReadFault = ⊤
 IsEnd rest end.NoMemory = ⊤
 
