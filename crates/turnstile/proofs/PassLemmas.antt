@@ -191,26 +191,33 @@ module _ {V E : Type 0} (stands : V → List E → V → Type 0) (k : About V) w
   -- close
 
   -- where one participant has all the parts, no other has the turn or a book, so its list is the whole history, its book has each place, and the value is at home
-  whole_of : (s : State (Parcel V E) (View V E)) (r : Rule s) (id : ℕ) (v : View V E) → get_elem? s.views id ≡ some v → v.turn ≡ false → v.parts ≡ k.passes
+  whole_of : (s : State (Parcel V E) (View V E)) (r : Rule s) (id : ℕ) (v : View V E) → get_elem? s.views id ≡ some v → v.parts ≡ k.passes
       → (j : ℕ) (u : View V E) → j ≢ id → get_elem? s.views j ≡ some u → (u.book ≡ []) × (u.turn ≡ false)
-  whole_of s r id v at free all j u other there =
+  whole_of s r id v at all j u other there =
       let two = total-two parts_in s.views id j v u at there (λ e. other (sym e)) in
       let sum = r.parts in
       let tickets = r.turns in
       (r.each j u there).spent (omega arith)
 
-  book_of_all : (s : State (Parcel V E) (View V E)) (r : Rule s) (id : ℕ) (v : View V E) → get_elem? s.views id ≡ some v → v.turn ≡ false → v.parts ≡ k.passes
+  book_of_all : (s : State (Parcel V E) (View V E)) (r : Rule s) (id : ℕ) (v : View V E) → get_elem? s.views id ≡ some v → v.parts ≡ k.passes
       → (p : ℕ) → p < length r.history → Has p v.book
-  book_of_all s r id v at free all p below =
+  book_of_all s r id v at all p below =
       let t = r.made p below in
       dite (ℕ_discrete (r.maker p) id)
       (λ is. subst (λ (z : View V E). Has p z.book) (one_view s.views id t.0 v (subst (λ (z : ℕ). get_elem? s.views z ≡ some t.0) is t.1) at) t.2)
-      (λ far. absurd (subst (Has p) (whole_of s r id v at free all (r.maker p) t.0 far t.1).0 t.2))
+      (λ far. absurd (subst (Has p) (whole_of s r id v at all (r.maker p) t.0 far t.1).0 t.2))
 
   -- a list that has every place of the history is no shorter
   seen_all : (n m : ℕ) → ((p : ℕ) → p < n → p < m) → n ≤ m
   seen_all zero m every = omega arith
   seen_all (suc n) m every = let last = every n (omega arith) in omega arith
+
+  pub knows_all : (s : State (Parcel V E) (View V E)) (r : Rule s) (id : ℕ) (v : View V E) → get_elem? s.views id ≡ some v → v.parts ≡ k.passes
+      → (v.seen ≡ r.history) × ((p : ℕ) → p < length r.history → Has p v.book)
+  knows_all s r id v at all =
+      let f = r.each id v at in
+      let book = book_of_all s r id v at all in
+      (prefix_whole v.seen r.history f.seen_first (seen_all (length r.history) (length v.seen) (λ p below. (f.booked p (book p below)).0)), book)
 
   pub ends : (id : ℕ) (v : View V E) (ws : List ℕ) (xs : List (Parcel V E)) (q : Parcel V E) → v.turn ≡ false → 0 < v.parts → v.parts ≡ v.passes
       → Final (Seen Rule id v) ws xs → get_elem? xs 0 ≡ some q
@@ -224,13 +231,13 @@ module _ {V E : Type 0} (stands : V → List E → V → Type 0) (k : About V) w
       let every = all ∙ begun.1 in
       let empty : IsFree s.views = λ j u e. dite (ℕ_discrete j id)
       (λ is. subst (λ (z : View V E). z.turn ≡ false) (one_view s.views id v u at (subst (λ (z : ℕ). get_elem? s.views z ≡ some u) is e)) free)
-      (λ other. (whole_of s r id v at free every j u other e).1) in
+      (λ other. (whole_of s r id v at every j u other e).1) in
       let h = at_home stands k s r empty in
       let is : h.0 ≡ q = some-injective h.0 q (sym (end.4 0 h.0 (ap (λ hs. get_elem? hs 0) h.1)) ∙ here) in
       let first = prefix_length v.seen r.history f.seen_first in
-      let book = book_of_all s r id v at free every in
-      let whole : v.seen ≡ r.history = prefix_whole v.seen r.history f.seen_first (seen_all (length r.history) (length v.seen) (λ p below. (f.booked p (book p below)).0)) in
+      let known = knows_all s r id v at every in
+      let whole : v.seen ≡ r.history = known.0 in
       let y = h.2.0 in (
         (k.start.value, begun.0, (y, ap (λ (z : Parcel V E). z.value) (sym is) ∙ h.2.1, subst (λ (z : List E). stands k.start.value z y) (sym whole) h.2.2)),
-        λ p below. book p (omega arith),
+        λ p below. known.1 p (omega arith),
       )

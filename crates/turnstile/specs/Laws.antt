@@ -40,6 +40,10 @@ module _ {V E : Type 0} where
     abbrev pub StandsWhereFree : (k : About V) (s : State (Parcel V E) (View V E)) → IsLawful stands k s → Type 0
     StandsWhereFree k s r = IsFree s.views → (p : Parcel V E) × (s.homes ≡ some p ∷ []) × Stands stands k.start.value r.history p
 
+    -- who stands for all passes has seen all of the history, and has each place of it in its book
+    abbrev pub HasSeenAll : (k : About V) (s : State (Parcel V E) (View V E)) → IsLawful stands k s → Type 0
+    HasSeenAll k s r = (i : ℕ) (v : View V E) → get_elem? s.views i ≡ some v → v.parts ≡ k.passes → (v.seen ≡ r.history) × ((p : ℕ) → p < length r.history → Has p v.book)
+
     -- the tickets drawn so far are those from the first on, and no more than the most
-    abbrev pub HasTurnsLeft : (k : About V) (s : State (Parcel V E) (View V E)) → IsLawful stands k s → Type 0
-    HasTurnsLeft k s r = (k.first + total turns_in s.views ≡ r.drawn) × (r.drawn ≤ most_turns)
+    abbrev pub DrawsWithinMost : (k : About V) (s : State (Parcel V E) (View V E)) → IsLawful stands k s → Type 0
+    DrawsWithinMost k s r = (k.first + total turns_in s.views ≡ r.drawn) × (r.drawn ≤ most_turns)

@@ -1,5 +1,5 @@
 //! What holds of a turnstile at any moment: one theorem each, over every state that the rule allows.
-ghost use Rattle.turnstile.specs.Laws.{Always, HasOneTurn, KnowsBeginning, HasPlacesOnce, HasOneBook, HasEachPlace, StandsWhereFree, HasTurnsLeft};
+ghost use Rattle.turnstile.specs.Laws.{Always, HasOneTurn, KnowsBeginning, HasPlacesOnce, HasOneBook, HasEachPlace, StandsWhereFree, HasSeenAll, DrawsWithinMost};
 
 use crate::story::Story;
 
@@ -25,7 +25,14 @@ pub fn each_entry_is_in_one_book<V: Story>()
     ensures found { Always V.stands (λ k s r. HasEachPlace r.history s.views) }
 {}
 
+/// Who stands for all passes has seen all of the history, and its book has each place of it.
+///
+/// So what `close` says of the known list and the book of its pass, it says of the whole history.
+pub fn who_stands_for_all_has_seen_all<V: Story>()
+    ensures { Always V.stands (HasSeenAll V.stands) }
+{}
+
 /// The tickets drawn are those from the first on, and never more than `TURNS`.
 pub fn no_more_than_all_turns_are_drawn<V: Story>()
-    ensures { Always V.stands (HasTurnsLeft V.stands) }
+    ensures { Always V.stands (DrawsWithinMost V.stands) }
 {}

@@ -3,11 +3,7 @@ ghost use Rattle.std.specs.Prelude.{◌≡◌, ◌+◌, ◌≤◌, length, IfOk}
 ghost use Rattle.turnstile.specs.Rule.{most_turns};
 ghost use Rattle.turnstile.specs.PassView.{IsPassOf};
 
-use crate::{
-    Pass, Spent, Story, TURNS, Turnstile, at_most_one_participant_has_the_turn,
-    each_entry_is_in_one_book, no_more_than_all_turns_are_drawn,
-    the_value_stands_for_the_history_whenever_the_turn_is_free, what_is_known_begins_the_history,
-};
+use crate::{Pass, Spent, Story, TURNS, Turnstile};
 use std::alloc::{AllocError, Global};
 use std::snapshot::Snapshot;
 use std::sync::Wait;
@@ -105,6 +101,16 @@ fn a_spent_turnstile_gives_no_turn_and_still_closes(rt: HostRuntime) -> Result<(
 }
 
 #[test]
+fn the_last_turn_is_given_and_then_none(rt: HostRuntime) -> Result<(), Fail> {
+    let (turnstile, mut first, mut second) = two_passes(rt.alloc(), TURNS - 1)?;
+    assert!(rt; add_one(&rt, &turnstile, &mut first) == Ok(0));
+    assert!(rt; add_one(&rt, &turnstile, &mut second) == Err(Spent));
+    assert!(rt; add_one(&rt, &turnstile, &mut first) == Err(Spent));
+    assert_eq!(rt; turnstile.count(&mut second), 1);
+    Ok(())
+}
+
+#[test]
 fn two_threads_of_a_thousand_turns_lose_nothing(rt: HostRuntime) -> Result<(), Fail> {
     let (turnstile, first, second) = two_passes(rt.alloc(), 0)?;
     let shared = &turnstile;
@@ -147,14 +153,20 @@ fn a_turn_publishes_entries_at_their_places_while_others_count(
         return Err("begun with entries".into());
     }
     held.value().count = 2;
+    let before = turnstile.count(&mut second);
     let places = (
         held.publish(Snapshot::of(&1)),
         held.publish(Snapshot::of(&2)),
     );
-    let counted = turnstile.count(&mut second);
+    let after = turnstile.count(&mut second);
     held.done();
     assert_eq!(rt; places, (0, 1));
-    assert_eq!(rt; counted, 2, "a count does not wait for the turn to end");
+    assert_eq!(rt; before, 0);
+    assert_eq!(rt;
+        after,
+        2,
+        "a count neither waits for the turn to end nor keeps an old number"
+    );
     Ok(())
 }
 
@@ -173,13 +185,4 @@ fn a_pass_and_its_turnstile_cross_threads(rt: HostRuntime) -> Result<(), Fail> {
     let (turnstile, first, _) = two_passes(rt.alloc(), 0)?;
     let _first = both_cross(&turnstile, first);
     Ok(())
-}
-
-#[test]
-fn the_laws_hold_of_a_tally() {
-    at_most_one_participant_has_the_turn::<Tally>();
-    the_value_stands_for_the_history_whenever_the_turn_is_free::<Tally>();
-    what_is_known_begins_the_history::<Tally>();
-    each_entry_is_in_one_book::<Tally>();
-    no_more_than_all_turns_are_drawn::<Tally>();
 }
