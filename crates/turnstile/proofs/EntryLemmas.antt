@@ -17,7 +17,7 @@ use Rattle.turnstile.specs.Rule.{parts_in, turns_in, Fits, IsLawful}
 use Rattle.turnstile.specs.Rule.Place.{away}
 use Rattle.turnstile.specs.Steps.{Participant, carried_entries, Published, Counted, Glanced, Totalled}
 use Rattle.turnstile.proofs.ListsLemmas.{prefix_refl, prefix_length, prefix_between, Has-left, Has-right, Has-append, IsOnce-append}
-use Rattle.turnstile.proofs.RuleLemmas.{pinned, pinned-here, pinned-else, total-set, total-at, each_set, inside, made_set, still, one_turn, alone, from_home}
+use Rattle.turnstile.proofs.RuleLemmas.{pinned, pinned-here, pinned-else, total-set, total-at, each_set, inside, made_set, out_set, still, one_turn, alone, from_home}
 
 module _ {V E : Type 0} (stands : V → List E → V → Type 0) (k : About V) where
   abbrev Rule : State (Parcel V E) (View V E) → Type 0
@@ -79,6 +79,7 @@ module _ {V E : Type 0} (stands : V → List E → V → Type 0) (k : About V) w
             (λ on. absurd (apart j u other e on))
             (λ t low high own. (low, own))
             (λ p below own. pinned-else r.maker n id p (λ z. omega arith) ∙ own) (r.each j u e));
+        out = λ t low high. out_set s.views id v w at (λ _ e. e) (r.owner t) t (r.out t low high);
         made = λ p below. dite (ℕ_discrete p n)
             (λ here. (w, subst (λ (z : ℕ). get_elem? (set s.views id w) z ≡ some w) (sym (pinned-here r.maker n id p here)) (set_here s.views id w (inside s.views id v at)), Has-right p v.book (n ∷ []) (inl here)))
             (λ before. subst (λ (z : ℕ). (u : View V E) × (get_elem? (set s.views id w) z ≡ some u) × Has p u.book) (sym (pinned-else r.maker n id p before))
@@ -117,7 +118,7 @@ module _ {V E : Type 0} (stands : V → List E → V → Type 0) (k : About V) w
         me.0,
         keeps,
         tt,
-        alone stands k s r id me.0 me.0 at f refl refl refl refl (λ p h. h) (set s.words 3 n) (set-get_or s.words 3 0),
+        alone stands k s r id me.0 me.0 at f refl refl refl refl refl (λ p h. h) (set s.words 3 n) (set-get_or s.words 3 0),
         (is ∙ ap length (sym (f.turning turn).1), omega arith, refl),
       )
 
@@ -145,7 +146,7 @@ module _ {V E : Type 0} (stands : V → List E → V → Type 0) (k : About V) w
         w,
         keeps,
         tt,
-        alone stands k s r id me.0 w at fits refl refl refl refl (λ p h. h) (set s.words 3 n) (set-get_or s.words 3 0),
+        alone stands k s r id me.0 w at fits refl refl refl refl refl (λ p h. h) (set s.words 3 n) (set-get_or s.words 3 0),
         (omega arith, omega arith, refl),
       )
 
@@ -161,7 +162,7 @@ module _ {V E : Type 0} (stands : V → List E → V → Type 0) (k : About V) w
         me.0,
         keeps,
         tt,
-        alone stands k s r id me.0 me.0 at f refl refl refl refl (λ p h. h) (set s.words 0 n) (set-get_or s.words 0 0),
+        alone stands k s r id me.0 me.0 at f refl refl refl refl refl (λ p h. h) (set s.words 0 n) (set-get_or s.words 0 0),
         (
           is ∙ sym (f.started part).1,
           omega arith,

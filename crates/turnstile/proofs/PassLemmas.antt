@@ -18,7 +18,7 @@ use Rattle.turnstile.specs.Rule.{most_turns, parts_in, turns_in, Stands, IsFree,
 use Rattle.turnstile.specs.Rule.Place.{home, away}
 use Rattle.turnstile.specs.Steps.{newcomer, one_less, one_part, both_of, spent}
 use Rattle.turnstile.proofs.ListsLemmas.{prefix_length, prefix_whole, longer_by, shorter_by, longer-left, longer-right, Has-left, Has-right, Has-append, IsOnce-append}
-use Rattle.turnstile.proofs.RuleLemmas.{pinned, pinned-here, pinned-else, total-set, total-append, total-two, each_set, inside, one_view, made_set, still, place_set, at_home}
+use Rattle.turnstile.proofs.RuleLemmas.{pinned, pinned-here, pinned-else, total-set, total-append, total-two, each_set, inside, one_view, made_set, out_set, still, place_set, at_home}
 
 module _ {V E : Type 0} (stands : V → List E → V → Type 0) (k : About V) where
   abbrev Rule : State (Parcel V E) (View V E) → Type 0
@@ -60,6 +60,7 @@ module _ {V E : Type 0} (stands : V → List E → V → Type 0) (k : About V) w
     turns = omega arith;
     each = each_set (Fits k [] drawn drawn (λ _. 0) (λ _. 0)) (first ∷ []) 0 first (new_fits [] drawn drawn (λ _. 0) (λ _. 0) 0 (Some k.start.value) k.passes k.first k.passes (λ _. (refl, refl, refl)))
         (λ j u other e. absurd (only first j u other e));
+    out = λ t low high. absurd (omega arith);
     made = λ q below. absurd (omega arith);
     place = home p refl (k.start.value, value, begins)
         (each_set (λ j (u : View V E). u.turn ≡ false) (first ∷ []) 0 first refl (λ j u other e. absurd (only first j u other e))) (omega arith);
@@ -114,6 +115,7 @@ module _ {V E : Type 0} (stands : V → List E → V → Type 0) (k : About V) w
             (λ (t : right ≡ u). subst (λ (z : View V E). Fits k r.history r.serving r.drawn r.owner r.maker j z) t
             (new_fits r.history r.serving r.drawn r.owner r.maker j v.start v.passes v.first 1 (λ _. begun)))
             (at_snoc views right u j e);
+        out = λ t low high. let o = out_set s.views id v left at (λ _ e. e) (r.owner t) t (r.out t low high) in (o.0, at_longer views (right ∷ []) (r.owner t) o.0 o.1, o.2);
         made = λ p below. let t = made_set s.views id v left at (λ q h. h) (r.maker p) p (r.made p below) in (t.0, at_longer views (right ∷ []) (r.maker p) t.0 t.1, t.2);
         place = place_snoc k.start.value r.history r.serving s.homes views right refl (place_set stands k.start.value r.history r.serving s.homes s.views id v left at refl (λ _. refl) r.place);
       }
@@ -142,8 +144,8 @@ module _ {V E : Type 0} (stands : V → List E → V → Type 0) (k : About V) w
         started = λ _. f.started part;
       }
 
-  pub joins : (id other : ℕ) (v w : View V E) → v.turn ≡ false → w.turn ≡ false → 0 < v.parts → Joins Rule id v other w (both_of v w) spent
-  joins id other v w free free' part s r at apart there =
+  pub joins : (id other : ℕ) (v w : View V E) → v.turn ≡ false → w.turn ≡ false → w.ticket ≡ None → 0 < v.parts → Joins Rule id v other w (both_of v w) spent
+  joins id other v w free free' none_left part s r at apart there =
       let both : View V E = both_of v w in
       let views : List (View V E) = set s.views id both in
       let at' : get_elem? s.views other ≡ some w = sym (set_else s.views id other both apart) ∙ there in
@@ -175,6 +177,13 @@ module _ {V E : Type 0} (stands : V → List E → V → Type 0) (k : About V) w
             (λ _. (refl, refl)) (λ t low high own. (low, own))
             (λ p below own. pinned-else (λ m. m) other id (r.maker p) (λ z. far (sym own ∙ z)) ∙ own) (r.each j u e))
             j u e far);
+        out = λ t low high.
+            let o = out_set s.views id v both at (λ _ e. e) (r.owner t) t (r.out t low high) in
+            let far : r.owner t ≢ other = λ z.
+            let same : o.0 ≡ w = one_view views other o.0 w (subst (λ (m : ℕ). get_elem? views m ≡ some o.0) z o.1) there in
+            let clash : Some t ≡ None = sym o.2 ∙ (ap (λ (u : View V E). u.ticket) same ∙ none_left) in
+            absurd (cc) in
+            (o.0, set_else views other (r.owner t) spent far ∙ o.1, o.2);
         made = λ p below. let t = r.made p below in dite (ℕ_discrete (r.maker p) other)
             (λ is. (
               both,

@@ -69,16 +69,25 @@ module _ {V E : Type 0} where
   pub one_view : (views : List (View V E)) (i : ℕ) (v w : View V E) → get_elem? views i ≡ some v → get_elem? views i ≡ some w → v ≡ w
   one_view views i v w e f = some-injective v w (sym e ∙ f)
 
-  -- the book with the place p is still there
-  pub made_set : (views : List (View V E)) (i : ℕ) (v w : View V E) → get_elem? views i ≡ some v → ((p : ℕ) → Has p v.book → Has p w.book)
-      → (m p : ℕ) → (u : View V E) × (get_elem? views m ≡ some u) × Has p u.book → (u : View V E) × (get_elem? (set views i w) m ≡ some u) × Has p u.book
-  made_set views i v w at more m p t = dite (ℕ_discrete m i)
+  -- what one participant has is still there, where the view that changes keeps it
+  pub kept_set : (P : View V E → Type 0) (views : List (View V E)) (i : ℕ) (v w : View V E) → get_elem? views i ≡ some v → (P v → P w)
+      → (m : ℕ) → (u : View V E) × (get_elem? views m ≡ some u) × P u → (u : View V E) × (get_elem? (set views i w) m ≡ some u) × P u
+  kept_set P views i v w at more m t = dite (ℕ_discrete m i)
       (λ e. (
         w,
         subst (λ (z : ℕ). get_elem? (set views i w) z ≡ some w) (sym e) (set_here views i w (inside views i v at)),
-        more p (subst (λ (u : View V E). Has p u.book) (one_view views i t.0 v (subst (λ (z : ℕ). get_elem? views z ≡ some t.0) e t.1) at) t.2),
+        more (subst P (one_view views i t.0 v (subst (λ (z : ℕ). get_elem? views z ≡ some t.0) e t.1) at) t.2),
       ))
       (λ other. (t.0, set_else views i m w other ∙ t.1, t.2))
+
+  -- the book with the place p is still there, and so is the ticket t
+  pub made_set : (views : List (View V E)) (i : ℕ) (v w : View V E) → get_elem? views i ≡ some v → ((p : ℕ) → Has p v.book → Has p w.book)
+      → (m p : ℕ) → (u : View V E) × (get_elem? views m ≡ some u) × Has p u.book → (u : View V E) × (get_elem? (set views i w) m ≡ some u) × Has p u.book
+  made_set views i v w at more m p t = kept_set (λ (u : View V E). Has p u.book) views i v w at (more p) m t
+
+  pub out_set : (views : List (View V E)) (i : ℕ) (v w : View V E) → get_elem? views i ≡ some v → ((t : ℕ) → v.ticket ≡ Some t → w.ticket ≡ Some t)
+      → (m t : ℕ) → (u : View V E) × (get_elem? views m ≡ some u) × (u.ticket ≡ Some t) → (u : View V E) × (get_elem? (set views i w) m ≡ some u) × (u.ticket ≡ Some t)
+  out_set views i v w at more m t o = kept_set (λ (u : View V E). u.ticket ≡ Some t) views i v w at (more t) m o
 
   -- another participant still fits, where the history goes on, and what its ticket, its turn and its book say stays
   pub still : (k : About V) (history history' : List E) (serving serving' drawn drawn' : ℕ) (owner owner' maker maker' : ℕ → ℕ) (i : ℕ) (v : View V E)
@@ -127,9 +136,9 @@ module _ {V E : Type 0} where
 
     -- the words stay, and one view changes in its own fields alone
     pub alone : (k : About V) (s : State (Parcel V E) (View V E)) (r : IsLawful stands k s) (i : ℕ) (v w : View V E) → get_elem? s.views i ≡ some v
-        → Fits k r.history r.serving r.drawn r.owner r.maker i w → w.parts ≡ v.parts → w.turns ≡ v.turns → w.turn ≡ v.turn → w.told ≡ v.told → ((p : ℕ) → Has p v.book → Has p w.book)
+        → Fits k r.history r.serving r.drawn r.owner r.maker i w → w.parts ≡ v.parts → w.turns ≡ v.turns → w.ticket ≡ v.ticket → w.turn ≡ v.turn → w.told ≡ v.told → ((p : ℕ) → Has p v.book → Has p w.book)
         → (ws : List ℕ) → ws ≡ s.words → IsLawful stands k record { words = ws; homes = s.homes; views = set s.views i w }
-    alone k s r i v w at fits parts turns turn told book ws same =
+    alone k s r i v w at fits parts turns ticket turn told book ws same =
         let all = total-set parts_in s.views i v w at in
         let drew = total-set turns_in s.views i v w at in
         let sum = r.parts in
@@ -145,6 +154,7 @@ module _ {V E : Type 0} where
           parts = omega arith;
           turns = omega arith;
           each = each_set (Fits k r.history r.serving r.drawn r.owner r.maker) s.views i w fits (λ j u _ e. r.each j u e);
+          out = λ t low high. out_set s.views i v w at (λ _ e. ticket ∙ e) (r.owner t) t (r.out t low high);
           made = λ p below. made_set s.views i v w at book (r.maker p) p (r.made p below);
           place = place_set k.start.value r.history r.serving s.homes s.views i v w at turn (λ _. told) r.place;
         }

@@ -8,7 +8,7 @@ use native.Mathlib.Decide.{ℕ_discrete}
 use lib.ListN.{get_elem?}
 use lib.Seq.{set-get_or}
 use Rattle.atomic_table.specs.Table.{State, keeps, takes, gives, put_back, Allows}
-use Rattle.atomic_table.proofs.Lists.{set_here}
+use Rattle.atomic_table.proofs.Lists.{set_here, set_else}
 use Rattle.turnstile.specs.declared.view.Parcel.{Parcel}
 use Rattle.turnstile.specs.declared.view.View.{View}
 use Rattle.turnstile.specs.declared.view.About.{About}
@@ -16,7 +16,7 @@ use Rattle.turnstile.specs.Rule.{parts_in, turns_in, IsFree, Fits, IsLawful}
 use Rattle.turnstile.specs.Rule.Place.{home, away}
 use Rattle.turnstile.specs.Steps.{Participant, Looked, Released}
 use Rattle.turnstile.proofs.ListsLemmas.{prefix_refl, prefix_length}
-use Rattle.turnstile.proofs.RuleLemmas.{total-set, each_set, inside, one_view, made_set, still, one_turn, alone, at_home, from_home}
+use Rattle.turnstile.proofs.RuleLemmas.{total-set, each_set, inside, one_view, made_set, out_set, still, one_turn, alone, at_home, from_home}
 
 pub not_true : (b : Bool) → (b ≡ true → ⊥) → b ≡ false
 not_true true e = absurd (e refl)
@@ -76,6 +76,7 @@ module _ {V E : Type 0} (stands : V → List E → V → Type 0) (k : About V) w
               started = f.started;
             }
             (λ j u _ e. r.each j u e);
+        out = λ t low high. out_set s.views id v w at (λ _ e. e) (r.owner t) t (r.out t low high);
         made = λ p below. made_set s.views id v w at (λ q h. h) (r.maker p) p (r.made p below);
         place = away id w (ap (λ hs. set hs 0 none) is) (set_here s.views id w (inside s.views id v at)) refl (omega arith) (omega arith);
       }
@@ -102,7 +103,7 @@ module _ {V E : Type 0} (stands : V → List E → V → Type 0) (k : About V) w
         me.0,
         keeps,
         tt,
-        alone stands k s r id me.0 me.0 at f refl refl refl refl (λ p q. q) ws (set-get_or s.words 2 0),
+        alone stands k s r id me.0 me.0 at f refl refl refl refl refl (λ p q. q) ws (set-get_or s.words 2 0),
         ((λ hit. absurd (miss hit)), λ _. refl),
       ))
 
@@ -155,6 +156,14 @@ module _ {V E : Type 0} (stands : V → List E → V → Type 0) (k : About V) w
             (λ z. absurd (other (sym its ∙ (ap r.owner z ∙ own.2))))
             (λ z. (omega arith, its)))
             (λ p _ its. its) (r.each j u e));
+        out = λ n low high.
+            let o = r.out n (omega arith) high in
+            let far : r.owner n ≢ id = λ z.
+            let same : o.0 ≡ v = one_view s.views id o.0 v (subst (λ (m : ℕ). get_elem? s.views m ≡ some o.0) z o.1) at in
+            let both : Some n ≡ Some r.serving = sym o.2 ∙ (ap (λ (u : View V E). u.ticket) same ∙ t.0) in
+            let is : n ≡ r.serving = cc in
+            omega arith in
+            (o.0, set_else s.views id (r.owner n) w far ∙ o.1, o.2);
         made = λ p before. made_set s.views id v w at (λ q h. h) (r.maker p) p (r.made p before);
         place = home q (set_homes ∙ ap (λ hs. set hs 0 (some q)) slot.0)
             (y, value, subst (λ (z : V × List E). stands z.0 z.1 y) (λ i. (same i, t.1 i)) stood)

@@ -110,7 +110,7 @@ module _ {V E : Type 0} where
 
   -- the pass was made by that turnstile, and is between turns
   abbrev pub IsPassOf : {K Q : Type 0} → Lock (Parcel V E) (View V E) K Q → Seated (Parcel V E) (View V E) → Type 0
-  IsPassOf lock p = (p.seat.table_id ≡ lock.table.shared.table_id) × IsIdle p.parts p.seat.me
+  IsPassOf lock p = WasMadeBy lock p × IsIdle p.parts p.seat.me
 
   -- a pass of a new turnstile: one of so many, which knows the start, and has seen and made nothing
   abbrev pub IsNewPass : {K Q : Type 0} → Lock (Parcel V E) (View V E) K Q → Option V → ℕ → ℕ → Seated (Parcel V E) (View V E) → Type 0

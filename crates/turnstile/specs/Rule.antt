@@ -53,6 +53,7 @@ module _ {V E : Type 0} (stands : V → List E → V → Type 0) where
     home : (p : Parcel V E) → homes ≡ some p ∷ [] → Stands stands x history p → IsFree views → length history ≤ 4 * serving → Place x history serving homes views
     away : (i : ℕ) (v : View V E) → homes ≡ none ∷ [] → get_elem? views i ≡ some v → v.turn ≡ true → length history ≤ 4 * serving + v.told → v.told ≤ 4 → Place x history serving homes views
 
+  -- The tickets out are the numbers from the one served up to the next one, each with its owner, and the places of the history stand each in the book of its maker.
   pub record IsLawful (k : About V) (s : State (Parcel V E) (View V E)) : Type 0 where
     pub history : List E
     pub serving : ℕ
@@ -65,5 +66,6 @@ module _ {V E : Type 0} (stands : V → List E → V → Type 0) where
     pub parts : total parts_in s.views ≡ k.passes
     pub turns : k.first + total turns_in s.views ≡ drawn
     pub each : (i : ℕ) (v : View V E) → get_elem? s.views i ≡ some v → Fits k history serving drawn owner maker i v
+    pub out : (t : ℕ) → serving ≤ t → t < drawn → (v : View V E) × (get_elem? s.views (owner t) ≡ some v) × (v.ticket ≡ Some t)
     pub made : (p : ℕ) → p < length history → (v : View V E) × (get_elem? s.views (maker p) ≡ some v) × Has p v.book
     pub place : Place k.start.value history serving s.homes s.views

@@ -39,6 +39,10 @@ module _ {V E : Type 0} where
   abbrev pub spent : View V E
   spent = newcomer None 0 0 0
 
+  -- publish: one entry more was told in this turn, at the end of the known list, and its place is in the book
+  abbrev pub with_entry : View V E → List E → ℕ → View V E
+  with_entry v entry place = record v { told = v.told + 1; seen = v.seen ++ entry; book = v.book ++ place ∷ [] }
+
   -- draw: n was there, and is the ticket if it was the number expected
   abbrev pub Drew : ℕ → Participant V E → ℕ → Participant V E → Type 0
   Drew expected m n w =
@@ -57,7 +61,7 @@ module _ {V E : Type 0} where
   abbrev pub Looked : (V → List E → V → Type 0) → Participant V E → ℕ → Participant V E → Type 0
   Looked stands m n w = (m.0.ticket ≡ Some n → Gains stands m w) × (m.0.ticket ≢ Some n → w ≡ m)
 
-  -- release: ticket and turn end, and the slot is home
+  -- release: the participant is left with neither ticket nor turn, and the table has the slot again
   abbrev pub Released : Participant V E → ℕ → Participant V E → Type 0
   Released m n w = w ≡ (record m.0 { ticket = None; turn = false; told = 0 }, rest m.1)
 
@@ -65,7 +69,7 @@ module _ {V E : Type 0} where
   abbrev pub Published : Participant V E → ℕ → Participant V E → Type 0
   Published m n w =
       (n ≡ length m.0.seen) × (n + 1 < 2 ^ 64)
-      × (w ≡ (record m.0 { told = m.0.told + 1; seen = m.0.seen ++ carried_entries m.1; book = m.0.book ++ n ∷ [] }, m.1))
+      × (w ≡ (with_entry m.0 (carried_entries m.1) n, m.1))
 
   -- count in a turn: all of the history was seen
   abbrev pub Counted : Participant V E → ℕ → Participant V E → Type 0

@@ -1,9 +1,10 @@
 //! A turn: the value is out of the slot, and one participant may change it and publish entries.
-ghost use Rattle.std.specs.Prelude.{◌≡◌, ◌+◌, ◌<◌, [], ◌∷◌, ◌++◌, None, false};
+ghost use Rattle.std.specs.Prelude.{◌≡◌, ◌+◌, ◌<◌, [], ◌∷◌, None, false};
 ghost use Rattle.std.specs.Borrow.{sem, Lends};
 ghost use mir.Syntax.{named};
 ghost use Rattle.turnstile.specs.contracts.held.Held.{the_row as held_row};
-ghost use Rattle.turnstile.specs.PassView.{StandsFor, IsPassOf, view_of, told_of, seen_of, book_of};
+ghost use Rattle.turnstile.specs.PassView.{StandsFor, IsPassOf, view_of, told_of};
+ghost use Rattle.turnstile.specs.Steps.{with_entry};
 ghost use Rattle.turnstile.specs.HeldTurn.{IsHeld, IsSameTurn, pass_of, name_of, turnstile_of, value_of, place_of, with_value};
 
 use crate::lock::Turnstile;
@@ -56,7 +57,8 @@ impl<'a, V: Story> Held<'a, V> {
 
     /// Publishes an entry, and gives its place in the history. It takes no memory.
     ///
-    /// The value needn't stand for the list between two entries of one turn; `done` asks for it.
+    /// In the midst of a turn the value may be other than what the entries make of the start: only
+    /// `done` requires that they agree.
     pub fn publish(&mut self, entry: Snapshot<V::Entry>) -> u64
         requires ready { IsHeld self.old }
         requires fits { told_of (pass_of self.old) < 4 }
@@ -64,7 +66,7 @@ impl<'a, V: Story> Held<'a, V> {
         ensures ready { IsHeld self.new × IsSameTurn self.old self.new }
         ensures place { place_of self.new ≡ place_of self.old + 1 }
         ensures kept { value_of self.new ≡ value_of self.old }
-        ensures view { view_of (pass_of self.new) ≡ record (view_of (pass_of self.old)) { told = told_of (pass_of self.old) + 1; seen = seen_of (pass_of self.old) ++ entry.value ∷ []; book = book_of (pass_of self.old) ++ result ∷ [] } }
+        ensures view { view_of (pass_of self.new) ≡ with_entry (view_of (pass_of self.old)) (entry.value ∷ []) result }
     {
         let place = self.turnstile.append(self.pass, entry);
         self.place = place + 1;

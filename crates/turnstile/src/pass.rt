@@ -61,9 +61,7 @@ impl<V: Story> Turnstile<V> {
         }
         unreachable!()
     }
-}
 
-impl<V: Story> Turnstile<V> {
     // Draws a ticket, waits for its turn, and takes the value.
     fn begin<R: Wait>(&self, rt: &R, pass: &mut Pass<V>) -> Result<(V, u64), Spent>
         requires own { IsPassOf self.now pass.old }

@@ -1,7 +1,7 @@
 //! The atomic steps, one private function for each. Their rule: docs/CONCURRENCY.md.
-ghost use Rattle.std.specs.Prelude.{◌≡◌, ◌+◌, ◌^◌, ◌<◌, true, false, [], ◌∷◌, ◌++◌, length};
+ghost use Rattle.std.specs.Prelude.{◌≡◌, ◌+◌, ◌^◌, ◌<◌, true, false, None, [], ◌∷◌, length};
 ghost use Rattle.turnstile.specs.Rule.{most_turns};
-ghost use Rattle.turnstile.specs.Steps.{Drew, Looked, Released, Counted, Glanced, Totalled, one_less, one_part, both_of};
+ghost use Rattle.turnstile.specs.Steps.{Drew, Looked, Released, Counted, Glanced, Totalled, one_less, one_part, both_of, with_entry};
 ghost use Rattle.turnstile.specs.PassView.{StandsFor, HoldsValue, HoldsNone, IsSamePass, WasMadeBy, participant_of, view_of};
 
 use crate::lock::Turnstile;
@@ -44,7 +44,7 @@ impl<V: Story> Turnstile<V> {
         from: Seat<Parcel<V, V::Entry>, View<V, V::Entry>>,
     )
         requires own { WasMadeBy self.now into.old × (from.table_id ≡ self.now.table.shared.table_id) }
-        requires free { ((view_of into.old).turn ≡ false) × (from.me.0.turn ≡ false) × (from.me.1 ≡ []) }
+        requires free { ((view_of into.old).turn ≡ false) × (from.me.0.turn ≡ false) × (from.me.0.ticket ≡ None) × (from.me.1 ≡ []) }
         requires part { 0 < (view_of into.old).parts }
         ensures same { IsSamePass into.old into.new }
         ensures kept { participant_of into.new ≡ (both_of (view_of into.old) from.me.0, (participant_of into.old).1) }
@@ -55,7 +55,7 @@ impl<V: Story> Turnstile<V> {
     // Draw: the ticket is `guess` if that was the next one. Gives the next ticket as it was.
     pub(crate) fn draw(&self, pass: &mut Pass<V>, guess: u64) -> u64
         requires own { WasMadeBy self.now pass.old }
-        requires free { (view_of pass.old).turn ≡ false }
+        requires free { ((view_of pass.old).ticket ≡ None) × ((view_of pass.old).turn ≡ false) }
         requires part { 0 < (view_of pass.old).parts }
         requires below { guess < most_turns }
         ensures same { IsSamePass pass.old pass.new }
@@ -106,7 +106,7 @@ impl<V: Story> Turnstile<V> {
         empty.let_go();
     }
 
-    // Release: ticket and turn end, and the slot is home.
+    // Release: the pass is left with neither ticket nor turn, and the table has the slot again.
     pub(crate) fn release(&self, pass: &mut Pass<V>)
         requires own { WasMadeBy self.now pass.old }
         requires turn { ((view_of pass.old).turn ≡ true) × (0 < (view_of pass.old).parts) }
@@ -127,7 +127,7 @@ impl<V: Story> Turnstile<V> {
         requires held { HoldsNone (participant_of pass.old) }
         ensures same { IsSamePass pass.old pass.new }
         ensures value { (result ≡ length (view_of pass.old).seen) × (result + 1 < 2 ^ 64) }
-        ensures kept { HoldsNone (participant_of pass.new) × (view_of pass.new ≡ record (view_of pass.old) { told = (view_of pass.old).told + 1; seen = (view_of pass.old).seen ++ entry.value ∷ []; book = (view_of pass.old).book ++ result ∷ [] }) }
+        ensures kept { HoldsNone (participant_of pass.new) × (view_of pass.new ≡ with_entry (view_of pass.old) (entry.value ∷ []) result) }
     {
         let empty = self
             .table

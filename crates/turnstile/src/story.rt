@@ -1,4 +1,4 @@
-//! The values that a turnstile keeps: a value stands, from a start, for the list of entries made since.
+//! What a value must tell to lie in a turnstile: which entries lead from a start to it.
 ghost use Rattle.std.specs.Prelude.{List, []};
 
 /// A value with a history of entries.

@@ -99,8 +99,8 @@ impl<V: Story> Turnstile<V> {
 
     /// Makes one pass of two. It takes no memory.
     ///
-    /// `into` then has seen the longer of the two lists, which the shorter one begins, and its book
-    /// has the places of both, each once.
+    /// One of the two known lists begins the other, and `into` keeps the longer one. Its book gets
+    /// the places of both passes, each once.
     pub fn join(&self, into: &mut Pass<V>, from: Pass<V>)
         requires ready { IsPassOf self.now into.old × IsPassOf self.now from }
         ensures ready { IsPassOf self.now into.new }
@@ -116,8 +116,8 @@ impl<V: Story> Turnstile<V> {
 
     /// Takes the value out for good. It takes no memory.
     ///
-    /// It is refused exactly where the pass stands for fewer passes than were made, with how many
-    /// were made. Turnstile and pass come back as they were.
+    /// Only the pass that stands for all passes closes. Any other gets the turnstile and itself back
+    /// as they were, with the number of passes made.
     pub fn close(self, mut pass: Pass<V>) -> Result<V, (Turnstile<V>, Pass<V>, u64)>
         requires ready { IsPassOf self pass }
         ensures value { IfOk result (StandsFor V.stands (view_of pass)) }
