@@ -21,12 +21,12 @@ pub record IsSecret (secret : List ℕ) : Type 0 where
 -- the text is the 40 digits of that secret, or of none
 abbrev pub IsSecretText : List ℕ → Option (List ℕ) → Type 0
 IsSecretText text None = (secret : List ℕ) → IsSecret secret → text ≡ encode_lower secret → ⊥
-IsSecretText text (Some secret) = text ≡ encode_lower secret
+IsSecretText text (Some secret) = IsSecret secret × (text ≡ encode_lower secret)
 
 -- a secret's 40 digits are there once, or there is no secret
 abbrev pub IsTokenIn : Found → Option (List ℕ) → Type 0
 IsTokenIn field None = (secret : List ℕ) → IsSecret secret → field ≡ once (encode_lower secret) → ⊥
-IsTokenIn field (Some secret) = field ≡ once (encode_lower secret)
+IsTokenIn field (Some secret) = IsSecret secret × (field ≡ once (encode_lower secret))
 
 -- both numbers have at most 64 bits
 pub record IsTag (tag : Tag) : Type 0 where
@@ -36,22 +36,22 @@ pub record IsTag (tag : Tag) : Type 0 where
 -- the text is that number in decimal, or no number below 2 ^ 64
 abbrev pub IsNumberText : List ℕ → Option ℕ → Type 0
 IsNumberText text None = (number : ℕ) → number < 2 ^ 64 → text ≡ decimal number → ⊥
-IsNumberText text (Some number) = text ≡ decimal number
+IsNumberText text (Some number) = (number < 2 ^ 64) × (text ≡ decimal number)
 
 -- the text is the numbers of that tag, or of none
 abbrev pub IsNumbersText : List ℕ → Option Tag → Type 0
 IsNumbersText text None = (tag : Tag) → IsTag tag → text ≡ numbers_text tag → ⊥
-IsNumbersText text (Some tag) = text ≡ numbers_text tag
+IsNumbersText text (Some tag) = IsTag tag × (text ≡ numbers_text tag)
 
 -- the text is that tag's, or no tag's
 abbrev pub IsTagText : List ℕ → Option Tag → Type 0
 IsTagText text None = (tag : Tag) → IsTag tag → text ≡ tag_text tag → ⊥
-IsTagText text (Some tag) = text ≡ tag_text tag
+IsTagText text (Some tag) = IsTag tag × (text ≡ tag_text tag)
 
 -- a tag's text is there once, or there is no tag
 abbrev pub IsTagIn : Found → Option Tag → Type 0
 IsTagIn field None = (tag : Tag) → IsTag tag → field ≡ once (tag_text tag) → ⊥
-IsTagIn field (Some tag) = field ≡ once (tag_text tag)
+IsTagIn field (Some tag) = IsTag tag × (field ≡ once (tag_text tag))
 
 -- the head is what the request's head says
 pub record IsHeadOf (front : List ℕ) (head : Head) (request : RequestHead) : Type 0 where
@@ -84,12 +84,14 @@ IsNextIn front full (next.Bad status) = IsBad front full status
 abbrev pub IsNext : List ℕ → Next → Type 0
 IsNext buffer told = IsNextIn (take 16384 buffer) (nat_le 16384 (length buffer)) told
 
--- a head with an `Expect` field stands there
+-- a head with an `Expect` field stands there, and nothing else speaks against it
 pub record HasExpecting (front : List ℕ) : Type 0 where
   pub request : RequestHead
   pub rest : List ℕ
+  pub size : ℕ
   pub reads : ReadsRequest front request rest
   pub few : length request.fields ≤ 64
+  pub accepted : judge request ≡ Ok size
   pub expecting : is_plain request ≡ false
 
 -- the same, where a head with an `Expect` field is refused

@@ -72,7 +72,7 @@ enum Parsed {
 /// isn't 1 to 19 digits; 400, `Host` isn't there exactly once in HTTP/1.1; 413, the body is longer
 /// than the method and the path permit.
 pub fn next_head(alloc: Global, buffer: &[u8]) -> Result<Next, AllocError>
-    ensures { IfOk result (IsNext buffer.now) }
+    ensures value { IfOk result (IsNext buffer.now) }
 {
     match parse(alloc, front_of(buffer), buffer.len() >= HEAD_LIMIT)? {
         Parsed::Need => Ok(Next::Need),
@@ -81,10 +81,10 @@ pub fn next_head(alloc: Global, buffer: &[u8]) -> Result<Next, AllocError>
     }
 }
 
-/// The same, but a head with an `Expect` field is refused with 501, since no interim reply is
-/// sent so far.
+/// The same, but a head that would be accepted is refused with 501 where it has an `Expect` field,
+/// since no interim reply is sent so far.
 pub fn next_plain_head(alloc: Global, buffer: &[u8]) -> Result<Next, AllocError>
-    ensures { IfOk result (IsNextPlain buffer.now) }
+    ensures value { IfOk result (IsNextPlain buffer.now) }
 {
     match parse(alloc, front_of(buffer), buffer.len() >= HEAD_LIMIT)? {
         Parsed::Need => Ok(Next::Need),

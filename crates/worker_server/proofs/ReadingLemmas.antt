@@ -63,9 +63,11 @@ HasExpecting-on buffer more is =
     record {
       request = is.request;
       rest = is.rest ++ front.0;
+      size = is.size;
       reads = subst (λ z. ReadsRequest z is.request (is.rest ++ front.0)) (sym front.1)
           (ReadsRequest-append (front_of buffer) is.request is.rest front.0 is.reads);
       few = is.few;
+      accepted = is.accepted;
       expecting = is.expecting;
     }
 

@@ -1,4 +1,4 @@
-use Rattle.std.proofs.Common.{◌∙◌, ℕ, List, get_or, length, sym, ap, arith, ◌<◌, ◌≢◌}
+use Rattle.std.proofs.Common.{◌∙◌, ℕ, List, get_or, length, sym, ap, arith, ◌<◌, ◌^◌, ◌≢◌, subst}
 use Rattle.std.specs.List.{list_all}
 use Rattle.std.specs.Char.{is_ascii_digit}
 use Rattle.http_front.proofs.TagLemmas.{decimal_digits, no_leading_zero, number_read, number_parses, decimal_is_text}
@@ -22,8 +22,10 @@ returns-in-Ok-parse c =
       | else-text-gt1-via-then-text-gt1+else-text-eq48 w ↦ λ _. w.if-text-eq48.false
       | else-text-gt1-via-else-text-gt1 w ↦ λ long. absurd (omega (arith, w.if-text-gt1.false, long))
     ] in
-    let told = rw c.in-Ok.ensures.cases.0 at c.in-Ok-parse.ensures.value.0 in
-    number_read c.args.text.now c.in-Ok-parse.number all alone told.0.0 told.0.1 told.1
+    let told = rw c.in-Ok.ensures.cases.0 at c.in-Ok-parse.ensures.value.0 in (
+      subst (λ (n : ℕ). n < 2 ^ 64) (sym told.1) told.0.1,
+      number_read c.args.text.now c.in-Ok-parse.number all alone told.0.0 told.0.1 told.1,
+    )
 
 pub returns-in-Err-parse : goal.returns-in-Err-parse
 returns-in-Err-parse c number fits same =

@@ -13,9 +13,11 @@ returns-in-Some-read_number c =
     let text = c.args.text.now in
     let place = c.hyphen_place-hyphen.result in
     let inside : place < length text = omega (arith, c.hyphen_place-hyphen.ensures.within, c.if-hyphen-text.false) in
-    let back = sym (take_rest text (place + 1)) ∙ c.in-Some-read_number.ensures in
-    joined_at_hyphen text place inside (c.hyphen_place-hyphen.ensures.hyphen inside)
-    ∙ (λ i. c.in-Some.ensures i ++ 45 ∷ back i)
+    let back = sym (take_rest text (place + 1)) ∙ c.in-Some-read_number.ensures.1 in (
+      record { opening = c.in-Some.ensures.0; count = c.in-Some-read_number.ensures.0 },
+      joined_at_hyphen text place inside (c.hyphen_place-hyphen.ensures.hyphen inside)
+          ∙ (λ i. c.in-Some.ensures.1 i ++ 45 ∷ back i),
+    )
 
 pub returns-in-None-read_number : goal.returns-in-None-read_number
 returns-in-None-read_number c tag fits same =

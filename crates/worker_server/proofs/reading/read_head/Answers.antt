@@ -14,16 +14,16 @@ told_of front buffer told is same e h = subst (λ (z : List ℕ). IsNextPlain z 
 
 pub returns-in-Ok-Head-clause-ok : goal.returns-in-Ok-Head-clause-ok
 returns-in-Ok-Head-clause-ok g c =
-    told_of _ _ _ (next.Head c.in-Ok-Head.head) c.front.ensures c.in-Ok-Head.field-0-is c.in-Ok-Head.ensures
+    told_of _ _ _ (next.Head c.in-Ok-Head.head) c.front.ensures c.in-Ok-Head.field-0-is c.in-Ok-Head.ensures.value
 
 pub returns-in-Ok-Bad-clause-err : goal.returns-in-Ok-Bad-clause-err
 returns-in-Ok-Bad-clause-err g c = λ rest e.
-    let bad = told_of _ _ _ (next.Bad c.in-Ok-Bad.status) c.front.ensures c.in-Ok-Bad.field-0-is c.in-Ok-Bad.ensures in
+    let bad = told_of _ _ _ (next.Bad c.in-Ok-Bad.status) c.front.ensures c.in-Ok-Bad.field-0-is c.in-Ok-Bad.ensures.value in
     bad_end c.loop-head.buffer _ rest c.in-Ok-Bad.status (c.loop-head.invariant.same ∙ e) bad
 
 pub returns-in-Ok-eq0-clause-err : goal.returns-in-Ok-eq0-clause-err
 returns-in-Ok-eq0-clause-err g c = λ rest e.
-    let need = told_of _ _ _ next.Need c.front.ensures c.in-Ok-Need.field-0-is c.in-Ok-Need.ensures in
+    let need = told_of _ _ _ next.Need c.front.ensures c.in-Ok-Need.field-0-is c.in-Ok-Need.ensures.value in
     let fill = c.in-Ok-eq0.ensures in
     let size = subst (λ (n : ℕ). length c.fill.new.buffer ≡ length c.loop-head.buffer + n) c.in-Ok-eq0.field-0-test fill.value in
     let same = same_grown c.loop-head.buffer c.fill.new.buffer fill.grown.0 fill.grown.1 size in
