@@ -10,7 +10,7 @@ use Rattle.httparse.specs.Spans.{RequestOverflows}
 use Rattle.httparse.proofs.GrammarLemmas.{request_unique, ReadsRequest-append}
 use Rattle.http_front.specs.TargetFront.{MayBecomeHead}
 use Rattle.http_front.specs.RequestHead.{judge, is_plain}
-use Rattle.http_front.specs.RequestStream.{Request, IsHeadAt, IsRequest, IsOpen, IsRefused, by_head, by_bytes, by_length, HasNoPlain, Reads, front_of}
+use Rattle.http_front.specs.RequestStream.{Request, IsHeadAt, IsRequest, IsOpen, IsRefused, by_head, by_bytes, by_length, HasNoPlain, Reads, Extends, front_of}
 use Rattle.http_front.specs.NextHead.{IsBad, of_head, of_bytes, of_length}
 
 -- ---- lists
@@ -203,11 +203,6 @@ one_request input request other rest more is also =
     same_size (length request.body) (length other.body) (sym is.accepted ∙ ap judge head.0 ∙ also.accepted) in
     let parts = append_parts request.body rest other.body more head.1 size in
     (λ i. record { head = head.0 i; body = parts.0 i }, parts.1)
-
--- the longer list begins with the shorter
-pub record Extends (shorter longer : List Request) : Type 0 where
-  pub more : List Request
-  pub is : longer ≡ shorter ++ more
 
 extends_more : (request other : Request) (shorter longer : List Request) → request ≡ other → Extends shorter longer
     → Extends (request ∷ shorter) (other ∷ longer)

@@ -33,6 +33,11 @@ Reads input [] rest = input ≡ rest
 Reads input (request ∷ more) rest =
     (middle : List ℕ) × IsRequest input request middle × MayFollow request more × Reads middle more rest
 
+-- the longer list begins with the shorter
+pub record Extends (shorter longer : List Request) : Type 0 where
+  pub more : List Request
+  pub is : longer ≡ shorter ++ more
+
 -- the bytes of which a head is read
 abbrev pub front_of : List ℕ → List ℕ
 front_of rest = take 16384 rest

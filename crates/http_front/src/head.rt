@@ -66,11 +66,15 @@ enum Parsed {
 
 /// Reads the head at the front of the buffer, which begins with the bytes after the last request.
 ///
-/// A head has at most 16,384 bytes and 64 fields (RFC 9112, sections 2 to 5; the limits are our
-/// own). The causes of `Bad` are looked for in this order: 400, the bytes begin no head; 431, the
-/// head is too long; 501, `Transfer-Encoding` is there; 400, `Content-Length` is there twice or
-/// isn't 1 to 19 digits; 400, `Host` isn't there exactly once in HTTP/1.1; 413, the body is longer
-/// than the method and the path permit.
+/// The grammar is that of RFC 9112, sections 2 to 5; that no more than 16,384 bytes and 64 fields
+/// are read is our own limit. `Bad` has the status of the first cause that holds: no head begins so,
+/// or it has more fields (400); no head ends within the limit (431); the message is coded, however
+/// `Transfer-Encoding` names it (501); the `Content-Length` is repeated, or not a number of 1 to 19
+/// digits (400); HTTP/1.1 names no `Host`, or several (400); the body is too long for this method
+/// and path (413).
+///
+/// One freedom is left. A front that holds no whole head, and that only heads of more than 64
+/// fields continue, may also be told as `Need`, and as 431 where 16,384 bytes are there.
 pub fn next_head(alloc: Global, buffer: &[u8]) -> Result<Next, AllocError>
     ensures value { IfOk result (IsNext buffer.now) }
 {

@@ -1,9 +1,17 @@
-//! Theorems about the table of calls.
-ghost use Rattle.std.specs.Prelude.{◌≡◌, ℕ, List, Some};
+//! Theorems about the stream of requests and the table of calls.
+ghost use Rattle.std.specs.Prelude.{◌≡◌, ◌⊎◌, ℕ, List, Some};
+ghost use Rattle.http_front.specs.RequestStream.{Extends, Reads, Request};
 ghost use Rattle.http_front.specs.Route.{IsCall, method_in, path_in, route_of};
 ghost use Rattle.http_front.specs.Target.{path_of};
 ghost use Rattle.http_front.specs.declared.method.Method.{Method};
 ghost use Rattle.http_front.specs.declared.route.Route.{Route};
+
+/// Bytes spell their requests in one way: of two readings of them one begins with the other.
+pub fn an_input_spells_its_requests_in_one_way()
+    ensures { (input : List ℕ) (requests others : List Request) (rest more : List ℕ)
+        → Reads input requests rest → Reads input others more
+        → Extends requests others ⊎ Extends others requests }
+{}
 
 /// A request names a call by that call's method and path alone, but for a slash at the end and a query.
 pub fn a_request_names_a_call_by_its_method_and_path()

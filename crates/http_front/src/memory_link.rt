@@ -43,9 +43,10 @@ impl Model for MemoryLink {
 }
 
 impl MemoryLink {
-    /// A link with this input. A take gives at most `piece` bytes. The takes and gives whose
-    /// numbers are in `fails`, counted together from 0, fail and move nothing. A give that would
-    /// pass `room` bytes in all gives what fits and fails.
+    /// A link that has this input left and was given nothing. No take moves more than `piece`
+    /// bytes. The first call, be it a take or a give, has number 0, the next 1, and so on; a call
+    /// whose number stands in `fails` fails and moves no byte. The link keeps up to `room` bytes:
+    /// of a give for which that is too little it keeps the beginning, and the give fails.
     pub fn new(
         alloc: Global,
         input: Bytes,

@@ -3,7 +3,8 @@
 /// How a connection ended. What was given before the end is said at each call that answers it.
 #[derive(Clone, Copy, Debug, PartialEq, Eq)]
 pub enum Served {
-    /// The input ended between two requests, or a request asked to close.
+    /// Nothing more was to be read: the input stops where a request would begin, or the request
+    /// before closes the connection.
     Ended,
     /// 10,000 requests were answered.
     Limit,
