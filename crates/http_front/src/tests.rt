@@ -175,6 +175,20 @@ fn a_head_of_more_than_16384_bytes_is_too_large(rt: HostRuntime) -> Result<(), F
 }
 
 #[test]
+fn a_head_has_at_most_64_fields(rt: HostRuntime) -> Result<(), Fail> {
+    for (count, want) in [(1, 200), (63, 200), (64, 200), (65, 400), (66, 400)] {
+        let mut head = Vec::from_slice(rt.alloc(), b"GET / HTTP/1.1\r\nHost: a\r\n")?;
+        for _ in 1..count {
+            head.extend_from_slice(b"x: y\r\n")?;
+        }
+        head.extend_from_slice(b"\r\n")?;
+        let next = next_head(rt.alloc(), head.as_slice())?;
+        assert_eq!(rt; outcome(&next), want, "{count} fields");
+    }
+    Ok(())
+}
+
+#[test]
 fn a_head_tells_what_the_request_asks_for(rt: HostRuntime) -> Result<(), Fail> {
     let text =
         b"PUT /repo/x HTTP/1.1\r\nHost: a\r\nConnection: keep-alive, Close \r\nContent-Length: 5\r\n\
