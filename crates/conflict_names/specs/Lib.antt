@@ -1,0 +1,3 @@
+pub mod CivilTime
+pub mod ConflictFault
+pub mod Naming
