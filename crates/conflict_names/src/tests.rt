@@ -1,8 +1,18 @@
 //! Names of conflict copies with ample memory.
 use crate::{ConflictFault, conflict_name, ext_at};
 use ids::Text;
+use std::alloc::Global;
 use std::test::Fail;
-use tree_model::Name;
+use tree_model::{Name, NameFault};
+
+type Made = Result<Name, ConflictFault>;
+
+/// The conflict name of texts, with a number from 1 on.
+fn made(alloc: Global, name: &str, modifier: &str, mtime: i64, k: u32) -> Result<Made, NameFault> {
+    let name = Name::read(alloc, name)?;
+    let modifier = Text::copy(alloc, modifier)?;
+    Ok(conflict_name(alloc, &name, &modifier, mtime, k.max(1)))
+}
 
 #[test]
 fn an_extension_begins_at_the_last_dot_past_place_0(rt: HostRuntime) -> Result<(), Fail> {
@@ -103,8 +113,7 @@ fn a_conflict_name_shows_who_changed_the_file_and_when(rt: HostRuntime) -> Resul
             "a (SFConflict me 1970-01-01-00-00-00) (SFConflict me 1970-01-01-00-00-00).b",
         ),
     ] {
-        let modifier = Text::copy(alloc, modifier)?;
-        let made = conflict_name(alloc, &Name::read(alloc, name)?, &modifier, mtime, k)?;
+        let made = made(alloc, name, modifier, mtime, k)??;
         assert_eq!(rt; made.as_str(), wanted, "{wanted}");
     }
     Ok(())
@@ -122,9 +131,9 @@ fn a_conflict_name_over_255_bytes_is_refused_with_its_length(rt: HostRuntime) ->
         (1, 220, 1, None),
         (1, 221, 1, Some(256)),
     ] {
-        let name = Name::read(alloc, "x".repeat(alloc, name)?.as_str())?;
-        let modifier = Text::copy(alloc, "m".repeat(alloc, modifier)?.as_str())?;
-        let fault = conflict_name(alloc, &name, &modifier, 0, k).err();
+        let name = "x".repeat(alloc, name)?;
+        let modifier = "m".repeat(alloc, modifier)?;
+        let fault = made(alloc, name.as_str(), modifier.as_str(), 0, k)?.err();
         assert_eq!(rt; fault, refused.map(ConflictFault::TooLong), "{refused:?}");
     }
     Ok(())
