@@ -1,14 +1,16 @@
 -- A request names a call exactly by that call's method and path. The lemmas that callers want are named_by_path and
 -- path_names.
-use Rattle.std.proofs.Common.{◌≡◌, ℕ, ◌<◌, Bool, true, false, cond, Option, None, Some, List, [], ◌∷◌, ◌++◌, length, get_or, codes, nat_eq, refl, sym, ◌∙◌, ap, subst, arith, lit<, inl, inr, ne_eqb, All}
+use Rattle.std.proofs.Common.{◌≡◌, ℕ, ◌<◌, Bool, true, false, cond, Option, None, Some, List, [], ◌∷◌, length, get_or, codes, nat_eq, refl, sym, ◌∙◌, ap, subst, arith, lit<, inl, inr, ◌⊎◌, not, ne_eqb, All}
 use Rattle.std.proofs.lemmas.Bool.{cases_lt, eqb-true, true≢false}
+use Rattle.std.proofs.lemmas.List.Sums.{AllPass-from_list_all}
+use Rattle.std.specs.List.{list_all}
 use Rattle.hex.proofs.HexLemmas.{decode_of-encode_lower}
 use Rattle.uuid.proofs.RoundTrips.{parses_hyphenated}
 use Rattle.std.proofs.lemmas.List.Elements.{All-from_get_or, All-get_or}
 use Rattle.std.proofs.lemmas.List.{get_or_past}
 use Rattle.std.proofs.lemmas.List.Splits.{join_with_byte-slice_split, slice_split_at, slice_split_none}
 use Rattle.std.specs.Cmp.Lexicographic.{same_text}
-use Rattle.std.specs.List.{join_with_byte, slice_split}
+use Rattle.std.specs.List.{join_with_byte}
 use Rattle.std.specs.Option.{option_and_then}
 use Rattle.std.specs.Result.{result_ok}
 use Rattle.std.specs.Str.{bytes_eq}
@@ -16,7 +18,7 @@ use Rattle.hex.specs.Hex.{IsBytes, decode_of, encode_lower}
 use Rattle.uuid.specs.Text.{hyphenated_text, is_hyphen_place, lower, parsed}
 use Rattle.ids.specs.declared.key.Key.{Key}
 use Rattle.ids.specs.declared.key.Kind.{Kind}
-use Rattle.ids.specs.declared.key.Kind.TheVariants.{Block}
+use Rattle.ids.specs.declared.key.Kind.TheVariants.{Commit, Fs, Block}
 use Rattle.ids.specs.Digits.{digits_form, is_lower_digit}
 use Rattle.ids.specs.Form.{Form, IsOf}
 use Rattle.ids.specs.LibraryId.{library_form}
@@ -24,12 +26,12 @@ use Rattle.ids.proofs.DigitsLemmas as digits
 use Rattle.ids.proofs.LibraryText as library
 use Rattle.http_front.specs.IdText.{has_form, id_of, lib_of}
 use Rattle.http_front.specs.KindWord.{kind_word}
-use Rattle.http_front.specs.Route.{IsCall, IsNamed, kind_of, library_route, method_in, object_path, object_route, path_in, path_route, repo_route, route_of, top_route}
+use Rattle.http_front.specs.Route.{IsCall, IsLibrary, IsNamed, IsPathKind, kind_of, library_route, method_in, object_route, parts_in, path_in, path_route, repo_route, route_of, top_route, under, version_route, word_route}
 use Rattle.http_front.specs.Target.{parts, path_of}
 use Rattle.http_front.specs.declared.method.Method.{Method}
 use Rattle.http_front.specs.declared.method.Method.TheVariants as method
 use Rattle.http_front.specs.declared.route.Route.{Route}
-use Rattle.http_front.specs.declared.route.Route.TheVariants.{Get, Put}
+use Rattle.http_front.specs.declared.route.Route.TheVariants.{Version, Get, Put, CheckFs, CheckBlocks, PutFs, GetFs}
 use Rattle.http_front.proofs.IdLemmas.{IsOf-has_form, has_form-IsOf}
 
 -- ---- what is read is the text of what it names
@@ -43,11 +45,18 @@ and_some f None r e = let bad : ⊥ = cc in absurd bad
 and_some f (Some x) r e = (x, refl, e)
 
 kind_text : (word : List ℕ) (kind : Kind) → kind_of word ≡ Some kind → word ≡ kind_word kind
-kind_text word kind e =
-    let is = if_some (bytes_eq word (codes "block")) (Some Block) kind e in
-    let same : word ≡ codes "block" = same_text word (codes "block") (sym is.0) in
-    let block : Block ≡ kind = cc (is.1) in
-    same ∙ ap kind_word block
+kind_text word kind e = elim (kind_picked (bytes_eq word (codes "block")) Block _ kind e) [
+  | inl is ↦ same_text word (codes "block") (sym is.0) ∙ ap kind_word is.1
+  | inr e ↦ let is = if_kind (bytes_eq word (codes "commit")) Commit kind e in same_text word (codes "commit") (sym is.0) ∙ ap kind_word is.1
+]
+  where
+    kind_picked : (b : Bool) (k : Kind) (o : Option Kind) (kind : Kind) → cond b (Some k) o ≡ Some kind → ((b ≡ true) × (k ≡ kind)) ⊎ (o ≡ Some kind)
+    kind_picked true k o kind e = let same : k ≡ kind = cc in inl (refl, same)
+    kind_picked false k o kind e = inr e
+
+    if_kind : (b : Bool) (k kind : Kind) → cond b (Some k) None ≡ Some kind → (b ≡ true) × (k ≡ kind)
+    if_kind true k kind e = let same : k ≡ kind = cc in (refl, same)
+    if_kind false k kind e = let bad : ⊥ = cc in absurd bad
 
 id_text : (text : List ℕ) (id : List ℕ) → id_of text ≡ Some id → text ≡ encode_lower id
 unfolding id_of
@@ -67,32 +76,65 @@ lib_text text lib e =
     let same : library.bytes_of text ≡ lib = cc (read, is.1) in
     library.hyphenated-library text form ∙ ap (hyphenated_text lower) same
 
-object_named : (m : Method) (lib : List ℕ) (key : Key) (route : Route) → object_route m lib key ≡ Some route → (m ≡ method_in route) × (object_path lib key ≡ path_in route)
-object_named method.Get lib key route e = let same : Get lib key ≡ route = cc in subst (λ (r : Route). (method.Get ≡ method_in r) × (object_path lib key ≡ path_in r)) same (refl, refl)
-object_named method.Put lib key route e = let same : Put lib key ≡ route = cc in subst (λ (r : Route). (method.Put ≡ method_in r) × (object_path lib key ≡ path_in r)) same (refl, refl)
+-- a path's parts that name a call: its own
+record IsPathOf (m : Method) (q : List (List ℕ)) (route : Route) : Type 0 where
+  method_is : m ≡ method_in route
+  parts_are : q ≡ parts_in route
+
+-- one of several, or the rest of them
+picked : (b : Bool) (r : Route) (o : Option Route) (route : Route) → cond b (Some r) o ≡ Some route → ((b ≡ true) × (r ≡ route)) ⊎ (o ≡ Some route)
+picked true r o route e = let same : r ≡ route = cc in inl (refl, same)
+picked false r o route e = inr e
+
+object_named : (m : Method) (lib : List ℕ) (key : Key) (route : Route) → object_route m lib key ≡ Some route → IsPathOf m (under lib (kind_word key.kind ∷ encode_lower key.id ∷ [])) route
+object_named method.Get lib key route e =
+    let same : Get lib key ≡ route = cc in
+    subst (λ (r : Route). IsPathOf method.Get (under lib (kind_word key.kind ∷ encode_lower key.id ∷ [])) r) same (record { method_is = refl; parts_are = refl })
+object_named method.Put lib key route e =
+    let same : Put lib key ≡ route = cc in
+    subst (λ (r : Route). IsPathOf method.Put (under lib (kind_word key.kind ∷ encode_lower key.id ∷ [])) r) same (record { method_is = refl; parts_are = refl })
 object_named method.Post lib key route e = let bad : ⊥ = cc in absurd bad
 object_named method.Other lib key route e = let bad : ⊥ = cc in absurd bad
 
--- the parts of a path that names a call
-record IsPathOf (m : Method) (q : List (List ℕ)) (route : Route) : Type 0 where
-  lib : List ℕ
-  key : Key
-  parts_are : q ≡ [] ∷ codes "repo" ∷ hyphenated_text lower lib ∷ kind_word key.kind ∷ encode_lower key.id ∷ []
-  named : object_route m lib key ≡ Some route
+-- a word that is that of a call
+word_is : (lib word own : List ℕ) (r route : Route) → method.Post ≡ method_in r → under lib (own ∷ []) ≡ parts_in r → bytes_eq word own ≡ true → r ≡ route
+    → IsPathOf method.Post (under lib (word ∷ [])) route
+word_is lib word own r route posts parts_are is same =
+    subst (λ (q : Route). IsPathOf method.Post (under lib (word ∷ [])) q) same
+    (record { method_is = posts; parts_are = ap (λ (w : List ℕ). under lib (w ∷ [])) (same_text word own (sym is)) ∙ parts_are })
+
+word_named : (m : Method) (lib word : List ℕ) (route : Route) → word_route m lib word ≡ Some route → IsPathOf m (under lib (word ∷ [])) route
+word_named method.Get lib word route e = let bad : ⊥ = cc in absurd bad
+word_named method.Put lib word route e = let bad : ⊥ = cc in absurd bad
+word_named method.Other lib word route e = let bad : ⊥ = cc in absurd bad
+word_named method.Post lib word route e =
+    elim (picked (bytes_eq word (codes "check-fs")) (CheckFs lib) _ route e) [
+      | inl is ↦ word_is lib word (codes "check-fs") (CheckFs lib) route refl refl is.0 is.1
+      | inr e ↦ elim (picked (bytes_eq word (codes "check-blocks")) (CheckBlocks lib) _ route e) [
+        | inl is ↦ word_is lib word (codes "check-blocks") (CheckBlocks lib) route refl refl is.0 is.1
+        | inr e ↦ elim (picked (bytes_eq word (codes "recv-fs")) (PutFs lib) _ route e) [
+          | inl is ↦ word_is lib word (codes "recv-fs") (PutFs lib) route refl refl is.0 is.1
+          | inr e ↦ elim (picked (bytes_eq word (codes "pack-fs")) (GetFs lib) _ route e) [
+            | inl is ↦ word_is lib word (codes "pack-fs") (GetFs lib) route refl refl is.0 is.1
+            | inr e ↦ let bad : ⊥ = cc in absurd bad
+          ]
+        ]
+      ]
+    ]
 
 library_path : (m : Method) (name lib : List ℕ) (q : List (List ℕ)) (route : Route) → name ≡ hyphenated_text lower lib → library_route m lib q ≡ Some route
     → IsPathOf m ([] ∷ codes "repo" ∷ name ∷ q) route
 library_path m name lib [] route is e = let bad : ⊥ = cc in absurd bad
-library_path m name lib (word ∷ []) route is e = let bad : ⊥ = cc in absurd bad
+library_path m name lib (word ∷ []) route is e =
+    subst (λ (n : List ℕ). IsPathOf m ([] ∷ codes "repo" ∷ n ∷ word ∷ []) route) (sym is) (word_named m lib word route e)
 library_path m name lib (word ∷ text ∷ x ∷ more) route is e = let bad : ⊥ = cc in absurd bad
 library_path m name lib (word ∷ text ∷ []) route is e =
     let kind = and_some (λ k. option_and_then (λ id. object_route m lib (record { kind = k; id = id })) (id_of text)) (kind_of word) route e in
     let id = and_some (λ i. object_route m lib (record { kind = kind.0; id = i })) (id_of text) route kind.2 in
+    let own = object_named m lib (record { kind = kind.0; id = id.0 }) route id.2 in
     record {
-      lib = lib;
-      key = record { kind = kind.0; id = id.0 };
-      parts_are = λ i. [] ∷ codes "repo" ∷ is i ∷ kind_text word kind.0 kind.1 i ∷ id_text text id.0 id.1 i ∷ [];
-      named = id.2;
+      method_is = own.method_is;
+      parts_are = (λ i. [] ∷ codes "repo" ∷ is i ∷ kind_text word kind.0 kind.1 i ∷ id_text text id.0 id.1 i ∷ []) ∙ own.parts_are;
     }
 
 repo_path : (m : Method) (q : List (List ℕ)) (route : Route) → repo_route m q ≡ Some route → IsPathOf m ([] ∷ codes "repo" ∷ q) route
@@ -101,12 +143,23 @@ repo_path m (name ∷ rest) route e =
     let lib = and_some (λ l. library_route m l rest) (lib_of name) route e in
     library_path m name lib.0 rest route (lib_text name lib.0 lib.1) lib.2
 
+version_path : (m : Method) (word : List ℕ) (route : Route) → version_route m word ≡ Some route → IsPathOf m ([] ∷ word ∷ []) route
+version_path method.Put word route e = let bad : ⊥ = cc in absurd bad
+version_path method.Post word route e = let bad : ⊥ = cc in absurd bad
+version_path method.Other word route e = let bad : ⊥ = cc in absurd bad
+version_path method.Get word route e =
+    let is = if_some (bytes_eq word (codes "protocol-version")) (Some Version) route e in
+    let same : Version ≡ route = cc (is.1) in
+    subst (λ (r : Route). IsPathOf method.Get ([] ∷ word ∷ []) r) same
+    (record { method_is = refl; parts_are = ap (λ (w : List ℕ). [] ∷ w ∷ []) (same_text word (codes "protocol-version") (sym is.0)) })
+
 top_path : (m : Method) (q : List (List ℕ)) (route : Route) → top_route m q ≡ Some route → IsPathOf m ([] ∷ q) route
 top_path m [] route e = let bad : ⊥ = cc in absurd bad
-top_path m (word ∷ rest) route e =
-    let is = if_some (bytes_eq word (codes "repo")) (repo_route m rest) route e in
+top_path m (word ∷ []) route e = version_path m word route e
+top_path m (word ∷ next ∷ rest) route e =
+    let is = if_some (bytes_eq word (codes "repo")) (repo_route m (next ∷ rest)) route e in
     let same : word ≡ codes "repo" = same_text word (codes "repo") (sym is.0) in
-    subst (λ (w : List ℕ). IsPathOf m ([] ∷ w ∷ rest) route) (sym same) (repo_path m rest route is.1)
+    subst (λ (w : List ℕ). IsPathOf m ([] ∷ w ∷ next ∷ rest) route) (sym same) (repo_path m (next ∷ rest) route is.1)
 
 empty_list : (s : List ℕ) → length s ≡ 0 → s ≡ []
 empty_list [] e = refl
@@ -124,9 +177,7 @@ pub named_by_path : (m : Method) (target : List ℕ) (route : Route) → route_o
 unfolding route_of
 named_by_path m target route e =
     let is = whole_path m (parts (path_of target)) route e in
-    let call = object_named m is.lib is.key route is.named in
-    let joined : path_of target ≡ object_path is.lib is.key = sym (join_with_byte-slice_split 47 (path_of target)) ∙ ap (join_with_byte 47) is.parts_are in
-    (call.0, joined ∙ call.1)
+    (is.method_is, sym (join_with_byte-slice_split 47 (path_of target)) ∙ ap (join_with_byte 47) is.parts_are)
 
 -- ---- the text of what is named is read so
 
@@ -154,26 +205,74 @@ pub id_reads : (id : List ℕ) → length id ≡ 20 → All (λ byte. byte < 256
 unfolding id_of
 id_reads id size bytes = rw (has_form-IsOf digits_form (encode_lower id) (digits.IsOf-encode_lower id size bytes), decode_of-encode_lower id (are_bytes id bytes))
 
-pub object_parts : (lib : List ℕ) (key : Key) → IsNamed lib key
-    → parts (object_path lib key) ≡ [] ∷ codes "repo" ∷ hyphenated_text lower lib ∷ codes "block" ∷ encode_lower key.id ∷ []
-object_parts lib key is =
-    let name : List ℕ = hyphenated_text lower lib in
-    let digits_are = digits.IsOf-encode_lower key.id is.id_size is.id_bytes in
-    let id_alone : slice_split (λ c. nat_eq c 47) (encode_lower key.id) ≡ encode_lower key.id ∷ [] =
-    slice_split_none (λ c. nat_eq c 47) (encode_lower key.id) (no_slash_in digits_form (encode_lower key.id) digits_are (λ k. refl)) in
-    let first : slice_split (λ c. nat_eq c 47) (name ++ 47 ∷ (codes "block" ++ 47 ∷ encode_lower key.id)) ≡ name ∷ slice_split (λ c. nat_eq c 47) (codes "block" ++ 47 ∷ encode_lower key.id) =
-    slice_split_at (λ c. nat_eq c 47) name 47 (codes "block" ++ 47 ∷ encode_lower key.id)
-    (no_slash_in library_form name (library.IsOf-hyphenated lib) (λ k. never_in_library (is_hyphen_place k))) refl in
-    rw (is.kind, first, id_alone)
+-- ---- parts without a slash, joined by slashes, are cut into the same parts
 
-named_read : (m : Method) (lib : List ℕ) (key : Key) → IsNamed lib key
-    → path_route m ([] ∷ codes "repo" ∷ hyphenated_text lower lib ∷ codes "block" ∷ encode_lower key.id ∷ []) ≡ object_route m lib key
-named_read m lib key is =
-    let same : record { kind = Block; id = key.id } ≡ key = λ i. record { kind = sym is.kind i; id = key.id } in
-    rw (lib_reads lib is.lib_size is.lib_bytes, id_reads key.id is.id_size is.id_bytes) (ap (object_route m lib) same)
+abbrev IsFree : List ℕ → Type 0
+IsFree part = All (λ c. nat_eq c 47 ≡ false) part
+
+abbrev AreFree : List (List ℕ) → Type 0
+AreFree [] = Unit {0}
+AreFree (part ∷ more) = IsFree part × AreFree more
+
+cut_again : (part : List ℕ) (more : List (List ℕ)) → IsFree part → AreFree more → parts (join_with_byte 47 (part ∷ more)) ≡ part ∷ more
+cut_again part [] free all = slice_split_none (λ c. nat_eq c 47) part free
+cut_again part (next ∷ more) free all =
+    slice_split_at (λ c. nat_eq c 47) part 47 (join_with_byte 47 (next ∷ more)) free refl ∙ ap (λ (ps : List (List ℕ)). part ∷ ps) (cut_again next more all.0 all.1)
+
+not_true : (b : Bool) → not b ≡ true → b ≡ false
+not_true true h = let bad : ⊥ = cc in absurd bad
+not_true false h = refl
+
+-- a word without a slash
+free_word : (word : List ℕ) → list_all (λ c. not (nat_eq c 47)) word ≡ true → IsFree word
+free_word word h k d below = not_true _ (AllPass-from_list_all (λ c. not (nat_eq c 47)) word h k d below)
+
+free_library : (lib : List ℕ) → IsFree (hyphenated_text lower lib)
+free_library lib = no_slash_in library_form (hyphenated_text lower lib) (library.IsOf-hyphenated lib) (λ k. never_in_library (is_hyphen_place k))
+
+free_id : (id : List ℕ) → length id ≡ 20 → All (λ byte. byte < 256) id → IsFree (encode_lower id)
+free_id id size bytes = no_slash_in digits_form (encode_lower id) (digits.IsOf-encode_lower id size bytes) (λ k. refl)
+
+free_kind : (kind : Kind) → IsFree (kind_word kind)
+free_kind Commit = free_word (codes "commit") refl
+free_kind Fs = free_word (codes "fs") refl
+free_kind Block = free_word (codes "block") refl
+
+-- what follows `/repo/LIB/` is cut out again
+cut_under : (lib : List ℕ) (rest : List (List ℕ)) → AreFree rest → parts (join_with_byte 47 (under lib rest)) ≡ under lib rest
+cut_under lib rest free = cut_again [] (codes "repo" ∷ hyphenated_text lower lib ∷ rest) (free_word [] refl) (free_word (codes "repo") refl, (free_library lib, free))
+
+cut_word : (lib word : List ℕ) → list_all (λ c. not (nat_eq c 47)) word ≡ true → parts (join_with_byte 47 (under lib (word ∷ []))) ≡ under lib (word ∷ [])
+cut_word lib word h = cut_under lib (word ∷ []) (free_word word h, tt)
+
+cut_object : (lib : List ℕ) (key : Key) → IsNamed lib key → parts (join_with_byte 47 (under lib (kind_word key.kind ∷ encode_lower key.id ∷ []))) ≡ under lib (kind_word key.kind ∷ encode_lower key.id ∷ [])
+cut_object lib key is = cut_under lib (kind_word key.kind ∷ encode_lower key.id ∷ []) (free_kind key.kind, (free_id key.id is.id_size is.id_bytes, tt))
+
+-- the library of a path is read
+library_named : (m : Method) (lib : List ℕ) (rest : List (List ℕ)) → IsLibrary lib → path_route m (under lib rest) ≡ library_route m lib rest
+library_named m lib rest is = rw (lib_reads lib is.size is.bytes)
+
+kind_read : (kind : Kind) → IsPathKind kind → kind_of (kind_word kind) ≡ Some kind
+kind_read Commit is = refl
+kind_read Fs is = absurd is
+kind_read Block is = refl
+
+object_read : (m : Method) (lib : List ℕ) (key : Key) → IsNamed lib key → path_route m (under lib (kind_word key.kind ∷ encode_lower key.id ∷ [])) ≡ object_route m lib key
+object_read m lib key is =
+    library_named m lib (kind_word key.kind ∷ encode_lower key.id ∷ []) is.lib_is
+    ∙ (rw (kind_read key.kind is.kind, id_reads key.id is.id_size is.id_bytes) refl)
 
 -- the own method and path of a call name it, whatever query follows
 pub path_names : (target : List ℕ) (route : Route) → IsCall route → path_of target ≡ path_in route → route_of (method_in route) target ≡ Some route
 unfolding route_of
-path_names target (Get lib key) is same = ap (path_route method.Get) (ap parts same ∙ object_parts lib key is) ∙ named_read method.Get lib key is
-path_names target (Put lib key) is same = ap (path_route method.Put) (ap parts same ∙ object_parts lib key is) ∙ named_read method.Put lib key is
+path_names target Version is same = ap (path_route method.Get) (ap parts same ∙ cut_again [] (codes "protocol-version" ∷ []) (free_word [] refl) (free_word (codes "protocol-version") refl, tt))
+path_names target (Get lib key) is same = ap (path_route method.Get) (ap parts same ∙ cut_object lib key is) ∙ object_read method.Get lib key is
+path_names target (Put lib key) is same = ap (path_route method.Put) (ap parts same ∙ cut_object lib key is) ∙ object_read method.Put lib key is
+path_names target (CheckFs lib) is same =
+    ap (path_route method.Post) (ap parts same ∙ cut_word lib (codes "check-fs") refl) ∙ library_named method.Post lib (codes "check-fs" ∷ []) is
+path_names target (CheckBlocks lib) is same =
+    ap (path_route method.Post) (ap parts same ∙ cut_word lib (codes "check-blocks") refl) ∙ library_named method.Post lib (codes "check-blocks" ∷ []) is
+path_names target (PutFs lib) is same =
+    ap (path_route method.Post) (ap parts same ∙ cut_word lib (codes "recv-fs") refl) ∙ library_named method.Post lib (codes "recv-fs" ∷ []) is
+path_names target (GetFs lib) is same =
+    ap (path_route method.Post) (ap parts same ∙ cut_word lib (codes "pack-fs") refl) ∙ library_named method.Post lib (codes "pack-fs" ∷ []) is

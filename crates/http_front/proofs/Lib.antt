@@ -6,8 +6,10 @@ pub mod HeadLemmas
 pub mod IdLemmas
 pub mod MemoryLinkLemmas
 pub mod NumberLemmas
+pub mod OrderLemmas
 pub mod ReplyLemmas
 pub mod RouteLemmas
+pub mod RowLemmas
 pub mod StreamLemmas
 pub mod TagLemmas
 pub mod TargetFrontLemmas

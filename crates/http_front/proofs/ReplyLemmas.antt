@@ -1,19 +1,62 @@
 -- The bodies of refusals have no float, so their text is serde_json's. The lemma that callers want is refused_text.
-use Rattle.std.proofs.Common.{◌≡◌, ◌≢◌, ℕ, List, codes, true, false, refl, subst, ne_eqb}
+use Rattle.std.proofs.Common.{◌≡◌, ◌≢◌, ℕ, ℤ, pos, negsuc, List, [], ◌∷◌, map, Option, None, Some, codes, true, false, refl, ap, ◌∙◌, subst, ne_eqb}
 use Rattle.http_front.specs.declared.status.Status.TheVariants.{NotImplemented}
 use Rattle.http_front.specs.ReplyText.{bad_body, bad_text, json_parts, written}
-use Rattle.serde_json.specs.Data.{Data}
-use Rattle.serde_json.specs.Written.{compact_text, has_float}
+use Rattle.serde_json.specs.Data.{Data, array}
+use Rattle.serde_json.specs.Find.{is_float, of_integer}
+use Rattle.serde_json.specs.View.{view, items_of}
+use Rattle.serde_json.specs.Written.{compact_text, has_float, items_have_float}
+use Rattle.serde_json.specs.declared.value.Value.{Value}
+use Rattle.http_front.specs.IdArray.{array_text, id_data}
 use Rattle.library_state.specs.declared.refusal.Refusal.{Refusal}
-use Rattle.library_state.specs.declared.refusal.Refusal.TheVariants.{BadMethod, NoObject, Wrong, Taken, NoMemory}
+use Rattle.library_state.specs.declared.refusal.Refusal.TheVariants as refusal
 use Rattle.http_front.specs.RefusalText.{refused_body, refused_data}
 
+is_float-of_integer : (z : ℤ) → is_float (of_integer z) ≡ false
+is_float-of_integer (pos n) = refl
+is_float-of_integer (negsuc n) = refl
+
 pub no_float : (refusal : Refusal) → has_float (refused_data refusal) ≡ false
-no_float BadMethod = refl
-no_float (NoObject key) = refl
-no_float (Wrong got) = refl
-no_float (Taken id) = refl
-no_float NoMemory = refl
+no_float refusal.NoLibrary = refl
+no_float refusal.NoCall = refl
+no_float refusal.BadMethod = refl
+no_float refusal.BadQuery = refl
+no_float (refusal.BadBody at) = refl
+no_float refusal.Denied = refl
+no_float (refusal.NoObject key) = refl
+no_float (refusal.Wrong got) = refl
+no_float (refusal.BadFs code) = refl
+no_float (refusal.BadCommit code) = refl
+no_float (refusal.OtherLibrary lib) = refl
+no_float (refusal.Taken id) = refl
+no_float (refusal.Stale last now) = refl
+no_float (refusal.Incomplete key) = refl
+no_float (refusal.Unrelated count) = refl
+no_float (refusal.Unreadable key) = refl
+no_float (refusal.WrongKind id) = refl
+no_float (refusal.WrongSize id) = refl
+no_float (refusal.TooDeep path) = refl
+no_float (refusal.TooMany count) = refl
+no_float (refusal.TooLong path size) = refl
+no_float (refusal.BadDays days) = rw (is_float-of_integer days)
+no_float (refusal.Damaged want None) = refl
+no_float (refusal.Damaged want (Some got)) = refl
+no_float refusal.Store = refl
+no_float refusal.Spent = refl
+no_float refusal.NoMemory = refl
+
+no_float_items : (ids : List (List ℕ)) → items_have_float (items_of (map id_data ids)) ≡ false
+no_float_items [] = refl
+no_float_items (id ∷ ids) = no_float_items ids
+
+-- the text of an array of ids
+pub ids_text : (ids : List (List ℕ)) (values : List Value) (d : Data) (bytes : List ℕ) → d ≡ array (items_of (map view values)) → map view values ≡ map id_data ids
+    → (has_float d ≡ false → bytes ≡ compact_text d) → bytes ≡ array_text ids
+unfolding array_text
+ids_text ids values d bytes whole is text =
+    let same : d ≡ array (items_of (map id_data ids)) = whole ∙ ap (λ ds. array (items_of ds)) is in
+    let P : Data → Type 0 = λ e. has_float e ≡ false → bytes ≡ compact_text e in
+    subst P same text (no_float_items ids)
 
 pub refused_text : (refusal : Refusal) (d : Data) (bytes : List ℕ) → d ≡ refused_data refusal → (has_float d ≡ false → bytes ≡ compact_text d) → bytes ≡ refused_body refusal
 unfolding refused_body

@@ -2,6 +2,7 @@ pub mod BodyLimit
 pub mod Buffer
 pub mod EntityTag
 pub mod Fields
+pub mod IdArray
 pub mod IdText
 pub mod KindWord
 pub mod Link
@@ -10,10 +11,12 @@ pub mod NextHead
 pub mod Order
 pub mod ParsedHead
 pub mod RefusalText
+pub mod ReplyBody
 pub mod ReplyText
 pub mod RequestHead
 pub mod RequestStream
 pub mod Route
+pub mod Rows
 pub mod Status
 pub mod Target
 pub mod TargetFront

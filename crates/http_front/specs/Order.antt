@@ -1,28 +1,77 @@
--- What a request asks for, as a function of its method, target, secret and body. Our own. Read order_in first.
+-- What a request asks for, by its method, target, secret and body. Our own. Read IsOrder first, then Route, Rows, IdArray.
 use Rattle.std.specs.Prelude.{◌≡◌, ⊤, ℕ, Option, None, Some, Result, Ok, Err, List}
+use Rattle.ids.specs.declared.key.Kind.{Kind}
+use Rattle.ids.specs.declared.key.Kind.TheVariants.{Fs, Block}
+use Rattle.json_words.specs.declared.answer.ReadFault.{ReadFault}
+use Rattle.json_words.specs.declared.answer.ReadFault.TheVariants.{Bad, NoMemory as NoRoom}
 use Rattle.library_state.specs.declared.refusal.Refusal.{Refusal}
-use Rattle.library_state.specs.declared.refusal.Refusal.TheVariants.{BadMethod}
+use Rattle.library_state.specs.declared.refusal.Refusal.TheVariants.{NoCall, BadMethod, BadBody}
+use Rattle.http_front.specs.IdArray.{ids_of}
 use Rattle.http_front.specs.Route.{route_of}
+use Rattle.http_front.specs.Rows.{IsRowsOf}
 use Rattle.http_front.specs.declared.method.Method.{Method}
+use Rattle.http_front.specs.declared.method.Method.TheVariants as method
 use Rattle.http_front.specs.declared.order.Order.{Order}
 use Rattle.http_front.specs.declared.order.OrderFault.{OrderFault}
 use Rattle.http_front.specs.declared.order.OrderFault.TheVariants.{Refused, NoMemory}
+use Rattle.http_front.specs.declared.order.What.{What}
 use Rattle.http_front.specs.declared.order.What.TheVariants as what
 use Rattle.http_front.specs.declared.route.Route.{Route}
 use Rattle.http_front.specs.declared.route.Route.TheVariants as route
+use Rattle.http_front.specs.declared.row.Row.{Row}
 
--- the order of a call that the method and the path name
-abbrev pub order_at : Option Route → Option (List ℕ) → List ℕ → Result Order Refusal
-order_at None secret body = Err BadMethod
-order_at (Some (route.Get lib key)) secret body = Ok (record { lib = Some lib; secret = secret; what = what.Get key })
-order_at (Some (route.Put lib key)) secret body = Ok (record { lib = Some lib; secret = secret; what = what.Put key body })
+-- what is asked of a library
+abbrev pub asked_of : List ℕ → Option (List ℕ) → What → Order
+asked_of lib secret what = record { lib = Some lib; secret = secret; what = what }
+
+-- the absent ones of the ids are asked for
+abbrev pub asks_what_is_absent : List ℕ → Option (List ℕ) → Kind → Result (List (List ℕ)) ℕ → Result Order Refusal
+asks_what_is_absent lib secret kind (Ok ids) = Ok (asked_of lib secret (what.Missing kind ids))
+asks_what_is_absent lib secret kind (Err at) = Err (BadBody at)
+
+-- the files and directories with the ids are asked for
+abbrev pub asks_objects : List ℕ → Option (List ℕ) → Result (List (List ℕ)) ℕ → Result Order Refusal
+asks_objects lib secret (Ok ids) = Ok (asked_of lib secret (what.GetFs ids))
+asks_objects lib secret (Err at) = Err (BadBody at)
+
+-- the files and directories of the rows are to be stored
+abbrev pub puts_objects : List ℕ → Option (List ℕ) → Result (List Row) ℕ → Result Order Refusal
+puts_objects lib secret (Ok rows) = Ok (asked_of lib secret (what.PutFs rows))
+puts_objects lib secret (Err at) = Err (BadBody at)
+
+-- the same of what the rows of a body are
+abbrev pub PutsRows : List ℕ → Option (List ℕ) → List ℕ → Result Order Refusal → Type 0
+PutsRows lib secret body due = (rows : Result (List Row) ℕ) × IsRowsOf body rows × (due ≡ puts_objects lib secret rows)
+
+-- why a request is refused whose method and path name no call
+abbrev pub refusal_without_call : Method → Refusal
+refusal_without_call method.Get = NoCall
+refusal_without_call method.Put = NoCall
+refusal_without_call method.Post = NoCall
+refusal_without_call method.Other = BadMethod
+
+-- the order of a call that the method and the path name, or why it is refused
+abbrev pub IsOrderAt : Option Route → Method → Option (List ℕ) → List ℕ → Result Order Refusal → Type 0
+IsOrderAt None m secret body due = due ≡ Err (refusal_without_call m)
+IsOrderAt (Some route.Version) m secret body due = due ≡ Ok (record { lib = None; secret = secret; what = what.Version })
+IsOrderAt (Some (route.Get lib key)) m secret body due = due ≡ Ok (asked_of lib secret (what.Get key))
+IsOrderAt (Some (route.Put lib key)) m secret body due = due ≡ Ok (asked_of lib secret (what.Put key body))
+IsOrderAt (Some (route.CheckFs lib)) m secret body due = due ≡ asks_what_is_absent lib secret Fs (ids_of body)
+IsOrderAt (Some (route.CheckBlocks lib)) m secret body due = due ≡ asks_what_is_absent lib secret Block (ids_of body)
+IsOrderAt (Some (route.PutFs lib)) m secret body due = PutsRows lib secret body due
+IsOrderAt (Some (route.GetFs lib)) m secret body due = due ≡ asks_objects lib secret (ids_of body)
 
 -- what a request asks for, or why it is refused before any library is asked
-unfoldable pub order_in : Method → List ℕ → Option (List ℕ) → List ℕ → Result Order Refusal
-order_in method target secret body = order_at (route_of method target) secret body
+abbrev pub IsOrder : Method → List ℕ → Option (List ℕ) → List ℕ → Result Order Refusal → Type 0
+IsOrder m target secret body due = IsOrderAt (route_of m target) m secret body due
 
--- the answer is that one, unless there was no memory for it
-abbrev pub OrdersAs : Result Order OrderFault → Result Order Refusal → Type 0
-OrdersAs (Ok order) wanted = wanted ≡ Ok order
-OrdersAs (Err (Refused refusal)) wanted = wanted ≡ Err refusal
-OrdersAs (Err NoMemory) wanted = ⊤
+-- the answer is such a one, unless there was no memory for it
+abbrev pub OrdersAs : Result Order OrderFault → (Result Order Refusal → Type 0) → Type 0
+OrdersAs (Ok order) IsDue = IsDue (Ok order)
+OrdersAs (Err (Refused refusal)) IsDue = IsDue (Err refusal)
+OrdersAs (Err NoMemory) IsDue = ⊤
+
+-- the fault of a body that is not of its form, at a place
+abbrev pub body_fault : ReadFault ℕ → OrderFault
+body_fault (Bad at) = Refused (BadBody at)
+body_fault NoRoom = NoMemory

@@ -1,17 +1,19 @@
 -- The bytes of a reply: status line, fields, an empty line and the body (RFC 9112, section 2.1). Which fields and bodies
 -- there are is our own. Read text first, at the end.
-use Rattle.std.specs.Prelude.{◌==◌, ◌||◌, ℕ, Bool, true, if◌then◌else◌, Option, None, Some, List, [], ◌∷◌, ◌++◌, length, codes, decimal}
+use Rattle.std.specs.Prelude.{◌==◌, ◌||◌, ℕ, Bool, true, if◌then◌else◌, Option, None, Some, List, [], ◌∷◌, ◌++◌, length, codes, decimal, ⊤}
 use Rattle.library_state.specs.declared.reply.Reply.{Reply}
 use Rattle.library_state.specs.declared.reply.Reply.TheVariants as reply
 use Rattle.library_state.specs.declared.refusal.Refusal.{Refusal}
 use Rattle.library_state.specs.declared.tag.Tag.{Tag}
-use Rattle.serde_json.specs.Data.{object}
 use Rattle.serde_json.specs.Written.{compact_text}
 use Rattle.http_front.specs.EntityTag.{tag_text}
+use Rattle.http_front.specs.IdArray.{array_text}
+use Rattle.http_front.specs.ReplyBody.{collected_body, head_body, version_body}
+use Rattle.http_front.specs.Rows.{FitRows, rows_text}
 use Rattle.http_front.specs.Status.{status_words}
-use Rattle.http_front.specs.RefusalText.{because, refused_body, refused_status}
+use Rattle.http_front.specs.RefusalText.{reason_data, refused_body, refused_status}
 use Rattle.http_front.specs.declared.outcome.Outcome.{Outcome}
-use Rattle.http_front.specs.declared.outcome.Outcome.TheVariants.{Plain, Refused}
+use Rattle.http_front.specs.declared.outcome.Outcome.TheVariants.{Version, Same, Plain, Packed, Collected, Refused}
 use Rattle.http_front.specs.declared.status.Status.{Status}
 use Rattle.http_front.specs.declared.status.Status.TheVariants.{Success, NotModified, BadRequest, ContentTooLarge, HeadTooLarge, NotImplemented}
 
@@ -63,13 +65,28 @@ refused_parts refusal = json_parts (refused_status refusal) (refused_body refusa
 
 -- what is replied to a call
 abbrev pub reply_parts : Reply → Parts
+reply_parts reply.Checked = json_parts Success []
+reply_parts (reply.HeadIs id) = json_parts Success (head_body id)
 reply_parts (reply.Got bytes) = octet_parts bytes
 reply_parts (reply.Stored is_new) = json_parts Success []
+reply_parts (reply.Absent ids) = json_parts Success (array_text ids)
+reply_parts (reply.Updated id) = json_parts Success (head_body id)
+reply_parts reply.Limited = json_parts Success []
+reply_parts (reply.Listed ids) = json_parts Success (array_text ids)
 reply_parts (reply.Refused refusal) = refused_parts refusal
 
 abbrev pub parts_of : Outcome → Parts
+parts_of Version = json_parts Success version_body
+parts_of (Same tag) = parts_by NotModified (codes "application/json") (Some tag) []
 parts_of (Plain reply tag) = reply_parts reply
+parts_of (Packed rows) = octet_parts (rows_text rows)
+parts_of (Collected number removed) = json_parts Success (collected_body number removed)
 parts_of (Refused refusal) = refused_parts refusal
+
+-- an outcome has a text unless it holds an object that is too long for a row
+abbrev pub HasText : Outcome → Type 0
+HasText (Packed rows) = FitRows rows
+HasText _ = ⊤
 
 -- the reply to a request, which ends the connection where it closes
 unfoldable pub text : Outcome → Bool → List ℕ
@@ -80,7 +97,7 @@ abbrev pub is_bad_status : ℕ → Bool
 is_bad_status status = (status == 400) || (status == 413) || (status == 431) || (status == 501)
 
 abbrev pub bad_body : List ℕ → List ℕ
-bad_body reason = compact_text (object (because reason))
+bad_body reason = compact_text (reason_data reason)
 
 -- what is replied where no request can be read
 abbrev pub bad_parts : ℕ → Parts

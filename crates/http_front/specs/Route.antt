@@ -1,15 +1,22 @@
 -- The calls that a method and a path can name. Our own, after the HTTP sync calls of seafile-server:
 --
---     GET, PUT  /repo/LIB/block/ID       an object's bytes are asked for, or are to be stored
+--     GET       /protocol-version        the version of the protocol is asked for
+--     GET, PUT  /repo/LIB/commit/ID      an object's bytes are asked for, or are to be stored
+--     GET, PUT  /repo/LIB/block/ID       the same of a block
+--     POST      /repo/LIB/check-fs       of some ids those are asked for that name no file and no directory
+--     POST      /repo/LIB/check-blocks   the same of blocks
+--     POST      /repo/LIB/recv-fs        files and directories are to be stored
+--     POST      /repo/LIB/pack-fs        files and directories are asked for
 --
 -- LIB is the text of a library id and ID that of an object id. One slash at the end of a path and the query are dropped.
--- Read route_of first, at the end.
-use Rattle.std.specs.Prelude.{ℕ, ◌≡◌, ◌<◌, ◌==◌, All, if◌then◌else◌, Option, None, Some, List, [], ◌∷◌, ◌++◌, length, codes}
+-- Read route_of first; then parts_in, which says the same the other way round.
+use Rattle.std.specs.Prelude.{ℕ, ◌≡◌, ◌<◌, ◌==◌, All, if◌then◌else◌, Option, None, Some, List, [], ◌∷◌, length, codes, ⊤}
+use Rattle.std.specs.List.{join_with_byte}
 use Rattle.std.specs.Option.{option_and_then}
 use Rattle.std.specs.Str.{bytes_eq}
 use Rattle.ids.specs.declared.key.Key.{Key}
 use Rattle.ids.specs.declared.key.Kind.{Kind}
-use Rattle.ids.specs.declared.key.Kind.TheVariants.{Block}
+use Rattle.ids.specs.declared.key.Kind.TheVariants.{Commit, Fs, Block}
 use Rattle.hex.specs.Hex.{encode_lower}
 use Rattle.uuid.specs.Text.{hyphenated_text, lower}
 use Rattle.http_front.specs.IdText.{id_of, lib_of}
@@ -18,11 +25,14 @@ use Rattle.http_front.specs.Target.{parts_of}
 use Rattle.http_front.specs.declared.method.Method.{Method}
 use Rattle.http_front.specs.declared.method.Method.TheVariants as method
 use Rattle.http_front.specs.declared.route.Route.{Route}
-use Rattle.http_front.specs.declared.route.Route.TheVariants.{Get, Put}
+use Rattle.http_front.specs.declared.route.Route.TheVariants.{Version, Get, Put, CheckFs, CheckBlocks, PutFs, GetFs}
 
 -- the kind of object that a word of a path names
 abbrev pub kind_of : List ℕ → Option Kind
-kind_of word = if bytes_eq word (codes "block") then Some Block else None
+kind_of word =
+    if bytes_eq word (codes "block") then Some Block
+    else if bytes_eq word (codes "commit") then Some Commit
+    else None
 
 -- what each method asks of an object
 abbrev pub object_route : Method → List ℕ → Key → Option Route
@@ -31,21 +41,43 @@ object_route method.Put lib key = Some (Put lib key)
 object_route method.Post lib key = None
 object_route method.Other lib key = None
 
--- what follows `/repo/LIB/`: a kind of object and an id
+-- what follows `/repo/LIB/`, where it is a word alone
+abbrev pub word_route : Method → List ℕ → List ℕ → Option Route
+word_route method.Get lib word = None
+word_route method.Put lib word = None
+word_route method.Other lib word = None
+word_route method.Post lib word =
+    if bytes_eq word (codes "check-fs") then Some (CheckFs lib)
+    else if bytes_eq word (codes "check-blocks") then Some (CheckBlocks lib)
+    else if bytes_eq word (codes "recv-fs") then Some (PutFs lib)
+    else if bytes_eq word (codes "pack-fs") then Some (GetFs lib)
+    else None
+
+-- what follows `/repo/LIB/`: a word, or a kind of object and an id
 abbrev pub library_route : Method → List ℕ → List (List ℕ) → Option Route
+library_route m lib [] = None
+library_route m lib (word ∷ []) = word_route m lib word
 library_route m lib (word ∷ name ∷ []) =
     option_and_then (λ kind. option_and_then (λ id. object_route m lib (record { kind = kind; id = id })) (id_of name)) (kind_of word)
-library_route m lib _ = None
+library_route m lib (word ∷ name ∷ x ∷ more) = None
 
 -- what follows `/repo/`: a library
 abbrev pub repo_route : Method → List (List ℕ) → Option Route
 repo_route m (name ∷ rest) = option_and_then (λ lib. library_route m lib rest) (lib_of name)
 repo_route m [] = None
 
+-- what stands alone behind the first slash
+abbrev pub version_route : Method → List ℕ → Option Route
+version_route method.Get word = if bytes_eq word (codes "protocol-version") then Some Version else None
+version_route method.Put word = None
+version_route method.Post word = None
+version_route method.Other word = None
+
 -- what follows the first slash
 abbrev pub top_route : Method → List (List ℕ) → Option Route
-top_route m (word ∷ rest) = if bytes_eq word (codes "repo") then repo_route m rest else None
 top_route m [] = None
+top_route m (word ∷ []) = version_route m word
+top_route m (word ∷ next ∷ rest) = if bytes_eq word (codes "repo") then repo_route m (next ∷ rest) else None
 
 -- the parts of a path, which begins with a slash
 abbrev pub path_route : Method → List (List ℕ) → Option Route
@@ -58,27 +90,56 @@ route_of m target = path_route m (parts_of target)
 
 -- ---- the other way round: the method and the path of a call
 
--- the path of an object of a library
-abbrev pub object_path : List ℕ → Key → List ℕ
-object_path lib key =
-    codes "/repo/" ++ (hyphenated_text lower lib ++ (codes "/" ++ (kind_word key.kind ++ (codes "/" ++ encode_lower key.id))))
-
 abbrev pub method_in : Route → Method
+method_in Version = method.Get
 method_in (Get lib key) = method.Get
 method_in (Put lib key) = method.Put
+method_in (CheckFs lib) = method.Post
+method_in (CheckBlocks lib) = method.Post
+method_in (PutFs lib) = method.Post
+method_in (GetFs lib) = method.Post
 
+-- what follows `/repo/LIB/`
+abbrev pub under : List ℕ → List (List ℕ) → List (List ℕ)
+under lib rest = [] ∷ codes "repo" ∷ hyphenated_text lower lib ∷ rest
+
+-- what stands between the slashes of a call's path, of which the first begins it
+abbrev pub parts_in : Route → List (List ℕ)
+parts_in Version = [] ∷ codes "protocol-version" ∷ []
+parts_in (Get lib key) = under lib (kind_word key.kind ∷ encode_lower key.id ∷ [])
+parts_in (Put lib key) = under lib (kind_word key.kind ∷ encode_lower key.id ∷ [])
+parts_in (CheckFs lib) = under lib (codes "check-fs" ∷ [])
+parts_in (CheckBlocks lib) = under lib (codes "check-blocks" ∷ [])
+parts_in (PutFs lib) = under lib (codes "recv-fs" ∷ [])
+parts_in (GetFs lib) = under lib (codes "pack-fs" ∷ [])
+
+-- the path of a call: its parts with a slash between each two
 abbrev pub path_in : Route → List ℕ
-path_in (Get lib key) = object_path lib key
-path_in (Put lib key) = object_path lib key
+path_in route = join_with_byte 47 (parts_in route)
+
+-- the bytes of a library id
+pub record IsLibrary (lib : List ℕ) : Type 0 where
+  pub size : length lib ≡ 16
+  pub bytes : All (λ byte. byte < 256) lib
+
+-- the objects that a path can name
+abbrev pub IsPathKind : Kind → Type 0
+IsPathKind Commit = ⊤
+IsPathKind Fs = ⊥
+IsPathKind Block = ⊤
 
 -- the library and the key that a path can name
 pub record IsNamed (lib : List ℕ) (key : Key) : Type 0 where
-  pub lib_size : length lib ≡ 16
-  pub lib_bytes : All (λ byte. byte < 256) lib
+  pub lib_is : IsLibrary lib
   pub id_size : length key.id ≡ 20
   pub id_bytes : All (λ byte. byte < 256) key.id
-  pub kind : key.kind ≡ Block
+  pub kind : IsPathKind key.kind
 
 abbrev pub IsCall : Route → Type 0
+IsCall Version = ⊤
 IsCall (Get lib key) = IsNamed lib key
 IsCall (Put lib key) = IsNamed lib key
+IsCall (CheckFs lib) = IsLibrary lib
+IsCall (CheckBlocks lib) = IsLibrary lib
+IsCall (PutFs lib) = IsLibrary lib
+IsCall (GetFs lib) = IsLibrary lib

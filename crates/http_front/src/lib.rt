@@ -11,6 +11,7 @@ mod entity_tag;
 mod expectation;
 mod fields;
 mod head;
+mod id_array;
 mod judgement;
 pub mod laws;
 mod link;
@@ -20,8 +21,11 @@ mod method;
 mod order;
 mod outcome;
 mod refusal_text;
+mod refusal_value;
+mod reply_body;
 mod reply_text;
 mod route;
+mod row;
 mod status;
 mod target;
 mod target_front;
@@ -36,6 +40,7 @@ pub use method::Method;
 pub use order::{Order, OrderFault, What, order_of};
 pub use outcome::Outcome;
 pub use reply_text::{bad_bytes, reply_bytes};
+pub use row::Row;
 
 #[cfg(test)]
 mod tests;

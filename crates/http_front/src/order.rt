@@ -1,11 +1,15 @@
 //! What a request asks for.
-ghost use Rattle.std.specs.Prelude.{◌≡◌};
-ghost use Rattle.http_front.specs.Order.{OrdersAs, order_at, order_in};
+ghost use Rattle.std.specs.Prelude.{◌≡◌, Some};
+ghost use Rattle.http_front.specs.IdArray.{ids_of};
+ghost use Rattle.http_front.specs.Order.{IsOrder, IsOrderAt, OrdersAs, PutsRows, asks_objects, asks_what_is_absent, body_fault, refusal_without_call};
 
 use crate::head::Head;
+use crate::id_array::read_ids;
 use crate::method::Method;
 use crate::route::{Route, route_of};
-use ids::{Bytes, Key, LibId};
+use crate::row::{Row, read_rows};
+use ids::{Bytes, IdList, Items, Key, Kind, LibId};
+use json_words::ReadFault;
 use library_state::{Refusal, Secret};
 use std::alloc::Global;
 
@@ -22,14 +26,22 @@ pub struct Order {
 /// What is asked for.
 #[derive(Debug, Drop)]
 pub enum What {
+    /// The version of the protocol, of no library.
+    Version,
     /// The bytes of an object.
     Get(Key),
     /// That the bytes be stored under a key.
     Put(Key, Bytes),
+    /// Which of these ids name nothing that is stored as this kind.
+    Missing(Kind, IdList),
+    /// That these files and directories be stored.
+    PutFs(Items<Row>),
+    /// The files and directories with these ids.
+    GetFs(IdList),
 }
 
 /// Why a request has no order.
-#[derive(Clone, Copy, Debug, PartialEq, Eq)]
+#[derive(Debug, Drop, PartialEq, Eq)]
 pub enum OrderFault {
     /// The request is refused before any library is asked.
     Refused(Refusal),
@@ -37,18 +49,18 @@ pub enum OrderFault {
     NoMemory,
 }
 
-/// What a request asks for, by its head and its body. The body of a `Put` is copied once.
+/// What a request asks for, by its head and its body. What a body holds is copied once.
 ///
-/// A method and path that stand in no row of docs/FORMATS.md, "Requests", are refused as `BadMethod`. Whether the
-/// library is one that is served, the one who answers the order has to say.
+/// The refusals, in the order in which they are looked for: `BadMethod` where the method is not GET, PUT or POST;
+/// `NoCall` where method and path stand in no row of docs/FORMATS.md, "Requests"; `BadBody` where the body is not of
+/// the form that its row asks for. Whether the library is one that is served, the one who answers the order has to say.
 pub fn order_of(alloc: Global, head: &Head, body: &[u8]) -> Result<Order, OrderFault>
-    ensures value { OrdersAs result (order_in head.now.method head.now.target head.now.token body.now) }
+    ensures value { OrdersAs result (IsOrder head.now.method head.now.target head.now.token body.now) }
 {
     order_in(alloc, head.method, head.target.slice(), head.token, body)
 }
 
 /// The same, by the parts of a head that count.
-#[tactic(auto, unfolding(crate::specs::Order::order_in))]
 fn order_in(
     alloc: Global,
     method: Method,
@@ -56,11 +68,21 @@ fn order_in(
     secret: Option<Secret>,
     body: &[u8],
 ) -> Result<Order, OrderFault>
-    ensures value { OrdersAs result (order_in method target.now secret body.now) }
+    ensures value { OrdersAs result (IsOrder method target.now secret body.now) }
 {
     match route_of(method, target) {
-        None => Err(OrderFault::Refused(Refusal::BadMethod)),
+        None => Err(OrderFault::Refused(refusal_without_call(method))),
         Some(route) => order_at(alloc, route, secret, body),
+    }
+}
+
+/// Why a request whose method and path name no call is refused.
+fn refusal_without_call(method: Method) -> Refusal
+    ensures { result ≡ refusal_without_call method }
+{
+    match method {
+        Method::Get | Method::Put | Method::Post => Refusal::NoCall,
+        Method::Other => Refusal::BadMethod,
     }
 }
 
@@ -70,9 +92,14 @@ fn order_at(
     secret: Option<Secret>,
     body: &[u8],
 ) -> Result<Order, OrderFault>
-    ensures { OrdersAs result (order_at (Some route) secret body.now) }
+    ensures { OrdersAs result (IsOrderAt (Some route) Method.Get secret body.now) }
 {
     match route {
+        Route::Version => Ok(Order {
+            lib: None,
+            secret,
+            what: What::Version,
+        }),
         Route::Get(lib, key) => Ok(Order {
             lib: Some(lib),
             secret,
@@ -86,6 +113,78 @@ fn order_at(
             }),
             Err(_) => Err(OrderFault::NoMemory),
         },
+        Route::CheckFs(lib) => order_of_absent(alloc, lib, secret, Kind::Fs, body),
+        Route::CheckBlocks(lib) => order_of_absent(alloc, lib, secret, Kind::Block, body),
+        Route::PutFs(lib) => order_of_rows(alloc, lib, secret, body),
+        Route::GetFs(lib) => order_of_ids(alloc, lib, secret, body),
+    }
+}
+
+/// The order for the absent ones of the ids in a body.
+fn order_of_absent(
+    alloc: Global,
+    lib: LibId,
+    secret: Option<Secret>,
+    kind: Kind,
+    body: &[u8],
+) -> Result<Order, OrderFault>
+    ensures { OrdersAs result (λ due. due ≡ asks_what_is_absent lib secret kind (ids_of body.now)) }
+{
+    match read_ids(alloc, body) {
+        Ok(ids) => Ok(Order {
+            lib: Some(lib),
+            secret,
+            what: What::Missing(kind, ids),
+        }),
+        Err(fault) => Err(body_fault(fault)),
+    }
+}
+
+/// The order for the files and directories whose ids stand in a body.
+fn order_of_ids(
+    alloc: Global,
+    lib: LibId,
+    secret: Option<Secret>,
+    body: &[u8],
+) -> Result<Order, OrderFault>
+    ensures { OrdersAs result (λ due. due ≡ asks_objects lib secret (ids_of body.now)) }
+{
+    match read_ids(alloc, body) {
+        Ok(ids) => Ok(Order {
+            lib: Some(lib),
+            secret,
+            what: What::GetFs(ids),
+        }),
+        Err(fault) => Err(body_fault(fault)),
+    }
+}
+
+/// The order that the rows in a body be stored.
+fn order_of_rows(
+    alloc: Global,
+    lib: LibId,
+    secret: Option<Secret>,
+    body: &[u8],
+) -> Result<Order, OrderFault>
+    ensures { OrdersAs result (λ due. PutsRows lib secret body.now due) }
+{
+    match read_rows(alloc, body) {
+        Ok(rows) => Ok(Order {
+            lib: Some(lib),
+            secret,
+            what: What::PutFs(rows),
+        }),
+        Err(fault) => Err(body_fault(fault)),
+    }
+}
+
+/// The fault of a body that is not of its form, at a place.
+fn body_fault(fault: ReadFault<u64>) -> OrderFault
+    ensures { result ≡ body_fault fault }
+{
+    match fault {
+        ReadFault::Bad(at) => OrderFault::Refused(Refusal::BadBody(at)),
+        ReadFault::NoMemory => OrderFault::NoMemory,
     }
 }
 

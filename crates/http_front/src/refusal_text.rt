@@ -1,16 +1,16 @@
 //! The status and the body of each refusal.
-ghost use Rattle.std.specs.Prelude.{◌≡◌, codes, IfOk, string_bytes};
-ghost use Rattle.hex.specs.Hex.{encode_lower};
-ghost use Rattle.serde_json.specs.Data.{string, object, member};
+ghost use Rattle.std.specs.Prelude.{◌≡◌, IfOk};
 ghost use Rattle.serde_json.specs.View.{view};
 ghost use Rattle.serde_json.specs.Written.{compact_text};
-ghost use Rattle.http_front.specs.KindWord.{kind_word};
-ghost use Rattle.http_front.specs.RefusalText.{because, refused_body, refused_data, refused_status};
+ghost use Rattle.http_front.specs.RefusalText.{reason_data, refused_body, refused_data, refused_status};
 
+use crate::refusal_value::{
+    at_value, code_value, count_value, damaged_value, days_value, got_value, id_refusal_value,
+    key_value, lib_value, long_value, path_value, reason_value, stale_value,
+};
 use crate::status::Status;
-use ids::{Key, Kind, ObjId};
 use library_state::Refusal;
-use serde_json::{Value, json};
+use serde_json::Value;
 use std::alloc::{AllocError, Global};
 
 /// The status of a refusal.
@@ -18,10 +18,21 @@ pub fn refused_status(refusal: &Refusal) -> Status
     ensures { result ≡ refused_status refusal.now }
 {
     match refusal {
+        Refusal::NoLibrary | Refusal::NoCall | Refusal::NoObject(_) => Status::NotFound,
         Refusal::BadMethod => Status::NotImplemented,
-        Refusal::NoObject(_) => Status::NotFound,
-        Refusal::Wrong(_) => Status::BadRequest,
-        Refusal::Taken(_) => Status::Conflict,
+        Refusal::BadQuery | Refusal::BadBody(_) | Refusal::BadDays(_) => Status::BadRequest,
+        Refusal::Wrong(_) | Refusal::BadFs(_) | Refusal::BadCommit(_) => Status::BadRequest,
+        Refusal::OtherLibrary(_) | Refusal::Unrelated(_) => Status::BadRequest,
+        Refusal::Unreadable(_) | Refusal::WrongKind(_) | Refusal::WrongSize(_) => {
+            Status::BadRequest
+        }
+        Refusal::Denied => Status::Forbidden,
+        Refusal::Taken(_) | Refusal::Stale { .. } => Status::Conflict,
+        Refusal::Incomplete(_) => Status::Incomplete,
+        Refusal::TooDeep(_) | Refusal::TooMany(_) | Refusal::TooLong(_, _) => Status::TooLarge,
+        Refusal::Damaged { .. } => Status::Damaged,
+        Refusal::Store => Status::ServerError,
+        Refusal::Spent => Status::Spent,
         Refusal::NoMemory => Status::Unavailable,
     }
 }
@@ -37,80 +48,38 @@ fn refused_value(alloc: Global, refusal: &Refusal) -> Result<Value, AllocError>
     ensures { IfOk result (λ value. view value ≡ refused_data refusal.now) }
 {
     match refusal {
+        Refusal::NoLibrary => reason_value(alloc, "no-library"),
+        Refusal::NoCall => reason_value(alloc, "no-call"),
         Refusal::BadMethod => reason_value(alloc, "method"),
+        Refusal::BadQuery => reason_value(alloc, "bad-query"),
+        Refusal::BadBody(at) => at_value(alloc, *at, "bad-body"),
+        Refusal::Denied => reason_value(alloc, "denied"),
         Refusal::NoObject(key) => key_value(alloc, key, "no-object"),
         Refusal::Wrong(got) => got_value(alloc, got, "wrong"),
-        Refusal::Taken(id) => id_value(alloc, id, "taken"),
+        Refusal::BadFs(code) => code_value(alloc, *code, "bad-fs"),
+        Refusal::BadCommit(code) => code_value(alloc, *code, "bad-commit"),
+        Refusal::OtherLibrary(lib) => lib_value(alloc, lib, "other-library"),
+        Refusal::Taken(id) => id_refusal_value(alloc, id, "taken"),
+        Refusal::Stale { last, now } => stale_value(alloc, *last, *now),
+        Refusal::Incomplete(key) => key_value(alloc, key, "incomplete"),
+        Refusal::Unrelated(count) => count_value(alloc, *count, "unrelated"),
+        Refusal::Unreadable(key) => key_value(alloc, key, "unreadable"),
+        Refusal::WrongKind(id) => id_refusal_value(alloc, id, "wrong-kind"),
+        Refusal::WrongSize(id) => id_refusal_value(alloc, id, "wrong-size"),
+        Refusal::TooDeep(path) => path_value(alloc, path, "too-deep"),
+        Refusal::TooMany(count) => count_value(alloc, *count, "too-many"),
+        Refusal::TooLong(path, size) => long_value(alloc, path, *size),
+        Refusal::BadDays(days) => days_value(alloc, *days, "bad-days"),
+        Refusal::Damaged { want, got } => damaged_value(alloc, want, got),
+        Refusal::Store => reason_value(alloc, "store"),
+        Refusal::Spent => reason_value(alloc, "spent"),
         Refusal::NoMemory => reason_value(alloc, "no-memory"),
     }
 }
 
 /// The body that has a reason alone.
 pub fn reason_body(alloc: Global, reason: &str) -> Result<Vec<u8>, AllocError>
-    ensures { IfOk result (λ body. body.items ≡ compact_text (object (because reason.now))) }
+    ensures { IfOk result (λ body. body.items ≡ compact_text (reason_data reason.now)) }
 {
     reason_value(alloc, reason)?.to_vec(alloc)
-}
-
-fn reason_value(alloc: Global, reason: &str) -> Result<Value, AllocError>
-    ensures { IfOk result (λ value. view value ≡ object (because reason.now)) }
-{
-    json!(in alloc; {"reason": reason})
-}
-
-fn id_value(alloc: Global, id: &ObjId, reason: &str) -> Result<Value, AllocError>
-    ensures { IfOk result (λ value. view value
-        ≡ object (member (codes "id") (string (encode_lower id.now)) (because reason.now))) }
-{
-    id_member(alloc, hex::encode(alloc, id.as_bytes())?, reason)
-}
-
-fn id_member(alloc: Global, id: String, reason: &str) -> Result<Value, AllocError>
-    ensures { IfOk result (λ value. view value
-        ≡ object (member (codes "id") (string (string_bytes id)) (because reason.now))) }
-{
-    json!(in alloc; {"id": id, "reason": reason})
-}
-
-fn got_value(alloc: Global, got: &ObjId, reason: &str) -> Result<Value, AllocError>
-    ensures { IfOk result (λ value. view value
-        ≡ object (member (codes "got") (string (encode_lower got.now)) (because reason.now))) }
-{
-    got_member(alloc, hex::encode(alloc, got.as_bytes())?, reason)
-}
-
-fn got_member(alloc: Global, got: String, reason: &str) -> Result<Value, AllocError>
-    ensures { IfOk result (λ value. view value
-        ≡ object (member (codes "got") (string (string_bytes got)) (because reason.now))) }
-{
-    json!(in alloc; {"got": got, "reason": reason})
-}
-
-fn key_value(alloc: Global, key: &Key, reason: &str) -> Result<Value, AllocError>
-    ensures { IfOk result (λ value. view value ≡ object (member (codes "id") (string (encode_lower key.now.id))
-        (member (codes "kind") (string (kind_word key.now.kind)) (because reason.now)))) }
-{
-    key_members(
-        alloc,
-        hex::encode(alloc, key.id.as_bytes())?,
-        kind_word(key.kind),
-        reason,
-    )
-}
-
-fn key_members(alloc: Global, id: String, kind: &str, reason: &str) -> Result<Value, AllocError>
-    ensures { IfOk result (λ value. view value ≡ object (member (codes "id") (string (string_bytes id))
-        (member (codes "kind") (string kind.now) (because reason.now)))) }
-{
-    json!(in alloc; {"id": id, "kind": kind, "reason": reason})
-}
-
-fn kind_word(kind: Kind) -> &'static str
-    ensures { result.now ≡ kind_word kind }
-{
-    match kind {
-        Kind::Commit => "commit",
-        Kind::Fs => "fs",
-        Kind::Block => "block",
-    }
 }

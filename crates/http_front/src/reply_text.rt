@@ -1,12 +1,18 @@
 //! The bytes of replies.
-ghost use Rattle.std.specs.Prelude.{◌≡◌, ◌++◌, length, codes, decimal, true, IfOk, OnOk, IsTrue};
+ghost use Rattle.std.specs.Prelude.{◌≡◌, ◌++◌, [], length, codes, decimal, true, Some, IfOk, OnOk, IsTrue};
 ghost use Rattle.http_front.specs.EntityTag.{tag_text};
-ghost use Rattle.http_front.specs.ReplyText.{bad_body, bad_text, close_line, is_bad_status, json_parts, length_line, line, octet_parts, parts_by, refused_parts, reply_parts, tag_line, text, type_line, written};
+ghost use Rattle.http_front.specs.IdArray.{array_text};
+ghost use Rattle.http_front.specs.ReplyBody.{collected_body, head_body, version_body};
+ghost use Rattle.http_front.specs.ReplyText.{HasText, bad_body, bad_text, close_line, is_bad_status, json_parts, length_line, line, octet_parts, parts_by, refused_parts, reply_parts, tag_line, text, type_line, written};
+ghost use Rattle.http_front.specs.Rows.{FitRows, rows_text};
 
+use crate::id_array::array_bytes;
 use crate::outcome::Outcome;
 use crate::refusal_text::{reason_body, refused_body, refused_status};
+use crate::reply_body::{collected_body, head_body, version_body};
+use crate::row::{Row, write_rows};
 use crate::status::{Status, status_words};
-use ids::Bytes;
+use ids::{Bytes, ObjId};
 use itoa::Buffer;
 use library_state::{Refusal, Reply, Tag};
 use std::alloc::{AllocError, Global};
@@ -17,13 +23,21 @@ const HEAD_ROOM: usize = 256;
 /// The bytes of the reply to a request, with `Connection: close` where the connection ends after it.
 ///
 /// The form of a reply is that of HTTP/1.1 (RFC 9112); statuses, fields and bodies are our own
-/// (docs/FORMATS.md, "Replies"). The body of a `Got` is copied once.
+/// (docs/FORMATS.md, "Replies"). Objects are copied once. Where one that is packed has 2^32 bytes or more, there is no
+/// text, and the answer is want of memory.
 #[tactic(auto, unfolding(crate::specs::ReplyText::text))]
 pub fn reply_bytes(alloc: Global, outcome: &Outcome, closes: bool) -> Result<Bytes, AllocError>
     ensures value { IfOk result (λ bytes. bytes ≡ text outcome.now closes) }
+    ensures fits { OnOk result (HasText outcome.now) }
 {
     match outcome {
+        Outcome::Version => version_bytes(alloc, closes),
+        Outcome::Same(tag) => same_bytes(alloc, *tag, closes),
         Outcome::Plain(reply, _) => answer_bytes(alloc, reply, closes),
+        Outcome::Packed(rows) => packed_bytes(alloc, rows.slice(), closes),
+        Outcome::Collected { number, removed } => {
+            collected_bytes(alloc, *number, *removed, closes)
+        }
         Outcome::Refused(refusal) => refused_bytes(alloc, refusal, closes),
     }
 }
@@ -53,10 +67,73 @@ fn answer_bytes(alloc: Global, reply: &Reply, closes: bool) -> Result<Bytes, All
     ensures value { IfOk result (λ bytes. bytes ≡ written (reply_parts reply.now) closes) }
 {
     match reply {
+        Reply::Checked | Reply::Stored(_) | Reply::Limited => {
+            json_bytes(alloc, Status::Success, &[], closes)
+        }
+        Reply::HeadIs(id) => head_bytes(alloc, id, closes),
         Reply::Got(bytes) => octet_bytes(alloc, bytes.slice(), closes),
-        Reply::Stored(_) => json_bytes(alloc, Status::Success, &[], closes),
+        Reply::Absent(ids) => ids_bytes(alloc, ids.slice(), closes),
+        Reply::Updated(id) => head_bytes(alloc, id, closes),
+        Reply::Listed(ids) => ids_bytes(alloc, ids.slice(), closes),
         Reply::Refused(refusal) => refused_bytes(alloc, refusal, closes),
     }
+}
+
+fn version_bytes(alloc: Global, closes: bool) -> Result<Bytes, AllocError>
+    ensures value { IfOk result (λ bytes. bytes ≡ written (json_parts Status.Success version_body) closes) }
+{
+    let body = version_body(alloc)?;
+    json_bytes(alloc, Status::Success, body.as_slice(), closes)
+}
+
+/// The reply that a library is still in a state, which has no body.
+fn same_bytes(alloc: Global, tag: Tag, closes: bool) -> Result<Bytes, AllocError>
+    ensures value { IfOk result (λ bytes. bytes
+        ≡ written (parts_by Status.NotModified (codes "application/json") (Some tag) []) closes) }
+{
+    write_reply(
+        alloc,
+        Status::NotModified,
+        b"application/json",
+        Some(tag),
+        &[],
+        closes,
+    )
+}
+
+fn head_bytes(alloc: Global, id: &ObjId, closes: bool) -> Result<Bytes, AllocError>
+    ensures value { IfOk result (λ bytes. bytes ≡ written (json_parts Status.Success (head_body id.now)) closes) }
+{
+    let body = head_body(alloc, id)?;
+    json_bytes(alloc, Status::Success, body.as_slice(), closes)
+}
+
+fn ids_bytes(alloc: Global, ids: &[ObjId], closes: bool) -> Result<Bytes, AllocError>
+    ensures value { IfOk result (λ bytes. bytes ≡ written (json_parts Status.Success (array_text ids.now)) closes) }
+{
+    let body = array_bytes(alloc, ids)?;
+    json_bytes(alloc, Status::Success, body.as_slice(), closes)
+}
+
+fn packed_bytes(alloc: Global, rows: &[Row], closes: bool) -> Result<Bytes, AllocError>
+    ensures value { IfOk result (λ bytes. bytes ≡ written (octet_parts (rows_text rows.now)) closes) }
+    ensures fits { OnOk result (FitRows rows.now) }
+{
+    let body = write_rows(alloc, rows)?;
+    octet_bytes(alloc, body.as_slice(), closes)
+}
+
+fn collected_bytes(
+    alloc: Global,
+    number: u64,
+    removed: u64,
+    closes: bool,
+) -> Result<Bytes, AllocError>
+    ensures value { IfOk result (λ bytes. bytes
+        ≡ written (json_parts Status.Success (collected_body number removed)) closes) }
+{
+    let body = collected_body(alloc, number, removed)?;
+    json_bytes(alloc, Status::Success, body.as_slice(), closes)
 }
 
 fn refused_bytes(alloc: Global, refusal: &Refusal, closes: bool) -> Result<Bytes, AllocError>

@@ -1,7 +1,7 @@
 //! The calls that a method and a path name.
 ghost use Rattle.std.specs.Prelude.{◌≡◌, ◌∷◌, []};
 ghost use Rattle.http_front.specs.IdText.{id_of, lib_of};
-ghost use Rattle.http_front.specs.Route.{kind_of, library_route, object_route, path_route, repo_route, route_of, top_route};
+ghost use Rattle.http_front.specs.Route.{kind_of, library_route, object_route, path_route, repo_route, route_of, top_route, version_route, word_route};
 ghost use Rattle.http_front.specs.Target.{parts};
 
 use crate::method::Method;
@@ -11,10 +11,20 @@ use ids::{Key, Kind, LibId, ObjId};
 /// A call that a method and a path name, with the names that stand in the path.
 #[derive(Debug, Drop)]
 pub enum Route {
+    /// The version of the protocol is asked for.
+    Version,
     /// An object of a library is asked for.
     Get(LibId, Key),
     /// The body is to be stored as an object of a library.
     Put(LibId, Key),
+    /// Of the ids in the body those are asked for that name no file and no directory of a library.
+    CheckFs(LibId),
+    /// Of the ids in the body those are asked for that name no block of a library.
+    CheckBlocks(LibId),
+    /// The rows in the body are to be stored as files and directories of a library.
+    PutFs(LibId),
+    /// The files and directories of a library with the ids in the body are asked for, as rows.
+    GetFs(LibId),
 }
 
 /// The call that a method and a target name, if they name one. A query changes nothing.
@@ -53,7 +63,20 @@ fn top_route(method: Method, path: &str) -> Option<Route>
                 None
             }
         }
-        None => None,
+        None => version_route(method, path),
+    }
+}
+
+fn version_route(method: Method, word: &str) -> Option<Route>
+    ensures { result ≡ version_route method word.now }
+{
+    match method {
+        Method::Get => if word == "protocol-version" {
+            Some(Route::Version)
+        } else {
+            None
+        },
+        Method::Put | Method::Post | Method::Other => None,
     }
 }
 
@@ -79,8 +102,36 @@ fn library_route(method: Method, lib: LibId, path: &str) -> Option<Route>
             Some(_) => None,
             None => named_route(method, lib, word, name),
         },
-        None => None,
+        None => word_route(method, lib, path),
     }
+}
+
+/// What a word alone names.
+fn word_route(method: Method, lib: LibId, word: &str) -> Option<Route>
+    ensures { result ≡ word_route method lib word.now }
+{
+    match method {
+        Method::Post => post_route(lib, word),
+        Method::Get | Method::Put | Method::Other => None,
+    }
+}
+
+fn post_route(lib: LibId, word: &str) -> Option<Route>
+    ensures { result ≡ word_route Method.Post lib word.now }
+{
+    if word == "check-fs" {
+        return Some(Route::CheckFs(lib));
+    }
+    if word == "check-blocks" {
+        return Some(Route::CheckBlocks(lib));
+    }
+    if word == "recv-fs" {
+        return Some(Route::PutFs(lib));
+    }
+    if word == "pack-fs" {
+        return Some(Route::GetFs(lib));
+    }
+    None
 }
 
 /// What a kind of object and an id name.
@@ -106,10 +157,12 @@ fn kind_of(word: &str) -> Option<Kind>
     ensures { result ≡ kind_of word.now }
 {
     if word == "block" {
-        Some(Kind::Block)
-    } else {
-        None
+        return Some(Kind::Block);
     }
+    if word == "commit" {
+        return Some(Kind::Commit);
+    }
+    None
 }
 
 fn id_of(text: &str) -> Option<ObjId>

@@ -1,1 +1,3 @@
 pub mod RunLemmas
+pub mod MissingLemmas
+pub mod PutLemmas

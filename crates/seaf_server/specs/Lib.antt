@@ -1,3 +1,5 @@
+pub mod Missing
+pub mod Put
 pub mod Library
 pub mod CommandLine
 pub mod Runs

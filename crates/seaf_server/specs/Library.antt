@@ -1,21 +1,21 @@
 -- One library of a single thread: its name, a finite map from keys to bytes, and what it replies to a call. Our own.
--- Read due_reply and objects_after first, then AnswersCall.
+-- Read due_reply and objects_after first, with Put and Missing, then AnswersCall.
 use Rattle.std.specs.Prelude.{ℕ, ◌≡◌, ◌⊎◌, Bool, not, if◌then◌else◌, List, [], Option, None, Some, is_some, ⊤}
 use Rattle.std.specs.FinMap as map
 use Rattle.std.specs.Str.{bytes_eq}
 use Rattle.ids.specs.Key.{Objects}
 use Rattle.ids.specs.declared.key.Key.{Key}
+use Rattle.ids.specs.declared.key.Kind.{Kind}
 use Rattle.library_state.specs.declared.call.Act.{Act}
-use Rattle.library_state.specs.declared.call.Act.TheVariants.{Get, Put}
+use Rattle.library_state.specs.declared.call.Act.TheVariants.{Get, Put, Missing}
 use Rattle.library_state.specs.declared.call.Call.{Call}
 use Rattle.library_state.specs.declared.refusal.Refusal.{Refusal}
 use Rattle.library_state.specs.declared.refusal.Refusal.TheVariants as refusal
 use Rattle.library_state.specs.declared.reply.Reply.{Reply}
-use Rattle.library_state.specs.declared.reply.Reply.TheVariants.{Got, Stored, Refused}
-use Rattle.object_store.specs.declared.error.StoreFault.{StoreFault}
-use Rattle.object_store.specs.declared.error.StoreFault.TheVariants as store_fault
-use Rattle.object_store.specs.Store.{put_refusal}
+use Rattle.library_state.specs.declared.reply.Reply.TheVariants.{Got, Stored, Absent, Refused}
 use Rattle.worker_server.specs.declared.host.Answer.{Answer}
+use Rattle.seaf_server.specs.Missing.{absent_of}
+use Rattle.seaf_server.specs.Put.{refusal_of_put}
 use Rattle.seaf_server.specs.declared.depot.Depot.{Depot}
 
 -- what is stored under a key is given, and else there is no object
@@ -23,36 +23,35 @@ abbrev pub get_reply : Key → Option (List ℕ) → Reply
 get_reply key None = Refused (refusal.NoObject key)
 get_reply key (Some bytes) = Got bytes
 
--- the refusal that a fault of the store is
-abbrev pub refusal_of : StoreFault → Refusal
-refusal_of (store_fault.Wrong got) = refusal.Wrong got
-refusal_of (store_fault.Taken id) = refusal.Taken id
-refusal_of store_fault.NoMemory = refusal.NoMemory
-
--- a put is refused for the store's cause, and else it tells whether nothing was stored before
-abbrev pub put_reply : Option StoreFault → Bool → Reply
+-- a put is refused for its first cause, and else it tells whether nothing was stored before
+abbrev pub put_reply : Option Refusal → Bool → Reply
 put_reply None was_stored = Stored (not was_stored)
-put_reply (Some fault) was_stored = Refused (refusal_of fault)
+put_reply (Some cause) was_stored = Refused cause
 
--- the reply that is due where these objects are stored
-abbrev pub due_reply : Objects → Act → Reply
-due_reply objects (Get key) = get_reply key (map.get objects key)
-due_reply objects (Put key bytes) = put_reply (put_refusal objects key bytes) (is_some (map.get objects key))
+-- those of the ids that name nothing
+abbrev pub missing_reply : Objects → Kind → List (List ℕ) → Reply
+missing_reply objects kind ids = Absent (absent_of objects kind ids)
+
+-- the reply that is due of a library with these objects. The calls that are not built yet are none
+abbrev pub due_reply : Depot → Act → Reply
+due_reply depot (Get key) = get_reply key (map.get depot.store key)
+due_reply depot (Put key bytes) = put_reply (refusal_of_put depot.lib depot.store key bytes) (is_some (map.get depot.store key))
+due_reply depot (Missing kind ids) = missing_reply depot.store kind ids
+due_reply depot _ = Refused refusal.NoCall
 
 -- the objects after a put that was answered so
 abbrev pub stored_after : Objects → Key → List ℕ → Reply → Objects
 stored_after objects key bytes (Stored is_new) = map.insert objects key bytes
-stored_after objects key bytes (Got found) = objects
-stored_after objects key bytes (Refused cause) = objects
+stored_after objects key bytes _ = objects
 
 -- the objects after a call that was answered so: a put that was stored, and else the same
 abbrev pub objects_after : Objects → Act → Reply → Objects
-objects_after objects (Get key) reply = objects
 objects_after objects (Put key bytes) reply = stored_after objects key bytes reply
+objects_after objects _ reply = objects
 
--- the reply of the library that is served. A call on another library is none that there is
+-- the reply of the library that is served. Of another library there is none
 abbrev pub reply_of : Depot → List ℕ → Call → Reply
-reply_of depot lib call = if bytes_eq lib depot.lib then due_reply depot.store call.act else Refused refusal.BadMethod
+reply_of depot lib call = if bytes_eq lib depot.lib then due_reply depot call.act else Refused refusal.NoLibrary
 
 -- the reply that is due, or want of memory
 abbrev pub IsReply : Reply → Reply → Type 0

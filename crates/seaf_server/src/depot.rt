@@ -1,12 +1,14 @@
 //! One library: its name and its objects.
-ghost use Rattle.std.specs.Prelude.{◌≡◌, is_some};
+ghost use Rattle.std.specs.Prelude.{◌≡◌};
 ghost use Rattle.std.specs.FinMap as map;
-ghost use Rattle.object_store.specs.Store.{put_refusal};
-ghost use Rattle.seaf_server.specs.Library.{IsReply, depot_after, get_reply, put_reply, refusal_of, reply_of, stored_after};
+ghost use Rattle.seaf_server.specs.Library.{IsReply, depot_after, get_reply, missing_reply, reply_of};
 
-use ids::{Key, LibId};
+use crate::missing::absent_of;
+use crate::put::put;
+use ids::{Key, Kind, LibId, ObjId};
 use library_state::{Act, Call, Refusal, Reply};
-use object_store::{Put, Store, StoreFault};
+use object_store::Store;
+use std::alloc::Global;
 
 /// One library in memory. Until secrets are asked for, each call counts as an owner's.
 #[derive(Drop)]
@@ -18,20 +20,24 @@ pub struct Depot {
 impl Depot {
     /// Answers a call on a library. Nothing is changed but by a put that is answered as stored.
     ///
-    /// The refusals, in the order in which they are looked for: `BadMethod` where the library isn't the one that is
-    /// served; of a get `NoObject` where nothing is stored under the key; of a put `Wrong` where the bytes have another
-    /// SHA-1 than the key's, and `Taken` where other bytes are stored under it or its id is `ObjId::NIL`. `NoMemory` may
-    /// come in the place of any reply.
-    pub fn answer(&mut self, lib: LibId, call: Call) -> Reply
+    /// The refusals, in the order in which they are looked for: `NoLibrary` where the library isn't the one that is
+    /// served; of a get `NoObject` where nothing is stored under the key; of a put, for a block `Wrong` where the bytes
+    /// have another SHA-1 than the key's; for a file or directory the same and then `BadFs`; for a commit `BadCommit`,
+    /// `Wrong` where its text has another id, and `OtherLibrary`; and for all three `Taken` where other bytes are stored
+    /// under the key or its id is `ObjId::NIL`. The other calls are none yet: `NoCall`. `NoMemory` may come in the place
+    /// of any reply.
+    pub fn answer(&mut self, alloc: Global, lib: LibId, call: Call) -> Reply
         ensures value { IsReply (reply_of self.old lib call) result }
         ensures after { self.new ≡ depot_after self.old call result }
     {
         if lib != self.lib {
-            return Reply::Refused(Refusal::BadMethod);
+            return Reply::Refused(Refusal::NoLibrary);
         }
         match call.act {
             Act::Get(key) => get(&mut self.store, key),
-            Act::Put(key, bytes) => put(&mut self.store, key, bytes.slice()),
+            Act::Put(key, bytes) => put(alloc, &self.lib, &mut self.store, key, bytes.slice()),
+            Act::Missing(kind, ids) => missing(alloc, &self.store, kind, ids.slice()),
+            _ => Reply::Refused(Refusal::NoCall),
         }
     }
 }
@@ -49,24 +55,12 @@ fn get(store: &mut Store, key: Key) -> Reply
     }
 }
 
-/// The reply to a put.
-fn put(store: &mut Store, key: Key, bytes: &[u8]) -> Reply
-    ensures value { IsReply (put_reply (put_refusal store.old key bytes.now) (is_some (map.get store.old key))) result }
-    ensures after { store.new ≡ stored_after store.old key bytes.now result }
+/// The reply to the question which ids name nothing.
+fn missing(alloc: Global, store: &Store, kind: Kind, ids: &[ObjId]) -> Reply
+    ensures value { IsReply (missing_reply store.now kind ids.now) result }
 {
-    match store.put(key, bytes) {
-        Ok(put) => Reply::Stored(put == Put::New),
-        Err(fault) => Reply::Refused(refusal_of(fault)),
-    }
-}
-
-/// The refusal that a fault of the store is.
-fn refusal_of(fault: StoreFault) -> Refusal
-    ensures value { result ≡ refusal_of fault }
-{
-    match fault {
-        StoreFault::Wrong(got) => Refusal::Wrong(got),
-        StoreFault::Taken(id) => Refusal::Taken(id),
-        StoreFault::NoMemory => Refusal::NoMemory,
+    match absent_of(alloc, store, kind, ids) {
+        Ok(absent) => Reply::Absent(absent),
+        Err(_) => Reply::Refused(Refusal::NoMemory),
     }
 }

@@ -7,6 +7,8 @@
 mod adapters;
 mod command_line;
 mod depot;
+mod missing;
+mod put;
 mod running;
 mod serving;
 #[cfg(test)]

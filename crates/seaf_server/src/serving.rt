@@ -33,9 +33,8 @@ impl Host for Alone {
     ghost asks = { AnswersCall };
 
     fn ask(&self, alloc: Global, pass: &mut Depot, lib: LibId, call: Call) -> Answer {
-        let _ = alloc;
         Answer {
-            reply: pass.answer(lib, call),
+            reply: pass.answer(alloc, lib, call),
             opening: 0,
             place: 0,
         }

@@ -1,38 +1,88 @@
 -- What follows of a request and its outcome: Serves-refused_for_memory, Serves-ran.
-use Rattle.std.proofs.Common.{ℕ, List, [], ◌∷◌, Option, None, Some, Result, Ok, Err, refl, subst}
+use Rattle.std.proofs.Common.{ℕ, List, [], ◌∷◌, ◌++◌, Option, None, Some, Result, Ok, Err, inl, inr, refl, subst}
 use Rattle.library_state.specs.declared.call.Call.{Call}
 use Rattle.library_state.specs.declared.refusal.Refusal.{Refusal}
 use Rattle.library_state.specs.declared.refusal.Refusal.TheVariants.{NoMemory}
 use Rattle.http_front.specs.declared.order.Order.{Order}
+use Rattle.http_front.specs.Order.{OrdersAs}
+use Rattle.http_front.specs.declared.order.OrderFault.{OrderFault}
+use Rattle.http_front.specs.declared.order.OrderFault.TheVariants as fault
+use Rattle.http_front.specs.declared.order.What.{What}
+use Rattle.http_front.specs.declared.order.What.TheVariants as what
 use Rattle.http_front.specs.declared.outcome.Outcome.{Outcome}
 use Rattle.http_front.specs.declared.outcome.Outcome.TheVariants.{Refused}
-use Rattle.worker_server.specs.Calls.{Told, Ran, ServedSo, AskedSo, Serves, told, unwritten, unread, call_of}
+use Rattle.http_front.specs.declared.row.Row.{Row}
+use Rattle.http_front.specs.Rows.{row_with}
+use Rattle.worker_server.specs.Calls.{Told, Ran, ServedAt, ServedBy, ServedSo, ServesOrder, AskedSo, PutsEach, GetsEach, Serves, told, unwritten, unready, call_of, get_of, put_of, refusal_of}
 use Rattle.worker_server.specs.declared.host.Answer.{Answer}
 
 module _ {V Line : Type 0} (asks : V → List ℕ → Call → Answer → List Line → V → Type 0) where
   -- where no memory was for the text, the outcome is the refusal for want of memory
-  pub Serves-refused_for_memory : (u : V) (order : Result Order Refusal) (o : Outcome) (lines : List Line) (v : V)
-      → Serves asks u order o lines v → Serves asks u order (Refused NoMemory) lines v
-  Serves-refused_for_memory u order o lines v (told served) = unwritten o served refl
-  Serves-refused_for_memory u order o lines v (unwritten due served is) = unwritten due served refl
-  Serves-refused_for_memory u order o lines v (unread is none same) = unread refl none same
+  pub Serves-refused_for_memory : (u : V) (IsDue : Result Order Refusal → Type 0) (o : Outcome) (lines : List Line) (v : V)
+      → Serves asks u IsDue o lines v → Serves asks u IsDue (Refused NoMemory) lines v
+  Serves-refused_for_memory u IsDue o lines v (told order due served) = unwritten order o due served refl
+  Serves-refused_for_memory u IsDue o lines v (unwritten order other due served is) = unwritten order other due served refl
+  Serves-refused_for_memory u IsDue o lines v (unready none) = unready (refl, none.1, none.2)
 
-  AskedSo-ran : (u : V) (lib : Option (List ℕ)) (call : Call) (o : Outcome) (lines : List Line) (v : V)
-      → AskedSo asks u lib call o lines v → (calls : List (Told Line)) × Ran asks u calls v
-  AskedSo-ran u None call o lines v h = ([], h.2)
-  AskedSo-ran u (Some lib) call o lines v h = (record { lib = lib; call = call; answer = h.0; lines = lines } ∷ [], (v, h.1, refl))
+  -- an order that was read is served as such
+  pub Serves-from_order : (u : V) (IsDue : Result Order Refusal → Type 0) (order : Order) (o : Outcome) (lines : List Line) (v : V) → IsDue (Ok order)
+      → ServesOrder asks u order o lines v → Serves asks u IsDue o lines v
+  Serves-from_order u IsDue order o lines v due (inl served) = told (Ok order) due served
+  Serves-from_order u IsDue order o lines v due (inr none) = unready none
+
+  -- a request that has no order has no call
+  pub Serves-from_fault : (u : V) (IsDue : Result Order Refusal → Type 0) (fault : OrderFault) → OrdersAs (Err fault) IsDue → Serves asks u IsDue (Refused (refusal_of fault)) [] u
+  Serves-from_fault u IsDue (fault.Refused refusal) due = told (Err refusal) due (refl, refl, refl)
+  Serves-from_fault u IsDue fault.NoMemory due = unready (refl, refl, refl)
+
+  AskedSo-ran : (u : V) (lib : List ℕ) (call : Call) (o : Outcome) (lines : List Line) (v : V) → AskedSo asks u lib call o lines v → (calls : List (Told Line)) × Ran asks u calls v
+  AskedSo-ran u lib call o lines v h = (record { lib = lib; call = call; answer = h.0; lines = lines } ∷ [], (v, h.1, refl))
+
+  PutsEach-ran : (lib : List ℕ) (secret : Option (List ℕ)) (u : V) (rows : List Row) (o : Outcome) (lines : List Line) (v : V)
+      → PutsEach asks lib secret u rows o lines v → (calls : List (Told Line)) × Ran asks u calls v
+  PutsEach-ran lib secret u [] o lines v h = ([], h.2)
+  PutsEach-ran lib secret u (row ∷ rows) o lines v h =
+      let one : Told Line = record { lib = lib; call = call_of secret (put_of row); answer = h.0; lines = h.2 } in
+      elim h.6 [
+        | inl on ↦ let rest = PutsEach-ran lib secret h.1 rows o h.3 v on.1 in (one ∷ rest.0, (h.1, h.4, rest.1))
+        | inr end ↦ (one ∷ [], (h.1, h.4, end.3))
+      ]
+
+  GetsEach-ran : (lib : List ℕ) (secret : Option (List ℕ)) (u : V) (ids : List (List ℕ)) (given : List Row) (o : Outcome) (lines : List Line) (v : V)
+      → GetsEach asks lib secret u ids given o lines v → (calls : List (Told Line)) × Ran asks u calls v
+  GetsEach-ran lib secret u [] given o lines v h = ([], h.2)
+  GetsEach-ran lib secret u (id ∷ ids) given o lines v h =
+      let one : Told Line = record { lib = lib; call = call_of secret (get_of id); answer = h.0; lines = h.2 } in
+      elim h.6 [
+        | inl on ↦ let rest = GetsEach-ran lib secret h.1 ids (given ++ row_with id on.0 ∷ []) o h.3 v on.2 in (one ∷ rest.0, (h.1, h.4, rest.1))
+        | inr end ↦ (one ∷ [], (h.1, h.4, end.3))
+      ]
+
+  ServedBy-ran : (lib : List ℕ) (secret : Option (List ℕ)) (w : What) (u : V) (o : Outcome) (lines : List Line) (v : V)
+      → ServedBy asks lib secret w u o lines v → (calls : List (Told Line)) × Ran asks u calls v
+  ServedBy-ran lib secret what.Version u o lines v h = ([], h.2)
+  ServedBy-ran lib secret (what.Get key) u o lines v h = AskedSo-ran u lib _ o lines v h
+  ServedBy-ran lib secret (what.Put key bytes) u o lines v h = AskedSo-ran u lib _ o lines v h
+  ServedBy-ran lib secret (what.Missing kind ids) u o lines v h = AskedSo-ran u lib _ o lines v h
+  ServedBy-ran lib secret (what.PutFs rows) u o lines v h = PutsEach-ran lib secret u rows o lines v h
+  ServedBy-ran lib secret (what.GetFs ids) u o lines v h = GetsEach-ran lib secret u ids [] o lines v h
+
+  ServedAt-ran : (lib secret : Option (List ℕ)) (w : What) (u : V) (o : Outcome) (lines : List Line) (v : V)
+      → ServedAt asks lib secret w u o lines v → (calls : List (Told Line)) × Ran asks u calls v
+  ServedAt-ran None secret w u o lines v h = ([], h.2)
+  ServedAt-ran (Some lib) secret w u o lines v h = ServedBy-ran lib secret w u o lines v h
 
   ServedSo-ran : (u : V) (order : Result Order Refusal) (o : Outcome) (lines : List Line) (v : V)
       → ServedSo asks u order o lines v → (calls : List (Told Line)) × Ran asks u calls v
   ServedSo-ran u (Err refusal) o lines v h = ([], h.2)
-  ServedSo-ran u (Ok order) o lines v h = AskedSo-ran u order.lib (call_of order) o lines v h
+  ServedSo-ran u (Ok order) o lines v h = ServedAt-ran order.lib order.secret order.what u o lines v h
 
   -- the calls of a request
-  pub Serves-ran : (u : V) (order : Result Order Refusal) (o : Outcome) (lines : List Line) (v : V)
-      → Serves asks u order o lines v → (calls : List (Told Line)) × Ran asks u calls v
-  Serves-ran u order o lines v (told served) = ServedSo-ran u order o lines v served
-  Serves-ran u order o lines v (unwritten due served is) = ServedSo-ran u order due lines v served
-  Serves-ran u order o lines v (unread is none same) = ([], same)
+  pub Serves-ran : (u : V) (IsDue : Result Order Refusal → Type 0) (o : Outcome) (lines : List Line) (v : V)
+      → Serves asks u IsDue o lines v → (calls : List (Told Line)) × Ran asks u calls v
+  Serves-ran u IsDue o lines v (told order due served) = ServedSo-ran u order o lines v served
+  Serves-ran u IsDue o lines v (unwritten order other due served is) = ServedSo-ran u order other lines v served
+  Serves-ran u IsDue o lines v (unready none) = ([], none.2)
 
   -- some calls, and then more
   pub Ran-append : (u w v : V) (calls more : List (Told Line)) → Ran asks u calls w → Ran asks w more v

@@ -1,4 +1,5 @@
 pub mod CallLemmas
+pub mod EachLemmas
 pub mod ReadingLemmas
 pub mod RequestLemmas
 pub mod SessionLemmas

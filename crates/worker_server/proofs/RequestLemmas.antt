@@ -10,11 +10,11 @@ use Rattle.library_state.specs.declared.call.Call.{Call}
 use Rattle.http_front.specs.Buffer.{to_read}
 use Rattle.http_front.specs.declared.head.Head.{Head}
 use Rattle.http_front.specs.declared.outcome.Outcome.{Outcome}
-use Rattle.http_front.specs.Order.{order_in}
+use Rattle.http_front.specs.Order.{IsOrder}
 use Rattle.http_front.specs.ReplyText.{text, bad_text}
 use Rattle.http_front.specs.RequestStream.{Request, IsPlain}
 use Rattle.worker_server.specs.Calls.{Serves}
-use Rattle.worker_server.specs.ServedConnection.{Exchange, Answers, InHand, reply, refusal, Stops, order_for, closes_at}
+use Rattle.worker_server.specs.ServedConnection.{Exchange, Answers, InHand, reply, refusal, Stops, closes_at}
 use Rattle.worker_server.specs.RequestSteps.{StandsAt, OneMore, IsPlainEnd, StopsSo}
 use Rattle.worker_server.specs.declared.host.Answer.{Answer}
 use Rattle.worker_server.specs.declared.reading.End.{End}
@@ -67,25 +67,29 @@ after_is bytes h r after s =
 module _ {V Line : Type 0} (asks : V → List ℕ → Call → Answer → List Line → V → Type 0) where
   pub Answers-from_head : (bytes : List ℕ) (h : Head) (r : Request) (after : List ℕ) → StandsAt bytes h r after
       → (u v : V) (o : Outcome) (lines : List Line)
-      → Serves asks u (order_in h.method h.target h.token (slice_range bytes h.used (h.used + h.body))) o lines v
+      → Serves asks u (IsOrder h.method h.target h.token (slice_range bytes h.used (h.used + h.body))) o lines v
       → Answers asks u (record { request = r; outcome = o; lines = lines }) v
   Answers-from_head bytes h r after s u v o lines served =
-      let body = body_is bytes h r after s in
-      let same : order_in h.method h.target h.token (slice_range bytes h.used (h.used + h.body)) ≡ order_for r h.token = cc (body, s.method, s.target) in
-      (h.token, s.shows, subst (λ z. Serves asks u z o lines v) same served)
+      let body = body_is bytes h r after s in (
+        h.token,
+        s.shows,
+        subst (λ z. Serves asks u (IsOrder z r.head.target h.token r.body) o lines v) s.method
+            (subst (λ z. Serves asks u (IsOrder h.method z h.token r.body) o lines v) s.target
+            (subst (λ z. Serves asks u (IsOrder h.method h.target h.token z) o lines v) body served)),
+      )
 
   -- the call was made of what the buffer told
   pub Serves-at : (front bytes : List ℕ) (h : Head) (u v : V) (o : Outcome) (lines : List Line) → front ≡ bytes
-      → Serves asks u (order_in h.method h.target h.token (slice_range front h.used (h.used + h.body))) o lines v
-      → Serves asks u (order_in h.method h.target h.token (slice_range bytes h.used (h.used + h.body))) o lines v
+      → Serves asks u (IsOrder h.method h.target h.token (slice_range front h.used (h.used + h.body))) o lines v
+      → Serves asks u (IsOrder h.method h.target h.token (slice_range bytes h.used (h.used + h.body))) o lines v
   Serves-at front bytes h u v o lines same served =
-      subst (λ z. Serves asks u (order_in h.method h.target h.token (slice_range z h.used (h.used + h.body))) o lines v) same served
+      subst (λ z. Serves asks u (IsOrder h.method h.target h.token (slice_range z h.used (h.used + h.body))) o lines v) same served
 
   -- what is in hand as the reply was made
   pub InHand-from_reply : (n : ℕ) (bytes : List ℕ) (left : Option (List ℕ)) (rest : List ℕ) (h : Head) (r : Request) (after : List ℕ)
       → StandsAt bytes h r after → to_read bytes left ≡ Some rest
       → (u v : V) (o : Outcome) (lines : List Line)
-      → Serves asks u (order_in h.method h.target h.token (slice_range bytes h.used (h.used + h.body))) o lines v
+      → Serves asks u (IsOrder h.method h.target h.token (slice_range bytes h.used (h.used + h.body))) o lines v
       → (closed : Bool) → closed ≡ (h.closes || n == 9999) → InHand asks n rest u v (text o closed)
   InHand-from_reply n bytes left rest h r after s e u v o lines served closed is =
       let ahead = to_read-some bytes left rest e in
@@ -98,7 +102,7 @@ module _ {V Line : Type 0} (asks : V → List ℕ → Call → Answer → List L
   pub OneMore-from_reply : (n : ℕ) (bytes : List ℕ) (left : Option (List ℕ)) (rest : List ℕ) (h : Head) (r : Request) (after : List ℕ)
       → StandsAt bytes h r after → to_read bytes left ≡ Some rest
       → (u v : V) (o : Outcome) (lines : List Line)
-      → Serves asks u (order_in h.method h.target h.token (slice_range bytes h.used (h.used + h.body))) o lines v
+      → Serves asks u (IsOrder h.method h.target h.token (slice_range bytes h.used (h.used + h.body))) o lines v
       → (closed : Bool) → closed ≡ (h.closes || n == 9999)
       → (given now : Option (List ℕ)) → now ≡ append_known given (text o closed)
       → OneMore asks n rest (to_read (drop (h.used + h.body) bytes) left) u v given now closed

@@ -1,32 +1,57 @@
--- What an order asks of a library, and how its outcome is made of the answer. Read Serves last: it is what stands
+-- What an order asks of a library, and how its outcome is made of the answers. Read Serves last: it is what stands
 -- between a request and its reply. `asks` is a host's relation: from what it shows before, a library and a call to
 -- an answer, the lines that the call left and what it shows after.
-use Rattle.std.specs.Prelude.{ℕ, ◌≡◌, List, [], ◌∷◌, Option, None, Some, Result, Ok, Err}
+use Rattle.std.specs.Prelude.{ℕ, ◌≡◌, ◌⊎◌, Bool, true, false, List, [], ◌∷◌, ◌++◌, Option, None, Some, Result, Ok, Err}
+use Rattle.ids.specs.declared.key.Kind.TheVariants.{Fs}
 use Rattle.library_state.specs.declared.call.Act.{Act}
-use Rattle.library_state.specs.declared.call.Act.TheVariants.{Get as ActGet, Put as ActPut}
+use Rattle.library_state.specs.declared.call.Act.TheVariants as act
 use Rattle.library_state.specs.declared.call.Call.{Call}
 use Rattle.library_state.specs.declared.refusal.Refusal.{Refusal}
-use Rattle.library_state.specs.declared.refusal.Refusal.TheVariants.{NoMemory, BadMethod}
+use Rattle.library_state.specs.declared.refusal.Refusal.TheVariants.{NoMemory, NoCall}
+use Rattle.library_state.specs.declared.reply.Reply.{Reply}
+use Rattle.library_state.specs.declared.reply.Reply.TheVariants as reply
 use Rattle.library_state.specs.declared.tag.Tag.{Tag}
+use Rattle.http_front.specs.Rows.{row_with}
 use Rattle.http_front.specs.declared.order.Order.{Order}
+use Rattle.http_front.specs.declared.order.OrderFault.{OrderFault}
+use Rattle.http_front.specs.declared.order.OrderFault.TheVariants as fault
 use Rattle.http_front.specs.declared.order.What.{What}
-use Rattle.http_front.specs.declared.order.What.TheVariants.{Get, Put}
+use Rattle.http_front.specs.declared.order.What.TheVariants as what
 use Rattle.http_front.specs.declared.outcome.Outcome.{Outcome}
-use Rattle.http_front.specs.declared.outcome.Outcome.TheVariants.{Plain, Refused}
+use Rattle.http_front.specs.declared.outcome.Outcome.TheVariants.{Version, Plain, Packed, Refused}
+use Rattle.http_front.specs.declared.row.Row.{Row}
 use Rattle.worker_server.specs.declared.host.Answer.{Answer}
 
--- what an order asks for
-abbrev pub act_of : What → Act
-act_of (Get key) = ActGet key
-act_of (Put key bytes) = ActPut key bytes
+-- a call with the secret that the request showed
+abbrev pub call_of : Option (List ℕ) → Act → Call
+call_of secret a = record { secret = secret; act = a }
 
--- the call of an order
-abbrev pub call_of : Order → Call
-call_of order = record { secret = order.secret; act = act_of order.what }
+-- a file or directory is to be stored, or asked for
+abbrev pub put_of : Row → Act
+put_of row = act.Put (record { kind = Fs; id = row.id }) row.bytes
+
+abbrev pub get_of : List ℕ → Act
+get_of id = act.Get (record { kind = Fs; id = id })
 
 -- the tag of the state that an answer tells of
 abbrev pub tag_of : Answer → Tag
 tag_of answer = record { opening = answer.opening; count = answer.place }
+
+-- what is replied to a request whose one answer, or whose first answer that was not as asked, is this
+abbrev pub told_of : Answer → Outcome
+told_of answer = Plain answer.reply (tag_of answer)
+
+-- what is replied where all files and directories of a body were stored
+abbrev pub all_stored : Outcome
+all_stored = Plain (reply.Stored true) (record { opening = 0; count = 0 })
+
+abbrev pub is_stored : Reply → Bool
+is_stored (reply.Stored is_new) = true
+is_stored _ = false
+
+abbrev pub is_got : Reply → Bool
+is_got (reply.Got bytes) = true
+is_got _ = false
 
 -- a call that was asked, its answer, and the lines that it left
 pub record Told (Line : Type 0) : Type 0 where
@@ -35,26 +60,77 @@ pub record Told (Line : Type 0) : Type 0 where
   pub answer : Answer
   pub lines : List Line
 
+-- what is replied where no library is named: no order but that for the version is without one
+abbrev pub outcome_without_library : What → Outcome
+outcome_without_library what.Version = Version
+outcome_without_library _ = Refused NoCall
+
+-- the refusal of a request that has no order
+abbrev pub refusal_of : OrderFault → Refusal
+refusal_of (fault.Refused refusal) = refusal
+refusal_of fault.NoMemory = NoMemory
+
+-- no call was asked, and this is the outcome
+abbrev pub NotAsked : {V Line : Type 0} → V → Outcome → Outcome → List Line → V → Type 0
+NotAsked u due o lines v = (o ≡ due) × (lines ≡ []) × (v ≡ u)
+
 module _ {V Line : Type 0} (asks : V → List ℕ → Call → Answer → List Line → V → Type 0) where
   -- these calls were asked, one after another
   abbrev pub Ran : V → List (Told Line) → V → Type 0
   Ran u [] v = v ≡ u
   Ran u (t ∷ ts) v = (mid : V) × asks u t.lib t.call t.answer t.lines mid × Ran mid ts v
 
-  -- the call of an order was asked of that library, and the outcome is the answer
-  abbrev pub AskedSo : V → Option (List ℕ) → Call → Outcome → List Line → V → Type 0
-  AskedSo u None call o lines v = (o ≡ Refused BadMethod) × (lines ≡ []) × (v ≡ u)
-  AskedSo u (Some lib) call o lines v =
-      (answer : Answer) × asks u lib call answer lines v × (o ≡ Plain answer.reply (tag_of answer))
+  -- the call was asked of that library, and the outcome is the answer
+  abbrev pub AskedSo : V → List ℕ → Call → Outcome → List Line → V → Type 0
+  AskedSo u lib call o lines v = (answer : Answer) × asks u lib call answer lines v × (o ≡ told_of answer)
 
-  -- a request whose reading is `order` has this outcome: the refusal that it was read as, without a call, or its
-  -- call's answer
+  -- the files and directories were put one after another, up to the first that was not stored, whose answer is the
+  -- outcome
+  abbrev pub PutsEach : List ℕ → Option (List ℕ) → V → List Row → Outcome → List Line → V → Type 0
+  PutsEach lib secret u [] o lines v = NotAsked u all_stored o lines v
+  PutsEach lib secret u (row ∷ rows) o lines v =
+      (answer : Answer) × (mid : V) × (first : List Line) × (more : List Line)
+      × asks u lib (call_of secret (put_of row)) answer first mid × (lines ≡ first ++ more)
+      × (((is_stored answer.reply ≡ true) × PutsEach lib secret mid rows o more v)
+      ⊎ ((is_stored answer.reply ≡ false) × (o ≡ told_of answer) × (more ≡ []) × (v ≡ mid)))
+
+  -- the files and directories were asked for one after another, after these that were given, up to the first that was
+  -- not given, whose answer is the outcome; where all were, the outcome is all of them
+  abbrev pub GetsEach : List ℕ → Option (List ℕ) → V → List (List ℕ) → List Row → Outcome → List Line → V → Type 0
+  GetsEach lib secret u [] given o lines v = NotAsked u (Packed given) o lines v
+  GetsEach lib secret u (id ∷ ids) given o lines v =
+      (answer : Answer) × (mid : V) × (first : List Line) × (more : List Line)
+      × asks u lib (call_of secret (get_of id)) answer first mid × (lines ≡ first ++ more)
+      × (((bytes : List ℕ) × (answer.reply ≡ reply.Got bytes) × GetsEach lib secret mid ids (given ++ row_with id bytes ∷ []) o more v)
+      ⊎ ((is_got answer.reply ≡ false) × (o ≡ told_of answer) × (more ≡ []) × (v ≡ mid)))
+
+  -- what was asked of a library has this outcome
+  abbrev pub ServedBy : List ℕ → Option (List ℕ) → What → V → Outcome → List Line → V → Type 0
+  ServedBy lib secret what.Version u o lines v = NotAsked u Version o lines v
+  ServedBy lib secret (what.Get key) u o lines v = AskedSo u lib (call_of secret (act.Get key)) o lines v
+  ServedBy lib secret (what.Put key bytes) u o lines v = AskedSo u lib (call_of secret (act.Put key bytes)) o lines v
+  ServedBy lib secret (what.Missing kind ids) u o lines v = AskedSo u lib (call_of secret (act.Missing kind ids)) o lines v
+  ServedBy lib secret (what.PutFs rows) u o lines v = PutsEach lib secret u rows o lines v
+  ServedBy lib secret (what.GetFs ids) u o lines v = GetsEach lib secret u ids [] o lines v
+
+  abbrev pub ServedAt : Option (List ℕ) → Option (List ℕ) → What → V → Outcome → List Line → V → Type 0
+  ServedAt None secret w u o lines v = NotAsked u (outcome_without_library w) o lines v
+  ServedAt (Some lib) secret w u o lines v = ServedBy lib secret w u o lines v
+
+  -- a request whose reading is this has this outcome: the refusal that it was read as, without a call, or what the
+  -- answers to its calls make
   abbrev pub ServedSo : V → Result Order Refusal → Outcome → List Line → V → Type 0
-  ServedSo u (Err refusal) o lines v = (o ≡ Refused refusal) × (lines ≡ []) × (v ≡ u)
-  ServedSo u (Ok order) o lines v = AskedSo u order.lib (call_of order) o lines v
+  ServedSo u (Err refusal) o lines v = NotAsked u (Refused refusal) o lines v
+  ServedSo u (Ok order) o lines v = ServedAt order.lib order.secret order.what u o lines v
 
-  -- the same, or want of memory: for the text of the outcome, after the call, or for the order, and then without it
-  pub data Serves (u : V) (order : Result Order Refusal) (o : Outcome) (lines : List Line) (v : V) : Type 0 where
-    told : ServedSo u order o lines v → Serves u order o lines v
-    unwritten : (due : Outcome) → ServedSo u order due lines v → o ≡ Refused NoMemory → Serves u order o lines v
-    unread : o ≡ Refused NoMemory → lines ≡ [] → v ≡ u → Serves u order o lines v
+  -- the same of a request that may be read as such, or want of memory: for the text of the outcome, after the calls,
+  -- or for the order or the outcome, and then without a call
+  pub data Serves (u : V) (IsDue : Result Order Refusal → Type 0) (o : Outcome) (lines : List Line) (v : V) : Type 0 where
+    told : (order : Result Order Refusal) → IsDue order → ServedSo u order o lines v → Serves u IsDue o lines v
+    unwritten : (order : Result Order Refusal) (due : Outcome) → IsDue order → ServedSo u order due lines v → o ≡ Refused NoMemory
+        → Serves u IsDue o lines v
+    unready : NotAsked u (Refused NoMemory) o lines v → Serves u IsDue o lines v
+
+  -- an order that was read has its outcome, or there was no memory for it, and then no call
+  abbrev pub ServesOrder : V → Order → Outcome → List Line → V → Type 0
+  ServesOrder u order o lines v = ServedSo u (Ok order) o lines v ⊎ NotAsked u (Refused NoMemory) o lines v

@@ -10,7 +10,7 @@ use Rattle.http_front.specs.declared.outcome.Outcome.{Outcome}
 use Rattle.http_front.specs.Fields.{found, values_of}
 use Rattle.http_front.specs.Link.{GivesFront}
 use Rattle.http_front.specs.NextHead.{IsTokenIn}
-use Rattle.http_front.specs.Order.{order_in}
+use Rattle.http_front.specs.Order.{IsOrder}
 use Rattle.http_front.specs.ReplyText.{text, bad_text}
 use Rattle.http_front.specs.RequestHead.{closes, fields_of, method_of}
 use Rattle.http_front.specs.RequestStream.{Request, IsPlain, HasNoPlain, MayFollow}
@@ -24,8 +24,8 @@ abbrev pub Shows : Request → Option (List ℕ) → Type 0
 Shows r secret = IsTokenIn (found (values_of (codes "seafile-repo-token") (fields_of r.head))) secret
 
 -- what a request that shows this secret is read as
-abbrev pub order_for : Request → Option (List ℕ) → Result Order Refusal
-order_for r secret = order_in (method_of r.head.method) r.head.target secret r.body
+abbrev pub IsOrderFor : Request → Option (List ℕ) → Result Order Refusal → Type 0
+IsOrderFor r secret = IsOrder (method_of r.head.method) r.head.target secret r.body
 
 -- the input is these whole requests, of which only the last may close, and then the rest
 abbrev pub ReadsPlain : List ℕ → List Request → List ℕ → Type 0
@@ -80,7 +80,7 @@ module _ {V Line : Type 0} (asks : V → List ℕ → Call → Answer → List L
   abbrev pub Answers : V → Exchange Line → V → Type 0
   Answers u x v =
       (secret : Option (List ℕ)) × Shows x.request secret
-      × Serves asks u (order_for x.request secret) x.outcome x.lines v
+      × Serves asks u (IsOrderFor x.request secret) x.outcome x.lines v
 
   -- each request in its turn
   abbrev pub Run : V → List (Exchange Line) → V → Type 0

@@ -1,16 +1,14 @@
-//! Answering one request: its order is asked of the host, and its reply is written.
-ghost use Rattle.std.specs.Prelude.{◌≡◌, List, Result, IfSome};
-ghost use Rattle.library_state.specs.declared.refusal.Refusal.{Refusal as AnyRefusal};
-ghost use Rattle.http_front.specs.declared.order.Order.{Order as AnyOrder};
-ghost use Rattle.http_front.specs.declared.outcome.Outcome.{Outcome as AnyOutcome};
-ghost use Rattle.http_front.specs.Order.{OrdersAs, order_in};
+//! Answering one request: its calls are asked of the host, and its reply is written.
+ghost use Rattle.std.specs.Prelude.{◌≡◌, List, Some, IfSome};
+ghost use Rattle.http_front.specs.Order.{IsOrder};
 ghost use Rattle.http_front.specs.ReplyText.{text};
-ghost use Rattle.worker_server.specs.Calls.{Serves, act_of};
+ghost use Rattle.worker_server.specs.Calls.{Serves, ServesOrder, outcome_without_library, refusal_of};
 
+use crate::asking::{ask_one, get_each, put_each};
 use crate::host::Host;
 use http_front::{Head, Order, OrderFault, Outcome, What, order_of, reply_bytes};
-use ids::Bytes;
-use library_state::{Act, Call, Refusal, Tag};
+use ids::{Bytes, LibId};
+use library_state::{Act, Refusal, Secret};
 use std::alloc::Global;
 
 /// Asks what a request wants, and makes the reply to it. It is None where there was no memory for the text of the
@@ -26,10 +24,10 @@ pub fn reply_to<H: Host>(
     requires ready { H.ready host.now pass.old }
     ensures ready { H.ready host.now pass.new }
     ensures serves { (outcome : Outcome) × (lines : List H.Line)
-        × Serves H.asks (H.view pass.old) (order_in head.now.method head.now.target head.now.token body.now) outcome lines (H.view pass.new)
+        × Serves H.asks (H.view pass.old) (IsOrder head.now.method head.now.target head.now.token body.now) outcome lines (H.view pass.new)
         × IfSome result (λ bytes. bytes ≡ text outcome closes) }
 {
-    let outcome = outcome_of(alloc, host, pass, order_of(alloc, head, body));
+    let outcome = outcome_of(alloc, host, pass, head, body);
     match reply_bytes(alloc, &outcome, closes) {
         Ok(bytes) => Some(bytes),
         Err(_) => refusal_for_memory(alloc, closes),
@@ -46,50 +44,80 @@ fn refusal_for_memory(alloc: Global, closes: bool) -> Option<Bytes>
     }
 }
 
-/// Asks the host what an order wants. A request that was refused as it was read has no call.
+/// Reads what a request asks for, and asks it. A request that is refused as it is read has no call.
 fn outcome_of<H: Host>(
     alloc: Global,
     host: &H,
     pass: &mut H::Pass,
-    order: Result<Order, OrderFault>,
+    head: &Head,
+    body: &[u8],
 ) -> Outcome
     requires ready { H.ready host.now pass.old }
     ensures ready { H.ready host.now pass.new }
-    ensures serves { (due : Result AnyOrder AnyRefusal) → OrdersAs order due
-        → (lines : List H.Line) × Serves H.asks (H.view pass.old) due result lines (H.view pass.new) }
+    ensures serves { (lines : List H.Line)
+        × Serves H.asks (H.view pass.old) (IsOrder head.now.method head.now.target head.now.token body.now) result lines (H.view pass.new) }
 {
-    let order = match order {
-        Ok(order) => order,
-        Err(OrderFault::Refused(refusal)) => return Outcome::Refused(refusal),
-        Err(OrderFault::NoMemory) => return Outcome::Refused(Refusal::NoMemory),
-    };
-    let Order { lib, secret, what } = order;
-    let lib = match lib {
-        Some(lib) => lib,
-        None => return Outcome::Refused(Refusal::BadMethod),
-    };
-    let answer = host.ask(
-        alloc,
-        pass,
-        lib,
-        Call {
-            secret,
-            act: act_of(what),
-        },
-    );
-    let tag = Tag {
-        opening: answer.opening,
-        count: answer.place,
-    };
-    Outcome::Plain(answer.reply, tag)
+    match order_of(alloc, head, body) {
+        Ok(order) => outcome_in(alloc, host, pass, order),
+        Err(fault) => Outcome::Refused(refusal_of(fault)),
+    }
 }
 
-/// What an order asks for.
-fn act_of(what: What) -> Act
-    ensures value { result ≡ act_of what }
+/// The refusal of a request that has no order.
+fn refusal_of(fault: OrderFault) -> Refusal
+    ensures { result ≡ refusal_of fault }
+{
+    match fault {
+        OrderFault::Refused(refusal) => refusal,
+        OrderFault::NoMemory => Refusal::NoMemory,
+    }
+}
+
+/// Asks the host what an order wants.
+fn outcome_in<H: Host>(alloc: Global, host: &H, pass: &mut H::Pass, order: Order) -> Outcome
+    requires ready { H.ready host.now pass.old }
+    ensures ready { H.ready host.now pass.new }
+    ensures serves { (lines : List H.Line) × ServesOrder H.asks (H.view pass.old) order result lines (H.view pass.new) }
+{
+    let Order { lib, secret, what } = order;
+    match lib {
+        Some(lib) => outcome_by(alloc, host, pass, lib, secret, what),
+        None => outcome_without_library(what),
+    }
+}
+
+/// The outcome of an order that names no library.
+fn outcome_without_library(what: What) -> Outcome
+    ensures { result ≡ outcome_without_library what }
 {
     match what {
-        What::Get(key) => Act::Get(key),
-        What::Put(key, bytes) => Act::Put(key, bytes),
+        What::Version => Outcome::Version,
+        _ => Outcome::Refused(Refusal::NoCall),
+    }
+}
+
+/// Asks a library what is wanted of it.
+fn outcome_by<H: Host>(
+    alloc: Global,
+    host: &H,
+    pass: &mut H::Pass,
+    lib: LibId,
+    secret: Option<Secret>,
+    what: What,
+) -> Outcome
+    requires ready { H.ready host.now pass.old }
+    ensures ready { H.ready host.now pass.new }
+    ensures serves { (lines : List H.Line)
+        × ServesOrder H.asks (H.view pass.old) (record { lib = Some lib; secret = secret; what = what }) result lines (H.view pass.new) }
+{
+    match what {
+        What::Version => Outcome::Version,
+        What::Get(key) => ask_one(alloc, host, pass, lib, secret, Act::Get(key)),
+        What::Put(key, bytes) => ask_one(alloc, host, pass, lib, secret, Act::Put(key, bytes)),
+        What::Missing(kind, ids) => {
+            ask_one(alloc, host, pass, lib, secret, Act::Missing(kind, ids))
+        }
+        What::PutFs(rows) => put_each(alloc, host, pass, lib, secret, rows),
+        What::GetFs(ids) => get_each(alloc, host, pass, lib, secret, ids.slice()),
     }
 }

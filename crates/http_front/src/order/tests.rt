@@ -24,6 +24,7 @@ fn asks_for(what: &What, method: Method, id: ObjId) -> bool {
         What::Put(key, bytes) => {
             method == Method::Put && is_block(key, id) && bytes.slice() == b"abc".as_slice()
         }
+        _ => false,
     }
 }
 
@@ -44,16 +45,21 @@ fn a_block_is_named_by_library_and_id(rt: HostRuntime) -> Result<(), Fail> {
         }
         for method in [Method::Post, Method::Other] {
             let order = order_in(rt.alloc(), method, target.as_str(), None, b"abc");
-            assert!(rt; is_bad_method(&order), "at {end}");
+            let wanted = if method == Method::Post {
+                Refusal::NoCall
+            } else {
+                Refusal::BadMethod
+            };
+            assert!(rt; is_refused(&order, wanted), "at {end}");
         }
     }
     Ok(())
 }
 
-fn is_bad_method(order: &Result<Order, OrderFault>) -> bool {
+fn is_refused(order: &Result<Order, OrderFault>, wanted: Refusal) -> bool {
     match order {
         Ok(_) => false,
-        Err(fault) => *fault == OrderFault::Refused(Refusal::BadMethod),
+        Err(fault) => *fault == OrderFault::Refused(wanted),
     }
 }
 
@@ -76,7 +82,11 @@ fn a_path_of_another_form_names_no_call(rt: HostRuntime) -> Result<(), Fail> {
         "/repo/11111111-2222-4333-8444-555555555555/block/a9993e364706816aba3e25717850c26c9cd0d89d0",
         "/repo/11111111-2222-4333-8444-555555555555/block/A9993E364706816ABA3E25717850C26C9CD0D89D",
         "/repo/11111111-2222-4333-8444-555555555555/blocks/a9993e364706816aba3e25717850c26c9cd0d89d",
-        "/repo/11111111-2222-4333-8444-555555555555/commit/a9993e364706816aba3e25717850c26c9cd0d89d",
+        "/repo/11111111-2222-4333-8444-555555555555/fs/a9993e364706816aba3e25717850c26c9cd0d89d",
+        "/repo/11111111-2222-4333-8444-555555555555/commit/HEAD",
+        "/repo/11111111-2222-4333-8444-555555555555/check-fs",
+        "/protocol-versions",
+        "/protocol-version/x",
         "/Repo/11111111-2222-4333-8444-555555555555/block/a9993e364706816aba3e25717850c26c9cd0d89d",
         "/repo/11111111222243338444555555555555/block/a9993e364706816aba3e25717850c26c9cd0d89d",
         "/repo/{11111111-2222-4333-8444-555555555555}/block/a9993e364706816aba3e25717850c26c9cd0d89d",
@@ -86,7 +96,7 @@ fn a_path_of_another_form_names_no_call(rt: HostRuntime) -> Result<(), Fail> {
     ];
     for target in other_paths {
         let order = order_in(rt.alloc(), Method::Get, target, None, b"");
-        assert!(rt; is_bad_method(&order), "at {target}");
+        assert!(rt; is_refused(&order, Refusal::NoCall), "at {target}");
     }
     Ok(())
 }
@@ -112,5 +122,87 @@ fn a_put_is_ordered_with_its_secret_and_its_body(rt: HostRuntime) -> Result<(), 
     };
     assert!(rt; order.secret.is_some());
     assert!(rt; asks_for(&order.what, Method::Put, ObjId::of(b"abc")));
+    Ok(())
+}
+
+/// What a POST to a library is read as: the length of its list, or the place at which its body is bad.
+fn posted(alloc: Global, call: &str, body: &[u8]) -> Result<Result<usize, u64>, Fail> {
+    let target = format!(in alloc; "/repo/{LIB}/{call}")?;
+    match order_in(alloc, Method::Post, target.as_str(), None, body) {
+        Ok(order) => match order.what {
+            What::Missing(_, ids) => Ok(Ok(ids.len())),
+            What::PutFs(rows) => Ok(Ok(rows.len())),
+            What::GetFs(ids) => Ok(Ok(ids.len())),
+            _ => Err("another call".into()),
+        },
+        Err(OrderFault::Refused(Refusal::BadBody(at))) => Ok(Err(at)),
+        Err(_) => Err("another fault".into()),
+    }
+}
+
+#[test]
+fn a_body_of_ids_is_a_json_array_of_their_texts(rt: HostRuntime) -> Result<(), Fail> {
+    let two = format!(in rt.alloc(); " [\"{ABC}\" , \"{ABC}\"]\n")?;
+    let upper = format!(in rt.alloc(); "[\"{ABC}\",\"A9993E364706816ABA3E25717850C26C9CD0D89D\"]")?;
+    for (body, wanted) in [
+        ("[]", Ok(0)),
+        (two.as_str(), Ok(2)),
+        (upper.as_str(), Err(0)),
+        ("", Err(0)),
+        ("[1]", Err(0)),
+        ("[null]", Err(0)),
+        ("{}", Err(0)),
+        ("[[]]", Err(0)),
+        ("\"a9993e364706816aba3e25717850c26c9cd0d89d\"", Err(0)),
+    ] {
+        for call in ["check-fs", "check-blocks", "pack-fs"] {
+            assert_eq!(rt;
+                posted(rt.alloc(), call, body.as_bytes())?,
+                wanted,
+                "{call} of {body}"
+            );
+        }
+    }
+    Ok(())
+}
+
+#[test]
+fn a_body_of_rows_tells_where_its_first_bad_row_begins(rt: HostRuntime) -> Result<(), Fail> {
+    let row = b"a9993e364706816aba3e25717850c26c9cd0d89d\x00\x00\x00\x03abc";
+    let empty = b"0000000000000000000000000000000000000000\x00\x00\x00\x00";
+    let long = b"a9993e364706816aba3e25717850c26c9cd0d89d\x01\x00\x00\x00abc";
+    let upper = b"A9993e364706816aba3e25717850c26c9cd0d89d\x00\x00\x00\x03abc";
+    for (behind, wanted) in [
+        (b"".as_slice(), Ok(2)),
+        (row.as_slice(), Ok(3)),
+        (&row[..43], Err(91)),
+        (&row[..46], Err(91)),
+        (b"x".as_slice(), Err(91)),
+        (long.as_slice(), Err(91)),
+        (upper.as_slice(), Err(91)),
+    ] {
+        let mut body = Vec::from_slice(rt.alloc(), row)?;
+        body.extend_from_slice(empty)?;
+        body.extend_from_slice(behind)?;
+        assert_eq!(rt;
+            posted(rt.alloc(), "recv-fs", body.as_slice())?,
+            wanted,
+            "{behind:?}"
+        );
+    }
+    assert_eq!(rt; posted(rt.alloc(), "recv-fs", b"")?, Ok(0));
+    Ok(())
+}
+
+#[test]
+fn the_version_is_asked_of_no_library(rt: HostRuntime) -> Result<(), Fail> {
+    for target in ["/protocol-version", "/protocol-version/?x=1"] {
+        match order_in(rt.alloc(), Method::Get, target, None, b"ignored") {
+            Ok(order) => { assert!(rt; order.lib.is_none() && matches!(order.what, What::Version)) }
+            Err(_) => return Err("no order".into()),
+        }
+    }
+    let order = order_in(rt.alloc(), Method::Put, "/protocol-version", None, b"");
+    assert!(rt; is_refused(&order, Refusal::NoCall));
     Ok(())
 }

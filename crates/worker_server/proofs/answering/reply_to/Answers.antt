@@ -6,10 +6,10 @@ use Rattle.worker_server.proofs.answering.reply_to.Goals as goal
 
 pub returns-in-Ok-clause-serves : goal.returns-in-Ok-clause-serves
 returns-in-Ok-clause-serves g c =
-    let served = c.outcome_of-outcome.ensures.serves _ c.order_of.ensures.value in
+    let served = c.outcome_of-outcome.ensures.serves in
     (c.outcome_of-outcome.result, served.0, served.1, c.in-Ok.ensures.value)
 
 pub returns-clause-serves : goal.returns-clause-serves
 returns-clause-serves g c =
-    let served = c.outcome_of-outcome.ensures.serves _ c.order_of.ensures.value in
+    let served = c.outcome_of-outcome.ensures.serves in
     (Refused NoMemory, served.0, Serves-refused_for_memory _ _ _ _ _ _ served.1, c.refusal_for_memory.ensures.value)
