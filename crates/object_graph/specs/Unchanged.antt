@@ -6,9 +6,9 @@ use Rattle.ids.specs.declared.key.Key.{Key}
 use Rattle.object_graph.specs.Traversal.{is_in}
 
 -- each object of `old` stands in `new` with its bytes
-abbrev pub Keeps : (old new : Objects) → Type 0
-Keeps old new = (key : Key) (bytes : List ℕ) → map.get old key ≡ Some bytes → map.get new key ≡ Some bytes
+pub record Keeps (old new : Objects) : Type 0 where
+  pub kept : (key : Key) (bytes : List ℕ) → map.get old key ≡ Some bytes → map.get new key ≡ Some bytes
 
 -- at these keys both have the same bytes, or nothing
-abbrev pub AgreeOn : List Key → (old new : Objects) → Type 0
-AgreeOn keys old new = (key : Key) → is_in keys key ≡ true → map.get new key ≡ map.get old key
+pub record AgreeOn (keys : List Key) (old new : Objects) : Type 0 where
+  pub same : (key : Key) → is_in keys key ≡ true → map.get new key ≡ map.get old key
