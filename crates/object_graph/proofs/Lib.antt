@@ -1,0 +1,3 @@
+pub mod Keys
+pub mod Schemes
+pub mod Locality
