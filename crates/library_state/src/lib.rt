@@ -1,7 +1,6 @@
 //! What is asked of a library and what it answers: secrets, tags, calls, replies and refusals.
 //!
-//! Shown upward: `Secret`, `Tag`, `Call`, `Act`, `Reply`, `Refusal`. Of the acts of a library those on blocks
-//! stand here so far. It answers no call itself.
+//! Shown upward: `Secret`, `Tag`, `Call`, `Act`, `Op`, `Reply`, `Refusal`. It answers no call itself.
 #![tactic(auto)]
 
 mod call;
@@ -12,7 +11,7 @@ mod tag;
 #[cfg(test)]
 mod tests;
 
-pub use crate::call::{Act, Call};
+pub use crate::call::{Act, Call, Op};
 pub use crate::refusal::Refusal;
 pub use crate::reply::Reply;
 pub use crate::secret::Secret;
