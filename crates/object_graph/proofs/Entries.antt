@@ -74,6 +74,9 @@ unfolding Keyed
 keyed-by_name [] = subst Keyed (sym entries-empty) tt
 keyed-by_name (e ∷ entries) = subst Keyed (sym (map.entries-insert names_total (by_name entries) e.name e)) (keyed-put e (map.entries (by_name entries)) (keyed-by_name entries))
 
+pub nothing_in_order : in_name_order [] ≡ []
+nothing_in_order = ap (list_map (λ (p : List ℕ × Dirent). p.1)) entries-empty
+
 pub get-by_name : (name : List ℕ) (entries : List Dirent) → map.get (by_name entries) name ≡ entry_named name entries
 get-by_name name [] = map.get-empty name_cmp name
 get-by_name name (e ∷ entries) = map.get-insert names_total (by_name entries) e.name e name ∙ ap (cond (eq_by_cmp name_cmp name e.name) (Some e)) (get-by_name name entries)
