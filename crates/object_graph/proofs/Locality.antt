@@ -104,7 +104,7 @@ module _ (A B : Objects) where
         let there = (within_next v (walk_blocks blocks A ids) (follows_blocks ids).grows).there (block_key id) here in
         ap₂ ◌++◌ (ap (λ o. unwrap_or o []) (agree.same (block_key id) there)) rest
 
-    follows_sized : (id : List ℕ) (file : FileObject) (w : Walk) → Within w.visits (sized blocks A id file w).visits
+    pub follows_sized : (id : List ℕ) (file : FileObject) (w : Walk) → Within w.visits (sized blocks A id file w).visits
     follows_sized id file w = by (file.size == length (joined A file.blocks))
       where
         by : (b : Bool) → Within w.visits (if b then w else failed (WrongSize id) w).visits
