@@ -1,1 +1,10 @@
+pub mod Bears
+pub mod Histories
+pub mod Keeping
+pub mod KeptHistory
+pub mod Members
 pub mod Refused
+pub mod Sound
+pub mod Steps
+pub mod Created
+pub mod Files
