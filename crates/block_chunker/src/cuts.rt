@@ -34,7 +34,9 @@ impl Cuts {
         Cuts::USUAL
     }
 
-    /// `None` exactly where `48 <= min <= max` or `1 <= shift <= 63` fails. Takes no memory.
+    /// Parameters of one's own: `min` from 48 up, `max` from `min` up, `shift` from 1 to 63; others give `None`.
+    ///
+    /// It takes no memory.
     pub const fn new(min: u32, max: u32, shift: u32) -> Option<Cuts>
         ensures value { IfSome result
             (λ cuts. (cuts.min ≡ min) × (cuts.max ≡ max) × (cuts.shift ≡ shift)) }

@@ -7,7 +7,7 @@ ghost use Rattle.ids.specs.Form.{IsOf, IsLongestBeginning};
 /// A text that is no id.
 #[derive(Clone, Copy, Debug, PartialEq, Eq)]
 pub struct BadId {
-    /// The length of the longest prefix of the text that begins some good text.
+    /// How many bytes at the front could still have become an id; the next byte, or the end, rules it out.
     pub at: usize,
 }
 

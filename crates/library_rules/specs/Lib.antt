@@ -1,0 +1,13 @@
+pub mod Answered
+pub mod Calls
+pub mod Changes
+pub mod CollectionSteps
+pub mod Creation
+pub mod Files
+pub mod History
+pub mod LibraryState
+pub mod MergeBase
+pub mod MergeCommit
+pub mod Permitted
+pub mod Turns
+pub mod Uploads

@@ -1,0 +1,1 @@
+//! Theorems on objects and traversals, each the contract of a function that does nothing.
