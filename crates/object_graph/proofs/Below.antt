@@ -1,25 +1,20 @@
 -- What lies below a directory whose traversal has no fault: each entry's own traversal has none, within what was visited.
 -- The key lemmas are entry_walked, reaches, deep_enough and same_below.
-use Rattle.std.proofs.Common.{◌≡◌, ◌≢◌, ◌⊎◌, ℕ, zero, suc, ◌+◌, ◌≤◌, ◌==◌, Bool, true, false, if◌then◌else◌, List, [], ◌∷◌, ◌++◌, length, refl, sym, ap, ap₂, ◌∙◌, subst, Option, None, Some, Result, Ok, Err, option_map, option_and_then, inl, inr, arith}
-use Rattle.std.specs.FinMap as map
+use Rattle.std.proofs.Common.{◌≡◌, ℕ, zero, suc, ◌≤◌, Bool, true, false, if◌then◌else◌, List, [], ◌∷◌, ◌++◌, length, refl, sym, ap, ◌∙◌, subst, Option, None, Some, Result, Ok, Err, option_map, option_and_then, inl, inr, arith}
 use Rattle.ids.specs.Key.{Objects}
 use Rattle.ids.specs.declared.key.Key.{Key}
 use Rattle.tree_model.specs.Path.{PathV}
-use Rattle.tree_model.specs.declared.node.Node.{Node}
 use Rattle.fs_objects.specs.Mode.{is_directory_mode}
 use Rattle.fs_objects.specs.declared.dirent.Dirent.{Dirent}
-use Rattle.fs_objects.specs.declared.file_object.FileObject.{FileObject}
 use Rattle.fs_objects.specs.declared.fs_object.FsObject.{FsObject}
 use Rattle.fs_objects.specs.declared.fs_object.FsObject.TheVariants as fs
-use Rattle.object_graph.specs.Objects.{fs_key, fs_at, fs_in, is_nil, entries_of, blocks_of, entry_named, in_name_order, entry_of, directory_in, dirents_at, blocks_at, joined, contents_of, entry_in, entry_below, node_of, node_below}
-use Rattle.object_graph.specs.Traversal.{Walk, Below, start, visited, failed, counted, next_by, then_walk, then_read, walk_blocks, sized, walk_file, walk_entries, walk_found, walk_object, walk_below, walk_root, is_in}
-use Rattle.object_graph.specs.Unchanged.{AgreeOn, Keeps}
+use Rattle.object_graph.specs.Objects.{fs_key, fs_at, is_nil, entries_of, entry_named, in_name_order, entry_of, directory_in, dirents_at, entry_in, entry_below}
+use Rattle.object_graph.specs.Traversal.{Walk, visited, counted, then_walk, then_read, walk_entries, walk_found, walk_object, walk_below}
 use Rattle.object_graph.specs.declared.entry.Entry.{Entry}
-use Rattle.object_graph.specs.declared.entry.Entry.TheVariants as entry
 use Rattle.object_graph.specs.declared.fault.TreeFault.{TreeFault}
-use Rattle.object_graph.proofs.Keys.{Within, within_itself, within_then, in_last}
+use Rattle.object_graph.proofs.Keys.{Within, within_then}
 use Rattle.object_graph.proofs.Schemes.{Step, none_before, goes_on, along_entries, along_found, along_below}
-use Rattle.object_graph.proofs.Locality.{Follows, locality, agree_within, within_next, within_visited, counted-visits, same_joined, follows_sized}
+use Rattle.object_graph.proofs.Locality.{Follows, locality, within_next}
 use Rattle.object_graph.proofs.Entries.{In, named_member, named_in_order}
 
 -- the step of `w` without a fault, within these visits
@@ -54,12 +49,12 @@ module _ (blocks : Bool) (A : Objects) where
   grows_entries : (room : ℕ) (path : PathV) (entries : List Dirent) (w : Walk) → Within w.visits (walk_entries blocks A (walk_below blocks A room) path entries w).visits
   grows_entries room path entries =
       (along_entries blocks blocks A A (Follows A A) (locality A A blocks) (walk_below blocks A room) (walk_below blocks A room)
-        (along_below blocks blocks A A (Follows A A) (locality A A blocks) room) path entries).grows
+      (along_below blocks blocks A A (Follows A A) (locality A A blocks) room) path entries).grows
 
   pub grows_found : (room : ℕ) (wants : Bool) (path : PathV) (id : List ℕ) (object : FsObject) (w : Walk) → Within w.visits (walk_found blocks A (walk_below blocks A room) wants path id object w).visits
   grows_found room wants path id object =
       (along_found blocks blocks A A (Follows A A) (locality A A blocks) (walk_below blocks A room) (walk_below blocks A room)
-        (along_below blocks blocks A A (Follows A A) (locality A A blocks) room) wants path id object).grows
+      (along_below blocks blocks A A (Follows A A) (locality A A blocks) room) wants path id object).grows
 
   -- each of the entries that were gone over
   pub ran_entry : (room : ℕ) (path : PathV) (entries : List Dirent) (e : Dirent) → In e entries → (w : Walk) → (walk_entries blocks A (walk_below blocks A room) path entries w).fault ≡ None
@@ -72,10 +67,10 @@ module _ (blocks : Bool) (A : Objects) where
       elim member [
         | inl is ↦
             subst (λ (y : Dirent). Ran (walk_below blocks A room (is_directory_mode y.mode) (path ++ y.name ∷ []) y.id) (walk_entries blocks A (walk_below blocks A room) path (x ∷ entries) w).visits) (sym is)
-              (ran_first step others (grows_entries room path entries) w none)
+            (ran_first step others (grows_entries room path entries) w none)
         | inr more ↦
             ran_later (then_walk (counted w) step) others (walk_below blocks A room (is_directory_mode e.mode) (path ++ e.name ∷ []) e.id) none
-              (ran_entry room path entries e more (then_walk (counted w) step))
+            (ran_entry room path entries e more (then_walk (counted w) step))
       ]
 
   -- each entry of a directory whose traversal has no fault
@@ -149,7 +144,7 @@ module _ (blocks : Bool) (A : Objects) where
           → Ran (walk_object blocks A (walk_below blocks A less) b (path ++ e.name ∷ []) e.id) visits
           → option_and_then (λ id. entry_in A (dirents_at A id) (next ∷ q)) (if b then Some e.id else None) ≡ Some x
           → ((room : ℕ) (path : PathV) (id : List ℕ) (visits : List Key) → Ran (walk_object blocks A (walk_below blocks A room) true path id) visits
-              → (x : Entry) → entry_below A (next ∷ q) id ≡ Some x → Reached blocks A x visits × (length (next ∷ q) ≤ room))
+          → (x : Entry) → entry_below A (next ∷ q) id ≡ Some x → Reached blocks A x visits × (length (next ∷ q) ≤ room))
           → Reached blocks A x visits × (length (name ∷ next ∷ q) ≤ room)
       within e true kind less fits own is more =
           let rest = more less (path ++ e.name ∷ []) e.id visits own x is in
@@ -158,7 +153,7 @@ module _ (blocks : Bool) (A : Objects) where
 
       by : (o : Option Dirent) → entry_named name (dirents_at A id) ≡ o → option_and_then (λ id. entry_in A (dirents_at A id) (next ∷ q)) (directory_in o) ≡ Some x
           → ((room : ℕ) (path : PathV) (id : List ℕ) (visits : List Key) → Ran (walk_object blocks A (walk_below blocks A room) true path id) visits
-              → (x : Entry) → entry_below A (next ∷ q) id ≡ Some x → Reached blocks A x visits × (length (next ∷ q) ≤ room))
+          → (x : Entry) → entry_below A (next ∷ q) id ≡ Some x → Reached blocks A x visits × (length (next ∷ q) ≤ room))
           → Reached blocks A x visits × (length (name ∷ next ∷ q) ≤ room)
       by None found is more = cc
       by (Some e) found is more =

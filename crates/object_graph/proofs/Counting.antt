@@ -1,12 +1,12 @@
 -- A traversal counts what lies below its root. The key lemma is counts_below.
-use Rattle.std.proofs.Common.{◌≡◌, ◌+◌, ℕ, zero, suc, Bool, true, false, if◌then◌else◌, List, [], ◌∷◌, ◌++◌, length, refl, sym, ap, ◌∙◌, subst, Option, None, Some, Result, Ok, Err, arith, length-append}
+use Rattle.std.proofs.Common.{◌≡◌, ◌+◌, ℕ, zero, suc, Bool, true, false, if◌then◌else◌, List, [], ◌∷◌, ◌++◌, length, refl, sym, ap, ◌∙◌, None, Some, Result, Ok, Err, arith, length-append}
 use Rattle.ids.specs.Key.{Objects}
 use Rattle.tree_model.specs.Path.{PathV}
 use Rattle.fs_objects.specs.Mode.{is_directory_mode}
 use Rattle.fs_objects.specs.declared.dirent.Dirent.{Dirent}
 use Rattle.fs_objects.specs.declared.fs_object.FsObject.{FsObject}
 use Rattle.fs_objects.specs.declared.fs_object.FsObject.TheVariants as fs
-use Rattle.object_graph.specs.Objects.{fs_key, fs_at, is_nil, entries_of, in_name_order, entry_of, dirents_at}
+use Rattle.object_graph.specs.Objects.{fs_key, fs_at, is_nil, entries_of, in_name_order, dirents_at}
 use Rattle.object_graph.specs.Traversal.{Walk, visited, counted, then_walk, then_read, walk_entries, walk_found, walk_object, walk_below}
 use Rattle.object_graph.specs.declared.fault.TreeFault.{TreeFault}
 use Rattle.object_graph.proofs.Schemes.{Step, none_before, goes_on}
@@ -56,11 +56,11 @@ module _ (blocks : Bool) (A : Objects) where
       let one : (counted w).paths ≡ w.paths + 1 = ap (λ (v : Walk). v.paths) (counted_none w came) in
       let inner : Listed = if is_directory_mode e.mode then listed A room e.id else [] in
       let own : mid.paths ≡ (counted w).paths + length inner =
-          ap (λ (v : Walk). v.paths) ran ∙ entry_counts room all (is_directory_mode e.mode) (path ++ e.name ∷ []) e.id (counted w) (ap (λ (v : Walk). v.fault) (sym ran) ∙ early) in
+      ap (λ (v : Walk). v.paths) ran ∙ entry_counts room all (is_directory_mode e.mode) (path ++ e.name ∷ []) e.id (counted w) (ap (λ (v : Walk). v.fault) (sym ran) ∙ early) in
       let rest : (others mid).paths ≡ mid.paths + length (listed_in (listed A room) entries) = entries_count room all path entries mid (ap (λ (v : Walk). v.fault) (sym on) ∙ none) in
       let whole : (then_walk mid others).paths ≡ (others mid).paths = ap (λ (v : Walk). v.paths) on in
       let longer : length (listed_entry (listed A room) e ++ listed_in (listed A room) entries) ≡ length (listed_entry (listed A room) e) + length (listed_in (listed A room) entries) =
-          length-append (listed_entry (listed A room) e) (listed_in (listed A room) entries) in
+      length-append (listed_entry (listed A room) e) (listed_in (listed A room) entries) in
       let first : length (listed_entry (listed A room) e) ≡ suc (length inner) = ap suc (length-prefixed e.name inner) in
       omega (arith, whole, rest, own, one, longer, first)
 

@@ -135,4 +135,4 @@ apart_values (p ∷ entries) all sorted =
 pub apart_in_order : (entries : List Dirent) → Apart (in_name_order entries)
 apart_in_order entries =
     subst Apart (sym (values-map (map.entries (by_name entries))))
-      (apart_values (map.entries (by_name entries)) (keyed-by_name entries) (map.entries_sorted (by_name entries)))
+    (apart_values (map.entries (by_name entries)) (keyed-by_name entries) (map.entries_sorted (by_name entries)))

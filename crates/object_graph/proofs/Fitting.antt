@@ -1,26 +1,23 @@
 -- Each complete root has one tree, which is a tree within the limits. The key lemmas are tree_of_root, one_tree and
 -- root_fits.
-use Rattle.std.proofs.Common.{◌≡◌, ◌≢◌, ◌≤◌, ◌+◌, ℕ, zero, suc, Bool, true, false, if◌then◌else◌, is_some, IsSome, List, [], ◌∷◌, ◌++◌, length, refl, sym, ap, ap₂, ◌∙◌, subst, Option, None, Some, Result, Ok, Err, option_map, option_and_then, arith, inl, inr}
+use Rattle.std.proofs.Common.{◌≡◌, ◌≢◌, ◌≤◌, ◌+◌, ℕ, Bool, true, false, if◌then◌else◌, is_some, IsSome, List, [], ◌∷◌, ◌++◌, length, refl, sym, ap, ◌∙◌, subst, Option, None, Some, Result, Ok, Err, option_map, option_and_then, arith, inl, inr}
 use Rattle.std.specs.FinMap as map
 use Rattle.std.specs.List.{AllByRecursion}
 use Rattle.ids.specs.Key.{Objects}
-use Rattle.ids.specs.declared.key.Key.{Key}
 use Rattle.tree_model.specs.Name.{IsName}
-use Rattle.tree_model.specs.Path.{PathV, IsPath, path_cmp}
+use Rattle.tree_model.specs.Path.{PathV}
 use Rattle.tree_model.specs.PathOrder.{paths_total, paths_exact}
-use Rattle.tree_model.specs.Tree.{Tree, IsTree, Fits, has_dir, is_dir}
-use Rattle.tree_model.specs.declared.node.Node.{Node}
+use Rattle.tree_model.specs.Tree.{Tree, IsTree, Fits, is_dir}
 use Rattle.fs_objects.specs.FsObject.{fs_of}
 use Rattle.fs_objects.specs.Mode.{is_directory_mode}
 use Rattle.fs_objects.specs.declared.dirent.Dirent.{Dirent}
 use Rattle.fs_objects.specs.declared.fault.BadFs.{BadFs}
 use Rattle.fs_objects.specs.declared.fs_object.FsObject.{FsObject}
 use Rattle.fs_objects.specs.declared.fs_object.FsObject.TheVariants as fs
-use Rattle.object_graph.specs.Objects.{fs_key, fs_at, fs_in, as_read, is_nil, entries_of, entry_named, entry_of, directory_in, dirents_at, entry_in, entry_below, node_of, node_below, IsTreeOf}
-use Rattle.object_graph.specs.Traversal.{Walk, start, walk_object, walk_below, walk_root, IsCompleteRoot}
+use Rattle.object_graph.specs.Objects.{fs_key, fs_at, fs_in, as_read, is_nil, entries_of, entry_named, entry_of, directory_in, dirents_at, entry_in, entry_below, node_of, IsTreeOf}
+use Rattle.object_graph.specs.Traversal.{start, walk_object, walk_below, walk_root, IsCompleteRoot}
 use Rattle.object_graph.specs.declared.entry.Entry.{Entry}
 use Rattle.object_graph.specs.declared.entry.Entry.TheVariants as entry
-use Rattle.object_graph.specs.declared.fault.TreeFault.{TreeFault}
 use Rattle.object_graph.proofs.Below.{Ran, reaches}
 use Rattle.object_graph.proofs.Counting.{counts_below}
 use Rattle.object_graph.proofs.Entries.{In, named_member, named_name}
@@ -112,7 +109,7 @@ module _ (A : Objects) where
   root_is_tree root t is = record {
     no_root = is [];
     in_dirs = λ dir name other there.
-      ap is_dir (is dir ∙ ap (option_map (node_of A)) (entry_above (dirents_at A root) dir name other (entry_at (dir ++ name ∷ []) there)));
+        ap is_dir (is dir ∙ ap (option_map (node_of A)) (entry_above (dirents_at A root) dir name other (entry_at (dir ++ name ∷ []) there)));
     named = λ path there. record { named = good_path (dirents_at A root) path (good_dirents root) (entry_at path there) };
   }
     where

@@ -17,7 +17,6 @@ use Rattle.fs_objects.specs.declared.fault.BadFs.{BadFs}
 use Rattle.fs_objects.specs.declared.fault.BadFs.TheVariants.{NotJson, WrongType, BadName as bad_name, Twice}
 use Rattle.fs_objects.specs.declared.fault.FsKey.TheVariants.{KDirents, KId, KMtime, KName}
 use Rattle.fs_objects.specs.declared.file_object.FileObject.{FileObject}
-use Rattle.fs_objects.specs.declared.fs_object.FsObject.{FsObject}
 use Rattle.fs_objects.specs.declared.fs_object.FsObject.TheVariants.{File, Dir}
 
 -- what a step that gave a value had before it

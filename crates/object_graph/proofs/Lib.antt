@@ -6,6 +6,7 @@ pub mod Below
 pub mod Entries
 pub mod Limits
 pub mod Listing
+pub mod Commits
 pub mod Counting
 pub mod Locality
 pub mod SameBelow

@@ -1,15 +1,16 @@
--- A traversal without a fault counts at most 1,000,000 paths, and counts them without the blocks too. The key lemmas are
--- root_bounded and root_spared.
-use Rattle.std.proofs.Common.{◌≡◌, ℕ, ◌+◌, ◌≤◌, ◌<◌, ◌==◌, Bool, true, false, if◌then◌else◌, is_some, nat_lt, List, [], ◌∷◌, ◌++◌, length, refl, sym, ap, ◌∙◌, subst, Option, None, Some, Result, Ok, Err, ltb-false, arith}
+-- A traversal without a fault counts at most 1,000,000 paths, and has none from another start or without the blocks. The
+-- key lemmas are root_bounded, object_spared and root_spared.
+use Rattle.std.proofs.Common.{◌≡◌, ℕ, ◌+◌, ◌≤◌, ◌<◌, ◌==◌, Bool, true, false, if◌then◌else◌, is_some, nat_lt, List, [], ◌∷◌, length, refl, sym, ap, ◌∙◌, subst, Option, None, Some, Result, Ok, Err, ltb-false, ltb-true, arith}
 use Rattle.std.specs.FinMap as map
 use Rattle.ids.specs.Key.{Objects}
+use Rattle.tree_model.specs.Path.{PathV}
 use Rattle.fs_objects.specs.declared.file_object.FileObject.{FileObject}
 use Rattle.fs_objects.specs.declared.fs_object.FsObject.{FsObject}
 use Rattle.object_graph.specs.Objects.{fs_key, block_key, fs_at, joined}
-use Rattle.object_graph.specs.Traversal.{Walk, start, visited, failed, counted, next_by, then_walk, then_read, walk_block, walk_blocks, sized, walk_file, walk_root}
+use Rattle.object_graph.specs.Traversal.{Walk, start, visited, failed, counted, next_by, then_walk, then_read, walk_block, walk_blocks, sized, walk_file, walk_object, walk_below, walk_root}
 use Rattle.object_graph.specs.declared.fault.TreeFault.{TreeFault}
 use Rattle.object_graph.specs.declared.fault.TreeFault.TheVariants.{Incomplete, WrongSize, TooMany}
-use Rattle.object_graph.proofs.Schemes.{Step, Scheme, along_root, none_before, goes_on}
+use Rattle.object_graph.proofs.Schemes.{Step, Scheme, along_root, along_object, along_below, none_before, goes_on}
 
 pub counted_with : Walk → Bool → Walk
 counted_with w b = if b then failed (TooMany (w.paths + 1)) (record w { paths = w.paths + 1 }) else record w { paths = w.paths + 1 }
@@ -105,79 +106,124 @@ bounds blocks A = record {
 pub root_bounded : (blocks : Bool) (A : Objects) (id : List ℕ) (w : Walk) → w.paths ≤ 1000000 → (walk_root blocks A id w).fault ≡ None → (walk_root blocks A id w).paths ≤ 1000000
 root_bounded blocks A id = (along_root blocks blocks A A (λ f g. Bounded f) (bounds blocks A) id).bounded
 
--- ---- without the blocks
+-- ---- from another start, and without the blocks
 
--- where one step has no fault, the other has none, and both count the same
-pub record Spares (f g : Step) : Type 0 where
-  pub none : (w v : Walk) → w.paths ≡ v.paths → v.fault ≡ None → (f w).fault ≡ None → (g v).fault ≡ None
-  pub paths : (w v : Walk) → w.paths ≡ v.paths → v.fault ≡ None → (f w).fault ≡ None → (f w).paths ≡ (g v).paths
-
-spares_nothing : Spares (λ w. w) (λ w. w)
-spares_nothing = record { none = λ w v same clear ends. clear; paths = λ w v same clear ends. same }
-
-spares_counted : Spares counted counted
+pub counted_fits : (w : Walk) → w.paths + 1 ≤ 1000000 → counted w ≡ record w { paths = w.paths + 1 }
 unfolding counted_with
-spares_counted = record {
-  none = λ w v same clear ends. subst (λ b. (counted_with v b).fault ≡ None) (ap (λ n. nat_lt 1000000 (n + 1)) same) (none w v clear (nat_lt 1000000 (w.paths + 1)) ends);
-  paths = λ w v same clear ends. subst (λ b. (counted w).paths ≡ (counted_with v b).paths) (ap (λ n. nat_lt 1000000 (n + 1)) same) (paths w v same (nat_lt 1000000 (w.paths + 1)));
-}
+counted_fits w few = by (nat_lt 1000000 (w.paths + 1)) refl
   where
-    none : (w v : Walk) → v.fault ≡ None → (b : Bool) → (counted_with w b).fault ≡ None → (counted_with v b).fault ≡ None
-    none w v clear true ends = cc
-    none w v clear false ends = clear
+    by : (b : Bool) → nat_lt 1000000 (w.paths + 1) ≡ b → counted_with w b ≡ record w { paths = w.paths + 1 }
+    by true is = absurd (too_many (ltb-true 1000000 (w.paths + 1) is))
+      where
+        too_many : 1000000 < w.paths + 1 → ⊥
+        too_many h = omega arith
+    by false is = refl
 
-    paths : (w v : Walk) → w.paths ≡ v.paths → (b : Bool) → (counted_with w b).paths ≡ (counted_with v b).paths
-    paths w v same true = ap (λ n. n + 1) same
-    paths w v same false = ap (λ n. n + 1) same
+-- where one step has no fault, the other has none, from a start that has counted so many paths less
+pub record Spares (less : ℕ) (f g : Step) : Type 0 where
+  pub none : (w v : Walk) → w.paths ≡ v.paths + less → v.fault ≡ None → (f w).fault ≡ None → (g v).fault ≡ None
+  pub paths : (w v : Walk) → w.paths ≡ v.paths + less → v.fault ≡ None → (f w).fault ≡ None → (f w).paths ≡ (g v).paths + less
 
-spares_after : (f g next other : Step) → Spares f g → Spares next other → Spares (λ w. then_walk (f w) next) (λ w. then_walk (g w) other)
-spares_after f g next other first second = record { none = none; paths = paths }
-  where
-    none : (w v : Walk) → w.paths ≡ v.paths → v.fault ≡ None → (then_walk (f w) next).fault ≡ None → (then_walk (g v) other).fault ≡ None
-    none w v same clear ends =
-        let early = none_before (f w) next ends in
-        let late : (next (f w)).fault ≡ None = ap (λ (u : Walk). u.fault) (sym (goes_on (f w) next early)) ∙ ends in
-        let clear_then = first.none w v same clear early in
-        let same_then = first.paths w v same clear early in
-        ap (λ (u : Walk). u.fault) (goes_on (g v) other clear_then) ∙ second.none (f w) (g v) same_then clear_then late
+module _ (less : ℕ) where
+  spares_nothing : Spares less (λ w. w) (λ w. w)
+  spares_nothing = record { none = λ w v same clear ends. clear; paths = λ w v same clear ends. same }
 
-    paths : (w v : Walk) → w.paths ≡ v.paths → v.fault ≡ None → (then_walk (f w) next).fault ≡ None → (then_walk (f w) next).paths ≡ (then_walk (g v) other).paths
-    paths w v same clear ends =
-        let early = none_before (f w) next ends in
-        let late : (next (f w)).fault ≡ None = ap (λ (u : Walk). u.fault) (sym (goes_on (f w) next early)) ∙ ends in
-        let clear_then = first.none w v same clear early in
-        let same_then = first.paths w v same clear early in
-        ap (λ (u : Walk). u.paths) (goes_on (f w) next early) ∙ second.paths (f w) (g v) same_then clear_then late ∙ ap (λ (u : Walk). u.paths) (sym (goes_on (g v) other clear_then))
+  fewer : (w v : Walk) → w.paths ≡ v.paths + less → (counted w).fault ≡ None → v.paths + 1 ≤ 1000000
+  fewer w v same ends = omega (arith, counted_within w ends)
 
-spares_object : (A : Objects) (id : List ℕ) (F G : FsObject → Step) → ((object : FsObject) → Spares (F object) (G object))
-    → Spares (λ w. then_read (fs_at A id) F (visited (fs_key id) w)) (λ w. then_read (fs_at A id) G (visited (fs_key id) w))
-spares_object A id F G h = record {
-  none = λ w v. none (fs_at A id) (visited (fs_key id) w) (visited (fs_key id) v);
-  paths = λ w v. paths (fs_at A id) (visited (fs_key id) w) (visited (fs_key id) v);
-}
-  where
-    none : (r : Result FsObject TreeFault) (w v : Walk) → w.paths ≡ v.paths → v.fault ≡ None → (then_read r F w).fault ≡ None → (then_read r G v).fault ≡ None
-    none (Ok object) w v same clear ends = (h object).none w v same clear ends
-    none (Err fault) w v same clear ends = cc
+  spares_counted : Spares less counted counted
+  spares_counted = record {
+    none = λ w v same clear ends. ap (λ (u : Walk). u.fault) (counted_fits v (fewer w v same ends)) ∙ clear;
+    paths = λ w v same clear ends. omega (arith, same, ap (λ (u : Walk). u.paths) (counted_fits v (fewer w v same ends)), ap (λ (u : Walk). u.paths) (counted_none w ends));
+  }
 
-    paths : (r : Result FsObject TreeFault) (w v : Walk) → w.paths ≡ v.paths → v.fault ≡ None → (then_read r F w).fault ≡ None → (then_read r F w).paths ≡ (then_read r G v).paths
-    paths (Ok object) w v same clear ends = (h object).paths w v same clear ends
-    paths (Err fault) w v same clear ends = same
+  spares_after : (f g next other : Step) → Spares less f g → Spares less next other → Spares less (λ w. then_walk (f w) next) (λ w. then_walk (g w) other)
+  spares_after f g next other first second = record { none = none; paths = paths }
+    where
+      none : (w v : Walk) → w.paths ≡ v.paths + less → v.fault ≡ None → (then_walk (f w) next).fault ≡ None → (then_walk (g v) other).fault ≡ None
+      none w v same clear ends =
+          let early = none_before (f w) next ends in
+          let late : (next (f w)).fault ≡ None = ap (λ (u : Walk). u.fault) (sym (goes_on (f w) next early)) ∙ ends in
+          let clear_then = first.none w v same clear early in
+          let same_then = first.paths w v same clear early in
+          ap (λ (u : Walk). u.fault) (goes_on (g v) other clear_then) ∙ second.none (f w) (g v) same_then clear_then late
 
-spared : (A : Objects) → Scheme true false A A Spares
-spared A = record {
-  nothing = spares_nothing;
-  counts = spares_counted;
-  deep = λ path. record { none = λ w v same clear ends. cc; paths = λ w v same clear ends. same };
-  kind = λ id. record { none = λ w v same clear ends. cc; paths = λ w v same clear ends. same };
-  after = spares_after;
-  file = λ id file. record { none = λ w v same clear ends. clear; paths = λ w v same clear ends. file_paths true A id file w ∙ same };
-  object = spares_object A;
-}
+      paths : (w v : Walk) → w.paths ≡ v.paths + less → v.fault ≡ None → (then_walk (f w) next).fault ≡ None → (then_walk (f w) next).paths ≡ (then_walk (g v) other).paths + less
+      paths w v same clear ends =
+          let early = none_before (f w) next ends in
+          let late : (next (f w)).fault ≡ None = ap (λ (u : Walk). u.fault) (sym (goes_on (f w) next early)) ∙ ends in
+          let clear_then = first.none w v same clear early in
+          let same_then = first.paths w v same clear early in
+          ap (λ (u : Walk). u.paths) (goes_on (f w) next early) ∙ second.paths (f w) (g v) same_then clear_then late ∙ ap (λ (u : Walk). u.paths + less) (sym (goes_on (g v) other clear_then))
 
--- a root that is complete with its blocks is so without them
-pub root_spared : (A : Objects) (id : List ℕ) → (walk_root true A id start).fault ≡ None → (walk_root false A id start).fault ≡ None
-root_spared A id = (along_root true false A A Spares (spared A) id).none start start refl refl
+  spares_object : (A : Objects) (id : List ℕ) (F G : FsObject → Step) → ((object : FsObject) → Spares less (F object) (G object))
+      → Spares less (λ w. then_read (fs_at A id) F (visited (fs_key id) w)) (λ w. then_read (fs_at A id) G (visited (fs_key id) w))
+  spares_object A id F G h = record {
+    none = λ w v. none (fs_at A id) (visited (fs_key id) w) (visited (fs_key id) v);
+    paths = λ w v. paths (fs_at A id) (visited (fs_key id) w) (visited (fs_key id) v);
+  }
+    where
+      none : (r : Result FsObject TreeFault) (w v : Walk) → w.paths ≡ v.paths + less → v.fault ≡ None → (then_read r F w).fault ≡ None → (then_read r G v).fault ≡ None
+      none (Ok object) w v same clear ends = (h object).none w v same clear ends
+      none (Err fault) w v same clear ends = cc
 
-pub root_same_paths : (A : Objects) (id : List ℕ) → (walk_root true A id start).fault ≡ None → (walk_root true A id start).paths ≡ (walk_root false A id start).paths
-root_same_paths A id = (along_root true false A A Spares (spared A) id).paths start start refl refl
+      paths : (r : Result FsObject TreeFault) (w v : Walk) → w.paths ≡ v.paths + less → v.fault ≡ None → (then_read r F w).fault ≡ None → (then_read r F w).paths ≡ (then_read r G v).paths + less
+      paths (Ok object) w v same clear ends = (h object).paths w v same clear ends
+      paths (Err fault) w v same clear ends = same
+
+  -- ---- blocks
+
+  spares_block : (A : Objects) (id : List ℕ) → Spares less (walk_block true A id) (walk_block true A id)
+  spares_block A id = record {
+    none = λ w v same clear ends. by w v clear (is_some (map.get A (block_key id))) ends;
+    paths = λ w v same clear ends. block_paths true A id w ∙ same ∙ ap (λ n. n + less) (sym (block_paths true A id v));
+  }
+    where
+      by : (w v : Walk) → v.fault ≡ None → (b : Bool) → (if b then visited (block_key id) w else failed (Incomplete (block_key id)) (visited (block_key id) w)).fault ≡ None
+          → (if b then visited (block_key id) v else failed (Incomplete (block_key id)) (visited (block_key id) v)).fault ≡ None
+      by w v clear true ends = clear
+      by w v clear false ends = cc
+
+  spares_blocks : (A : Objects) (ids : List (List ℕ)) → Spares less (walk_blocks true A ids) (walk_blocks true A ids)
+  spares_blocks A [] = spares_nothing
+  spares_blocks A (id ∷ ids) = spares_after (walk_block true A id) (walk_block true A id) (walk_blocks true A ids) (walk_blocks true A ids) (spares_block A id) (spares_blocks A ids)
+
+  spares_sized : (A : Objects) (id : List ℕ) (file : FileObject) → Spares less (sized true A id file) (sized true A id file)
+  spares_sized A id file = record {
+    none = λ w v same clear ends. by w v clear (file.size == length (joined A file.blocks)) ends;
+    paths = λ w v same clear ends. sized_paths true A id file w ∙ same ∙ ap (λ n. n + less) (sym (sized_paths true A id file v));
+  }
+    where
+      by : (w v : Walk) → v.fault ≡ None → (b : Bool) → (if b then w else failed (WrongSize id) w).fault ≡ None → (if b then v else failed (WrongSize id) v).fault ≡ None
+      by w v clear true ends = clear
+      by w v clear false ends = cc
+
+  spares_file : (A : Objects) (b : Bool) (id : List ℕ) (file : FileObject) → Spares less (walk_file true A id file) (walk_file b A id file)
+  spares_file A true id file =
+      spares_after (walk_blocks true A file.blocks) (walk_blocks true A file.blocks) (sized true A id file) (sized true A id file) (spares_blocks A file.blocks) (spares_sized A id file)
+  spares_file A false id file = record { none = λ w v same clear ends. clear; paths = λ w v same clear ends. file_paths true A id file w ∙ same }
+
+  pub spared : (A : Objects) (b : Bool) → Scheme true b A A (Spares less)
+  spared A b = record {
+    nothing = spares_nothing;
+    counts = spares_counted;
+    deep = λ path. record { none = λ w v same clear ends. cc; paths = λ w v same clear ends. same };
+    kind = λ id. record { none = λ w v same clear ends. cc; paths = λ w v same clear ends. same };
+    after = spares_after;
+    file = spares_file A b;
+    object = spares_object A;
+  }
+
+-- an object that is complete with its blocks, from some start, is so from the first, with them or without
+pub object_spared : (A : Objects) (b : Bool) (room : ℕ) (wants : Bool) (path : PathV) (id : List ℕ) (w : Walk)
+    → (walk_object true A (walk_below true A room) wants path id w).fault ≡ None → (walk_object b A (walk_below b A room) wants path id start).fault ≡ None
+object_spared A b room wants path id w ends =
+    (along_object true b A A (Spares w.paths) (spared w.paths A b) (walk_below true A room) (walk_below b A room)
+    (along_below true b A A (Spares w.paths) (spared w.paths A b) room) wants path id).none w start (omega arith) refl ends
+
+pub root_spared : (A : Objects) (b : Bool) (id : List ℕ) (w : Walk) → (walk_root true A id w).fault ≡ None → (walk_root b A id start).fault ≡ None
+root_spared A b id w ends = object_spared A b 100 true [] id w ends
+
+-- and both count the same paths
+pub root_same_paths : (A : Objects) (id : List ℕ) → (walk_root true A id start).fault ≡ None → (walk_root true A id start).paths ≡ (walk_root false A id start).paths + 0
+root_same_paths A id = (along_root true false A A (Spares 0) (spared 0 A false) id).paths start start refl refl

@@ -1,8 +1,8 @@
 -- The entries below a directory as a list, and the tree that they make. The key lemmas are found_listed, tree_of_root and
 -- counts_listed.
-use Rattle.std.proofs.Common.{◌≡◌, ◌≢◌, ◌&&◌, ◌≤◌, ◌+◌, ℕ, zero, suc, Bool, true, false, cond, if◌then◌else◌, nat_eq, is_some, List, [], ◌∷◌, ◌++◌, length, refl, sym, ap, ap₂, ◌∙◌, subst, Option, None, Some, Result, Ok, Err, option_map, option_and_then, arith, length-append}
+use Rattle.std.proofs.Common.{◌≡◌, ◌&&◌, ◌≤◌, ◌+◌, ℕ, zero, suc, Bool, true, false, cond, if◌then◌else◌, nat_eq, List, [], ◌∷◌, ◌++◌, length, refl, sym, ap, ap₂, ◌∙◌, subst, Option, None, Some, option_map, option_and_then, arith}
 use Rattle.std.specs.Bool.{one_answer}
-use Rattle.std.specs.Cmp.{Equal-is, tied_itself}
+use Rattle.std.specs.Cmp.{tied_itself}
 use Rattle.std.specs.Cmp.Lexicographic.{pointwise, bytes_decides}
 use Rattle.std.specs.FinMap as map
 use Rattle.std.specs.Option.{option_or}
@@ -15,8 +15,8 @@ use Rattle.tree_model.specs.Tree.{Tree}
 use Rattle.tree_model.specs.declared.node.Node.{Node}
 use Rattle.fs_objects.specs.Mode.{is_directory_mode}
 use Rattle.fs_objects.specs.declared.dirent.Dirent.{Dirent}
-use Rattle.object_graph.specs.Objects.{name_cmp, same_id, entry_named, in_name_order, entry_of, directory_in, dirents_at, entry_in, entry_below, node_of, node_below, IsTreeOf}
-use Rattle.object_graph.specs.Traversal.{Walk, start, walk_object, walk_below, walk_root}
+use Rattle.object_graph.specs.Objects.{name_cmp, same_id, entry_named, in_name_order, entry_of, directory_in, dirents_at, entry_in, entry_below, node_of}
+use Rattle.object_graph.specs.Traversal.{walk_object, walk_below}
 use Rattle.object_graph.specs.declared.entry.Entry.{Entry}
 use Rattle.object_graph.proofs.Entries.{names_total, same_name-true, named_in_order, Apart, apart_in_order}
 use Rattle.object_graph.proofs.Below.{Ran, entry_ran}
@@ -168,21 +168,21 @@ module _ (blocks : Bool) (A : Objects) where
     where
       within : (e : Dirent) (b : Bool) → Ran (walk_object blocks A (walk_below blocks A room) b (path ++ e.name ∷ []) e.id) visits
           → ((path : PathV) (id : List ℕ) (visits : List Key) → Ran (walk_object blocks A (walk_below blocks A room) true path id) visits
-              → found (next ∷ q) (listed A room id) ≡ entry_below A (next ∷ q) id)
+          → found (next ∷ q) (listed A room id) ≡ entry_below A (next ∷ q) id)
           → found (next ∷ q) (if b then listed A room e.id else []) ≡ option_and_then (λ id. entry_in A (dirents_at A id) (next ∷ q)) (if b then Some e.id else None)
       within e true own more = more (path ++ e.name ∷ []) e.id visits own
       within e false own more = refl
 
       by : (o : Option Dirent) → entry_named name (dirents_at A id) ≡ o
           → ((path : PathV) (id : List ℕ) (visits : List Key) → Ran (walk_object blocks A (walk_below blocks A room) true path id) visits
-              → found (next ∷ q) (listed A room id) ≡ entry_below A (next ∷ q) id)
+          → found (next ∷ q) (listed A room id) ≡ entry_below A (next ∷ q) id)
           → at_entry (listed A room) (next ∷ q) o ≡ option_and_then (λ id. entry_in A (dirents_at A id) (next ∷ q)) (directory_in o)
       by None is more = refl
       by (Some e) is more =
           let here = entry_ran blocks A (suc room) path id visits ran name e is in
           let less : here.0 ≡ room = omega (arith, here.1) in
           within e (is_directory_mode e.mode)
-            (subst (λ r. Ran (walk_object blocks A (walk_below blocks A r) (is_directory_mode e.mode) (path ++ e.name ∷ []) e.id) visits) less here.2) more
+          (subst (λ r. Ran (walk_object blocks A (walk_below blocks A r) (is_directory_mode e.mode) (path ++ e.name ∷ []) e.id) visits) less here.2) more
 
 -- ---- the tree that a list makes
 

@@ -1,19 +1,16 @@
 -- What lies below a directory is the same where the objects agree on what its traversal visits. The key lemmas are
 -- same_dirents, same_entry, same_contents and same_below.
-use Rattle.std.proofs.Common.{◌≡◌, ℕ, ◌==◌, Bool, true, false, if◌then◌else◌, List, [], ◌∷◌, ◌++◌, length, refl, sym, ap, ap₂, ◌∙◌, subst, Option, None, Some, Result, Ok, Err, option_map, option_and_then}
-use Rattle.std.specs.FinMap as map
+use Rattle.std.proofs.Common.{◌≡◌, ℕ, Bool, true, false, if◌then◌else◌, List, [], ◌∷◌, ◌++◌, refl, ap, ◌∙◌, subst, Option, None, Some, Result, Ok, Err, option_map, option_and_then}
 use Rattle.ids.specs.Key.{Objects}
 use Rattle.ids.specs.declared.key.Key.{Key}
 use Rattle.tree_model.specs.Path.{PathV}
-use Rattle.tree_model.specs.declared.node.Node.{Node}
 use Rattle.tree_model.specs.declared.node.Node.TheVariants as node
 use Rattle.fs_objects.specs.Mode.{is_directory_mode}
 use Rattle.fs_objects.specs.declared.dirent.Dirent.{Dirent}
-use Rattle.fs_objects.specs.declared.file_object.FileObject.{FileObject}
 use Rattle.fs_objects.specs.declared.fs_object.FsObject.{FsObject}
 use Rattle.fs_objects.specs.declared.fs_object.FsObject.TheVariants as fs
 use Rattle.object_graph.specs.Objects.{fs_key, fs_at, fs_in, is_nil, entries_of, blocks_of, entry_named, entry_of, directory_in, dirents_at, joined, contents_of, entry_in, entry_below, node_of, node_below}
-use Rattle.object_graph.specs.Traversal.{Walk, start, visited, failed, next_by, then_walk, then_read, walk_blocks, sized, walk_file, walk_found, walk_object, walk_below, walk_root, is_in, IsCompleteRoot}
+use Rattle.object_graph.specs.Traversal.{Walk, start, visited, then_read, walk_blocks, sized, walk_found, walk_object, walk_below, walk_root, is_in, IsCompleteRoot}
 use Rattle.object_graph.specs.Unchanged.{AgreeOn}
 use Rattle.object_graph.specs.declared.entry.Entry.{Entry}
 use Rattle.object_graph.specs.declared.entry.Entry.TheVariants as entry
@@ -61,7 +58,7 @@ module _ (blocks : Bool) (A B : Objects) where
     where
       within : (e : Dirent) (b : Bool) (less : ℕ) → Ran (walk_object blocks A (walk_below blocks A less) b (path ++ e.name ∷ []) e.id) visits
           → ((room : ℕ) (path : PathV) (id : List ℕ) (visits : List Key) → Ran (walk_object blocks A (walk_below blocks A room) true path id) visits
-              → AgreeOn visits A B → entry_in B (dirents_at B id) (next ∷ q) ≡ entry_in A (dirents_at A id) (next ∷ q))
+          → AgreeOn visits A B → entry_in B (dirents_at B id) (next ∷ q) ≡ entry_in A (dirents_at A id) (next ∷ q))
           → option_and_then (λ id. entry_in B (dirents_at B id) (next ∷ q)) (if b then Some e.id else None)
           ≡ option_and_then (λ id. entry_in A (dirents_at A id) (next ∷ q)) (if b then Some e.id else None)
       within e true less own more = more less (path ++ e.name ∷ []) e.id visits own agree
@@ -69,7 +66,7 @@ module _ (blocks : Bool) (A B : Objects) where
 
       by : (o : Option Dirent) → entry_named name (dirents_at A id) ≡ o
           → ((room : ℕ) (path : PathV) (id : List ℕ) (visits : List Key) → Ran (walk_object blocks A (walk_below blocks A room) true path id) visits
-              → AgreeOn visits A B → entry_in B (dirents_at B id) (next ∷ q) ≡ entry_in A (dirents_at A id) (next ∷ q))
+          → AgreeOn visits A B → entry_in B (dirents_at B id) (next ∷ q) ≡ entry_in A (dirents_at A id) (next ∷ q))
           → option_and_then (λ id. entry_in B (dirents_at B id) (next ∷ q)) (directory_in o) ≡ option_and_then (λ id. entry_in A (dirents_at A id) (next ∷ q)) (directory_in o)
       by None found more = refl
       by (Some e) found more =
@@ -88,7 +85,7 @@ module _ (A B : Objects) where
       read v (Ok (fs.File file)) none within =
           let bytes : Walk = walk_blocks true A file.blocks v in
           same_joined A B true file.blocks v (none_before bytes (sized true A id file) none)
-            (agree_within (within_then (within_next bytes (sized true A id file) (follows_sized A B true id file)) within) agree)
+          (agree_within (within_then (within_next bytes (sized true A id file) (follows_sized A B true id file)) within) agree)
       read v (Ok (fs.Dir entries)) none within = refl
       read v (Err fault) none within = refl
 
@@ -109,8 +106,8 @@ module _ (A B : Objects) where
       by true is ran = subst (λ z. node_of B z ≡ node_of A z) is refl
       by false is ran =
           subst (λ z. node_of B z ≡ node_of A z) is
-            (ap (λ bytes. node.File (record { mode = reached.e.mode; mtime = reached.e.mtime; modifier = reached.e.modifier; bytes = bytes }))
-              (same_contents reached.room reached.path reached.e.id visits ran agree))
+          (ap (λ bytes. node.File (record { mode = reached.e.mode; mtime = reached.e.mtime; modifier = reached.e.modifier; bytes = bytes }))
+          (same_contents reached.room reached.path reached.e.id visits ran agree))
 
   -- what stands at each path below a directory
   pub same_below : (room : ℕ) (path : PathV) (id : List ℕ) (visits : List Key) → Ran (walk_object true A (walk_below true A room) true path id) visits

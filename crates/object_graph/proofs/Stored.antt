@@ -1,9 +1,10 @@
 -- What a traversal without a fault visits is stored; and an Incomplete is the last visit, and isn't stored. The key lemmas
 -- are root_stored, commit_stored, commit_tells and agree_kept.
-use Rattle.std.proofs.Common.{◌≡◌, ◌⊎◌, ℕ, ◌+◌, ◌==◌, Bool, true, false, if◌then◌else◌, is_some, nat_lt, List, [], ◌∷◌, ◌++◌, length, refl, sym, ap, ◌∙◌, subst, Option, None, Some, Result, Ok, Err, ⊎_elim, inl, inr}
+use Rattle.std.proofs.Common.{◌≡◌, ℕ, ◌+◌, ◌==◌, Bool, true, false, if◌then◌else◌, is_some, nat_lt, List, [], ◌∷◌, ◌++◌, length, refl, sym, ap, ◌∙◌, subst, Option, None, Some, Result, Ok, Err, inl, inr}
 use Rattle.std.specs.FinMap as map
 use Rattle.ids.specs.Key.{Objects}
 use Rattle.ids.specs.declared.key.Key.{Key}
+use Rattle.tree_model.specs.Path.{PathV}
 use Rattle.fs_objects.specs.FsObject.{fs_of}
 use Rattle.fs_objects.specs.declared.fault.BadFs.{BadFs}
 use Rattle.fs_objects.specs.declared.file_object.FileObject.{FileObject}
@@ -11,13 +12,13 @@ use Rattle.fs_objects.specs.declared.fs_object.FsObject.{FsObject}
 use Rattle.commit_objects.specs.Commit.{commit_of}
 use Rattle.commit_objects.specs.declared.commit.Commit.{Commit}
 use Rattle.commit_objects.specs.declared.fault.BadCommit.{BadCommit}
-use Rattle.object_graph.specs.Objects.{fs_key, block_key, commit_key, fs_at, fs_in, as_read, commit_at, commit_in, of_name, same_id, joined}
-use Rattle.object_graph.specs.Traversal.{Walk, start, visited, failed, counted, next_by, then_walk, then_read, walk_block, walk_blocks, sized, walk_file, walk_root, walk_commit, is_in, IsComplete}
+use Rattle.object_graph.specs.Objects.{fs_key, block_key, commit_key, fs_at, fs_in, as_read, commit_in, of_name, same_id, joined}
+use Rattle.object_graph.specs.Traversal.{Walk, start, visited, failed, counted, next_by, then_walk, then_read, walk_block, walk_blocks, sized, walk_file, walk_object, walk_below, walk_root, walk_commit, is_in, IsComplete}
 use Rattle.object_graph.specs.Unchanged.{AgreeOn, Keeps}
 use Rattle.object_graph.specs.declared.fault.TreeFault.{TreeFault}
-use Rattle.object_graph.specs.declared.fault.TreeFault.TheVariants.{Incomplete, Unreadable, WrongKind, WrongSize, TooDeep, TooMany}
+use Rattle.object_graph.specs.declared.fault.TreeFault.TheVariants.{Incomplete, Unreadable, WrongSize, TooMany}
 use Rattle.object_graph.proofs.Keys.{in_pushed}
-use Rattle.object_graph.proofs.Schemes.{Step, Scheme, along_root, none_before, goes_on}
+use Rattle.object_graph.proofs.Schemes.{Step, Scheme, along_root, along_object, along_below, none_before, goes_on}
 
 -- each of the keys is stored
 pub record AllStored (A : Objects) (keys : List Key) : Type 0 where
@@ -117,6 +118,12 @@ module _ (A : Objects) where
     file = λ id file. sure_file blocks id file;
     object = λ id F G h. sure_object id F h;
   }
+
+  pub object_stored : (blocks : Bool) (room : ℕ) (wants : Bool) (path : PathV) (id : List ℕ) (w : Walk) → AllStored A w.visits
+      → (walk_object blocks A (walk_below blocks A room) wants path id w).fault ≡ None → AllStored A (walk_object blocks A (walk_below blocks A room) wants path id w).visits
+  object_stored blocks room wants path id =
+      (along_object blocks blocks A A (λ f g. Sure A f) (sureness blocks) (walk_below blocks A room) (walk_below blocks A room)
+      (along_below blocks blocks A A (λ f g. Sure A f) (sureness blocks) room) wants path id).sure
 
   pub root_stored : (blocks : Bool) (id : List ℕ) (w : Walk) → AllStored A w.visits → (walk_root blocks A id w).fault ≡ None → AllStored A (walk_root blocks A id w).visits
   root_stored blocks id = (along_root blocks blocks A A (λ f g. Sure A f) (sureness blocks) id).sure
