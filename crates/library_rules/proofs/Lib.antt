@@ -8,3 +8,11 @@ pub mod Sound
 pub mod Steps
 pub mod Created
 pub mod Files
+pub mod EndsLemmas
+pub mod HeadsLemmas
+pub mod HeadsTrees
+pub mod RetriedLemmas
+pub mod UploadsLate
+pub mod UploadsSafe
+pub mod UploadsTold
+pub mod UploadsWhole

@@ -11,3 +11,6 @@ pub mod MergeCommit
 pub mod Permitted
 pub mod Turns
 pub mod Uploads
+pub mod Heads
+pub mod LateUpdates
+pub mod Retried
