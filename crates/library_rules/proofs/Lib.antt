@@ -8,3 +8,5 @@ pub mod Sound
 pub mod Steps
 pub mod Created
 pub mod Files
+pub mod FewTurns
+pub mod Reopened

@@ -9,5 +9,6 @@ pub mod LibraryState
 pub mod MergeBase
 pub mod MergeCommit
 pub mod Permitted
+pub mod Recovery
 pub mod Turns
 pub mod Uploads

@@ -7,6 +7,8 @@
 
 mod entry;
 pub mod laws;
+#[cfg(test)]
+mod table_tests;
 mod tables;
 
 pub use crate::entry::{Entry, Step, Stored};
