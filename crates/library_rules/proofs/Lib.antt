@@ -16,3 +16,5 @@ pub mod UploadsLate
 pub mod UploadsSafe
 pub mod UploadsTold
 pub mod UploadsWhole
+pub mod FewTurns
+pub mod Reopened

@@ -1,6 +1,6 @@
 -- Which steps of a collection are permitted. There are no marks: what is needed is asked of the kept commits anew.
 -- Our own. Read Begins, Sweeps and Ends.
-use Rattle.std.specs.Prelude.{◌≡◌, ◌⊎◌, ◌*◌, ◌<◌, ◌||◌, true, false, [], Option, None, Some, is_some}
+use Rattle.std.specs.Prelude.{◌≡◌, ◌⊎◌, ◌*◌, ◌<◌, ◌≤◌, ◌||◌, true, false, [], Option, None, Some, is_some, ⊤}
 use Rattle.std.specs.FinSet as set
 use Rattle.std.specs.List.{IsDistinct}
 use Rattle.std.specs.Ordering.{eq_by_cmp}
@@ -47,3 +47,8 @@ pub record Ends (s : State) (e : Entry) : Type 0 where
   pub clean : IsClean s
   pub adds : e.added ≡ []
   pub removes : e.removed ≡ []
+
+-- a collection that runs had at most so many turns that weren't refused
+abbrev pub HasFewTurns : Option Running → Type 0
+HasFewTurns None = ⊤
+HasFewTurns (Some running) = running.turned ≤ 2 * running.stored

@@ -9,6 +9,7 @@ pub mod LibraryState
 pub mod MergeBase
 pub mod MergeCommit
 pub mod Permitted
+pub mod Recovery
 pub mod Turns
 pub mod Uploads
 pub mod Heads

@@ -1,11 +1,12 @@
 -- The state of one library, and when it is sound. Our own. Read State, then IsSound.
-use Rattle.std.specs.Prelude.{◌≡◌, ◌≢◌, ℕ, ◌≤◌, ◌^◌, ◌&&◌, ℤ, negsuc, pos, int_le, Bool, true, false, List, [], ◌∷◌, length, Option, None, Some, is_some, map as map_list}
+use Rattle.std.specs.Prelude.{◌≡◌, ◌≢◌, ℕ, ◌≤◌, ℤ, Bool, true, false, List, [], ◌∷◌, length, Option, None, Some, is_some, map as map_list}
 use Rattle.std.specs.List.{list_any, AllByRecursion, IsDistinct}
 use Rattle.std.specs.FinMap as map
 use Rattle.std.specs.FinSet as set
 use Rattle.std.specs.Str.{bytes_eq}
 use Rattle.ids.specs.Key.{Objects, key_cmp}
 use Rattle.ids.specs.declared.key.Key.{Key}
+pub use Rattle.library_state.specs.StateText.{last_number, is_day_count}
 use Rattle.library_state.specs.Tokens.{secrets_of}
 use Rattle.library_state.specs.declared.history.Install.{Install}
 use Rattle.library_state.specs.declared.token.Token.{Token}
@@ -81,14 +82,6 @@ pub record AreTokens (tokens : List Token) (collection : ℕ) : Type 0 where
   pub few : length tokens ≤ 1000
   pub lasts : AllByRecursion (λ token. token.last ≤ collection) tokens
   pub users : AllByRecursion (λ user. (1 ≤ length user) × (length user ≤ 255)) (users_of tokens)
-
--- the last value of an opening number and of a collection number
-abbrev pub last_number : ℕ
-last_number = 2 ^ 63
-
--- a number of days, or -1 for ever
-abbrev pub is_day_count : ℤ → Bool
-is_day_count days = int_le (negsuc 0) days && int_le days (pos 36500)
 
 -- the numbers and the name are within their limits
 pub record AreNumbers (collection opening : ℕ) (days : ℤ) (name : List ℕ) : Type 0 where

@@ -1,15 +1,19 @@
 //! Theorems on the rules of a library, each the contract of a function that does nothing.
-ghost use Rattle.std.specs.Prelude.{◌≡◌, ℕ, ◌≤◌, ◌<◌, true, false, List, length, Ok};
+ghost use Rattle.std.specs.Prelude.{◌≡◌, ℕ, ◌≤◌, ◌<◌, true, false, List, length, Option, Ok, Some};
 ghost use Rattle.ids.specs.Key.{Objects};
+ghost use Rattle.library_state.specs.StateSpelling.{text_of};
 ghost use Rattle.library_state.specs.Tokens.{is_taken};
 ghost use Rattle.library_state.specs.declared.call.Call.{Call};
 ghost use Rattle.library_state.specs.declared.right.Right.{Right};
 ghost use Rattle.object_graph.specs.Objects.{commit_at};
+ghost use Rattle.object_graph.specs.Unchanged.{Keeps};
 ghost use Rattle.library_rules.specs.Changes.{apply, counted, is_refused, moved, put_new};
+ghost use Rattle.library_rules.specs.CollectionSteps.{HasFewTurns};
 ghost use Rattle.library_rules.specs.Creation.{created, opening_commit, opening_object, with_token};
 ghost use Rattle.library_rules.specs.Files.{IsKeptBetween, KeepsFiles};
 ghost use Rattle.library_rules.specs.History.{after, Legal, Permits};
-ghost use Rattle.library_rules.specs.LibraryState.{State, IsSound};
+ghost use Rattle.library_rules.specs.LibraryState.{State, IsSound, last_number};
+ghost use Rattle.library_rules.specs.Recovery.{StandsFor, opened, written_part};
 ghost use Rattle.library_rules.specs.declared.entry.Entry.{Entry};
 ghost use Rattle.library_rules.specs.declared.entry.Step.TheVariants.{Asked};
 
@@ -39,6 +43,11 @@ pub fn a_kept_commits_files_stay()
         → KeepsFiles (after start es from).objects (after start es to).objects commit }
 {}
 
+/// A collection has at most twice as many turns that aren't refused as objects were stored when it began.
+pub fn a_collection_has_few_turns()
+    ensures { (start : State) → (es : List Entry) → (n : ℕ) → Legal start es → HasFewTurns start.running → HasFewTurns (after start es n).running }
+{}
+
 /// A new library is sound: its opening commit is stored and can be read, and its name and its user are within their limits.
 pub fn a_new_library_is_sound()
     ensures { (lib : List ℕ) → (name : List ℕ) → (user : List ℕ) → (secret : List ℕ) → (moment : ℕ) → (objects : Objects) → (faults : ℕ)
@@ -50,4 +59,16 @@ pub fn a_new_library_is_sound()
 pub fn a_sound_library_with_a_token_more_is_sound()
     ensures { (s : State) → (user : List ℕ) → (secret : List ℕ) → (right : Right) → IsSound s → is_taken s.tokens secret ≡ false
         → length s.tokens < 1000 → 1 ≤ length user → length user ≤ 255 → IsSound (with_token user secret right s) }
+{}
+
+/// Where the text and the objects of a sound state are there, the shelf stands for it: no kept commit needs what else lies there.
+pub fn a_shelf_stands_for_a_state_by_its_text_and_its_objects()
+    ensures { (s : State) → (slot : Option (List ℕ)) → (lying : Objects) → IsSound s → slot ≡ Some (text_of (written_part s))
+        → Keeps s.objects lying → StandsFor slot lying s }
+{}
+
+/// What is opened from a shelf that stands for a sound state is sound, whatever else lies there.
+pub fn a_library_that_is_opened_again_is_sound()
+    ensures { (s : State) → (slot : Option (List ℕ)) → (lying : Objects) → (faults : ℕ) → IsSound s → StandsFor slot lying s
+        → s.opening < last_number → IsSound (opened lying faults s) }
 {}
