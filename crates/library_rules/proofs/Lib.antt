@@ -12,6 +12,7 @@ pub mod EndsLemmas
 pub mod HeadsLemmas
 pub mod HeadsTrees
 pub mod RetriedLemmas
+pub mod UploadsCauses
 pub mod UploadsLate
 pub mod UploadsSafe
 pub mod UploadsTold

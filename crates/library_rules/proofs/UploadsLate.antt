@@ -44,7 +44,7 @@ not_merge_fault s e user base pushed (refusal.Incomplete key) late f = f.0
 not_merge_fault s e user base pushed other late f = absurd late
 
 -- it comes of what was due alone
-abbrev TellsLate : Refusal → Due → Type 0
+abbrev pub TellsLate : Refusal → Due → Type 0
 TellsLate why Denies = ⊥
 TellsLate why (Says r) = r ≡ reply.Refused why
 TellsLate why (Stores x) = ⊥
@@ -61,7 +61,7 @@ module _ (s : State) (e : Entry) (why : Refusal) (late : IsLate why) (answers : 
   not_denied : (r : Refusal) → (IsLate r → ⊥) → e.reply ≡ reply.Refused r → ⊥
   not_denied r other said = let same : why ≡ r = cc in other (subst IsLate same late)
 
-  tells_late : (d : Due) → DuePermits s e d → TellsLate why d
+  pub tells_late : (d : Due) → DuePermits s e d → TellsLate why d
   tells_late Denies p = elim p.0 [ inl plain ↦ not_denied refusal.Denied (λ l. l) plain.reply | inr plain ↦ not_denied refusal.NoMemory (λ l. l) plain.reply ]
   tells_late (Says r) p = elim p.0 as (λ _. r ≡ reply.Refused why) [ inl plain ↦ sym plain.reply ∙ answers | inr fails ↦ absurd (no_fault fails) ]
   tells_late (Stores x) p = elim p [ inl plain ↦ let said = plain.0.reply in cc | inr fails ↦ no_fault fails.0 ]

@@ -1,6 +1,6 @@
 -- Updates whose upload held or didn't: what was told present since the upload was checked. Our own.
--- Read IsLate, then IsUpToDate and WasUploaded.
-use Rattle.std.specs.Prelude.{◌≡◌, ◌≢◌, ℕ, ◌≤◌, ◌<◌, true, List, Option, Some, ⊤}
+-- Read IsLate and IsCauseOf, then IsUpToDate and WasUploaded.
+use Rattle.std.specs.Prelude.{◌≡◌, ◌≢◌, ℕ, ◌≤◌, ◌<◌, true, false, List, Option, Some, ⊤}
 use Rattle.std.specs.List.{AllByRecursion}
 use Rattle.ids.specs.declared.key.Key.{Key}
 use Rattle.library_state.specs.declared.refusal.Refusal.{Refusal}
@@ -10,7 +10,7 @@ use Rattle.object_graph.specs.Objects.{commit_key}
 use Rattle.object_graph.specs.Traversal.{walk_commit}
 use Rattle.library_rules.specs.Calls.{token_of}
 use Rattle.library_rules.specs.History.{after}
-use Rattle.library_rules.specs.LibraryState.{State}
+use Rattle.library_rules.specs.LibraryState.{State, is_stored}
 use Rattle.library_rules.specs.MergeBase.{chain_of}
 use Rattle.library_rules.specs.Retried.{entry_at}
 use Rattle.library_rules.specs.Uploads.{is_safe}
@@ -22,6 +22,12 @@ abbrev pub IsLate : Refusal → Type 0
 IsLate (refusal.Stale last now) = ⊤
 IsLate (refusal.Incomplete key) = ⊤
 IsLate other = ⊥
+
+-- why such a refusal may come: a collection began since the token's upload was checked; or nothing is stored under the key
+abbrev pub IsCauseOf : State → Token → Refusal → Type 0
+IsCauseOf s token (refusal.Stale last now) = (last ≡ token.last) × (now ≡ s.collection) × (token.last < s.collection)
+IsCauseOf s token (refusal.Incomplete key) = is_stored s.objects key ≡ false
+IsCauseOf s token other = ⊤
 
 -- the token of a secret saw the last collection begin
 pub record IsUpToDate (tokens : List Token) (collection : ℕ) (secret : Option (List ℕ)) : Type 0 where

@@ -14,7 +14,7 @@ ghost use Rattle.library_rules.specs.Calls.{token_of};
 ghost use Rattle.library_rules.specs.Changes.{apply};
 ghost use Rattle.library_rules.specs.Heads.{TakesIn, HasBase, IsMergedHead, IsExact};
 ghost use Rattle.library_rules.specs.History.{Permits, Legal, after};
-ghost use Rattle.library_rules.specs.LateUpdates.{IsLate, IsUpToDate, NoneBegins, WasUploaded};
+ghost use Rattle.library_rules.specs.LateUpdates.{IsLate, IsCauseOf, IsUpToDate, NoneBegins, WasUploaded};
 ghost use Rattle.library_rules.specs.LibraryState.{State, IsSound, is_kept, is_stored, is_needed, is_fresh};
 ghost use Rattle.library_rules.specs.Retried.{entry_at, IsUpdate, MayUpdate, IsRetained, SaysHead};
 ghost use Rattle.library_rules.specs.Uploads.{is_safe, IsUploaded};
@@ -93,4 +93,12 @@ pub fn an_upload_holds_until_the_next_collection_begins()
         → IsUpToDate (after start es from).tokens (after start es from).collection call.secret → WasUploaded start es from to pushed
         → (e : Entry) → e.step ≡ step.Asked call → call.act ≡ act.Update pushed → Permits (after start es to) e
         → (why : Refusal) → IsLate why → e.reply ≢ reply.Refused why }
+{}
+
+/// An update is refused as stale only where a collection began since its upload was checked, with both numbers, and as
+/// incomplete only with a key under which nothing is stored.
+pub fn a_stale_or_incomplete_update_has_its_cause()
+    ensures { (s : State) → (e : Entry) → (call : Call) → (token : Token) → (pushed : List ℕ) → Permits s e
+        → e.step ≡ step.Asked call → call.act ≡ act.Update pushed → token_of s.tokens call.secret ≡ Some token
+        → (why : Refusal) → IsLate why → e.reply ≡ reply.Refused why → IsCauseOf s token why }
 {}
