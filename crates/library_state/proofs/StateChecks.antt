@@ -1,14 +1,12 @@
 -- The checks of a state text, where each passes but perhaps the last. The key lemma is state_in-found.
-use Rattle.std.proofs.Common.{◌≡◌, ℕ, ℤ, pos, negsuc, ◌≤◌, List, Bool, true, false, w64, FitsSigned, Ok, Err, arith}
+use Rattle.std.proofs.Common.{◌≡◌, ℤ, pos, negsuc, ◌≤◌, true, false, w64, FitsSigned, Ok, Err, arith}
 use Rattle.std.proofs.lemmas.Bool.Decides.{nat_tests}
 use Rattle.std.proofs.lemmas.Int.{ints}
 use Rattle.serde_json.specs.Data.{Data}
 use Rattle.json_words.specs.Fields.{has_only}
 use Rattle.library_state.specs.StateText.{right_version, collection_in, is_day_count, days_in, kept_in, library_in, name_in, opening_in, tokens_in, state_keys, state_in}
-use Rattle.library_state.specs.declared.history.Install.{Install}
 use Rattle.library_state.specs.declared.state.LibState.{LibState}
 use Rattle.library_state.specs.declared.state_fault.StateKey.TheVariants.{Extra}
-use Rattle.library_state.specs.declared.token.Token.{Token}
 
 -- each check up to the last gives what the state has
 pub record Passes (d : Data) (state : LibState) : Type 0 where

@@ -1,5 +1,5 @@
 -- The written value of a state is read as the state. The key lemma is state_of-state_data.
-use Rattle.std.proofs.Common.{◌≡◌, ◌≢◌, ◌≤◌, ℕ, ℤ, List, codes, [], ◌∷◌, ◌++◌, ◌&&◌, Bool, true, false, map, length, nat_le, All, FitsSigned, Some, Ok, refl, sym, ap, subst, ◌∙◌, arith, append_assoc, append-nil}
+use Rattle.std.proofs.Common.{◌≡◌, ◌≢◌, ◌≤◌, ℕ, ℤ, List, codes, [], ◌∷◌, ◌++◌, ◌&&◌, true, false, map, length, nat_le, All, FitsSigned, Some, Ok, refl, sym, ap, subst, ◌∙◌, arith, append_assoc, append-nil}
 use Rattle.std.proofs.lemmas.Bool.Decides.{nat_tests}
 use Rattle.std.proofs.lemmas.Cmp.{nat_list_eq_equiv}
 use Rattle.std.proofs.lemmas.List.{map-append, length-map}
@@ -16,13 +16,13 @@ use Rattle.serde_json.specs.Find.{get, of_integer}
 use Rattle.serde_json.specs.View.{items_of}
 use Rattle.json_words.specs.Check.{each}
 use Rattle.json_words.specs.Fields.{is_object, has_only}
-use Rattle.json_words.specs.IdText.{object_id_of, library_id_of}
+use Rattle.json_words.specs.IdText.{library_id_of}
 use Rattle.json_words.specs.JsonText.{json_of}
 use Rattle.json_words.proofs.FoundLemmas.{number_field-found, number_between-found, integer_field-found, text_field-found, array_field-found, stored_id_in-found}
 use Rattle.library_state.specs.ProperState.{IsProper, IsProperInstall, IsProperToken, AreProperTokens}
 use Rattle.library_state.specs.Rights.{right_text, right_of}
 use Rattle.library_state.specs.StateSpelling.{id_data, install_with, install_data, token_with, token_data, state_with, state_data}
-use Rattle.library_state.specs.StateText.{last_number, right_version, collection_in, is_day_count, days_in, stored_id_field, install_of, kept_in, library_in, name_in, opening_in, user_in, right_in, secret_in, parts_of, token_of, tokens_after, tokens_in, state_keys, state_in, state_of}
+use Rattle.library_state.specs.StateText.{last_number, right_version, collection_in, is_day_count, days_in, stored_id_field, install_of, kept_in, library_in, name_in, opening_in, user_in, right_in, secret_in, parts_of, token_of, tokens_after, tokens_in, state_keys, state_of}
 use Rattle.library_state.specs.Tokens.{secrets_of, is_taken}
 use Rattle.library_state.specs.TypedState.{IsId, IsTyped, IsTypedInstall, IsTypedToken}
 use Rattle.library_state.specs.declared.history.Install.{Install}

@@ -1,6 +1,6 @@
 -- What is written of a state has no float, and nests two levels at most.
-use Rattle.std.proofs.Common.{◌≡◌, ◌≤◌, ℤ, pos, negsuc, max, List, [], ◌∷◌, map, false, refl, ap, arith}
-use Rattle.serde_json.specs.Data.{Data, depth, items_depth}
+use Rattle.std.proofs.Common.{◌≡◌, ◌≤◌, ℤ, pos, negsuc, List, [], ◌∷◌, map, false, refl, arith}
+use Rattle.serde_json.specs.Data.{depth, items_depth}
 use Rattle.serde_json.specs.Find.{is_float, of_integer}
 use Rattle.serde_json.specs.View.{items_of}
 use Rattle.serde_json.specs.Written.{has_float, items_have_float}

@@ -1,5 +1,5 @@
 -- The retained history: which head updates a library still knows at a moment. Our own. Read is_recent first.
-use Rattle.std.specs.Prelude.{ℕ, zero, ◌-◌, ◌*◌, ℤ, pos, negsuc, Bool, true, false, ◌||◌, nat_le, List, [], ◌∷◌, ◌++◌, if◌then◌else◌}
+use Rattle.std.specs.Prelude.{ℕ, ◌-◌, ◌*◌, ℤ, pos, negsuc, Bool, true, false, ◌||◌, nat_le, List, [], ◌∷◌, ◌++◌, if◌then◌else◌}
 use Rattle.library_state.specs.declared.history.Install.{Install}
 
 -- an update of this time is at most that many days old, or lies ahead; below 0 days each is, with 0 days none

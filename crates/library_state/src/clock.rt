@@ -1,6 +1,4 @@
 //! The time, from outside.
-ghost use Rattle.std.specs.Prelude.{◌≡◌, ◌≢◌, [], ℕ, Contains};
-
 use ids::Items;
 use std::marker::Model;
 

@@ -1,5 +1,5 @@
 //! The retained history: the head updates that a library still knows.
-ghost use Rattle.std.specs.Prelude.{◌≡◌, ◌++◌, ◌∷◌, [], OnOk, OnErr};
+ghost use Rattle.std.specs.Prelude.{◌≡◌};
 ghost use Rattle.library_state.specs.Retention.{is_recent};
 
 use ids::ObjId;

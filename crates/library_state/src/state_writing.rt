@@ -1,8 +1,6 @@
 //! Writing of state texts.
-ghost use Rattle.std.specs.Prelude.{◌≡◌, Some, map, All, IfOk, OnOk};
-ghost use Rattle.hex.specs.Hex.{encode_lower};
+ghost use Rattle.std.specs.Prelude.{◌≡◌, map, All, IfOk, OnOk};
 ghost use Rattle.serde_json.specs.View.{view};
-ghost use Rattle.json_words.specs.IdText.{object_id_of};
 ghost use Rattle.library_state.specs.StateSpelling.{id_data, install_with, install_data, token_with, token_data, state_with, state_data};
 ghost use Rattle.library_state.specs.TypedState.{IsId, IsTyped, IsTypedInstall, IsTypedToken};
 

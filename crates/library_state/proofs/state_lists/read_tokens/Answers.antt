@@ -1,14 +1,13 @@
 -- Each way out is what is answered of the token at its place, beside those before it.
-use Rattle.std.proofs.Common.{◌≡◌, ◌+◌, ◌≤◌, All, List, [], map, length, drop, false, arith, sym, ap, subst, ◌∙◌}
+use Rattle.std.proofs.Common.{◌+◌, All, List, map, length, drop, arith, sym, ap, subst, ◌∙◌}
 use Rattle.std.proofs.lemmas.List.{length-append}
 use Rattle.std.proofs.lemmas.List.Elements.{All-push}
 use Rattle.std.specs.List.{IsDistinct}
-use Rattle.std.specs.Str.{bytes_eq}
 use Rattle.serde_json.specs.View.{view}
 use Rattle.json_words.proofs.AnswerLemmas.{Answers-handed_on}
 use Rattle.library_state.specs.StateText.{token_of, tokens_after}
 use Rattle.library_state.specs.ProperState.{IsProperToken}
-use Rattle.library_state.specs.Tokens.{secrets_of, is_taken}
+use Rattle.library_state.specs.Tokens.{is_taken}
 use Rattle.library_state.specs.declared.token.Token.{Token}
 use Rattle.library_state.proofs.TokenLemmas.{tokens_after-ok, tokens_after-err, tokens_after-next, IsDistinct-secrets_push}
 use Rattle.library_state.proofs.state_lists.read_tokens.Goals as goal

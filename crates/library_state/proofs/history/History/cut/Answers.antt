@@ -1,5 +1,5 @@
 -- What is left is what is recent of the others, and the last.
-use Rattle.std.proofs.Common.{◌≡◌, ◌++◌, ◌∷◌, [], sym, ap, ◌∙◌, rules, filter}
+use Rattle.std.proofs.Common.{◌++◌, ◌∷◌, [], sym, ap, ◌∙◌, rules}
 use Rattle.std.proofs.lemmas.Fn.{filter_same}
 use Rattle.library_state.specs.Retention.{is_recent, kept_for}
 use Rattle.library_state.specs.declared.history.Install.{Install}
