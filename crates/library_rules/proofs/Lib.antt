@@ -10,3 +10,6 @@ pub mod Created
 pub mod Files
 pub mod FewTurns
 pub mod Reopened
+pub mod ProperText
+pub mod Unmoved
+pub mod Changed

@@ -1,6 +1,7 @@
 //! Theorems on the rules of a library, each the contract of a function that does nothing.
 ghost use Rattle.std.specs.Prelude.{◌≡◌, ℕ, ◌≤◌, ◌<◌, true, false, List, length, Option, Ok, Some};
 ghost use Rattle.ids.specs.Key.{Objects};
+ghost use Rattle.library_state.specs.ProperState.{IsProper};
 ghost use Rattle.library_state.specs.StateSpelling.{text_of};
 ghost use Rattle.library_state.specs.Tokens.{is_taken};
 ghost use Rattle.library_state.specs.declared.call.Call.{Call};
@@ -65,6 +66,11 @@ pub fn a_sound_library_with_a_token_more_is_sound()
 pub fn a_shelf_stands_for_a_state_by_its_text_and_its_objects()
     ensures { (s : State) → (slot : Option (List ℕ)) → (lying : Objects) → IsSound s → slot ≡ Some (text_of (written_part s))
         → Keeps s.objects lying → StandsFor slot lying s }
+{}
+
+/// A sound state is written as a proper one, so that its text is read back.
+pub fn a_sound_state_is_written_as_a_proper_one()
+    ensures { (s : State) → IsSound s → IsProper (written_part s) }
 {}
 
 /// What is opened from a shelf that stands for a sound state is sound, whatever else lies there.
