@@ -8,6 +8,15 @@ pub mod Sound
 pub mod Steps
 pub mod Created
 pub mod Files
+pub mod EndsLemmas
+pub mod HeadsLemmas
+pub mod HeadsTrees
+pub mod RetriedLemmas
+pub mod UploadsCauses
+pub mod UploadsLate
+pub mod UploadsSafe
+pub mod UploadsTold
+pub mod UploadsWhole
 pub mod FewTurns
 pub mod Reopened
 pub mod ProperText

@@ -12,3 +12,6 @@ pub mod Permitted
 pub mod Recovery
 pub mod Turns
 pub mod Uploads
+pub mod Heads
+pub mod LateUpdates
+pub mod Retried

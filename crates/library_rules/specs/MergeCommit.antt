@@ -55,25 +55,6 @@ OfTrees s base pushed P =
 abbrev pub merge_commit : State → ℕ → (user pushed root : List ℕ) → Bool → Commit
 merge_commit s moment user pushed root conflict = made s.lib root (Some (head_of s.kept)) (Some pushed) user (codes "Auto merge by system") moment conflict
 
--- the new head is a complete commit whose tree is the merge, told as a conflict where a conflict name was given; the
--- objects that come with it are those that it needs and that weren't stored
-pub record Makes (s : State) (moment : ℕ) (user base pushed new : List ℕ) (added : List Stored) : Type 0 where
-  pub root : List ℕ
-  pub conflict : Bool
-  pub is_commit : commit_at (with_added s.objects added) new ≡ Ok (merge_commit s moment user pushed root conflict)
-  pub complete : IsComplete (with_added s.objects added) new
-  pub tree : OfTrees s base pushed (λ sides. (t : Tree) × (merge_of sides ≡ MergedTree t) × IsTreeOf (with_added s.objects added) root t)
-  pub told : OfTrees s base pushed (λ sides. conflict ≡ has_conflict sides)
-  pub needed : AllByRecursion (λ x. is_in (needs (with_added s.objects added) new) x.key ≡ true) added
-  pub were_gone : AllByRecursion (λ x. is_stored s.objects x.key ≡ false) added
-
--- some of the objects that a merge would make
-pub record Partly (s : State) (moment : ℕ) (user base pushed : List ℕ) (added : List Stored) : Type 0 where
-  pub new : List ℕ
-  pub all : List Stored
-  pub would : Makes s moment user base pushed new all
-  pub part : AllByRecursion (Contains all) added
-
 -- an object that a merge may make: its commit, or a directory, under its own name
 abbrev pub IsMadeAs : State → ℕ → (user pushed : List ℕ) → Kind → Stored → Type 0
 IsMadeAs s moment user pushed kind.Commit x = (root : List ℕ) × (conflict : Bool)
@@ -83,6 +64,26 @@ IsMadeAs s moment user pushed kind.Block x = ⊥
 
 abbrev pub IsMade : State → ℕ → (user pushed : List ℕ) → Stored → Type 0
 IsMade s moment user pushed x = IsMadeAs s moment user pushed x.key.kind x
+
+-- the new head is a complete commit whose tree is the merge, told as a conflict where a conflict name was given; the
+-- objects that come with it are those that it needs and that weren't stored, each under its own name
+pub record Makes (s : State) (moment : ℕ) (user base pushed new : List ℕ) (added : List Stored) : Type 0 where
+  pub root : List ℕ
+  pub conflict : Bool
+  pub is_commit : commit_at (with_added s.objects added) new ≡ Ok (merge_commit s moment user pushed root conflict)
+  pub complete : IsComplete (with_added s.objects added) new
+  pub tree : OfTrees s base pushed (λ sides. (t : Tree) × (merge_of sides ≡ MergedTree t) × IsTreeOf (with_added s.objects added) root t)
+  pub told : OfTrees s base pushed (λ sides. conflict ≡ has_conflict sides)
+  pub needed : AllByRecursion (λ x. is_in (needs (with_added s.objects added) new) x.key ≡ true) added
+  pub were_gone : AllByRecursion (λ x. is_stored s.objects x.key ≡ false) added
+  pub named : AllByRecursion (IsMade s moment user pushed) added
+
+-- some of the objects that a merge would make
+pub record Partly (s : State) (moment : ℕ) (user base pushed : List ℕ) (added : List Stored) : Type 0 where
+  pub new : List ℕ
+  pub all : List Stored
+  pub would : Makes s moment user base pushed new all
+  pub part : AllByRecursion (Contains all) added
 
 -- an object can't be stored under its name: that is forty zeros, other bytes are stored there, or another object of
 -- the merge has it
