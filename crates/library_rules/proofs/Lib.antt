@@ -22,3 +22,4 @@ pub mod Reopened
 pub mod ProperText
 pub mod Unmoved
 pub mod Changed
+pub mod Joined

@@ -63,34 +63,29 @@ stored_not_zeros key d id is =
     let text = went_on (at_key key (text_field (key_text key) d)) _ id is in
     not_zeros (object_id_of text.value) id (given (stored_id_of text.value) (BadId key) id text.goes)
 
+-- a reader's next step, where the first gave a value
+onward : {A : Type 0} (first : Result A BadCommit) (next : A → Result Commit BadCommit) (commit : Commit)
+    → ((a : A) → first ≡ Ok a → next a ≡ Ok commit → commit.id ≢ nil) → (first >>= next) ≡ Ok commit → commit.id ≢ nil
+onward (Ok a) next commit each is = each a refl is
+onward (Err bad) next commit each is = cc
+
+read_id : (id : List ℕ) (read commit : Commit) → read.id ≡ id → (let r : Result Commit BadCommit = Ok read in r) ≡ Ok commit → id ≡ commit.id
+read_id id read commit is same = cc
+
 from_not_zeros : (d : Data) (commit : Commit) → commit_from d ≡ Ok commit → commit.id ≢ nil
 unfolding commit_from
 from_not_zeros d commit is =
-    let id = went_on (stored_id_at KCommitId d) _ commit is in
-    let root = went_on (id_at KRootId d) _ commit id.goes in
-    let lib = went_on (library_id_at KRepoId d) _ commit root.goes in
-    let ctime = went_on (at_key KCtime (number_field (key_text KCtime) d)) _ commit lib.goes in
-    let parent = went_on (parent_at KParentId d) _ commit ctime.goes in
-    let second = went_on (parent_at KSecondParentId d) _ commit parent.goes in
-    let creator = went_on (text_at KCreator d) _ commit second.goes in
-    let creator_name = went_on (text_at KCreatorName d) _ commit creator.goes in
-    let description = went_on (text_at KDescription d) _ commit creator_name.goes in
-    let conflict = went_on (conflict_at d) _ commit description.goes in
-    subst (λ x. x ≢ nil) (id_of id.value (record {
-      id = id.value;
-      lib = lib.value;
-      root = root.value;
-      parent = parent.value;
-      second_parent = second.value;
-      creator = creator.value;
-      creator_name = creator_name.value;
-      description = description.value;
-      ctime = ctime.value;
-      conflict = conflict.value;
-    }) commit refl conflict.goes) (stored_not_zeros KCommitId d id.value id.gave)
-  where
-    id_of : (x : List ℕ) (a b : Commit) → a.id ≡ x → (let r : Result Commit BadCommit = Ok a in r) ≡ Ok b → x ≡ b.id
-    id_of x a b is same = cc
+    onward (stored_id_at KCommitId d) _ commit (λ id gave is.
+    onward (id_at KRootId d) _ commit (λ root _ is.
+    onward (library_id_at KRepoId d) _ commit (λ lib _ is.
+    onward (at_key KCtime (number_field (key_text KCtime) d)) _ commit (λ ctime _ is.
+    onward (parent_at KParentId d) _ commit (λ parent _ is.
+    onward (parent_at KSecondParentId d) _ commit (λ second _ is.
+    onward (text_at KCreator d) _ commit (λ creator _ is.
+    onward (text_at KCreatorName d) _ commit (λ creator_name _ is.
+    onward (text_at KDescription d) _ commit (λ description _ is.
+    onward (conflict_at d) _ commit (λ conflict _ is.
+    subst (λ x. x ≢ nil) (read_id id _ commit refl is) (stored_not_zeros KCommitId d id gave)) is) is) is) is) is) is) is) is) is) is
 
 commit_not_zeros : (bytes : List ℕ) (commit : Commit) → commit_of bytes ≡ Ok commit → commit.id ≢ nil
 unfolding commit_of
