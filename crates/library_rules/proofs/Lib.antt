@@ -19,3 +19,7 @@ pub mod UploadsTold
 pub mod UploadsWhole
 pub mod FewTurns
 pub mod Reopened
+pub mod ProperText
+pub mod Unmoved
+pub mod Changed
+pub mod Joined

@@ -21,6 +21,7 @@ IsFault s e (refusal.Damaged want got) = e.faults ≡ s.faults
 IsFault s e refusal.Store = Rose s.faults e.faults
 IsFault s e other = ⊥
 
+-- the answer is a refusal by such a fault
 pub record Fails (s : State) (e : Entry) : Type 0 where
   pub why : Refusal
   pub reply : e.reply ≡ reply.Refused why

@@ -75,9 +75,11 @@ abbrev pub keys_of : Kind → List (List ℕ) → List Key
 keys_of k [] = []
 keys_of k (id ∷ ids) = if is_nil id then keys_of k ids else record { kind = k; id = id } ∷ keys_of k ids
 
+-- the ids of some keys, in their order
 abbrev pub ids_of : List Key → List (List ℕ)
 ids_of keys = map_list (λ key. key.id) keys
 
+-- what is stored under a key, or that nothing is
 abbrev pub got : Key → Option (List ℕ) → Reply
 got key None = reply.Refused (refusal.NoObject key)
 got key (Some bytes) = reply.Got bytes
@@ -92,6 +94,7 @@ first_refusal (Some why ∷ others) = Some why
 abbrev pub other_name : Key → List ℕ → Option Refusal
 other_name key bytes = then_some (not (same_id (sha1 bytes) key.id)) (refusal.Wrong (sha1 bytes))
 
+-- bytes that are no file and no directory object are told by the number of the first check that fails
 abbrev pub not_fs : Result FsObject BadFs → Option Refusal
 not_fs (Ok object) = None
 not_fs (Err bad) = Some (refusal.BadFs (fs_key_words.fault_code bad))
@@ -122,6 +125,7 @@ module _ (s : State) where
   put_by key bytes (Some why) = Says (reply.Refused why)
   put_by key bytes None = if is_stored s.objects key then Says (reply.Stored false) else Stores (record { key = key; bytes = bytes })
 
+  -- what a put is due: its first refusal, if one comes; that the key has other bytes is looked for last
   abbrev pub put_due : Key → List ℕ → Due
   put_due key bytes = put_by key bytes (first_refusal (put_refusals s.lib key.kind key bytes ++ taken key bytes ∷ []))
 
@@ -134,6 +138,7 @@ module _ (s : State) where
   kept_alone None = None
   kept_alone (Some commit) = if is_kept s.kept commit then Some commit else None
 
+  -- the files and directories that a kept commit needs and a client's doesn't, or that the commit isn't kept
   abbrev pub listed : List ℕ → Option (List ℕ) → Reply
   listed server client = if is_kept s.kept server then reply.Listed (fs_ids s.objects server (kept_alone client)) else reply.Refused (refusal.NoObject (commit_key server))
 
@@ -144,6 +149,7 @@ module _ (s : State) where
   complete_due user base pushed (Some fault) = Says (reply.Refused (refusal_of fault))
   complete_due user base pushed None = if same_id base (head_of s.kept) then Installs pushed else Merges user base pushed
 
+  -- without a merge base the update is refused as the search for it is; else the pushed commit must be complete
   abbrev pub base_due : (user pushed : List ℕ) → Based → Due
   base_due user pushed (NoBase why) = Says (reply.Refused why)
   base_due user pushed (Base base) = complete_due user base pushed (walk_commit s.objects pushed).fault
@@ -173,5 +179,6 @@ module _ (s : State) where
   token_due a None = Denies
   token_due a (Some token) = if may token a then act_due token a else Denies
 
+  -- what a call is due, by the token of its secret
   abbrev pub due : Call → Due
   due call = token_due call.act (token_of s.tokens call.secret)

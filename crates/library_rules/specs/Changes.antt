@@ -26,23 +26,28 @@ use Rattle.library_rules.specs.declared.entry.Stored.{Stored}
 abbrev pub put_new : Objects → Stored → Objects
 put_new objects x = if is_stored objects x.key then objects else map.insert objects x.key x.bytes
 
+-- objects are put one after another
 abbrev pub with_added : Objects → List Stored → Objects
 with_added objects [] = objects
 with_added objects (x ∷ added) = with_added (put_new objects x) added
 
+-- objects leave one after another
 abbrev pub without : Objects → List Key → Objects
 without objects [] = objects
 without objects (key ∷ removed) = without (map.remove objects key) removed
 
+-- the keys of objects that are put
 abbrev pub keys_added : List Stored → List Key
 keys_added added = map_list (λ x. x.key) added
 
 -- ---- fresh keys
 
+-- keys are added to a set one after another
 abbrev pub add_all : List Key → set.FinSet key_cmp → set.FinSet key_cmp
 add_all [] keys = keys
 add_all (key ∷ more) keys = add_all more (set.insert keys key)
 
+-- these keys are fresh in a collection that runs
 abbrev pub fresher : List Key → Running → Running
 fresher keys running = record running { fresh = add_all keys running.fresh }
 
@@ -56,6 +61,7 @@ moved s added removed = record s { objects = without (with_added s.objects added
 
 -- ---- calls
 
+-- whether an answer is a refusal
 abbrev pub is_refused : Reply → Bool
 is_refused (reply.Refused why) = true
 is_refused reply.Checked = false
@@ -72,10 +78,12 @@ abbrev pub with_last : List ℕ → ℕ → List Token → List Token
 with_last secret collection [] = []
 with_last secret collection (token ∷ tokens) = if bytes_eq secret token.secret then record token { last = collection } ∷ tokens else token ∷ with_last secret collection tokens
 
+-- without a secret no token saw it
 abbrev pub seen_by : Option (List ℕ) → ℕ → List Token → List Token
 seen_by None collection tokens = tokens
 seen_by (Some secret) collection tokens = with_last secret collection tokens
 
+-- an upload check tells the token of the last collection; a download check changes nothing
 abbrev pub checked : Option (List ℕ) → Op → State → State
 checked secret op.Upload s = record s { tokens = seen_by secret s.collection s.tokens }
 checked secret op.Download s = s
@@ -89,6 +97,7 @@ told_by key other = []
 abbrev pub stored_keys : Objects → List Key → List Key
 stored_keys objects keys = filter (is_stored objects) keys
 
+-- the new head that an answered update tells
 abbrev pub head_in : Reply → List ℕ → List ℕ
 head_in (reply.Updated head) pushed = head
 head_in other pushed = pushed
@@ -118,6 +127,7 @@ begun moment s = record s {
   running = Some (record { fresh = set.empty; stored = map.len s.objects; turned = 0 });
 }
 
+-- one turn more, unless it is refused
 abbrev pub turn_counted : Bool → Running → Running
 turn_counted refused running = record running { turned = if refused then running.turned else running.turned + 1 }
 
@@ -125,17 +135,20 @@ turn_counted refused running = record running { turned = if refused then running
 abbrev pub swept : Bool → State → State
 swept refused s = record s { running = option_map (turn_counted refused) s.running }
 
+-- no collection runs
 abbrev pub ended : State → State
 ended s = record s { running = None }
 
 -- ---- entries
 
+-- what a step changes, beside objects that come and go: a refused call nothing
 abbrev pub step_changes : ℕ → Step → Reply → State → State
 step_changes moment (step.Asked call) r s = if is_refused r then s else act_changes call.secret moment call.act r s
 step_changes moment step.Began r s = begun moment s
 step_changes moment step.Swept r s = swept (is_refused r) s
 step_changes moment step.Ended r s = ended s
 
+-- the count of the storage's faults is this
 abbrev pub counted : ℕ → State → State
 counted faults s = record s { faults = faults }
 

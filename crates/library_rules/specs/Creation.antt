@@ -16,6 +16,7 @@ use Rattle.library_rules.specs.declared.entry.Stored.{Stored}
 abbrev pub opening_commit : (lib user : List ℕ) → ℕ → Commit
 opening_commit lib user moment = made lib nil None None user (codes "Created library") moment false
 
+-- a commit as it is put: its text, under its name
 abbrev pub opening_object : Commit → Stored
 opening_object commit = record { key = commit_key commit.id; bytes = text_of commit }
 
@@ -34,6 +35,7 @@ created_at commit lib name user secret moment objects faults = record {
   faults = faults;
 }
 
+-- a new library over what is stored, with its opening commit of this moment
 abbrev pub created : (lib name user secret : List ℕ) → ℕ → Objects → ℕ → State
 created lib name user secret moment objects faults = created_at (opening_commit lib user moment) lib name user secret moment objects faults
 

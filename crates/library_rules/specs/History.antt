@@ -18,6 +18,7 @@ StepPermits s e step.Began = Begins s e
 StepPermits s e step.Swept = SweepPermits s e s.running × (e.added ≡ [])
 StepPermits s e step.Ended = Ends s e
 
+-- an entry is permitted as its step is
 abbrev pub Permits : State → Entry → Type 0
 Permits s e = StepPermits s e e.step
 

@@ -73,6 +73,7 @@ pub record AreKept (objects : Objects) (kept : List Install) (running : Option R
   pub complete : (commit : List ℕ) → is_kept kept commit ≡ true → IsComplete objects commit
   pub fresh_stored : (key : Key) → is_fresh running key ≡ true → is_stored objects key ≡ true
 
+-- the users, in the order of the tokens
 abbrev pub users_of : List Token → List (List ℕ)
 users_of tokens = map_list (λ token. token.user) tokens
 

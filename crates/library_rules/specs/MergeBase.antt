@@ -32,10 +32,12 @@ abbrev pub by_commit : (List ℕ → Based) → ℕ → Result Commit TreeFault 
 by_commit next n (Err fault) = NoBase (refusal_of fault)
 by_commit next n (Ok commit) = by_parent next n commit.parent
 
+-- the first parent of a commit that could be read
 abbrev pub parents_of : Result Commit TreeFault → Option (List ℕ)
 parents_of (Err fault) = None
 parents_of (Ok commit) = commit.parent
 
+-- on to the parent, if there is one
 abbrev pub along : (List ℕ → List (List ℕ)) → Option (List ℕ) → List (List ℕ)
 along next None = []
 along next (Some parent) = next parent
@@ -55,5 +57,6 @@ module _ (s : State) where
   chain_from zero id = if is_kept s.kept id then [] else id ∷ []
   chain_from (suc left) id = if is_kept s.kept id then [] else id ∷ along (chain_from left) (parents_of (commit_at s.objects id))
 
+  -- the commits from a pushed one to its merge base, without that one
   abbrev pub chain_of : List ℕ → List (List ℕ)
   chain_of pushed = chain_from 128 pushed

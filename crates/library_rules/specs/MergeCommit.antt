@@ -25,6 +25,7 @@ use Rattle.library_rules.specs.Changes.{with_added}
 use Rattle.library_rules.specs.LibraryState.{State, head_of, is_stored}
 use Rattle.library_rules.specs.declared.entry.Stored.{Stored}
 
+-- the tree of the root of a commit that could be read
 abbrev pub RootTree : Objects → Result Commit TreeFault → Tree → Type 0
 RootTree objects (Ok commit) tree = IsTreeOf objects commit.root tree
 RootTree objects (Err fault) tree = ⊥
@@ -37,6 +38,7 @@ IsTreeAt objects id tree = RootTree objects (commit_at objects id) tree
 abbrev pub merge_of : Sides → Merge
 merge_of sides = merge naming sides.base sides.head sides.pushed
 
+-- whether a list has an item
 abbrev pub some_in : {A : Type 0} → List A → Bool
 some_in [] = false
 some_in (x ∷ xs) = true
@@ -62,6 +64,7 @@ IsMadeAs s moment user pushed kind.Commit x = (root : List ℕ) × (conflict : B
 IsMadeAs s moment user pushed kind.Fs x = (entries : List Dirent) × (fs_of x.bytes ≡ Ok (fs.Dir entries)) × (x.key.id ≡ sha1 x.bytes)
 IsMadeAs s moment user pushed kind.Block x = ⊥
 
+-- the same, by the kind of its own key
 abbrev pub IsMade : State → ℕ → (user pushed : List ℕ) → Stored → Type 0
 IsMade s moment user pushed x = IsMadeAs s moment user pushed x.key.kind x
 

@@ -29,6 +29,7 @@ MergeFails s e user base pushed (refusal.Taken id) =
     × Clashes s e.moment user pushed id
 MergeFails s e user base pushed why = IsFault s e why × ((e.added ≡ []) ⊎ Partly s e.moment user base pushed e.added)
 
+-- the merge was refused, with its cause
 pub record NotMerged (s : State) (e : Entry) (user base pushed : List ℕ) : Type 0 where
   pub why : Refusal
   pub reply : e.reply ≡ reply.Refused why

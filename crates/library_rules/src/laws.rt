@@ -1,9 +1,11 @@
 //! Theorems on the rules of a library, each the contract of a function that does nothing.
-ghost use Rattle.std.specs.Prelude.{◌≡◌, ℕ, ◌≤◌, ◌<◌, true, false, List, length, Option, Ok, Some};
+ghost use Rattle.std.specs.Prelude.{◌≡◌, ◌++◌, ℕ, ◌≤◌, ◌<◌, true, false, List, length, Option, Ok, Some};
 ghost use Rattle.ids.specs.Key.{Objects};
+ghost use Rattle.library_state.specs.ProperState.{IsProper};
 ghost use Rattle.library_state.specs.StateSpelling.{text_of};
 ghost use Rattle.library_state.specs.Tokens.{is_taken};
 ghost use Rattle.library_state.specs.declared.call.Call.{Call};
+ghost use Rattle.library_state.specs.declared.reply.Reply.{Reply};
 ghost use Rattle.library_state.specs.declared.right.Right.{Right};
 ghost use Rattle.object_graph.specs.Objects.{commit_at};
 ghost use Rattle.object_graph.specs.Unchanged.{Keeps};
@@ -11,10 +13,11 @@ ghost use Rattle.library_rules.specs.Changes.{apply, counted, is_refused, moved,
 ghost use Rattle.library_rules.specs.CollectionSteps.{HasFewTurns};
 ghost use Rattle.library_rules.specs.Creation.{created, opening_commit, opening_object, with_token};
 ghost use Rattle.library_rules.specs.Files.{IsKeptBetween, KeepsFiles};
-ghost use Rattle.library_rules.specs.History.{after, Legal, Permits};
+ghost use Rattle.library_rules.specs.History.{after, Legal, Permits, Stands, StepSo};
 ghost use Rattle.library_rules.specs.LibraryState.{State, IsSound, last_number};
 ghost use Rattle.library_rules.specs.Recovery.{StandsFor, opened, written_part};
 ghost use Rattle.library_rules.specs.declared.entry.Entry.{Entry};
+ghost use Rattle.library_rules.specs.declared.entry.Step.{Step};
 ghost use Rattle.library_rules.specs.declared.entry.Step.TheVariants.{Asked};
 
 /// A refused call leaves everything as it was, but for the objects that it stored and the count of faults.
@@ -31,6 +34,18 @@ pub fn what_is_permitted_keeps_a_sound_state_sound()
 /// Over a legal history a sound state stays sound, at every place.
 pub fn a_legal_history_keeps_a_sound_state_sound()
     ensures { (start : State) → (es : List Entry) → (n : ℕ) → Legal start es → IsSound start → IsSound (after start es n) }
+{}
+
+/// A history and one that begins where it ends are one history.
+pub fn histories_join()
+    ensures { (start : State) → (s : State) → (t : State) → (es : List Entry) → (fs : List Entry)
+        → Stands start es s → Stands s fs t → Stands start (es ++ fs) t }
+{}
+
+/// A state that stands for a history, and then answers, stands for that history with what the answer left.
+pub fn an_answer_goes_on_with_the_history()
+    ensures { (start : State) → (s : State) → (t : State) → (es : List Entry) → (fs : List Entry)
+        → (st : Step) → (moment : ℕ) → (reply : Reply) → Stands start es s → StepSo s st moment reply t fs → Stands start (es ++ fs) t }
 {}
 
 /// A kept commit's files stay, byte for byte, through updates and collections.
@@ -65,6 +80,11 @@ pub fn a_sound_library_with_a_token_more_is_sound()
 pub fn a_shelf_stands_for_a_state_by_its_text_and_its_objects()
     ensures { (s : State) → (slot : Option (List ℕ)) → (lying : Objects) → IsSound s → slot ≡ Some (text_of (written_part s))
         → Keeps s.objects lying → StandsFor slot lying s }
+{}
+
+/// A sound state is written as a proper one, so that its text is read back.
+pub fn a_sound_state_is_written_as_a_proper_one()
+    ensures { (s : State) → IsSound s → IsProper (written_part s) }
 {}
 
 /// What is opened from a shelf that stands for a sound state is sound, whatever else lies there.
