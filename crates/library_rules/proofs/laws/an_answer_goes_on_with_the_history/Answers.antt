@@ -1,0 +1,5 @@
+use Rattle.library_rules.proofs.Joined.{answer_stands}
+use Rattle.library_rules.proofs.laws.an_answer_goes_on_with_the_history.Goals as goal
+
+pub returns : goal.returns
+returns c = answer_stands

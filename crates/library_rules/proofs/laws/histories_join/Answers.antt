@@ -1,0 +1,5 @@
+use Rattle.library_rules.proofs.Joined.{stands_join}
+use Rattle.library_rules.proofs.laws.histories_join.Goals as goal
+
+pub returns : goal.returns
+returns c = stands_join

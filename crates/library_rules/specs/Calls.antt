@@ -1,0 +1,184 @@
+-- What a call of a library is due: which answer, or which change. Our own. The refusals of a list come in its order.
+-- Read Due, then act_due and due.
+use Rattle.std.specs.Prelude.{ℕ, nat_lt, nat_le, Bool, false, not, ◌||◌, if◌then◌else◌, List, [], ◌∷◌, ◌++◌, filter, find, map as map_list, Option, None, Some, Result, Ok, Err}
+use Rattle.std.specs.Bool.{then_some}
+use Rattle.std.specs.FinMap as map
+use Rattle.std.specs.Str.{bytes_eq}
+use Rattle.sha1.specs.Sha1.{sha1}
+use Rattle.ids.specs.declared.key.Key.{Key}
+use Rattle.ids.specs.declared.key.Kind.{Kind}
+use Rattle.ids.specs.declared.key.Kind.TheVariants as kind
+use Rattle.commit_objects.specs.Commit.{commit_of}
+use Rattle.commit_objects.specs.CommitKey as commit_key_words
+use Rattle.commit_objects.specs.declared.commit.Commit.{Commit}
+use Rattle.commit_objects.specs.declared.fault.BadCommit.{BadCommit}
+use Rattle.fs_objects.specs.FsKey as fs_key_words
+use Rattle.fs_objects.specs.FsObject.{fs_of}
+use Rattle.fs_objects.specs.declared.fault.BadFs.{BadFs}
+use Rattle.fs_objects.specs.declared.fs_object.FsObject.{FsObject}
+use Rattle.library_state.specs.Rights.{right_number}
+use Rattle.library_state.specs.declared.call.Act.{Act}
+use Rattle.library_state.specs.declared.call.Act.TheVariants as act
+use Rattle.library_state.specs.declared.call.Call.{Call}
+use Rattle.library_state.specs.declared.call.Op.TheVariants as op
+use Rattle.library_state.specs.declared.refusal.Refusal.{Refusal}
+use Rattle.library_state.specs.declared.refusal.Refusal.TheVariants as refusal
+use Rattle.library_state.specs.declared.reply.Reply.{Reply}
+use Rattle.library_state.specs.declared.reply.Reply.TheVariants as reply
+use Rattle.library_state.specs.declared.right.Right.{Right}
+use Rattle.library_state.specs.declared.right.Right.TheVariants as right
+use Rattle.library_state.specs.declared.token.Token.{Token}
+use Rattle.object_graph.specs.FsIds.{fs_ids}
+use Rattle.object_graph.specs.Objects.{commit_key, same_id, is_nil}
+use Rattle.object_graph.specs.Traversal.{walk_commit, distinct_from}
+use Rattle.object_graph.specs.declared.fault.TreeFault.{TreeFault}
+use Rattle.library_rules.specs.LibraryState.{State, head_of, is_kept, is_stored, is_day_count}
+use Rattle.library_rules.specs.MergeBase.{Based, Base, NoBase, base_of, refusal_of}
+use Rattle.library_rules.specs.declared.entry.Stored.{Stored}
+
+-- what a call is due: denied; an answer, and no object is stored; an object is stored; a commit becomes the head; or
+-- a commit that this user pushed is merged into the head, over a merge base
+pub data Due : Type 0 where
+  Denies : Due
+  Says : Reply → Due
+  Stores : Stored → Due
+  Installs : List ℕ → Due
+  Merges : (user base pushed : List ℕ) → Due
+
+-- ---- who may ask
+
+-- the right that an act needs
+abbrev pub right_for : Act → Right
+right_for (act.Check op.Upload) = right.Write
+right_for (act.Check op.Download) = right.Read
+right_for act.Head = right.Read
+right_for (act.Get key) = right.Read
+right_for (act.Put key bytes) = right.Write
+right_for (act.Missing kind ids) = right.Write
+right_for (act.Update commit) = right.Write
+right_for (act.Limit days) = right.Owner
+right_for (act.Ids server client) = right.Read
+
+-- the token of a secret
+abbrev pub token_of : List Token → Option (List ℕ) → Option Token
+token_of tokens None = None
+token_of tokens (Some secret) = find (λ token. bytes_eq secret token.secret) tokens
+
+-- whether a token's right is enough for an act
+abbrev pub may : Token → Act → Bool
+may token a = nat_le (right_number (right_for a)) (right_number token.right)
+
+-- ---- objects
+
+-- the keys of some ids; forty zeros name nothing
+abbrev pub keys_of : Kind → List (List ℕ) → List Key
+keys_of k [] = []
+keys_of k (id ∷ ids) = if is_nil id then keys_of k ids else record { kind = k; id = id } ∷ keys_of k ids
+
+-- the ids of some keys, in their order
+abbrev pub ids_of : List Key → List (List ℕ)
+ids_of keys = map_list (λ key. key.id) keys
+
+-- what is stored under a key, or that nothing is
+abbrev pub got : Key → Option (List ℕ) → Reply
+got key None = reply.Refused (refusal.NoObject key)
+got key (Some bytes) = reply.Got bytes
+
+-- the first refusal of a list
+abbrev pub first_refusal : List (Option Refusal) → Option Refusal
+first_refusal [] = None
+first_refusal (None ∷ others) = first_refusal others
+first_refusal (Some why ∷ others) = Some why
+
+-- blocks, files and directories are named by their SHA-1
+abbrev pub other_name : Key → List ℕ → Option Refusal
+other_name key bytes = then_some (not (same_id (sha1 bytes) key.id)) (refusal.Wrong (sha1 bytes))
+
+-- bytes that are no file and no directory object are told by the number of the first check that fails
+abbrev pub not_fs : Result FsObject BadFs → Option Refusal
+not_fs (Ok object) = None
+not_fs (Err bad) = Some (refusal.BadFs (fs_key_words.fault_code bad))
+
+-- a commit must bear the name under which it is put, and be one of this library
+abbrev pub not_commit : (lib id : List ℕ) → Result Commit BadCommit → List (Option Refusal)
+not_commit lib id (Ok commit) = then_some (not (same_id commit.id id)) (refusal.Wrong commit.id) ∷ then_some (not (same_id commit.lib lib)) (refusal.OtherLibrary commit.lib) ∷ []
+not_commit lib id (Err bad) = Some (refusal.BadCommit (commit_key_words.fault_code bad)) ∷ []
+
+-- whether other bytes than these are there
+abbrev pub other_bytes : Option (List ℕ) → List ℕ → Bool
+other_bytes None bytes = false
+other_bytes (Some there) bytes = not (bytes_eq there bytes)
+
+-- the refusals of a put by the kind of the object, in their order
+abbrev pub put_refusals : (lib : List ℕ) → Kind → Key → List ℕ → List (Option Refusal)
+put_refusals lib kind.Block key bytes = other_name key bytes ∷ []
+put_refusals lib kind.Fs key bytes = other_name key bytes ∷ not_fs (fs_of bytes) ∷ []
+put_refusals lib kind.Commit key bytes = not_commit lib key.id (commit_of bytes)
+
+module _ (s : State) where
+  -- other bytes are stored under the key, or it has forty zeros
+  abbrev pub taken : Key → List ℕ → Option Refusal
+  taken key bytes = then_some (is_nil key.id || other_bytes (map.get s.objects key) bytes) (refusal.Taken key.id)
+
+  -- an object that isn't refused is stored, or was stored already
+  abbrev pub put_by : Key → List ℕ → Option Refusal → Due
+  put_by key bytes (Some why) = Says (reply.Refused why)
+  put_by key bytes None = if is_stored s.objects key then Says (reply.Stored false) else Stores (record { key = key; bytes = bytes })
+
+  -- what a put is due: its first refusal, if one comes; that the key has other bytes is looked for last
+  abbrev pub put_due : Key → List ℕ → Due
+  put_due key bytes = put_by key bytes (first_refusal (put_refusals s.lib key.kind key bytes ++ taken key bytes ∷ []))
+
+  -- the ids that name nothing that is stored, in the order asked, each once
+  abbrev pub absent : Kind → List (List ℕ) → List (List ℕ)
+  absent k ids = ids_of (distinct_from [] (filter (λ key. not (is_stored s.objects key)) (keys_of k ids)))
+
+  -- a client's commit that isn't kept counts as none
+  abbrev pub kept_alone : Option (List ℕ) → Option (List ℕ)
+  kept_alone None = None
+  kept_alone (Some commit) = if is_kept s.kept commit then Some commit else None
+
+  -- the files and directories that a kept commit needs and a client's doesn't, or that the commit isn't kept
+  abbrev pub listed : List ℕ → Option (List ℕ) → Reply
+  listed server client = if is_kept s.kept server then reply.Listed (fs_ids s.objects server (kept_alone client)) else reply.Refused (refusal.NoObject (commit_key server))
+
+  -- ---- update
+
+  -- a pushed commit that is complete becomes the head where its base is the head, and else is merged into it
+  abbrev pub complete_due : (user base pushed : List ℕ) → Option TreeFault → Due
+  complete_due user base pushed (Some fault) = Says (reply.Refused (refusal_of fault))
+  complete_due user base pushed None = if same_id base (head_of s.kept) then Installs pushed else Merges user base pushed
+
+  -- without a merge base the update is refused as the search for it is; else the pushed commit must be complete
+  abbrev pub base_due : (user pushed : List ℕ) → Based → Due
+  base_due user pushed (NoBase why) = Says (reply.Refused why)
+  base_due user pushed (Base base) = complete_due user base pushed (walk_commit s.objects pushed).fault
+
+  -- a kept commit was pushed already; an upload that was checked before the last collection began is stale
+  abbrev pub update_due : Token → List ℕ → Due
+  update_due token pushed =
+      if is_kept s.kept pushed then Says (reply.Updated (head_of s.kept))
+      else if nat_lt token.last s.collection then Says (reply.Refused (refusal.Stale token.last s.collection))
+      else base_due token.user pushed (base_of s pushed)
+
+  -- ---- all calls
+
+  -- what an act is due, of one whose right is enough
+  abbrev pub act_due : Token → Act → Due
+  act_due token (act.Check o) = Says reply.Checked
+  act_due token act.Head = Says (reply.HeadIs (head_of s.kept))
+  act_due token (act.Get key) = Says (got key (map.get s.objects key))
+  act_due token (act.Put key bytes) = put_due key bytes
+  act_due token (act.Missing k ids) = Says (reply.Absent (absent k ids))
+  act_due token (act.Update commit) = update_due token commit
+  act_due token (act.Limit days) = Says (if is_day_count days then reply.Limited else reply.Refused (refusal.BadDays days))
+  act_due token (act.Ids server client) = Says (listed server client)
+
+  -- an unknown secret is denied, and so is a right that isn't enough
+  abbrev pub token_due : Act → Option Token → Due
+  token_due a None = Denies
+  token_due a (Some token) = if may token a then act_due token a else Denies
+
+  -- what a call is due, by the token of its secret
+  abbrev pub due : Call → Due
+  due call = token_due call.act (token_of s.tokens call.secret)

@@ -1,0 +1,17 @@
+pub mod Answered
+pub mod Calls
+pub mod Changes
+pub mod CollectionSteps
+pub mod Creation
+pub mod Files
+pub mod History
+pub mod LibraryState
+pub mod MergeBase
+pub mod MergeCommit
+pub mod Permitted
+pub mod Recovery
+pub mod Turns
+pub mod Uploads
+pub mod Heads
+pub mod LateUpdates
+pub mod Retried

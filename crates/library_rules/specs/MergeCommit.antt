@@ -1,0 +1,103 @@
+-- What an update makes that merges a pushed commit into the head. Our own. Read OfTrees, then Makes and Clashes.
+use Rattle.std.specs.Prelude.{◌≡◌, ◌≢◌, ℕ, Bool, true, false, List, [], ◌∷◌, codes, Some, Result, Ok, Err}
+use Rattle.std.specs.FinMap as map
+use Rattle.std.specs.List.{AllByRecursion, Contains}
+use Rattle.sha1.specs.Sha1.{sha1}
+use Rattle.ids.specs.Key.{Objects}
+use Rattle.ids.specs.declared.key.Kind.{Kind}
+use Rattle.ids.specs.declared.key.Kind.TheVariants as kind
+use Rattle.commit_objects.specs.Made.{made}
+use Rattle.commit_objects.specs.Spelling.{text_of}
+use Rattle.commit_objects.specs.declared.commit.Commit.{Commit}
+use Rattle.conflict_names.specs.Naming.{naming}
+use Rattle.fs_objects.specs.FsObject.{fs_of}
+use Rattle.fs_objects.specs.declared.dirent.Dirent.{Dirent}
+use Rattle.fs_objects.specs.declared.fs_object.FsObject.TheVariants as fs
+use Rattle.object_graph.specs.Objects.{commit_at, is_nil, IsTreeOf}
+use Rattle.object_graph.specs.Traversal.{IsComplete, is_in, needs}
+use Rattle.object_graph.specs.declared.fault.TreeFault.{TreeFault}
+use Rattle.tree_model.specs.ConflictCopies.{conflicts}
+use Rattle.tree_model.specs.DirectorySurvival.{Sides}
+use Rattle.tree_model.specs.ThreeWayMerge.{Merge, MergedTree, merge}
+use Rattle.tree_model.specs.Tree.{Tree}
+use Rattle.library_rules.specs.Calls.{other_bytes}
+use Rattle.library_rules.specs.Changes.{with_added}
+use Rattle.library_rules.specs.LibraryState.{State, head_of, is_stored}
+use Rattle.library_rules.specs.declared.entry.Stored.{Stored}
+
+-- the tree of the root of a commit that could be read
+abbrev pub RootTree : Objects → Result Commit TreeFault → Tree → Type 0
+RootTree objects (Ok commit) tree = IsTreeOf objects commit.root tree
+RootTree objects (Err fault) tree = ⊥
+
+-- the tree of a commit: that of its root
+abbrev pub IsTreeAt : Objects → List ℕ → Tree → Type 0
+IsTreeAt objects id tree = RootTree objects (commit_at objects id) tree
+
+-- the merge of three trees, with the names that conflict copies get here
+abbrev pub merge_of : Sides → Merge
+merge_of sides = merge naming sides.base sides.head sides.pushed
+
+-- whether a list has an item
+abbrev pub some_in : {A : Type 0} → List A → Bool
+some_in [] = false
+some_in (x ∷ xs) = true
+
+-- whether a merge gives a conflict name
+abbrev pub has_conflict : Sides → Bool
+has_conflict sides = some_in (conflicts naming sides)
+
+-- a fact on the trees of the merge base, the head and the pushed commit
+abbrev pub OfTrees : State → (base pushed : List ℕ) → (Sides → Type 0) → Type 0
+OfTrees s base pushed P =
+    (b h p : Tree) → IsTreeAt s.objects base b → IsTreeAt s.objects (head_of s.kept) h → IsTreeAt s.objects pushed p
+    → P (record { base = b; head = h; pushed = p })
+
+-- the commit of a merge: its parents are the old head and the pushed commit, it is by the user of the token, at the moment
+abbrev pub merge_commit : State → ℕ → (user pushed root : List ℕ) → Bool → Commit
+merge_commit s moment user pushed root conflict = made s.lib root (Some (head_of s.kept)) (Some pushed) user (codes "Auto merge by system") moment conflict
+
+-- an object that a merge may make: its commit, or a directory, under its own name
+abbrev pub IsMadeAs : State → ℕ → (user pushed : List ℕ) → Kind → Stored → Type 0
+IsMadeAs s moment user pushed kind.Commit x = (root : List ℕ) × (conflict : Bool)
+    × (x.key.id ≡ (merge_commit s moment user pushed root conflict).id) × (x.bytes ≡ text_of (merge_commit s moment user pushed root conflict))
+IsMadeAs s moment user pushed kind.Fs x = (entries : List Dirent) × (fs_of x.bytes ≡ Ok (fs.Dir entries)) × (x.key.id ≡ sha1 x.bytes)
+IsMadeAs s moment user pushed kind.Block x = ⊥
+
+-- the same, by the kind of its own key
+abbrev pub IsMade : State → ℕ → (user pushed : List ℕ) → Stored → Type 0
+IsMade s moment user pushed x = IsMadeAs s moment user pushed x.key.kind x
+
+-- the new head is a complete commit whose tree is the merge, told as a conflict where a conflict name was given; the
+-- objects that come with it are those that it needs and that weren't stored, each under its own name
+pub record Makes (s : State) (moment : ℕ) (user base pushed new : List ℕ) (added : List Stored) : Type 0 where
+  pub root : List ℕ
+  pub conflict : Bool
+  pub is_commit : commit_at (with_added s.objects added) new ≡ Ok (merge_commit s moment user pushed root conflict)
+  pub complete : IsComplete (with_added s.objects added) new
+  pub tree : OfTrees s base pushed (λ sides. (t : Tree) × (merge_of sides ≡ MergedTree t) × IsTreeOf (with_added s.objects added) root t)
+  pub told : OfTrees s base pushed (λ sides. conflict ≡ has_conflict sides)
+  pub needed : AllByRecursion (λ x. is_in (needs (with_added s.objects added) new) x.key ≡ true) added
+  pub were_gone : AllByRecursion (λ x. is_stored s.objects x.key ≡ false) added
+  pub named : AllByRecursion (IsMade s moment user pushed) added
+
+-- some of the objects that a merge would make
+pub record Partly (s : State) (moment : ℕ) (user base pushed : List ℕ) (added : List Stored) : Type 0 where
+  pub new : List ℕ
+  pub all : List Stored
+  pub would : Makes s moment user base pushed new all
+  pub part : AllByRecursion (Contains all) added
+
+-- an object can't be stored under its name: that is forty zeros, other bytes are stored there, or another object of
+-- the merge has it
+pub data Clash (s : State) (moment : ℕ) (user pushed : List ℕ) (x : Stored) : Type 0 where
+  zeros : is_nil x.key.id ≡ true → Clash s moment user pushed x
+  stored : other_bytes (map.get s.objects x.key) x.bytes ≡ true → Clash s moment user pushed x
+  another : (other : Stored) → IsMade s moment user pushed other → other.key ≡ x.key → other.bytes ≢ x.bytes → Clash s moment user pushed x
+
+-- an object of the merge that has this id can't be stored
+pub record Clashes (s : State) (moment : ℕ) (user pushed id : List ℕ) : Type 0 where
+  pub one : Stored
+  pub is_made : IsMade s moment user pushed one
+  pub at : one.key.id ≡ id
+  pub clash : Clash s moment user pushed one

@@ -1,0 +1,89 @@
+-- Keys in lists. The key lemmas are in_front, in_last, in_pushed and in_distinct.
+use Rattle.std.proofs.Common.{◌≡◌, ◌||◌, ◌⊎◌, inl, inr, Bool, true, false, if◌then◌else◌, List, [], ◌∷◌, ◌++◌, refl, sym, ap, ◌∙◌}
+use Rattle.std.specs.Cmp.{tied_itself, Equal-is}
+use Rattle.std.specs.Ordering.{eq_by_cmp, is_eq}
+use Rattle.ids.specs.Key.{key_cmp}
+use Rattle.ids.specs.declared.key.Key.{Key}
+use Rattle.ids.proofs.KeyOrder.{key_cmp_total, key_cmp_exact}
+use Rattle.object_graph.specs.Traversal.{is_in, distinct_from}
+
+abbrev pub same_key : Key → Key → Bool
+same_key = eq_by_cmp key_cmp
+
+pub same_key-true : (a b : Key) → same_key a b ≡ true → a ≡ b
+same_key-true a b e = key_cmp_exact a b ((Equal-is (key_cmp a b)).0 e)
+
+pub same_key-itself : (a : Key) → same_key a a ≡ true
+same_key-itself a = ap is_eq (tied_itself key_cmp_total a)
+
+-- the keys of the first list stand in the second
+pub record Within (keys more : List Key) : Type 0 where
+  pub there : (key : Key) → is_in keys key ≡ true → is_in more key ≡ true
+
+pub within_itself : (keys : List Key) → Within keys keys
+within_itself keys = record { there = λ key e. e }
+
+pub within_then : {a b c : List Key} → Within a b → Within b c → Within a c
+within_then ab bc = record { there = λ key e. bc.there key (ab.there key e) }
+
+or_assoc : (a b c : Bool) → (a || (b || c)) ≡ ((a || b) || c)
+or_assoc true b c = refl
+or_assoc false b c = refl
+
+pub in_append : (xs ys : List Key) (key : Key) → is_in (xs ++ ys) key ≡ (is_in xs key || is_in ys key)
+in_append [] ys key = refl
+in_append (x ∷ xs) ys key = ap (λ b. same_key key x || b) (in_append xs ys key) ∙ or_assoc (same_key key x) (is_in xs key) (is_in ys key)
+
+in_left : (a b : Bool) → a ≡ true → (a || b) ≡ true
+in_left a b e = ap (λ c. c || b) e
+
+in_right : (a b : Bool) → b ≡ true → (a || b) ≡ true
+in_right true b e = refl
+in_right false b e = e
+
+pub within_front : (xs ys : List Key) → Within xs (xs ++ ys)
+within_front xs ys = record { there = λ key e. in_append xs ys key ∙ in_left (is_in xs key) (is_in ys key) e }
+
+pub in_last : (xs : List Key) (key : Key) → is_in (xs ++ key ∷ []) key ≡ true
+in_last xs key = in_append xs (key ∷ []) key ∙ in_right (is_in xs key) (is_in (key ∷ []) key) (ap (λ b. b || false) (same_key-itself key))
+
+-- what stands in a list with a key behind it is that key, or stood in the list
+pub in_pushed : (xs : List Key) (last key : Key) → is_in (xs ++ last ∷ []) key ≡ true → (is_in xs key ≡ true) ⊎ (key ≡ last)
+in_pushed xs last key e = by (is_in xs key) (same_key key last) (same_key-true key last) (sym (in_append xs (last ∷ []) key) ∙ e)
+  where
+    by : (a b : Bool) → (b ≡ true → key ≡ last) → (a || (b || false)) ≡ true → (a ≡ true) ⊎ (key ≡ last)
+    by true b is e = inl refl
+    by false true is e = inr (is refl)
+    by false false is e = cc
+
+-- ---- each key once
+
+distinct_or : (a b c d : Bool) → ((a || b) || c) ≡ ((a || b) || d) → (b || (a || c)) ≡ (b || (a || d))
+distinct_or true true c d e = refl
+distinct_or true false c d e = refl
+distinct_or false true c d e = refl
+distinct_or false false c d e = e
+
+met_again : (a b c d : Bool) → (a ≡ true → b ≡ true) → (b || c) ≡ (b || d) → (b || c) ≡ (b || (a || d))
+met_again true true c d is e = refl
+met_again true false c d is e = absurd (is_absurd (is refl))
+  where
+    is_absurd : false ≡ true → ⊥
+    is_absurd e = cc
+met_again false b c d is e = e
+
+pub in_distinct_from : (met keys : List Key) (key : Key) → (is_in met key || is_in (distinct_from met keys) key) ≡ (is_in met key || is_in keys key)
+in_distinct_from met [] key = refl
+in_distinct_from met (k ∷ keys) key = by (is_in met k) refl (λ more. in_distinct_from more keys key)
+  where
+    by : (b : Bool) → is_in met k ≡ b
+        → ((more : List Key) → (is_in more key || is_in (distinct_from more keys) key) ≡ (is_in more key || is_in keys key))
+        → (is_in met key || is_in (if b then distinct_from met keys else k ∷ distinct_from (k ∷ met) keys) key) ≡ (is_in met key || (same_key key k || is_in keys key))
+    by true is rest =
+        met_again (same_key key k) (is_in met key) (is_in (distinct_from met keys) key) (is_in keys key)
+        (λ same. ap (is_in met) (same_key-true key k same) ∙ is) (rest met)
+    by false is rest =
+        distinct_or (same_key key k) (is_in met key) (is_in (distinct_from (k ∷ met) keys) key) (is_in keys key) (rest (k ∷ met))
+
+pub in_distinct : (keys : List Key) (key : Key) → is_in (distinct_from [] keys) key ≡ is_in keys key
+in_distinct keys key = in_distinct_from [] keys key

@@ -1,0 +1,4 @@
+pub mod FsIds
+pub mod Objects
+pub mod Traversal
+pub mod Unchanged
