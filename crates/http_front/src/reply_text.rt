@@ -23,8 +23,8 @@ const HEAD_ROOM: usize = 256;
 /// The bytes of the reply to a request, with `Connection: close` where the connection ends after it.
 ///
 /// The form of a reply is that of HTTP/1.1 (RFC 9112); statuses, fields and bodies are our own
-/// (docs/FORMATS.md, "Replies"). Objects are copied once. Where one that is packed has 2^32 bytes or more, there is no
-/// text, and the answer is want of memory.
+/// (docs/FORMATS.md, "Replies"). An object is copied once, one that is packed twice. Where one that is packed has
+/// 2^32 bytes or more, there is no text, and the answer is want of memory.
 #[tactic(auto, unfolding(crate::specs::ReplyText::text))]
 pub fn reply_bytes(alloc: Global, outcome: &Outcome, closes: bool) -> Result<Bytes, AllocError>
     ensures value { IfOk result (λ bytes. bytes ≡ text outcome.now closes) }

@@ -21,9 +21,9 @@ const MOST_REQUESTS: u64 = 10_000;
 /// in the order of the requests.
 ///
 /// Only whole requests are answered so far: those whose head and body stand in full in what the link gives, and that
-/// ask for no interim reply. Where something else is left, the end is `Refused(501)`. Memory is bounded by one request
-/// and a piece of 65,536 bytes. After a fault or want of memory each reply was given whole but the last, of which a
-/// front was given.
+/// ask for no interim reply. Where something else is left, the end is `Refused(501)`. One request, its reply and a piece
+/// of 65,536 bytes are in memory at a time; a reply that packs objects is as long as all that were asked for, each as
+/// often as it was asked. After a write fault a front of the last reply was given, and every other was given whole.
 pub fn serve_session<H: Host, L: Link>(
     alloc: Global,
     host: &H,
