@@ -31,7 +31,7 @@ impl Model for Path {
 }
 
 impl Path {
-    ghost use Rattle.std.specs.Prelude.{◌≡◌, ◌∷◌, ◌++◌, [], IfOk};
+    ghost use Rattle.std.specs.Prelude.{◌≡◌, ◌∷◌, ◌++◌, [], IfOk, OnOk, OnErr};
     ghost use Rattle.tree_model.specs.Path.{IsPath, parent_of, path_text};
 
     /// The path of the root, which has no names.
@@ -60,6 +60,17 @@ impl Path {
         Ok(Path { names })
     }
 
+    /// Adds a name: the path becomes that of an entry in the directory that it named. After an error it is as it was.
+    pub fn push(&mut self, name: Name) -> Result<(), AllocError>
+        ensures ok { OnOk result (self.new ≡ self.old ++ name ∷ []) }
+        ensures err { OnErr result (self.new ≡ self.old) }
+    {
+        match self.names.push(name) {
+            Ok(()) => Ok(()),
+            Err(failed) => Err(failed.into()),
+        }
+    }
+
     /// The path of the directory that this entry stands in; the root for the root.
     pub fn parent(&self, alloc: Global) -> Result<Path, AllocError>
         ensures value { IfOk result (λ path. path ≡ parent_of self.now) }
@@ -72,6 +83,7 @@ impl Path {
     /// The names joined by `/`; the empty text for the root.
     pub fn text(&self, alloc: Global) -> Result<Text, AllocError>
         ensures value { IfOk result (λ text. text ≡ path_text self.now) }
+        ensures named { IsPath self.now }
     {
         let mut text = String::new(alloc);
         for (place, name) in self.names().iter().enumerate() {

@@ -58,6 +58,9 @@ fn paths_stand_in_the_byte_order_of_their_texts(rt: HostRuntime) -> Result<(), F
     );
     assert_eq!(rt; below.cmp(&below.copy(alloc)?), Ordering::Equal);
     assert_eq!(rt; below.text(alloc)?.slice(), "a/b");
+    let mut grown = above.copy(alloc)?;
+    grown.push(Name::read(alloc, "b")?)?;
+    assert!(rt; grown == below, "a grows by b");
     assert_eq!(rt; Path::root(alloc).text(alloc)?.slice(), "");
     assert_eq!(rt; below.names().len(), 2);
     assert!(rt; below.parent(alloc)? == above && above.parent(alloc)? == Path::root(alloc));

@@ -1,0 +1,5 @@
+pub mod FileReadLemmas
+pub mod FindingsLemmas
+pub mod FolderLemmas
+pub mod ListingLemmas
+pub mod SortedEntries

@@ -1,0 +1,19 @@
+use Rattle.std.proofs.Common.{◌+◌, ◌-◌, ◌≡◌, ◌≤◌, ℕ, List, Some, false}
+use Rattle.folder_side.specs.declared.holding.Holding.TheVariants.{File}
+use Rattle.folder_side.specs.Folder.{Contents, at}
+use Rattle.folder_side.specs.FileRead.{IsBehind}
+use Rattle.folder_side.proofs.FileReadLemmas.{reading_at}
+use Rattle.folder_side.proofs.file_reader.read_rest.Given as goal
+
+abbrev pub invariant-loop-place : goal.invariant-loop-place
+invariant-loop-place g l = record {
+  told : g.F.Folder.told l.folder ≡ g.F.Folder.told l.fn.folder;
+  spare : g.F.Folder.spare l.folder ≡ g.F.Folder.spare l.fn.folder;
+  faults : g.F.Folder.faults l.folder ≡ g.F.Folder.faults l.fn.folder;
+  alive : l.chunker.failed ≡ false;
+  bound : l.place ≤ 274877972480;
+  behind : (c : Contents) (bytes : List ℕ) → g.F.Folder.told l.fn.folder ≡ Some c → at c l.file ≡ Some (File bytes) → IsBehind l.fn.reading.chunker.cuts bytes l.fn.reading → IsBehind l.fn.reading.chunker.cuts bytes (reading_at l.chunker l.names l.place);
+}
+
+abbrev pub decreases-loop-place : goal.decreases-loop-place
+decreases-loop-place g l = 274877906944 + 1 - l.place

@@ -1,0 +1,178 @@
+//! A file of a folder, read to its end and cut into chunks.
+
+ghost use Rattle.std.specs.Prelude.{◌≡◌, ◌<◌, ◌≤◌, ◌++◌, [], ℕ, List, Some, false, length, map, IfOk, IfErr, OnOk};
+ghost use Rattle.ids.specs.FaultCount.{FailsBy};
+ghost use Rattle.sha1.specs.Sha1.{sha1};
+ghost use Rattle.block_chunker.specs.ChunkBoundaries.{last_chunk};
+ghost use Rattle.block_chunker.specs.ChunkerProgress.{after_piece, finished_by};
+ghost use Rattle.folder_side.specs.declared.holding.Holding.TheVariants.{File};
+ghost use Rattle.folder_side.specs.Folder.{Contents, at};
+ghost use Rattle.folder_side.specs.FileRead.{IsBehind, ReadsFile, PassesLimit, is_read_failure};
+
+use crate::error::FolderFault;
+use crate::folder::Folder;
+use block_chunker::{Chunker, Cuts};
+use ids::{Bytes, IdList, Items, ObjId};
+use std::alloc::{AllocError, Global};
+use tree_model::Path;
+
+/// The greatest number of bytes of a file: 256 GiB.
+const MAX_FILE: u64 = 274_877_906_944;
+
+/// Why a file was not read to its end.
+#[derive(Clone, Copy)]
+pub enum ReadFault {
+    Folder(FolderFault),
+    /// It has more than 274,877,906,944 bytes.
+    TooBig,
+    NoMemory,
+}
+
+/// The names of a file's chunks, in order, and its length.
+#[derive(Drop)]
+pub struct FileRead {
+    pub blocks: IdList,
+    pub size: u64,
+}
+
+/// Appends the names of chunks.
+fn name_chunks(names: &mut IdList, chunks: &[Bytes]) -> Result<(), AllocError>
+    ensures ok { OnOk result (names.new ≡ names.old ++ map sha1 chunks.now) }
+{
+    for chunk in chunks {
+        names.push(ObjId::of(chunk.slice()))?;
+    }
+    Ok(())
+}
+
+/// Feeds a piece of a file to its chunker, and names the chunks that end in it.
+fn take_piece(
+    alloc: Global,
+    chunker: &mut Chunker,
+    names: &mut IdList,
+    piece: &[u8],
+) -> Result<(), AllocError>
+    ensures ok { OnOk result (chunker.new ≡ after_piece chunker.old piece.now) }
+    ensures named { OnOk result (names.new ≡ names.old ++ map sha1 (finished_by chunker.old piece.now)) }
+{
+    let mut chunks = Items::new(alloc);
+    chunker.feed(piece, &mut chunks)?;
+    name_chunks(names, chunks.slice())
+}
+
+/// Names the last chunk of a file that was read to its end.
+fn end_file(chunker: Chunker, mut names: IdList, size: u64) -> Result<FileRead, AllocError>
+    requires ready { chunker.failed ≡ false }
+    ensures blocks { IfOk result (λ file. file.blocks ≡ names ++ map sha1 (last_chunk chunker.begun)) }
+    ensures size { IfOk result (λ file. file.size ≡ size) }
+{
+    if let Some(last) = chunker.finish()? {
+        names.push(ObjId::of(last.slice()))?;
+    }
+    Ok(FileRead {
+        blocks: names,
+        size,
+    })
+}
+
+/// A file in the reading: the chunk that goes on, the names of the chunks before it, and the place of the next byte,
+/// which is the count of bytes read.
+#[derive(Drop)]
+pub(crate) struct Reading {
+    chunker: Chunker,
+    names: IdList,
+    place: u64,
+}
+
+impl Reading {
+    /// No byte was read yet.
+    pub(crate) fn new(alloc: Global, cuts: Cuts) -> Self
+        ensures value { (bytes : List ℕ) → IsBehind cuts bytes result }
+        ensures ready { result.chunker.failed ≡ false }
+        ensures told { result.chunker.cuts ≡ cuts }
+        ensures bound { result.place ≡ 0 }
+    {
+        Reading::counting_from(alloc, cuts, 0)
+    }
+
+    /// No byte was read yet, and the count of bytes read stands at `place`.
+    pub(crate) fn counting_from(alloc: Global, cuts: Cuts, place: u64) -> Self
+        ensures value { place ≡ 0 → (bytes : List ℕ) → IsBehind cuts bytes result }
+        ensures ready { result.chunker.failed ≡ false }
+        ensures told { result.chunker.cuts ≡ cuts }
+        ensures bound { result.place ≡ place }
+    {
+        Reading {
+            chunker: Chunker::new(alloc, cuts),
+            names: Items::new(alloc),
+            place,
+        }
+    }
+}
+
+/// Reads a file from its start to its end and cuts it into chunks, of which no more than one is in memory.
+///
+/// The file is read in pieces that fit the buffer.
+pub fn read_file<F: Folder>(
+    alloc: Global,
+    folder: &mut F,
+    file: &Path,
+    cuts: Cuts,
+    buffer: &mut [u8],
+) -> Result<FileRead, ReadFault>
+    requires some { 0 < length buffer.old }
+    requires fits { length buffer.old ≤ 65536 }
+    ensures value { (c : Contents) (bytes : List ℕ) → F.told folder.old ≡ Some c → at c file.now ≡ Some (File bytes) →
+        IfOk result (ReadsFile cuts bytes) }
+    ensures refused { (c : Contents) (bytes : List ℕ) → F.told folder.old ≡ Some c → at c file.now ≡ Some (File bytes) →
+        IfErr result (PassesLimit bytes) }
+    ensures kept { (F.told folder.new ≡ F.told folder.old) × (F.spare folder.new ≡ F.spare folder.old) }
+    ensures faults { FailsBy is_read_failure (F.faults folder.old) (F.faults folder.new) result }
+{
+    let reading = Reading::new(alloc, cuts);
+    read_rest(alloc, folder, file, reading, buffer)
+}
+
+/// Reads what is left of a file, in pieces that fit the buffer.
+pub(crate) fn read_rest<F: Folder>(
+    alloc: Global,
+    folder: &mut F,
+    file: &Path,
+    reading: Reading,
+    buffer: &mut [u8],
+) -> Result<FileRead, ReadFault>
+    requires some { 0 < length buffer.old }
+    requires fits { length buffer.old ≤ 65536 }
+    requires ready { reading.chunker.failed ≡ false }
+    requires ordered { reading.place ≤ 274877906944 }
+    ensures value { (c : Contents) (bytes : List ℕ) → F.told folder.old ≡ Some c → at c file.now ≡ Some (File bytes) →
+        IsBehind reading.chunker.cuts bytes reading → IfOk result (ReadsFile reading.chunker.cuts bytes) }
+    ensures refused { (c : Contents) (bytes : List ℕ) → F.told folder.old ≡ Some c → at c file.now ≡ Some (File bytes) →
+        IsBehind reading.chunker.cuts bytes reading → IfErr result (PassesLimit bytes) }
+    ensures kept { (F.told folder.new ≡ F.told folder.old) × (F.spare folder.new ≡ F.spare folder.old) }
+    ensures faults { FailsBy is_read_failure (F.faults folder.old) (F.faults folder.new) result }
+{
+    let Reading {
+        mut chunker,
+        mut names,
+        mut place,
+    } = reading;
+    while place <= MAX_FILE {
+        let count = match folder.read(file, place, buffer) {
+            Ok(count) => count,
+            Err(fault) => return Err(ReadFault::Folder(fault)),
+        };
+        if count == 0 {
+            return match end_file(chunker, names, place) {
+                Ok(read) => Ok(read),
+                Err(AllocError) => Err(ReadFault::NoMemory),
+            };
+        }
+        match take_piece(alloc, &mut chunker, &mut names, &buffer[..count]) {
+            Ok(()) => {}
+            Err(AllocError) => return Err(ReadFault::NoMemory),
+        }
+        place += count as u64;
+    }
+    Err(ReadFault::TooBig)
+}

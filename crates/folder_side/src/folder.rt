@@ -1,0 +1,97 @@
+//! A folder of files, as a sync sees it.
+
+ghost use Rattle.std.specs.Prelude.{◌≡◌, ℕ, ◌<◌, ◌≤◌, ◌++◌, [], List, length, Option, Some, IfOk, OnOk};
+ghost use Rattle.std.specs.Option.{option_map};
+ghost use Rattle.folder_side.specs.Folder.{Contents, IsFolder, Changes, PartAt, listing_at, with_file, with_dir, without, at, FolderFails, TakesFile, IsFree, IsRemovable};
+
+use crate::error::FolderFault;
+use ids::Items;
+use std::alloc::Global;
+use tree_model::{Name, Path};
+
+/// What kind of entry a directory has under a name.
+#[derive(Clone, Copy, Debug, PartialEq, Eq)]
+pub enum ItemKind {
+    File,
+    Dir,
+    /// Neither a directory nor a plain file, such as a symbolic link. It is never opened.
+    Other,
+}
+
+/// An entry of a directory.
+#[derive(Debug, Drop)]
+pub struct Item {
+    pub name: Name,
+    pub kind: ItemKind,
+}
+
+/// The entries of a directory in byte order of their names, and how many more have no good name.
+#[derive(Debug, Drop)]
+pub struct Listing {
+    pub items: Items<Item>,
+    pub nameless: u64,
+}
+
+/// A folder whose files a sync reads and changes, and one spare file outside its tree.
+///
+/// A new file is written into the spare and then moved to its path. Contracts see what the folder holds
+/// and what the spare holds where the folder tells them, and a count of faults: each call that answers
+/// `Folder` raises it. After a failed change the old or the new stands at that path, and all other paths
+/// are as they were.
+pub trait Folder {
+    ghost told: { Self → Option Contents };
+
+    ghost spare: { Self → Option (List ℕ) };
+
+    ghost faults: { Self → ℕ };
+
+    /// The entries of a directory; the root is the folder itself. A path that is no directory is a fault.
+    fn list(&mut self, alloc: Global, dir: &Path) -> Result<Listing, FolderFault>
+        ensures formed { (c : Contents) → told self.old ≡ Some c → OnOk result (IsFolder c) }
+        ensures listed { (c : Contents) → told self.old ≡ Some c → IfOk result (λ listing. Some listing ≡ listing_at c dir.now) }
+        ensures kept { (told self.new ≡ told self.old) × (spare self.new ≡ spare self.old) }
+        ensures faults { FolderFails (faults self.old) (faults self.new) result };
+
+    /// Reads bytes of a file from a place on: 1 to `into.len()`, or none exactly at or past the file's end. A
+    /// path that is no file is a fault.
+    fn read(&mut self, file: &Path, place: u64, into: &mut [u8]) -> Result<usize, FolderFault>
+        requires some { 0 < length into.old }
+        ensures bound { IfOk result (λ count. count ≤ length into.new) }
+        ensures value { (c : Contents) → told self.old ≡ Some c → IfOk result (λ count. PartAt (at c file.now) place count into.new) }
+        ensures kept { (told self.new ≡ told self.old) × (spare self.new ≡ spare self.old) }
+        ensures faults { FolderFails (faults self.old) (faults self.new) result };
+
+    /// Empties the spare, and makes it where there is none.
+    fn spare_clear(&mut self) -> Result<(), FolderFault>
+        ensures ok { (c : Contents) → told self.old ≡ Some c → OnOk result (spare self.new ≡ Some []) }
+        ensures kept { told self.new ≡ told self.old }
+        ensures faults { FolderFails (faults self.old) (faults self.new) result };
+
+    /// Appends to the spare.
+    fn spare_add(&mut self, bytes: &[u8]) -> Result<(), FolderFault>
+        ensures ok { OnOk result (spare self.new ≡ option_map (λ held. held ++ bytes.now) (spare self.old)) }
+        ensures kept { told self.new ≡ told self.old }
+        ensures faults { FolderFails (faults self.old) (faults self.new) result };
+
+    /// Moves the spare to a path in a directory, in place of a file that is there; anything else there is a
+    /// fault.
+    fn spare_move(&mut self, file: &Path) -> Result<(), FolderFault>
+        ensures ok { (bytes : List ℕ) → spare self.old ≡ Some bytes →
+            Changes (with_file file.now bytes) (told self.old) (told self.new) result }
+        ensures found { (c : Contents) → told self.old ≡ Some c → OnOk result (TakesFile c file.now) }
+        ensures faults { FolderFails (faults self.old) (faults self.new) result };
+
+    /// Makes a directory in a directory, where nothing is yet.
+    fn make_dir(&mut self, dir: &Path) -> Result<(), FolderFault>
+        ensures ok { Changes (with_dir dir.now) (told self.old) (told self.new) result }
+        ensures absent { (c : Contents) → told self.old ≡ Some c → OnOk result (IsFree c dir.now) }
+        ensures kept { spare self.new ≡ spare self.old }
+        ensures faults { FolderFails (faults self.old) (faults self.new) result };
+
+    /// Removes a file or an empty directory; anything else is a fault.
+    fn remove(&mut self, path: &Path) -> Result<(), FolderFault>
+        ensures ok { Changes (without path.now) (told self.old) (told self.new) result }
+        ensures found { (c : Contents) → told self.old ≡ Some c → OnOk result (IsRemovable c path.now (at c path.now)) }
+        ensures kept { spare self.new ≡ spare self.old }
+        ensures faults { FolderFails (faults self.old) (faults self.new) result };
+}

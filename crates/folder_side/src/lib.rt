@@ -1,0 +1,27 @@
+//! The folder side of a sync: what a folder holds, and a scan of it into chunks.
+//!
+//! Shown upward: the trait `Folder`, `MemoryFolder`, which tells what it holds, `scan` with its report, and
+//! `read_file`, which cuts a file into chunks.
+//! Definitions: `specs/Folder.antt`, `specs/WorkingTree.antt`, `specs/ScanReport.antt`.
+//! It knows no library, writes no index and merges nothing.
+#![tactic(auto)]
+
+mod error;
+mod file_reader;
+mod findings;
+mod folder;
+mod folder_scan;
+mod holding;
+mod memory_contents;
+mod memory_folder;
+mod scan_report;
+#[cfg(test)]
+mod tests;
+
+pub use error::{FolderFault, ScanFault};
+pub use file_reader::{FileRead, ReadFault, read_file};
+pub use folder::{Folder, Item, ItemKind, Listing};
+pub use folder_scan::scan;
+pub use holding::Holding;
+pub use memory_folder::MemoryFolder;
+pub use scan_report::{Scan, Seen};
