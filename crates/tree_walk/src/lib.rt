@@ -2,6 +2,7 @@
 #![tactic(auto)]
 
 mod fault;
+mod name_order;
 mod reading;
 mod trail;
 
