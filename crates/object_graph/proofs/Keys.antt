@@ -1,5 +1,5 @@
 -- Keys in lists. The key lemmas are in_front, in_last, in_pushed and in_distinct.
-use Rattle.std.proofs.Common.{◌≡◌, ◌≢◌, ◌||◌, ◌⊎◌, inl, inr, Bool, true, false, if◌then◌else◌, List, [], ◌∷◌, ◌++◌, refl, sym, ap, ap₂, ◌∙◌, subst}
+use Rattle.std.proofs.Common.{◌≡◌, ◌||◌, ◌⊎◌, inl, inr, Bool, true, false, if◌then◌else◌, List, [], ◌∷◌, ◌++◌, refl, sym, ap, ◌∙◌}
 use Rattle.std.specs.Cmp.{tied_itself, Equal-is}
 use Rattle.std.specs.Ordering.{eq_by_cmp, is_eq}
 use Rattle.ids.specs.Key.{key_cmp}
@@ -81,7 +81,7 @@ in_distinct_from met (k ∷ keys) key = by (is_in met k) refl (λ more. in_disti
         → (is_in met key || is_in (if b then distinct_from met keys else k ∷ distinct_from (k ∷ met) keys) key) ≡ (is_in met key || (same_key key k || is_in keys key))
     by true is rest =
         met_again (same_key key k) (is_in met key) (is_in (distinct_from met keys) key) (is_in keys key)
-          (λ same. ap (is_in met) (same_key-true key k same) ∙ is) (rest met)
+        (λ same. ap (is_in met) (same_key-true key k same) ∙ is) (rest met)
     by false is rest =
         distinct_or (same_key key k) (is_in met key) (is_in (distinct_from (k ∷ met) keys) key) (is_in keys key) (rest (k ∷ met))
 

@@ -1,3 +1,14 @@
+pub mod Alike
+pub mod Fitting
+pub mod GoodNames
 pub mod Keys
 pub mod Schemes
+pub mod Below
+pub mod Entries
+pub mod Limits
+pub mod Listing
+pub mod Commits
+pub mod Counting
 pub mod Locality
+pub mod SameBelow
+pub mod Stored

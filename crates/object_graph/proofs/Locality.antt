@@ -1,5 +1,5 @@
 -- A traversal reads only what it visits. The key lemmas are local_root, local_commit and commit_stays.
-use Rattle.std.proofs.Common.{◌≡◌, ℕ, ◌+◌, ◌==◌, Bool, true, false, if◌then◌else◌, is_some, nat_lt, List, [], ◌∷◌, ◌++◌, length, refl, sym, ap, ap₂, ◌∙◌, subst, Option, None, Some, Result, Ok, Err, unwrap_or, cond}
+use Rattle.std.proofs.Common.{◌≡◌, ℕ, ◌+◌, ◌==◌, Bool, true, false, if◌then◌else◌, is_some, nat_lt, List, [], ◌∷◌, ◌++◌, length, refl, sym, ap, ap₂, ◌∙◌, subst, Option, None, Some, Result, Ok, Err, unwrap_or}
 use Rattle.std.specs.FinMap as map
 use Rattle.ids.specs.Key.{Objects}
 use Rattle.ids.specs.declared.key.Key.{Key}
@@ -84,8 +84,8 @@ module _ (A B : Objects) where
     follows_block id = record {
       grows = λ w. subst (Within w.visits) (sym (block_visits blocks A id w)) (within_front w.visits (block_key id ∷ []));
       same = λ w agree.
-        let here = subst (λ keys. is_in keys (block_key id) ≡ true) (sym (block_visits blocks A id w)) (in_last w.visits (block_key id)) in
-        ap (λ (o : Option (List ℕ)). block_with id w (is_some o)) (agree.same (block_key id) here);
+          let here = subst (λ keys. is_in keys (block_key id) ≡ true) (sym (block_visits blocks A id w)) (in_last w.visits (block_key id)) in
+          ap (λ (o : Option (List ℕ)). block_with id w (is_some o)) (agree.same (block_key id) here);
     }
 
     follows_blocks : (ids : List (List ℕ)) → Follows A B (walk_blocks blocks A ids) (walk_blocks blocks B ids)
@@ -104,7 +104,7 @@ module _ (A B : Objects) where
         let there = (within_next v (walk_blocks blocks A ids) (follows_blocks ids).grows).there (block_key id) here in
         ap₂ ◌++◌ (ap (λ o. unwrap_or o []) (agree.same (block_key id) there)) rest
 
-    follows_sized : (id : List ℕ) (file : FileObject) (w : Walk) → Within w.visits (sized blocks A id file w).visits
+    pub follows_sized : (id : List ℕ) (file : FileObject) (w : Walk) → Within w.visits (sized blocks A id file w).visits
     follows_sized id file w = by (file.size == length (joined A file.blocks))
       where
         by : (b : Bool) → Within w.visits (if b then w else failed (WrongSize id) w).visits
@@ -126,7 +126,7 @@ module _ (A B : Objects) where
                 → next_by o (sized blocks B id file) (walk_blocks blocks A file.blocks w) ≡ next_by o (sized blocks A id file) (walk_blocks blocks A file.blocks w)
             size_by w None none agree =
                 ap (λ bytes. if file.size == length bytes then walk_blocks blocks A file.blocks w else failed (WrongSize id) (walk_blocks blocks A file.blocks w))
-                  (same_joined file.blocks w none agree)
+                (same_joined file.blocks w none agree)
             size_by w (Some fault) none agree = refl
 
             same : (w : Walk) → AgreeOn (then_walk (walk_blocks blocks A file.blocks w) (sized blocks A id file)).visits A B

@@ -1,0 +1,123 @@
+-- The entries of a directory object have good names. The key lemma is good_names.
+use Rattle.std.proofs.Common.{◌≡◌, ℕ, ◌==◌, Bool, true, false, not, if◌then◌else◌, is_none, List, [], ◌∷◌, ◌++◌, length, refl, sym, ap, ◌∙◌, subst, Option, None, Some, Result, Ok, Err}
+use Rattle.std.specs.List.{AllByRecursion}
+use Rattle.serde_json.specs.Data.{Data}
+use Rattle.json_words.specs.Check.{◌>>=◌, holds, ok_or, result_map}
+use Rattle.json_words.specs.Fields.{is_object, array_field, integer_field, text_field}
+use Rattle.json_words.specs.IdText.{id_field}
+use Rattle.json_words.specs.JsonText.{json_of}
+use Rattle.tree_model.specs.Name.{IsName, name_fault}
+use Rattle.tree_model.specs.declared.name.BadName.{BadName}
+use Rattle.fs_objects.specs.Directory.{Head, Details, mode_of, head_of, details_of, entry_from, entry_of, entries_after, directory_of, names_of, is_taken}
+use Rattle.fs_objects.specs.FsKey.{key_text, at_key}
+use Rattle.fs_objects.specs.File.{file_of}
+use Rattle.fs_objects.specs.FsObject.{fs_of, object_in, type_of, right_version}
+use Rattle.fs_objects.specs.declared.dirent.Dirent.{Dirent}
+use Rattle.fs_objects.specs.declared.fault.BadFs.{BadFs}
+use Rattle.fs_objects.specs.declared.fault.BadFs.TheVariants.{NotJson, WrongType, BadName as bad_name, Twice}
+use Rattle.fs_objects.specs.declared.fault.FsKey.TheVariants.{KDirents, KId, KMtime, KName}
+use Rattle.fs_objects.specs.declared.file_object.FileObject.{FileObject}
+use Rattle.fs_objects.specs.declared.fs_object.FsObject.TheVariants.{File, Dir}
+
+-- what a step that gave a value had before it
+pub record WentOn {A B E : Type 0} (first : Result A E) (next : A → Result B E) (y : B) : Type 0 where
+  pub value : A
+  pub gave : first ≡ Ok value
+  pub goes : next value ≡ Ok y
+
+went_on : {A B E : Type 0} (first : Result A E) (next : A → Result B E) (y : B) → (first >>= next) ≡ Ok y → WentOn first next y
+went_on (Ok a) next y is = record { value = a; gave = refl; goes = is }
+went_on (Err e) next y is = cc
+
+abbrev Good : List Dirent → Type 0
+Good entries = AllByRecursion (λ (e : Dirent). IsName e.name) entries
+
+good_push : (entries : List Dirent) (e : Dirent) → Good entries → IsName e.name → Good (entries ++ e ∷ [])
+good_push [] e all here = (here, tt)
+good_push (x ∷ entries) e all here = (all.0, good_push entries e all.1 here)
+
+passed : {E : Type 0} (b : Bool) (fault : E) (y : Unit {0}) → holds b fault ≡ Ok y → b ≡ true
+passed true fault y is = refl
+passed false fault y is = cc
+
+no_fault : (o : Option BadName) → is_none o ≡ true → o ≡ None
+no_fault None is = refl
+no_fault (Some bad) is = cc
+
+head_name : (place : ℕ) (d : Data) (head : Head) → head_of place d ≡ Ok head → IsName head.name
+unfolding head_of
+head_name place d head is =
+    let object = went_on (holds (is_object d) (WrongType KDirents)) _ head is in
+    let id = went_on (at_key KId (id_field (key_text KId) d)) _ head object.goes in
+    let mode = went_on (mode_of d) _ head id.goes in
+    let mtime = went_on (at_key KMtime (integer_field (key_text KMtime) d)) _ head mode.goes in
+    let name = went_on (at_key KName (text_field (key_text KName) d)) _ head mtime.goes in
+    let good = went_on (holds (is_none (name_fault name.value)) (bad_name place)) _ head name.goes in
+    let clear : name_fault name.value ≡ None = no_fault (name_fault name.value) (passed (is_none (name_fault name.value)) (bad_name place) good.value good.gave) in
+    let named : name.value ≡ head.name = named_by name.value (record { id = id.value; mode = mode.value; mtime = mtime.value; name = name.value }) head refl good.goes in
+    record { faultless = subst (λ n. name_fault n ≡ None) named clear }
+  where
+    named_by : (n : List ℕ) (h g : Head) → h.name ≡ n → (let r : Result Head BadFs = Ok h in r) ≡ Ok g → n ≡ g.name
+    named_by n h g same is = let one : h ≡ g = cc in sym same ∙ ap (λ (k : Head). k.name) one
+
+entry_name : (head : Head) (d : Data) (e : Dirent) → entry_from head d ≡ Ok e → head.name ≡ e.name
+unfolding entry_from
+entry_name head d e is =
+    let details = went_on (details_of head.mode d) _ e is in
+    named_by details.value e details.goes
+  where
+    named_by : (details : Details) (e : Dirent)
+        → (let r : Result Dirent BadFs = Ok (record { name = head.name; id = head.id; mode = head.mode; mtime = head.mtime; modifier = details.modifier; size = details.size }) in r) ≡ Ok e
+        → head.name ≡ e.name
+    named_by details e is =
+        let x : Dirent = record { name = head.name; id = head.id; mode = head.mode; mtime = head.mtime; modifier = details.modifier; size = details.size } in
+        let one : x ≡ e = cc in
+        ap (λ (k : Dirent). k.name) one
+
+good_entry : (earlier : List Dirent) (d : Data) (e : Dirent) → entry_of earlier d ≡ Ok e → IsName e.name
+unfolding entry_of
+good_entry earlier d e is =
+    let head = went_on (head_of (length earlier) d) _ e is in
+    let new = went_on (holds (not (is_taken (names_of earlier) head.value.name)) (Twice (length earlier))) _ e head.goes in
+    subst IsName (entry_name head.value d e new.goes) (head_name (length earlier) d head.value head.gave)
+
+good_after : (earlier : List Dirent) (ds : List Data) (entries : List Dirent) → Good earlier → entries_after earlier ds ≡ Ok entries → Good entries
+good_after earlier [] entries all is =
+    let one : earlier ≡ entries = cc in
+    subst Good one all
+good_after earlier (d ∷ ds) entries all is =
+    let here = went_on (entry_of earlier d) (λ e. entries_after (earlier ++ e ∷ []) ds) entries is in
+    good_after (earlier ++ here.value ∷ []) ds entries (good_push earlier here.value all (good_entry earlier d here.value here.gave)) here.goes
+
+good_directory : (d : Data) (entries : List Dirent) → directory_of d ≡ Ok entries → Good entries
+unfolding directory_of
+good_directory d entries is =
+    let items = went_on (at_key KDirents (array_field (key_text KDirents) d)) _ entries is in
+    good_after [] items.value entries tt items.goes
+
+good_object : (d : Data) (entries : List Dirent) → object_in d ≡ Ok (Dir entries) → Good entries
+unfolding object_in
+good_object d entries is =
+    let number = went_on (type_of d) _ (Dir entries) is in
+    let right = went_on (right_version d) _ (Dir entries) number.goes in
+    by (number.value == 1) right.goes
+  where
+    file : (r : Result FileObject BadFs) → result_map File r ≡ Ok (Dir entries) → Good entries
+    file (Ok x) is = cc
+    file (Err bad) is = cc
+
+    directory : (r : Result (List Dirent) BadFs) → result_map Dir r ≡ Ok (Dir entries) → r ≡ Ok entries
+    directory (Ok x) is = cc
+    directory (Err bad) is = cc
+
+    by : (b : Bool) → (if b then result_map File (file_of d) else result_map Dir (directory_of d)) ≡ Ok (Dir entries) → Good entries
+    by true is = file (file_of d) is
+    by false is = good_directory d entries (directory (directory_of d) is)
+
+-- the names of what is read are good
+pub good_names : (bytes : List ℕ) (entries : List Dirent) → fs_of bytes ≡ Ok (Dir entries) → AllByRecursion (λ (e : Dirent). IsName e.name) entries
+unfolding fs_of
+good_names bytes entries is =
+    let json = went_on (ok_or (json_of bytes) NotJson) _ (Dir entries) is in
+    let object = went_on (holds (is_object json.value) NotJson) _ (Dir entries) json.goes in
+    good_object json.value entries object.goes
