@@ -12,7 +12,7 @@ use Rattle.object_graph.specs.declared.fault.TreeFault.{TreeFault}
 use Rattle.object_graph.proofs.Schemes.{Step, none_before, goes_on}
 use Rattle.object_graph.proofs.Entries.{nothing_in_order}
 use Rattle.object_graph.proofs.Limits.{counted_none, file_paths}
-use Rattle.object_graph.proofs.Listing.{Listed, prefixed, listed_entry, listed_in, listed}
+use Rattle.object_graph.specs.Listing.{Listed, prefixed, listed_entry, listed_in, listed}
 
 length-prefixed : (name : List ℕ) (xs : Listed) → length (prefixed name xs) ≡ length xs
 length-prefixed name [] = refl
@@ -32,13 +32,13 @@ module _ (blocks : Bool) (A : Objects) where
       by true = refl
       by false = read (visited (fs_key id) w) (fs_at A id)
 
-  Counts : ℕ → Type 0
+  abbrev pub Counts : ℕ → Type 0
   Counts room = (path : PathV) (id : List ℕ) (w : Walk) → (walk_object blocks A (walk_below blocks A room) true path id w).fault ≡ None
       → (walk_object blocks A (walk_below blocks A room) true path id w).paths ≡ w.paths + length (listed A room id)
 
-  entry_counts : (room : ℕ) → Counts room → (wants : Bool) (path : PathV) (id : List ℕ) (w : Walk) → (walk_below blocks A (suc room) wants path id w).fault ≡ None
+  pub entry_counts : (room : ℕ) → Counts room → (wants : Bool) (path : PathV) (id : List ℕ) (w : Walk) → (walk_below blocks A (suc room) wants path id w).fault ≡ None
       → (walk_below blocks A (suc room) wants path id w).paths ≡ w.paths + length (if wants then listed A room id else [])
-  unfolding walk_below Counts
+  unfolding walk_below
   entry_counts room all true path id w none = all path id w none
   entry_counts room all false path id w none = omega (arith, file_counts room path id w)
 
@@ -101,7 +101,7 @@ module _ (blocks : Bool) (A : Objects) where
       → (walk_entries blocks A (walk_below blocks A room) path (in_name_order entries) w).paths ≡ w.paths + length (listed_from room entries)
 
   directory_counts : (room : ℕ) → FromEntries room → Counts room
-  unfolding Counts FromEntries
+  unfolding FromEntries
   directory_counts room all path id w none =
       by (is_nil id) none ∙ ap (λ xs. w.paths + length xs) (sym (listed-from room id))
     where
@@ -128,12 +128,11 @@ module _ (blocks : Bool) (A : Objects) where
   unfolding FromEntries listed_from
   from_some room all path entries w none = entries_count room all path (in_name_order entries) w none
 
-  counts_from : (room : ℕ) → Counts room
+  pub counts_from : (room : ℕ) → Counts room
   counts_from zero = directory_counts zero from_none
   counts_from (suc room) = directory_counts (suc room) (from_some room (counts_from room))
 
   -- a directory without a fault counts the paths below it
   pub counts_below : (room : ℕ) (path : PathV) (id : List ℕ) (w : Walk) → (walk_object blocks A (walk_below blocks A room) true path id w).fault ≡ None
       → (walk_object blocks A (walk_below blocks A room) true path id w).paths ≡ w.paths + length (listed A room id)
-  unfolding Counts
   counts_below room = counts_from room

@@ -18,12 +18,13 @@ use Rattle.object_graph.specs.Objects.{fs_key, fs_at, fs_in, as_read, is_nil, en
 use Rattle.object_graph.specs.Traversal.{start, walk_object, walk_below, walk_root, IsCompleteRoot}
 use Rattle.object_graph.specs.declared.entry.Entry.{Entry}
 use Rattle.object_graph.specs.declared.entry.Entry.TheVariants as entry
+use Rattle.object_graph.specs.Listing.{listed}
 use Rattle.object_graph.proofs.Below.{Ran, reaches}
 use Rattle.object_graph.proofs.Counting.{counts_below}
 use Rattle.object_graph.proofs.Entries.{In, named_member, named_name}
 use Rattle.object_graph.proofs.GoodNames.{good_names}
 use Rattle.object_graph.proofs.Limits.{root_bounded}
-use Rattle.object_graph.proofs.Listing.{listed, found_listed, tree_of, get-tree_of, len-tree_of}
+use Rattle.object_graph.proofs.Listing.{found_listed, tree_of, get-tree_of, len-tree_of}
 use Rattle.object_graph.proofs.SameBelow.{ran_root}
 
 good_member : (entries : List Dirent) (e : Dirent) → AllByRecursion (λ (e : Dirent). IsName e.name) entries → In e entries → IsName e.name

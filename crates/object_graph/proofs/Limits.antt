@@ -12,7 +12,7 @@ use Rattle.object_graph.specs.declared.fault.TreeFault.{TreeFault}
 use Rattle.object_graph.specs.declared.fault.TreeFault.TheVariants.{Incomplete, WrongSize, TooMany}
 use Rattle.object_graph.proofs.Schemes.{Step, Scheme, along_root, along_object, along_below, none_before, goes_on}
 
-pub counted_with : Walk → Bool → Walk
+unfoldable pub counted_with : Walk → Bool → Walk
 counted_with w b = if b then failed (TooMany (w.paths + 1)) (record w { paths = w.paths + 1 }) else record w { paths = w.paths + 1 }
 
 -- where a path may still be counted

@@ -19,10 +19,8 @@ use Rattle.object_graph.specs.Objects.{name_cmp, same_id, entry_named, in_name_o
 use Rattle.object_graph.specs.Traversal.{walk_object, walk_below}
 use Rattle.object_graph.specs.declared.entry.Entry.{Entry}
 use Rattle.object_graph.proofs.Entries.{names_total, same_name-true, named_in_order, Apart, apart_in_order}
+use Rattle.object_graph.specs.Listing.{Listed, prefixed, listed_entry, listed_in, listed}
 use Rattle.object_graph.proofs.Below.{Ran, entry_ran}
-
-abbrev pub Listed : Type 0
-Listed = List (PathV × Entry)
 
 abbrev pub same_path : PathV → PathV → Bool
 same_path = pointwise (pointwise nat_eq)
@@ -31,23 +29,6 @@ same_path = pointwise (pointwise nat_eq)
 abbrev pub found : PathV → Listed → Option Entry
 found q [] = None
 found q (x ∷ listed) = if same_path q x.0 then Some x.1 else found q listed
-
-abbrev pub prefixed : List ℕ → Listed → Listed
-prefixed name [] = []
-prefixed name (x ∷ listed) = (name ∷ x.0, x.1) ∷ prefixed name listed
-
--- an entry, and what lies below it
-abbrev pub listed_entry : (List ℕ → Listed) → Dirent → Listed
-listed_entry inner e = (e.name ∷ [], entry_of e) ∷ prefixed e.name (if is_directory_mode e.mode then inner e.id else [])
-
-abbrev pub listed_in : (List ℕ → Listed) → List Dirent → Listed
-listed_in inner [] = []
-listed_in inner (e ∷ entries) = listed_entry inner e ++ listed_in inner entries
-
--- what lies below a directory, in the order of its traversal, as far as there is room
-unfoldable pub listed : Objects → ℕ → List ℕ → Listed
-listed A zero id = []
-listed A (suc room) id = listed_in (listed A room) (in_name_order (dirents_at A id))
 
 -- ---- what is found in a list
 

@@ -1,4 +1,5 @@
 pub mod FsIds
+pub mod Listing
 pub mod Objects
 pub mod Traversal
 pub mod Unchanged

@@ -10,7 +10,7 @@ use Rattle.ids.specs.Key.{Objects}
 use Rattle.ids.specs.ObjectId.{nil}
 use Rattle.ids.specs.declared.key.Key.{Key}
 use Rattle.ids.specs.declared.key.Kind.TheVariants as kind
-use Rattle.tree_model.specs.Path.{PathV}
+use Rattle.tree_model.specs.Path.{PathV, path_cmp}
 use Rattle.tree_model.specs.Tree.{Tree}
 use Rattle.tree_model.specs.declared.node.Node.{Node}
 use Rattle.tree_model.specs.declared.node.Node.TheVariants as node
@@ -148,6 +148,10 @@ module _ (objects : Objects) where
   -- the entry at a path below a directory
   abbrev pub entry_below : PathV → List ℕ → Option Entry
   entry_below path id = entry_in (dirents_at id) path
+
+  -- the entries of a root: what stands at each path below it
+  abbrev pub AreEntriesOf : List ℕ → map.FinMap path_cmp Entry → Type 0
+  AreEntriesOf root entries = (path : PathV) → map.get entries path ≡ entry_below path root
 
   -- the node of a tree that an entry stands for: of a file the contents, without the size that its directory tells
   abbrev pub node_of : Entry → Node

@@ -1,4 +1,4 @@
--- What taking the last entry leaves of a `BTreeMap` seen as a finite map. The key lemma is entries_last.
+-- What taking an end entry leaves of a `BTreeMap` seen as a finite map. The key lemmas are entries_last and entries_first.
 use Rattle.std.proofs.Common.{◌≡◌, List, [], ◌∷◌, ◌++◌, All, refl, sym, ap, ◌∙◌, subst, Ordering, Less}
 use Rattle.std.specs.List.{AllByRecursion}
 use Rattle.std.specs.List.Sorted.{IsStrictlySortedBy}
@@ -32,3 +32,12 @@ entries_last {R = R} o m n e is ordered below =
     let pushed = IsStrictlySortedBy-push R (keys_of n.entries) e.0 ordered (recursion_from_All (λ q. R q e.0 ≡ Less) (keys_of n.entries) below) in
     let sorted : IsOrdered R m = subst (IsStrictlySortedBy R) (sym (ap keys_of is ∙ keys_push n.entries e)) pushed in
     entries-map_of o m sorted ∙ is ∙ ap (λ es. es ++ e ∷ []) (sym (entries-map_of o n ordered))
+
+pub entries_first : {K X : Type 0} {R : K → K → Ordering} (o : IsTotalOrder R) (m n : BTreeMap K X) (e : K × X)
+    → m.entries ≡ e ∷ n.entries → IsOrdered R n → All (λ q. R e.0 q ≡ Less) (keys_of n.entries)
+    → map.entries (map_of R m) ≡ e ∷ map.entries (map_of R n)
+unfolding IsStrictlySortedBy
+entries_first {R = R} o m n e is ordered above =
+    let first : IsStrictlySortedBy R (e.0 ∷ keys_of n.entries) = (recursion_from_All (λ q. R e.0 q ≡ Less) (keys_of n.entries) above, ordered) in
+    let sorted : IsOrdered R m = subst (IsStrictlySortedBy R) (sym (ap keys_of is)) first in
+    entries-map_of o m sorted ∙ is ∙ ap (λ es. e ∷ es) (sym (entries-map_of o n ordered))

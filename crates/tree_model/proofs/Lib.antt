@@ -18,3 +18,7 @@ pub mod NothingLost
 pub mod OneSide
 pub mod OwnDirectory
 pub mod PathTexts
+pub mod PathCountLemmas
+pub mod SortedEntries
+pub mod FirstLongName
+pub mod MergedAt

@@ -149,7 +149,7 @@ no_end : (d : PathV) (n : List ℕ) → d ++ n ∷ [] ≢ []
 no_end [] n e = cc
 no_end (m ∷ d) n e = cc
 
-last_named : (p : PathV) → p ≢ [] → IsPath p → IsName (last_name p)
+pub last_named : (p : PathV) → p ≢ [] → IsPath p → IsName (last_name p)
 last_named p other h = last p other h.named
   where
     last : (p : PathV) → p ≢ [] → AllByRecursion IsName p → IsName (last_name p)

@@ -48,7 +48,7 @@ settled_by_head s d agree = record {
 }
 
 -- entries of one directory are below the same directories
-under_sibling : (d e : PathV) (a b : List ℕ) → is_under d (e ++ a ∷ []) ≡ is_under d (e ++ b ∷ [])
+pub under_sibling : (d e : PathV) (a b : List ℕ) → is_under d (e ++ a ∷ []) ≡ is_under d (e ++ b ∷ [])
 under_sibling [] [] a b = refl
 under_sibling [] (m ∷ e) a b = refl
 under_sibling (n ∷ d) [] a b = at_end (pointwise nat_eq n a) d ∙ sym (at_end (pointwise nat_eq n b) d)

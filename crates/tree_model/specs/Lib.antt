@@ -3,6 +3,7 @@ pub mod DirectorySurvival
 pub mod FileMerge
 pub mod Name
 pub mod Path
+pub mod PathCounts
 pub mod PathOrder
 pub mod ThreeWayMerge
 pub mod Tree

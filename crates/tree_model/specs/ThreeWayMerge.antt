@@ -1,13 +1,14 @@
 -- The three-way merge of trees, with its two refusals. Our own. Read node_at, then merged, then merge.
-use Rattle.std.specs.Prelude.{◌≡◌, ℕ, ℤ, true, if◌then◌else◌, List, ◌++◌, map as map_list, length, nat_lt, ◌≤◌, ◌⊎◌, Contains, Option, Some, None, option_map}
+use Rattle.std.specs.Prelude.{◌≡◌, ◌≢◌, ℕ, ℤ, true, if◌then◌else◌, List, ◌++◌, map as map_list, length, nat_lt, ◌≤◌, ◌<◌, ◌⊎◌, All, Contains, Option, Some, None, option_map}
+use Rattle.std.specs.declared.cmp.Ordering.TheVariants.{Greater}
 use Rattle.std.specs.FinMap as map
 use Rattle.tree_model.specs.declared.node.FileVersion.{FileVersion}
 use Rattle.tree_model.specs.declared.node.Node.{Node}
 use Rattle.tree_model.specs.declared.node.Node.TheVariants.{Dir, File}
 use Rattle.tree_model.specs.Name.{IsName}
-use Rattle.tree_model.specs.Path.{PathV}
+use Rattle.tree_model.specs.Path.{PathV, path_cmp, last_name}
 use Rattle.tree_model.specs.FileMerge.{same_version}
-use Rattle.tree_model.specs.Tree.{Tree, IsAlike}
+use Rattle.tree_model.specs.Tree.{Tree, IsAlike, file_at}
 use Rattle.tree_model.specs.DirectorySurvival.{Sides, main_at, stays, paths_of_all}
 use Rattle.tree_model.specs.ConflictCopies.{Naming, told, conflicts, first_long}
 
@@ -60,3 +61,18 @@ pub record HasVersion (naming : Naming) (s : Sides) (path : PathV) (version : Fi
   pub place : (to ≡ path) ⊎ Contains (conflicts naming s) ((path, kept), to)
   pub there : map.get (merged naming s) to ≡ Some (File kept)
   pub same : same_version kept version ≡ true
+
+-- the file whose copy's name is too long is the first such file in the byte order of paths
+pub record IsFirstLong (naming : Naming) (s : Sides) (path : PathV) (bytes : ℕ) : Type 0 where
+  pub copy : (PathV × FileVersion) × PathV
+  pub listed : Contains (conflicts naming s) copy
+  pub of : copy.0.0 ≡ path
+  pub size : length (last_name copy.1) ≡ bytes
+  pub long : 255 < bytes
+  pub first : All (λ other. 255 < length (last_name other.1) → path_cmp path other.0.0 ≢ Greater) (conflicts naming s)
+
+-- a file of the merged tree stood in head or in pushed just so, at this path or where it left its name for this one
+pub record IsFromSide (naming : Naming) (s : Sides) (path : PathV) (version : FileVersion) : Type 0 where
+  pub from : PathV
+  pub side : (file_at s.head from ≡ Some version) ⊎ (file_at s.pushed from ≡ Some version)
+  pub place : (from ≡ path) ⊎ Contains (conflicts naming s) ((from, version), path)

@@ -1,15 +1,17 @@
 //! Theorems on names, paths and trees, each the contract of a function that does nothing.
-ghost use Rattle.std.specs.Prelude.{◌≡◌, ◌↔◌, ◌⊎◌, ◌∷◌, ◌++◌, List, filter, All, Some, true, false};
+ghost use Rattle.std.specs.Prelude.{◌≡◌, ℕ, None, ◌↔◌, ◌⊎◌, ◌∷◌, ◌++◌, List, filter, All, Some, true, false};
 ghost use Rattle.std.specs.FinMap as map;
 ghost use Rattle.std.specs.Ordering.{nat_cmp};
 ghost use Rattle.std.specs.Cmp.Lexicographic.{slice_cmp};
 ghost use Rattle.tree_model.specs.Path.{PathV, IsPath, path_cmp, path_text};
 ghost use Rattle.tree_model.specs.Tree.{Tree, IsTree, Fits, IsAlike, file_at};
 ghost use Rattle.tree_model.specs.ConflictCopies.{stands_in, copies_alone, leavers, Naming, conflicts, in_trees, places_of, IsLeastFree};
-ghost use Rattle.tree_model.specs.ThreeWayMerge.{merge, merged, MergedTree, MergesLike, IsNaming, HasVersion};
+ghost use Rattle.tree_model.specs.ThreeWayMerge.{merge, merged, MergedTree, MergesLike, IsNaming, HasVersion, IsFirstLong, IsFromSide, TooLong, node_at};
 ghost use Rattle.tree_model.specs.DirectorySurvival.{Sides, AgreeBelow, Stays, stays, kept_dir, HasKeptEntry, is_under};
+ghost use Rattle.tree_model.specs.PathCounts.{CountsAddUp};
 ghost use Rattle.tree_model.specs.FileMerge.{same_file};
 ghost use Rattle.tree_model.specs.declared.node.FileVersion.{FileVersion};
+ghost use Rattle.tree_model.specs.declared.node.Node.TheVariants.{File};
 
 /// Paths stand in the byte order of their texts: names joined by `/`.
 pub fn paths_are_ordered_by_the_bytes_of_their_texts()
@@ -90,4 +92,39 @@ pub fn a_part_that_pushed_left_alone_is_the_heads()
 pub fn conflict_copies_depend_on_their_directory_alone()
     ensures { (naming : Naming) → (s : Sides) → (dir : PathV)
         → filter (λ copy. stands_in dir copy.0.0) (conflicts naming s) ≡ copies_alone naming s (filter (λ file. stands_in dir file.0) (map.entries (leavers s))) }
+{}
+
+/// The paths of a tree add up, directory by directory and name by name.
+pub fn counts_of_paths_add_up()
+    ensures { (tree : Tree) → IsTree tree → CountsAddUp tree }
+{}
+
+/// Where a conflict name is refused as too long, its file is the first such one in the byte order of paths.
+pub fn the_first_name_that_is_too_long_is_the_least()
+    ensures { (naming : Naming) → (base : Tree) → (head : Tree) → (pushed : Tree) → (path : PathV) → (bytes : ℕ)
+        → merge naming base head pushed ≡ TooLong path bytes → IsFirstLong naming (record { base = base; head = head; pushed = pushed }) path bytes }
+{}
+
+/// A path of one of the three trees has in the merge the directory that survives there, or else its main file.
+pub fn a_path_of_the_trees_has_its_directory_or_its_main_file()
+    ensures { (naming : Naming) → (s : Sides) → IsNaming naming → (path : PathV) → in_trees s path ≡ true
+        → map.get (merged naming s) path ≡ node_at s path }
+{}
+
+/// Each conflict copy stands at its place, with its file's mode, time and author.
+pub fn each_conflict_copy_stands_at_its_place()
+    ensures { (naming : Naming) → (s : Sides) → IsNaming naming
+        → All (λ copy. map.get (merged naming s) copy.1 ≡ Some (File copy.0.1)) (conflicts naming s) }
+{}
+
+/// Nothing stands below a path at which no directory survives.
+pub fn nothing_stands_below_what_does_not_survive()
+    ensures { (naming : Naming) → (s : Sides) → IsNaming naming → IsTree s.base → IsTree s.head → IsTree s.pushed
+        → (dir : PathV) → (path : PathV) → stays s dir ≡ false → is_under dir path ≡ true → map.get (merged naming s) path ≡ None }
+{}
+
+/// A merge makes up no file: each of its files is one of head or of pushed as it is, at its path or as its conflict copy.
+pub fn a_merge_makes_up_no_file()
+    ensures { (naming : Naming) → (s : Sides) → IsNaming naming → (path : PathV) → (version : FileVersion)
+        → map.get (merged naming s) path ≡ Some (File version) → IsFromSide naming s path version }
 {}

@@ -31,7 +31,7 @@ impl Model for Path {
 }
 
 impl Path {
-    ghost use Rattle.std.specs.Prelude.{◌≡◌, ◌∷◌, ◌++◌, [], IfOk, OnOk, OnErr};
+    ghost use Rattle.std.specs.Prelude.{◌≡◌, ◌∷◌, ◌++◌, [], IfOk, OnOk, OnErr, MatchOption};
     ghost use Rattle.tree_model.specs.Path.{IsPath, parent_of, path_text};
 
     /// The path of the root, which has no names.
@@ -78,6 +78,17 @@ impl Path {
         let above = names_above(self.names());
         let names = copy_names(alloc, above, above.len())?;
         Ok(Path { names })
+    }
+
+    /// The directory that this entry stands in, and its own name; none for the root. It takes no memory.
+    pub fn split_last(self) -> Option<(Path, Name)>
+        ensures value { MatchOption result (self ≡ []) (λ parts. self ≡ parts.0 ++ parts.1 ∷ []) }
+    {
+        let mut names = self.names;
+        match names.pop() {
+            Some(name) => Some((Path { names }, name)),
+            None => None,
+        }
     }
 
     /// The names joined by `/`; the empty text for the root.

@@ -92,6 +92,17 @@ impl<V: Drop> PathTable<V> {
         self.held.remove(path)
     }
 
+    /// Takes the first entry out of the table, in the byte order of the paths, if there is one.
+    pub fn pop_first(&mut self) -> Option<(Path, V)>
+        ensures found { IfSome result (λ entry. map.entries self.old ≡ entry ∷ map.entries self.new) }
+        ensures ok { IfSome result (λ entry. self.new ≡ map.remove self.old entry.0) }
+        ensures value { IfSome result (λ entry. map.get self.old entry.0 ≡ Some entry.1) }
+        ensures absent { IfNone result (self.old ≡ map.empty) }
+        ensures err { IfNone result (self.new ≡ self.old) }
+    {
+        self.held.pop_first()
+    }
+
     /// Takes the last entry out of the table, in the byte order of the paths, if there is one.
     pub fn pop_last(&mut self) -> Option<(Path, V)>
         ensures found { IfSome result (λ entry. map.entries self.old ≡ map.entries self.new ++ entry ∷ []) }

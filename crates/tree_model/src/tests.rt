@@ -65,6 +65,11 @@ fn paths_stand_in_the_byte_order_of_their_texts(rt: HostRuntime) -> Result<(), F
     assert_eq!(rt; below.names().len(), 2);
     assert!(rt; below.parent(alloc)? == above && above.parent(alloc)? == Path::root(alloc));
     assert_eq!(rt; Path::root(alloc).parent(alloc)?.names().len(), 0);
+    assert!(rt; Path::root(alloc).split_last().is_none());
+    match below.copy(alloc)?.split_last() {
+        Some((dir, name)) => assert!(rt; dir == above && name.as_str() == "b"),
+        None => assert!(rt; false, "a/b is not the root"),
+    }
     let name = Name::read(alloc, "a")?;
     assert!(rt; name == name.copy(alloc)? && name < Name::read(alloc, "a!")?);
     Ok(())
@@ -92,5 +97,10 @@ fn a_table_is_gone_over_in_the_byte_order_of_its_paths(rt: HostRuntime) -> Resul
         None => assert!(rt; false, "the table has two paths"),
     }
     assert_eq!(rt; table.len(), 1);
+    table.insert(path(alloc, ["b"].as_slice())?, 4)?;
+    match table.pop_first() {
+        Some((first, value)) => assert!(rt; first.text(alloc)?.slice() == "a" && value == 3),
+        None => assert!(rt; false, "the table has two paths"),
+    }
     Ok(())
 }

@@ -1,0 +1,503 @@
+-- Directories made from the last path to the first. The key lemmas are built_start, built_more and built_all.
+use Rattle.std.proofs.Common.{◌≡◌, ◌≢◌, ℕ, ◌||◌, ◌==◌, Bool, true, false, cond, if◌then◌else◌, List, [], ◌∷◌, ◌++◌, refl, sym, ap, ap₂, ◌∙◌, subst, append_assoc, append-nil, All, Option, Some, None, is_some, IsSome, option_map, option_and_then, Less, Greater, bit_and, eqb-true, true≢false, ◌⊎◌, inl, inr}
+use Rattle.std.proofs.lemmas.List.Elements.{All-push, All-from_recursion}
+use Rattle.std.specs.FinMap as map
+use Rattle.std.specs.List.{IsDistinct}
+use Rattle.std.specs.Ordering.{ordering_reverse}
+use Rattle.std.specs.Str.{bytes_eq}
+use Rattle.ids.specs.Key.{Objects, key_cmp}
+use Rattle.tree_model.specs.Path.{PathV, path_cmp, parent_of, last_name}
+use Rattle.tree_model.specs.PathOrder.{paths_total}
+use Rattle.tree_model.proofs.Below.{parent_push, last_push}
+use Rattle.tree_model.proofs.Listed.{same_path, same_path-true, same_path-itself, same_path-apart}
+use Rattle.fs_objects.specs.Directory.{names_of}
+use Rattle.fs_objects.specs.Mode.{is_file_mode, is_directory_mode}
+use Rattle.fs_objects.specs.Proper.{IsProperEntry}
+use Rattle.fs_objects.specs.declared.dirent.Dirent.{Dirent}
+use Rattle.object_graph.specs.Objects.{fs_key, entry_named, entry_of, directory_in, entry_in, dirents_at, AreEntriesOf}
+use Rattle.object_graph.specs.Unchanged.{Keeps}
+use Rattle.object_graph.specs.declared.entry.Entry.{Entry}
+use Rattle.object_graph.specs.declared.entry.Entry.TheVariants.{Dir, File}
+use Rattle.tree_merge.specs.Sides.{Entries}
+use Rattle.tree_merge.specs.TreeBuilding.{IsSound, HasMade, IsDirectoryOf, directory_id_in, Held, held_at, emptied, Lists, IsEntryMade, IsOwn}
+use Rattle.tree_merge.proofs.TableLemmas.{get-put, apart_by}
+use Rattle.tree_merge.proofs.PathsInOrder.{before_child}
+use Rattle.tree_merge.proofs.DirentLemmas.{named_push, named_push_other, distinct_push, distinct_none}
+use Rattle.tree_merge.proofs.MadeLemmas.{kept_then, kept_itself}
+
+-- ---- what directories hold
+
+held_cond : (b : Bool) (o : Option (List Dirent)) → held_at (cond b None o) ≡ (if b then [] else held_at o)
+held_cond true o = refl
+held_cond false o = refl
+
+pub held_more : (old new : Held) (dir : PathV) (dirent : Dirent) (more : List Dirent) → more ≡ held_at (map.get old dir) ++ dirent ∷ [] → new ≡ map.insert (map.remove old dir) dir more
+    → (q : PathV) → held_at (map.get new q) ≡ (if same_path q dir then held_at (map.get old q) ++ dirent ∷ [] else held_at (map.get old q))
+held_more old new dir dirent more is put q =
+    ap held_at (ap (λ (m : Held). map.get m q) put ∙ get-put (map.remove old dir) dir more q ∙ ap (cond (same_path q dir) (Some more)) (map.get-remove paths_total old dir q))
+    ∙ by (same_path q dir) refl
+  where
+    by : (b : Bool) → same_path q dir ≡ b → held_at (cond b (Some more) (cond b None (map.get old q))) ≡ (if b then held_at (map.get old q) ++ dirent ∷ [] else held_at (map.get old q))
+    by true tie = is ∙ ap (λ (p : PathV). held_at (map.get old p) ++ dirent ∷ []) (sym (same_path-true q dir tie))
+    by false apart = refl
+
+pub emptied_is : (old removed new : Held) (path dir : PathV) (dirent : Dirent) → removed ≡ map.remove old path
+    → ((q : PathV) → held_at (map.get new q) ≡ (if same_path q dir then held_at (map.get removed q) ++ dirent ∷ [] else held_at (map.get removed q)))
+    → (q : PathV) → held_at (map.get new q) ≡ (if same_path q dir then emptied path old q ++ dirent ∷ [] else emptied path old q)
+emptied_is old removed new path dir dirent is listed q =
+    listed q ∙ ap (λ (es : List Dirent). if same_path q dir then es ++ dirent ∷ [] else es)
+    (ap held_at (ap (λ (m : Held). map.get m q) is ∙ map.get-remove paths_total old path q) ∙ held_cond (same_path q path) (map.get old q))
+
+-- ---- entries of a sound table
+
+no_end : (d : PathV) (n : List ℕ) → d ++ n ∷ [] ≢ []
+no_end [] n e = cc
+no_end (m ∷ d) n e = cc
+
+-- what has something below it is a directory
+above : (W : Entries) → IsSound W → (p : PathV) (m : List ℕ) (q : PathV) → p ≢ [] → IsSome (map.get W (p ++ m ∷ q)) → map.get W p ≡ Some Dir
+above W sound p m [] other there = sound.in_dirs p m other there
+above W sound p m (k ∷ q) other there =
+    let split : (p ++ m ∷ []) ++ k ∷ q ≡ p ++ m ∷ k ∷ q = append_assoc p (m ∷ []) (k ∷ q) in
+    let next : map.get W (p ++ m ∷ []) ≡ Some Dir = above W sound (p ++ m ∷ []) k q (no_end p m) (subst (λ (r : PathV). IsSome (map.get W r)) (sym split) there) in
+    sound.in_dirs p m other (ap is_some next)
+
+nothing_below : (W : Entries) → IsSound W → (p : PathV) (m : List ℕ) (q : PathV) → p ≢ [] → (map.get W p ≡ Some Dir → ⊥) → map.get W (p ++ m ∷ q) ≡ None
+nothing_below W sound p m q other no_dir = by (map.get W (p ++ m ∷ q)) refl
+  where
+    by : (o : Option Entry) → map.get W (p ++ m ∷ q) ≡ o → map.get W (p ++ m ∷ q) ≡ None
+    by None e = e
+    by (Some x) e = absurd (no_dir (above W sound p m q other (ap is_some e)))
+
+-- ---- directories with the same entries
+
+module _ (objects : Objects) (es fs : List Dirent) (same : (n : List ℕ) → entry_named n es ≡ entry_named n fs) where
+  entries_same : (q : PathV) → entry_in objects es q ≡ entry_in objects fs q
+  entries_same [] = refl
+  entries_same (n ∷ []) = ap (option_map entry_of) (same n)
+  entries_same (n ∷ m ∷ q) = ap (λ (o : Option Dirent). option_and_then (λ id. entry_in objects (dirents_at objects id) (m ∷ q)) (directory_in o)) (same n)
+
+  ids_same : (q : PathV) → directory_id_in objects es q ≡ directory_id_in objects fs q
+  ids_same [] = refl
+  ids_same (n ∷ []) = ap directory_in (same n)
+  ids_same (n ∷ m ∷ q) = ap (λ (o : Option Dirent). option_and_then (λ id. directory_id_in objects (dirents_at objects id) (m ∷ q)) (directory_in o)) (same n)
+
+-- what an entry's name leads to depends on that entry alone
+module _ (objects : Objects) (es fs : List Dirent) (n : List ℕ) (same : entry_named n es ≡ entry_named n fs) where
+  entry_same : (q : PathV) → entry_in objects es (n ∷ q) ≡ entry_in objects fs (n ∷ q)
+  entry_same [] = ap (option_map entry_of) same
+  entry_same (m ∷ q) = ap (λ (o : Option Dirent). option_and_then (λ id. entry_in objects (dirents_at objects id) (m ∷ q)) (directory_in o)) same
+
+  id_same : (q : PathV) → directory_id_in objects es (n ∷ q) ≡ directory_id_in objects fs (n ∷ q)
+  id_same [] = ap directory_in same
+  id_same (m ∷ q) = ap (λ (o : Option Dirent). option_and_then (λ id. directory_id_in objects (dirents_at objects id) (m ∷ q)) (directory_in o)) same
+
+nothing_named : (objects : Objects) (n : List ℕ) (q : PathV) → entry_in objects [] (n ∷ q) ≡ None
+nothing_named objects n [] = refl
+nothing_named objects n (m ∷ q) = refl
+
+-- an entry whose name leads somewhere is listed
+id_named : (objects : Objects) (es : List Dirent) (n : List ℕ) (q : PathV) (id : List ℕ) → directory_id_in objects es (n ∷ q) ≡ Some id → entry_named n es ≡ None → ⊥
+id_named objects es n [] id there none = let both : None ≡ Some id = sym (ap directory_in none) ∙ there in cc
+id_named objects es n (m ∷ q) id there none =
+    let both : None ≡ Some id = sym (ap (λ (o : Option Dirent). option_and_then (λ i. directory_id_in objects (dirents_at objects i) (m ∷ q)) (directory_in o)) none) ∙ there in cc
+
+-- ---- the invariant
+
+-- a directory's id is reached from what some directory holds that isn't made yet
+pub record Reach (R : Entries) (H : PathV → List Dirent) (M : Objects) (id : List ℕ) : Type 0 where
+  pub dir : PathV
+  pub name : List ℕ
+  pub rest : PathV
+  pub waits : (dir ≡ []) ⊎ IsSome (map.get R dir)
+  pub at : (objects : Objects) → Keeps M objects → directory_id_in objects (H dir) (name ∷ rest) ≡ Some id
+
+-- W the whole tree, R what is left of it, H what each directory has so far, M what was made
+pub record BuiltSo (W R : Entries) (H : PathV → List Dirent) (M : Objects) : Type 0 where
+  pub proper : (d : PathV) → All IsProperEntry (H d)
+  pub still : (q : PathV) → IsSome (map.get R q) → map.get R q ≡ map.get W q
+  pub gone : (q r : PathV) → IsSome (map.get W q) → map.get R q ≡ None → IsSome (map.get R r) → path_cmp r q ≡ Less
+  pub done : (objects : Objects) → Keeps M objects → (d : PathV) (n : List ℕ) (q : PathV) → (d ≡ []) ⊎ IsSome (map.get R d) → map.get R (d ++ n ∷ []) ≡ None
+      → entry_in objects (H d) (n ∷ q) ≡ map.get W (d ++ n ∷ q)
+  pub reach : (id : List ℕ) → HasMade M id → Reach R H M id
+
+pub built_start : (W : Entries) (H : PathV → List Dirent) (M : Objects) → IsSound W → ((d : PathV) → H d ≡ []) → M ≡ map.empty → BuiltSo W W H M
+built_start W H M sound none empty = record {
+  proper = λ d. subst (All IsProperEntry) (sym (none d)) all_of_none;
+  still = λ q there. refl;
+  gone = λ q r there away later. absurd (true≢false (sym there ∙ ap is_some away));
+  done = λ objects keeps d n q waits away.
+      ap (λ (es : List Dirent). entry_in objects es (n ∷ q)) (none d) ∙ nothing_named objects n q ∙ sym (below_none d n q away);
+  reach = λ id there. absurd (true≢false (sym there ∙ ap is_some (ap (λ (m : Objects). map.get m (fs_key id)) empty ∙ map.get-empty key_cmp (fs_key id))));
+}
+  where
+    all_of_none : All IsProperEntry []
+    all_of_none = All-from_recursion IsProperEntry [] tt
+
+    below_none : (d : PathV) (n : List ℕ) (q : PathV) → map.get W (d ++ n ∷ []) ≡ None → map.get W (d ++ n ∷ q) ≡ None
+    below_none d n [] away = away
+    below_none d n (m ∷ q) away =
+        ap (map.get W) (sym (append_assoc d (n ∷ []) (m ∷ q)))
+        ∙ nothing_below W sound (d ++ n ∷ []) m q (no_end d n) (λ h. differ (sym away ∙ h))
+      where
+        differ : None ≡ Some Dir → ⊥
+        differ e = cc
+
+-- ---- one entry more
+
+is_directory : (mode : ℕ) → is_file_mode mode ≡ true → is_directory_mode mode ≡ false
+is_directory mode e = ap (λ (n : ℕ). n == 0o040000) (eqb-true (bit_and mode 0o170000) 0o100000 e)
+
+-- an entry that is made has its name
+pub entry_name : (made : Objects) (n : List ℕ) (x : Entry) (es : List Dirent) (e : Dirent) → IsEntryMade made n x es e → e.name ≡ n
+entry_name made n Dir es e h = ap (λ (f : Dirent). f.name) h.is
+entry_name made n (File id mode mtime modifier size) es e h = ap (λ (f : Dirent). f.name) h
+
+module _ (W R after : Entries) (H H2 : PathV → List Dirent) (M M2 : Objects) (path d : PathV) (n : List ℕ) (x : Entry) (e : Dirent)
+    (sound : IsSound W) (so : BuiltSo W R H M) (split : path ≡ d ++ n ∷ []) (there : map.get R path ≡ Some x)
+    (popped : (q : PathV) → map.get after q ≡ cond (same_path q path) None (map.get R q))
+    (behind : (q : PathV) → path_cmp path q ≡ Less → map.get R q ≡ None)
+    (before : (q : PathV) → IsSome (map.get after q) → path_cmp q path ≡ Less)
+    (made : IsEntryMade M2 n x (H path) e) (keeps : Keeps M M2) (told : (id : List ℕ) → HasMade M2 id → (HasMade M id) ⊎ IsOwn x e id)
+    (free : entry_named n (H d) ≡ None)
+    (listed : (q : PathV) → H2 q ≡ (if same_path q d then (if same_path q path then [] else H q) ++ e ∷ [] else (if same_path q path then [] else H q))) where
+  in_whole : map.get W path ≡ Some x
+  in_whole = sym (so.still path (ap is_some there)) ∙ there
+
+  not_root : path ≢ []
+  not_root is = no_end d n (sym split ∙ is)
+
+  longer : path ≢ d
+  longer is = apart_by d path (ap (path_cmp d) split ∙ before_child d n) is
+
+  -- what the directories hold now
+  at_dir : H2 d ≡ H d ++ e ∷ []
+  at_dir =
+      listed d
+      ∙ ap₂ (λ (b c : Bool). if b then (if c then [] else H d) ++ e ∷ [] else (if c then [] else H d)) (same_path-itself d) (same_path-apart d path (λ is. longer (sym is)))
+
+  at_other : (q : PathV) → q ≢ d → q ≢ path → H2 q ≡ H q
+  at_other q other own =
+      listed q
+      ∙ ap₂ (λ (b c : Bool). if b then (if c then [] else H q) ++ e ∷ [] else (if c then [] else H q)) (same_path-apart q d other) (same_path-apart q path own)
+
+  named : e.name ≡ n
+  named = entry_name M2 n x (H path) e made
+
+  proper_entry : IsProperEntry e
+  proper_entry = by x made in_whole
+    where
+      by : (y : Entry) → IsEntryMade M2 n y (H path) e → map.get W path ≡ Some y → IsProperEntry e
+      by Dir h here = subst IsProperEntry (sym h.is) (record { known = refl; plain = λ file. (refl, refl) })
+      by (File id mode mtime modifier size) h here =
+          let file : is_file_mode mode ≡ true = sound.modes path (record { id = id; mode = mode; mtime = mtime; modifier = modifier; size = size }) here in
+          subst IsProperEntry (sym h)
+          (record { known = ap (λ (b : Bool). b || is_directory_mode mode) file; plain = λ no_file. absurd (true≢false (sym file ∙ no_file)) })
+
+  proper_more : (q : PathV) → All IsProperEntry (H2 q)
+  proper_more q = subst (All IsProperEntry) (sym (listed q)) (by (same_path q d) (same_path q path))
+    where
+      all_of_none : All IsProperEntry []
+      all_of_none = All-from_recursion IsProperEntry [] tt
+
+      by : (b c : Bool) → All IsProperEntry (if b then (if c then [] else H q) ++ e ∷ [] else (if c then [] else H q))
+      by true true = All-push IsProperEntry [] e all_of_none proper_entry
+      by true false = All-push IsProperEntry (H q) e (so.proper q) proper_entry
+      by false true = all_of_none
+      by false false = so.proper q
+
+  left : (q : PathV) → IsSome (map.get after q) → (q ≢ path) × (map.get after q ≡ map.get R q)
+  left q some = by (same_path q path) refl
+    where
+      by : (b : Bool) → same_path q path ≡ b → (q ≢ path) × (map.get after q ≡ map.get R q)
+      by true tie = absurd (true≢false (sym some ∙ ap is_some (popped q ∙ ap (λ (b : Bool). cond b None (map.get R q)) tie)))
+      by false apart = (
+        λ is. true≢false (sym (ap (λ (p : PathV). same_path p path) is ∙ same_path-itself path) ∙ apart),
+        popped q ∙ ap (λ (b : Bool). cond b None (map.get R q)) apart,
+      )
+
+  -- a path that is gone now was gone before, or is this one
+  went : (q : PathV) → map.get after q ≡ None → (q ≡ path) ⊎ (map.get R q ≡ None)
+  went q away = by (same_path q path) refl
+    where
+      by : (b : Bool) → same_path q path ≡ b → (q ≡ path) ⊎ (map.get R q ≡ None)
+      by true tie = inl (same_path-true q path tie)
+      by false apart = inr (ap (λ (b : Bool). cond b None (map.get R q)) (sym apart) ∙ sym (popped q) ∙ away)
+
+  -- the directory of this entry still waits
+  dir_waits : (d ≡ []) ⊎ IsSome (map.get after d)
+  dir_waits = by d refl
+    where
+      by : (p : PathV) → d ≡ p → (d ≡ []) ⊎ IsSome (map.get after d)
+      by [] is = inl is
+      by (m ∷ p) is = inr (still_there (map.get after d) refl)
+        where
+          some_dir : d ≢ []
+          some_dir none = let both : m ∷ p ≡ [] = sym is ∙ none in cc
+
+          in_tree : map.get W d ≡ Some Dir
+          in_tree = sound.in_dirs d n some_dir (ap (λ (q : PathV). is_some (map.get W q)) (sym split) ∙ ap is_some in_whole)
+
+          reversed : path_cmp path d ≡ Greater
+          reversed = paths_total.antisymm path d ∙ ap ordering_reverse (ap (path_cmp d) split ∙ before_child d n)
+
+          unlike : Less ≡ Greater → ⊥
+          unlike h = cc
+
+          still_there : (o : Option Entry) → map.get after d ≡ o → is_some (map.get after d) ≡ true
+          still_there (Some y) h = ap is_some h
+          still_there None h =
+              elim (went d h) [
+                | inl own ↦ absurd (longer (sym own))
+                | inr away ↦ absurd (unlike (sym (so.gone d path (ap is_some in_tree) away (ap is_some there)) ∙ reversed))
+              ]
+
+  -- the new entry leads to what the tree has there
+  right : (objects : Objects) → Keeps M2 objects → (q : PathV) → entry_in objects (H2 d) (n ∷ q) ≡ map.get W (path ++ q)
+  right objects all q =
+      ap (λ (es : List Dirent). entry_in objects es (n ∷ q)) at_dir ∙ of_entry q x made in_whole
+    where
+      here : entry_named n (H d ++ e ∷ []) ≡ Some e
+      here = named_push (H d) e n named free
+
+      no_dir : (id : List ℕ) (mode : ℕ) (y : Entry) → map.get W path ≡ Some y → y ≢ Dir → map.get W path ≡ Some Dir → ⊥
+      no_dir id mode y is other h = other (some_same y Dir (sym is ∙ h))
+        where
+          some_same : (a b : Entry) → Some a ≡ Some b → a ≡ b
+          some_same a b e = cc
+
+      of_entry : (q : PathV) (y : Entry) → IsEntryMade M2 n y (H path) e → map.get W path ≡ Some y → entry_in objects (H d ++ e ∷ []) (n ∷ q) ≡ map.get W (path ++ q)
+      of_entry [] Dir h is =
+          ap (option_map entry_of) here ∙ ap (λ (f : Dirent). Some (entry_of f)) h.is ∙ sym is ∙ ap (map.get W) (sym (append-nil path))
+      of_entry [] (File id mode mtime modifier size) h is =
+          let file : is_file_mode mode ≡ true = sound.modes path (record { id = id; mode = mode; mtime = mtime; modifier = modifier; size = size }) is in
+          ap (option_map entry_of) here ∙ ap (λ (f : Dirent). Some (entry_of f)) h
+          ∙ ap (λ (b : Bool). Some (if b then Dir else File id mode mtime modifier size)) (is_directory mode file)
+          ∙ sym is ∙ ap (map.get W) (sym (append-nil path))
+      of_entry (m ∷ q) Dir h is =
+          ap (λ (o : Option Dirent). option_and_then (λ id. entry_in objects (dirents_at objects id) (m ∷ q)) (directory_in o)) here
+          ∙ ap (λ (o : Option (List ℕ)). option_and_then (λ id. entry_in objects (dirents_at objects id) (m ∷ q)) o) (ap (λ (f : Dirent). directory_in (Some f)) h.is)
+          ∙ entries_same objects (dirents_at objects e.id) (H path) (h.lists (so.proper path) objects all) (m ∷ q)
+          ∙ so.done objects (kept_then M M2 objects keeps all) path m q (inr (ap is_some there)) (behind (path ++ m ∷ []) (before_child path m))
+      of_entry (m ∷ q) (File id mode mtime modifier size) h is =
+          let file : is_file_mode mode ≡ true = sound.modes path (record { id = id; mode = mode; mtime = mtime; modifier = modifier; size = size }) is in
+          ap (λ (o : Option Dirent). option_and_then (λ id. entry_in objects (dirents_at objects id) (m ∷ q)) (directory_in o)) here
+          ∙ ap (λ (o : Option (List ℕ)). option_and_then (λ id. entry_in objects (dirents_at objects id) (m ∷ q)) o)
+          (ap (λ (f : Dirent). directory_in (Some f)) h ∙ ap (λ (b : Bool). if b then Some id else None) (is_directory mode file))
+          ∙ sym (nothing_below W sound path m q not_root (no_dir id mode (File id mode mtime modifier size) is (λ w. cc)))
+
+  done_more : (objects : Objects) → Keeps M2 objects → (d2 : PathV) (m : List ℕ) (q : PathV) → (d2 ≡ []) ⊎ IsSome (map.get after d2) → map.get after (d2 ++ m ∷ []) ≡ None
+      → entry_in objects (H2 d2) (m ∷ q) ≡ map.get W (d2 ++ m ∷ q)
+  done_more objects all d2 m q waits away = elim (went (d2 ++ m ∷ []) away) [ inl own ↦ of_new own | inr old ↦ of_old old ]
+    where
+      was_waiting : (d2 ≡ []) ⊎ IsSome (map.get R d2)
+      was_waiting = by waits
+        where
+          by : (d2 ≡ []) ⊎ IsSome (map.get after d2) → (d2 ≡ []) ⊎ IsSome (map.get R d2)
+          by (inl root) = inl root
+          by (inr some) = inr (ap is_some (sym (left d2 some).1) ∙ some)
+
+      not_this : d2 ≢ path
+      not_this is = by waits
+        where
+          by : (d2 ≡ []) ⊎ IsSome (map.get after d2) → ⊥
+          by (inl root) = not_root (sym is ∙ root)
+          by (inr some) = (left d2 some).0 is
+
+      of_new : d2 ++ m ∷ [] ≡ path → entry_in objects (H2 d2) (m ∷ q) ≡ map.get W (d2 ++ m ∷ q)
+      of_new own =
+          let same : d2 ++ m ∷ [] ≡ d ++ n ∷ [] = own ∙ split in
+          let dir : d2 ≡ d = sym (parent_push d2 m) ∙ ap parent_of same ∙ parent_push d n in
+          let name : m ≡ n = sym (last_push d2 m) ∙ ap last_name same ∙ last_push d n in
+          ap₂ (λ (p : PathV) (k : List ℕ). entry_in objects (H2 p) (k ∷ q)) dir name ∙ right objects all q
+          ∙ ap (λ (p : PathV). map.get W (p ++ q)) (sym own) ∙ ap (map.get W) (append_assoc d2 (m ∷ []) q)
+
+      of_old : map.get R (d2 ++ m ∷ []) ≡ None → entry_in objects (H2 d2) (m ∷ q) ≡ map.get W (d2 ++ m ∷ q)
+      of_old old = by (same_path d2 d) refl ∙ so.done objects (kept_then M M2 objects keeps all) d2 m q was_waiting old
+        where
+          by : (b : Bool) → same_path d2 d ≡ b → entry_in objects (H2 d2) (m ∷ q) ≡ entry_in objects (H d2) (m ∷ q)
+          by true tie =
+              let is : d2 ≡ d = same_path-true d2 d tie in
+              let other : m ≢ e.name = λ k. gone_not (sym (ap (map.get R) (ap₂ (λ (p : PathV) (j : List ℕ). p ++ j ∷ []) is (k ∙ named) ∙ sym split)) ∙ old) in
+              ap (λ (p : PathV). entry_in objects (H2 p) (m ∷ q)) is
+              ∙ ap (λ (es : List Dirent). entry_in objects es (m ∷ q)) at_dir
+              ∙ entry_same objects (H d ++ e ∷ []) (H d) m (named_push_other (H d) e m other) q
+              ∙ ap (λ (p : PathV). entry_in objects (H p) (m ∷ q)) (sym is)
+            where
+              gone_not : map.get R path ≡ None → ⊥
+              gone_not none = let both : Some x ≡ None = sym there ∙ none in cc
+          by false apart =
+              ap (λ (es : List Dirent). entry_in objects es (m ∷ q))
+              (at_other d2 (λ is. true≢false (sym (ap (λ (p : PathV). same_path p d) is ∙ same_path-itself d) ∙ apart)) not_this)
+
+  -- what was reached from a directory's entries is reached still
+  reach_more : (id : List ℕ) → HasMade M2 id → Reach after H2 M2 id
+  reach_more id has = elim (told id has) [ inl old ↦ of_old (so.reach id old) | inr own ↦ of_own x made own ]
+    where
+      here : (objects : Objects) → entry_named n (H2 d) ≡ Some e
+      here objects = ap (entry_named n) at_dir ∙ named_push (H d) e n named free
+
+      of_own : (y : Entry) → IsEntryMade M2 n y (H path) e → IsOwn y e id → Reach after H2 M2 id
+      of_own Dir h own = record {
+        dir = d;
+        name = n;
+        rest = [];
+        waits = dir_waits;
+        at = λ objects all. ap directory_in (here objects) ∙ ap (λ (f : Dirent). directory_in (Some f)) h.is ∙ ap Some (sym own);
+      }
+      of_own (File own mode mtime modifier size) h none = absurd none
+
+      through : (m : List ℕ) (rest : PathV) → ((objects : Objects) → Keeps M objects → directory_id_in objects (H path) (m ∷ rest) ≡ Some id)
+          → (y : Entry) → IsEntryMade M2 n y (H path) e → map.get W path ≡ Some y → Reach after H2 M2 id
+      through m rest at Dir h is = record {
+        dir = d;
+        name = n;
+        rest = m ∷ rest;
+        waits = dir_waits;
+        at = λ objects all.
+            ap (λ (o : Option Dirent). option_and_then (λ i. directory_id_in objects (dirents_at objects i) (m ∷ rest)) (directory_in o)) (here objects)
+            ∙ ap (λ (o : Option (List ℕ)). option_and_then (λ i. directory_id_in objects (dirents_at objects i) (m ∷ rest)) o) (ap (λ (f : Dirent). directory_in (Some f)) h.is)
+            ∙ ids_same objects (dirents_at objects e.id) (H path) (h.lists (so.proper path) objects all) (m ∷ rest)
+            ∙ at objects (kept_then M M2 objects keeps all);
+      }
+      through m rest at (File own mode mtime modifier size) h is =
+          let empty : map.get W (path ++ m ∷ []) ≡ None = nothing_below W sound path m [] not_root (λ dir. no_dir (File own mode mtime modifier size) (λ w. cc) (sym is ∙ dir)) in
+          absurd (id_named M (H path) m rest id (at M (kept_itself M))
+          (unmapped (entry_named m (H path)) (so.done M (kept_itself M) path m [] (inr (ap is_some there)) (behind (path ++ m ∷ []) (before_child path m)) ∙ empty)))
+        where
+          no_dir : (y : Entry) → y ≢ Dir → Some y ≡ Some Dir → ⊥
+          no_dir y other h = let same : y ≡ Dir = cc in other same
+
+          unmapped : (o : Option Dirent) → option_map entry_of o ≡ None → o ≡ None
+          unmapped None h = refl
+          unmapped (Some f) h = cc
+
+      of_old : Reach R H M id → Reach after H2 M2 id
+      of_old r = by (same_path r.dir path) refl
+        where
+          waits_still : r.dir ≢ path → (r.dir ≡ []) ⊎ IsSome (map.get after r.dir)
+          waits_still other = by_waits r.waits
+            where
+              by_waits : (r.dir ≡ []) ⊎ IsSome (map.get R r.dir) → (r.dir ≡ []) ⊎ IsSome (map.get after r.dir)
+              by_waits (inl root) = inl root
+              by_waits (inr some) = inr (ap is_some (popped r.dir ∙ ap (λ (b : Bool). cond b None (map.get R r.dir)) (same_path-apart r.dir path other)) ∙ some)
+
+          by : (b : Bool) → same_path r.dir path ≡ b → Reach after H2 M2 id
+          by true tie =
+              through r.name r.rest (λ objects all. ap (λ (p : PathV). directory_id_in objects (H p) (r.name ∷ r.rest)) (sym (same_path-true r.dir path tie)) ∙ r.at objects all) x made in_whole
+          by false apart =
+              let other : r.dir ≢ path = λ is. true≢false (sym (ap (λ (p : PathV). same_path p path) is ∙ same_path-itself path) ∙ apart) in
+              record {
+                dir = r.dir;
+                name = r.name;
+                rest = r.rest;
+                waits = waits_still other;
+                at = λ objects all. same_at other objects (kept_then M M2 objects keeps all) (same_path r.dir d) refl ∙ r.at objects (kept_then M M2 objects keeps all);
+              }
+            where
+              same_at : r.dir ≢ path → (objects : Objects) → Keeps M objects → (c : Bool) → same_path r.dir d ≡ c → directory_id_in objects (H2 r.dir) (r.name ∷ r.rest) ≡ directory_id_in objects (H r.dir) (r.name ∷ r.rest)
+              same_at other objects all true tie =
+                  let is : r.dir ≡ d = same_path-true r.dir d tie in
+                  let apart_name : r.name ≢ e.name =
+                  λ k. id_named objects (H r.dir) r.name r.rest id (r.at objects all) (ap₂ (λ (p : PathV) (j : List ℕ). entry_named j (H p)) is (k ∙ named) ∙ free) in
+                  ap (λ (p : PathV). directory_id_in objects (H2 p) (r.name ∷ r.rest)) is
+                  ∙ ap (λ (es : List Dirent). directory_id_in objects es (r.name ∷ r.rest)) at_dir
+                  ∙ id_same objects (H d ++ e ∷ []) (H d) r.name (named_push_other (H d) e r.name apart_name) r.rest
+                  ∙ ap (λ (p : PathV). directory_id_in objects (H p) (r.name ∷ r.rest)) (sym is)
+              same_at other objects all false away =
+                  ap (λ (es : List Dirent). directory_id_in objects es (r.name ∷ r.rest))
+                  (at_other r.dir (λ is. true≢false (sym (ap (λ (p : PathV). same_path p d) is ∙ same_path-itself d) ∙ away)) other)
+
+  pub built_more : BuiltSo W after H2 M2
+  built_more = record {
+    proper = proper_more;
+    still = λ q some. (left q some).1 ∙ so.still q (ap is_some (sym (left q some).1) ∙ some);
+    gone = λ q r whole away some.
+        elim (went q away) [
+          | inl own ↦ ap (path_cmp r) own ∙ before r some
+          | inr old ↦ so.gone q r whole old (ap is_some (sym (left r some).1) ∙ some)
+        ];
+    done = done_more;
+    reach = reach_more;
+  }
+
+-- ---- names of what directories hold
+
+module _ (R after : Entries) (H H2 : PathV → List Dirent) (path d : PathV) (n : List ℕ) (e : Dirent) (split : path ≡ d ++ n ∷ []) (named : e.name ≡ n)
+    (free : entry_named n (H d) ≡ None)
+    (listed : (q : PathV) → H2 q ≡ (if same_path q d then (if same_path q path then [] else H q) ++ e ∷ [] else (if same_path q path then [] else H q))) where
+  pub distinct_more : ((q : PathV) → IsDistinct bytes_eq (names_of (H q))) → (q : PathV) → IsDistinct bytes_eq (names_of (H2 q))
+  distinct_more all q = subst (λ (es : List Dirent). IsDistinct bytes_eq (names_of es)) (sym (listed q)) (by (same_path q d) (same_path q path) refl)
+    where
+      by : (b c : Bool) → same_path q d ≡ b → IsDistinct bytes_eq (names_of (if b then (if c then [] else H q) ++ e ∷ [] else (if c then [] else H q)))
+      by true true tie = distinct_push [] e distinct_none refl
+      by true false tie = distinct_push (H q) e (all q) (ap₂ (λ (p : PathV) (k : List ℕ). entry_named k (H p)) (same_path-true q d tie) named ∙ free)
+      by false true tie = distinct_none
+      by false false tie = all q
+
+  pub to_do_more : ((q : PathV) → map.get after q ≡ cond (same_path q path) None (map.get R q))
+      → ((p : PathV) (k : List ℕ) → IsSome (map.get R (p ++ k ∷ [])) → entry_named k (H p) ≡ None)
+      → (p : PathV) (k : List ℕ) → IsSome (map.get after (p ++ k ∷ [])) → entry_named k (H2 p) ≡ None
+  to_do_more popped before p k some = ap (entry_named k) (listed p) ∙ by (same_path p d) (same_path p path) refl
+    where
+      waits : (c : Bool) → same_path (p ++ k ∷ []) path ≡ c → (same_path (p ++ k ∷ []) path ≡ false) × IsSome (map.get R (p ++ k ∷ []))
+      waits true tie = absurd (true≢false (sym some ∙ ap is_some (popped (p ++ k ∷ []) ∙ ap (λ (b : Bool). cond b None (map.get R (p ++ k ∷ []))) tie)))
+      waits false apart = (apart, ap is_some (sym (popped (p ++ k ∷ []) ∙ ap (λ (b : Bool). cond b None (map.get R (p ++ k ∷ []))) apart)) ∙ some)
+
+      old : entry_named k (H p) ≡ None
+      old = before p k (waits (same_path (p ++ k ∷ []) path) refl).1
+
+      other : same_path p d ≡ true → k ≢ e.name
+      other tie is =
+          let same : p ++ k ∷ [] ≡ path = ap₂ (λ (r : PathV) (j : List ℕ). r ++ j ∷ []) (same_path-true p d tie) (is ∙ named) ∙ sym split in
+          true≢false (sym (ap (λ (r : PathV). same_path r path) same ∙ same_path-itself path) ∙ (waits (same_path (p ++ k ∷ []) path) refl).0)
+
+      by : (b c : Bool) → same_path p d ≡ b → entry_named k (if b then (if c then [] else H p) ++ e ∷ [] else (if c then [] else H p)) ≡ None
+      by true true tie = named_push_other [] e k (other tie)
+      by true false tie = named_push_other (H p) e k (other tie) ∙ old
+      by false true tie = refl
+      by false false tie = old
+
+-- ---- at the end
+
+module _ (W R : Entries) (H : PathV → List Dirent) (M M2 : Objects) (root : List ℕ) (sound : IsSound W) (so : BuiltSo W R H M) (none : (q : PathV) → map.get R q ≡ None)
+    (keeps : Keeps M M2) (lists : Lists M2 root (H [])) where
+  pub built_all : (objects : Objects) → Keeps M2 objects → AreEntriesOf objects root W
+  built_all objects all [] = sound.no_root
+  built_all objects all (n ∷ q) =
+      sym (entries_same objects (dirents_at objects root) (H []) (lists (so.proper []) objects all) (n ∷ q)
+      ∙ so.done objects (kept_then M M2 objects keeps all) [] n q (inl refl) (none (n ∷ [])))
+
+  pub needed_all : ((id : List ℕ) → HasMade M2 id → (HasMade M id) ⊎ (id ≡ root)) → (id : List ℕ) → HasMade M2 id → (objects : Objects) → Keeps M2 objects → IsDirectoryOf objects root id
+  needed_all told id has objects all = elim (told id has) [ inl old ↦ of_old (so.reach id old) | inr own ↦ inl own ]
+    where
+      of_old : Reach R H M id → IsDirectoryOf objects root id
+      of_old r = by r.waits
+        where
+          by : (r.dir ≡ []) ⊎ IsSome (map.get R r.dir) → IsDirectoryOf objects root id
+          by (inr some) = absurd (true≢false (sym some ∙ ap is_some (none r.dir)))
+          by (inl top) = inr (
+            r.name ∷ r.rest,
+            ids_same objects (dirents_at objects root) (H []) (lists (so.proper []) objects all) (r.name ∷ r.rest)
+                ∙ ap (λ (p : PathV). directory_id_in objects (H p) (r.name ∷ r.rest)) (sym top) ∙ r.at objects (kept_then M M2 objects keeps all),
+          )
+
+pub same_sound : (W E : Entries) → ((q : PathV) → map.get W q ≡ map.get E q) → IsSound E → IsSound W
+same_sound W E same sound = record {
+  no_root = same [] ∙ sound.no_root;
+  in_dirs = λ d n other there. same d ∙ sound.in_dirs d n other (ap is_some (sym (same (d ++ n ∷ []))) ∙ there);
+  modes = λ q file there. sound.modes q file (sym (same q) ∙ there);
+}
+
+-- taking out the root leaves a table of entries as it is
+pub without_root : (E W : Entries) → W ≡ map.remove E [] → map.get E [] ≡ None → (q : PathV) → map.get W q ≡ map.get E q
+without_root E W is none q = ap (λ (m : Entries). map.get m q) is ∙ map.get-remove paths_total E [] q ∙ by (same_path q []) refl
+  where
+    by : (b : Bool) → same_path q [] ≡ b → cond b None (map.get E q) ≡ map.get E q
+    by true tie = sym (ap (map.get E) (same_path-true q [] tie) ∙ none)
+    by false apart = refl
+
+pub no_root_left : (E W : Entries) → W ≡ map.remove E [] → map.get W [] ≡ None
+no_root_left E W is =
+    ap (λ (m : Entries). map.get m []) is ∙ map.get-remove paths_total E [] []
+    ∙ ap (λ (b : Bool). cond b None (map.get E [])) (same_path-itself [])

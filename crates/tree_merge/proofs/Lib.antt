@@ -1,0 +1,9 @@
+pub mod BuildingLemmas
+pub mod ConflictLemmas
+pub mod DecisionLemmas
+pub mod DirentLemmas
+pub mod MadeLemmas
+pub mod PathsInOrder
+pub mod PlaceLemmas
+pub mod SideLemmas
+pub mod TableLemmas

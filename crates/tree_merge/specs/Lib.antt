@@ -1,0 +1,6 @@
+pub mod FileEntry
+pub mod FileChoice
+pub mod Sides
+pub mod TreeBuilding
+pub mod ConflictNaming
+pub mod Decision

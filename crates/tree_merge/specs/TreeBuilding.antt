@@ -1,0 +1,110 @@
+-- The objects of a tree that is given by its entries. Our own. Read IsSound, then IsDirectoryOf and IsClash.
+use Rattle.std.specs.Prelude.{◌≡◌, ◌≢◌, ◌⊎◌, ℕ, true, List, [], ◌∷◌, ◌++◌, Option, Some, None, IsSome, All, option_and_then, pos, if◌then◌else◌}
+use Rattle.std.specs.FinMap as map
+use Rattle.std.specs.Ordering.{eq_by_cmp}
+use Rattle.sha1.specs.Sha1.{sha1}
+use Rattle.ids.specs.Key.{Objects}
+use Rattle.ids.specs.ObjectId.{nil}
+use Rattle.ids.specs.declared.key.Key.{Key}
+use Rattle.ids.specs.declared.key.Kind.TheVariants as kind
+use Rattle.tree_model.specs.Path.{PathV, path_cmp}
+use Rattle.fs_objects.specs.Mode.{is_file_mode}
+use Rattle.fs_objects.specs.Proper.{IsProperEntry}
+use Rattle.fs_objects.specs.declared.dirent.Dirent.{Dirent}
+use Rattle.object_graph.specs.Objects.{fs_key, dirents_at, entry_named, directory_in}
+use Rattle.object_graph.specs.Unchanged.{Keeps}
+use Rattle.object_graph.specs.declared.entry.Entry.{Entry}
+use Rattle.object_graph.specs.declared.entry.Entry.TheVariants as entry
+use Rattle.tree_merge.specs.FileEntry.{as_entry}
+use Rattle.tree_merge.specs.Sides.{Entries}
+use Rattle.tree_merge.specs.declared.file_entry.FileEntry.{FileEntry}
+
+-- each entry stands in a directory, and each file has a file's mode
+pub record IsSound (entries : Entries) : Type 0 where
+  pub no_root : map.get entries [] ≡ None
+  pub in_dirs : (dir : PathV) (name : List ℕ) → dir ≢ [] → IsSome (map.get entries (dir ++ name ∷ [])) → map.get entries dir ≡ Some entry.Dir
+  pub modes : (path : PathV) (file : FileEntry) → map.get entries path ≡ Some (as_entry file) → is_file_mode file.mode ≡ true
+
+module _ (objects : Objects) where
+  -- the id of the directory at a path below a directory that has these entries
+  abbrev pub directory_id_in : List Dirent → PathV → Option (List ℕ)
+  directory_id_in entries [] = None
+  directory_id_in entries (name ∷ []) = directory_in (entry_named name entries)
+  directory_id_in entries (name ∷ next ∷ path) =
+      option_and_then (λ id. directory_id_in (dirents_at objects id) (next ∷ path)) (directory_in (entry_named name entries))
+
+  -- the id is that of a directory of the tree: of the root, or of one at a path below it
+  abbrev pub IsDirectoryOf : List ℕ → List ℕ → Type 0
+  IsDirectoryOf root id = (id ≡ root) ⊎ ((path : PathV) × (directory_id_in (dirents_at objects root) path ≡ Some id))
+
+-- an object was made under this id
+abbrev pub HasMade : Objects → List ℕ → Type 0
+HasMade made id = IsSome (map.get made (fs_key id))
+
+-- each object that was made is one of a file or directory, under the SHA-1 of its bytes, which isn't forty zeros
+pub record IsOwnName (key : Key) (bytes : List ℕ) : Type 0 where
+  pub is_fs : key.kind ≡ kind.Fs
+  pub is_sha1 : key.id ≡ sha1 bytes
+  pub some : key.id ≢ nil
+
+abbrev pub AreNamed : Objects → Type 0
+AreNamed made = (key : Key) (bytes : List ℕ) → map.get made key ≡ Some bytes → IsOwnName key bytes
+
+-- the SHA-1 of some bytes is forty zeros, or that of other bytes
+pub record IsClash (id : List ℕ) : Type 0 where
+  pub bytes : List ℕ
+  pub own : id ≡ sha1 bytes
+  pub clash : (id ≡ nil) ⊎ ((other : List ℕ) × (other ≢ bytes) × (id ≡ sha1 other))
+
+-- ---- for private clauses
+
+-- the entries that a directory has so far
+abbrev pub held_at : Option (List Dirent) → List Dirent
+held_at None = []
+held_at (Some entries) = entries
+
+-- the entry of a directory
+abbrev pub dirent_of : List ℕ → List ℕ → Dirent
+dirent_of name id = record { name = name; id = id; mode = 0o040000; mtime = pos 0; modifier = []; size = 0 }
+
+-- an object with these bytes was made under the id
+pub record IsMade (made : Objects) (id bytes : List ℕ) : Type 0 where
+  pub there : map.get made (fs_key id) ≡ Some bytes
+  pub some : id ≢ nil
+
+-- among all objects that have those made, the directory of this id has these entries
+abbrev pub Lists : Objects → List ℕ → List Dirent → Type 0
+Lists made id entries = All IsProperEntry entries → (objects : Objects) → Keeps made objects → (name : List ℕ) → entry_named name (dirents_at objects id) ≡ entry_named name entries
+
+-- the entry of a directory whose object lists these
+pub record IsDirectoryMade (made : Objects) (name : List ℕ) (entries : List Dirent) (dirent : Dirent) : Type 0 where
+  pub is : dirent ≡ dirent_of name dirent.id
+  pub lists : Lists made dirent.id entries
+
+-- what a directory tells of an entry
+abbrev pub IsEntryMade : Objects → List ℕ → Entry → List Dirent → Dirent → Type 0
+IsEntryMade made name entry.Dir entries dirent = IsDirectoryMade made name entries dirent
+IsEntryMade made name (entry.File id mode mtime modifier size) entries dirent =
+    dirent ≡ record { name = name; id = id; mode = mode; mtime = mtime; modifier = modifier; size = size }
+
+-- the id of the object that was made for an entry
+abbrev pub IsOwn : Entry → Dirent → List ℕ → Type 0
+IsOwn entry.Dir dirent id = id ≡ dirent.id
+IsOwn (entry.File own mode mtime modifier size) dirent id = ⊥
+
+abbrev pub Held : Type 0
+Held = map.FinMap path_cmp (List Dirent)
+
+-- what the directories have once one of them gave its entries away
+abbrev pub emptied : PathV → Held → PathV → List Dirent
+emptied path held q = if eq_by_cmp path_cmp q path then [] else held_at (map.get held q)
+
+-- an entry was listed in the directory that it stands in; its own entries are given away
+pub record HasAdded (path : PathV) (entry : Entry) (before after : Held) (old new : Objects) : Type 0 where
+  pub dir : PathV
+  pub name : List ℕ
+  pub dirent : Dirent
+  pub split : path ≡ dir ++ name ∷ []
+  pub made : IsEntryMade new name entry (held_at (map.get before path)) dirent
+  pub told : (id : List ℕ) → HasMade new id → (HasMade old id) ⊎ IsOwn entry dirent id
+  pub listed : (q : PathV) → held_at (map.get after q) ≡ (if eq_by_cmp path_cmp q dir then emptied path before q ++ dirent ∷ [] else emptied path before q)

@@ -1,0 +1,289 @@
+//! The directory objects of a tree, made of its entries by path.
+ghost use Rattle.std.specs.Prelude.{◌≡◌, ◌++◌, ◌∷◌, [], ℕ, List, IfOk, OnOk, OnErr, Ok, Err, ◌⊎◌, ◌≢◌, if◌then◌else◌};
+ghost use Rattle.std.specs.FinMap as map;
+ghost use Rattle.std.specs.List.{IsDistinct};
+ghost use Rattle.std.specs.Ordering.{eq_by_cmp};
+ghost use Rattle.std.specs.Str.{bytes_eq};
+ghost use Rattle.ids.specs.Key.{Objects};
+ghost use Rattle.tree_model.specs.Path.{PathV, path_cmp};
+ghost use Rattle.fs_objects.specs.Directory.{names_of};
+ghost use Rattle.fs_objects.specs.FsObject.{fs_of};
+ghost use Rattle.fs_objects.specs.Proper.{IsProper};
+ghost use Rattle.fs_objects.specs.Spelling.{as_written};
+ghost use Rattle.object_graph.specs.Objects.{AreEntriesOf};
+ghost use Rattle.object_graph.specs.Unchanged.{Keeps};
+ghost use Rattle.tree_merge.specs.TreeBuilding.{IsSound, AreNamed, HasAdded, IsDirectoryOf, IsClash, IsEntryMade, IsOwn, IsMade, Lists, HasMade, held_at, dirent_of};
+
+use crate::tables::put;
+use fs_objects::{DirObject, Dirent, FsObject};
+use ids::{Bytes, Items, Key, KeyTable, Kind, ObjId, Text};
+use object_graph::Entry;
+use std::alloc::{AllocError, Global};
+use tree_model::{Name, Path, PathTable};
+
+/// The mode of a directory's entry: its type alone (POSIX, `S_IFDIR`).
+const DIRECTORY_MODE: u32 = 0o040000;
+
+/// A tree as objects.
+#[derive(Drop)]
+pub struct BuiltTree {
+    /// The root directory; forty zeros for the tree of no paths.
+    pub root: ObjId,
+    /// The objects of the tree's directories, each under its key.
+    pub made: KeyTable<Bytes>,
+}
+
+/// Why a tree has no objects.
+#[derive(Drop)]
+pub enum BuildFault {
+    /// Two directory objects have this id, or it is forty zeros.
+    Taken(ObjId),
+    NoMemory,
+}
+
+impl From<AllocError> for BuildFault {
+    ghost use Rattle.std.specs.Prelude.{◌≡◌};
+    ghost use Rattle.tree_merge.specs.declared.tree_builder.BuildFault.{BuildFault};
+
+    ghost from_gives = { λ _ r. r ≡ BuildFault.NoMemory };
+
+    fn from(_fault: AllocError) -> BuildFault {
+        BuildFault::NoMemory
+    }
+}
+
+/// Makes the directory objects of a tree.
+///
+/// It goes from the last path to the first, so that each directory's entries are complete before its own object is made.
+/// Directories have mtime 0, and no object is made for an empty one.
+pub fn build(alloc: Global, mut entries: PathTable<Entry>) -> Result<BuiltTree, BuildFault>
+    ensures value { IfOk result (λ built. IsSound entries → (objects : Objects) → Keeps built.made objects → AreEntriesOf objects built.root entries) }
+    ensures needed { IfOk result (λ built. IsSound entries → (id : List ℕ) → HasMade built.made id
+        → (objects : Objects) → Keeps built.made objects → IsDirectoryOf objects built.root id) }
+    ensures kept { IfOk result (λ built. AreNamed built.made) }
+
+    // The refusal. Want of memory may come in its place.
+    ensures taken { (id : List ℕ) → result ≡ Err (BuildFault.Taken id) → IsClash id }
+{
+    drop_root(alloc, &mut entries);
+    let mut held = PathTable::new(alloc);
+    let mut made = KeyTable::new(alloc);
+    while let Some((path, entry)) = entries.pop_last() {
+        match add_entry(alloc, path, entry, &mut held, &mut made) {
+            Ok(()) => {}
+            Err(fault) => return Err(fault),
+        }
+    }
+    let root = Path::root(alloc);
+    let top = held.remove(&root);
+    match make_directory(alloc, top, &mut made) {
+        Ok(root) => Ok(BuiltTree { root, made }),
+        Err(fault) => Err(fault),
+    }
+}
+
+/// Takes out what stands at the root, which is no entry.
+fn drop_root(alloc: Global, entries: &mut PathTable<Entry>)
+    ensures ok { entries.new ≡ map.remove entries.old [] }
+{
+    let root = Path::root(alloc);
+    let _ = entries.remove(&root);
+}
+
+/// Lists an entry in the directory that it stands in. The entries of a directory are listed already.
+fn add_entry(
+    alloc: Global,
+    path: Path,
+    entry: Entry,
+    held: &mut PathTable<Items<Dirent>>,
+    made: &mut KeyTable<Bytes>,
+) -> Result<(), BuildFault>
+    requires some { path ≢ [] }
+    requires ready { IsDistinct bytes_eq (names_of (held_at (map.get held.old path))) }
+    ensures ok { OnOk result (HasAdded path entry held.old held.new made.old made.new) }
+    ensures kept { OnOk result (Keeps made.old made.new) }
+    ensures named { AreNamed made.old → AreNamed made.new }
+    ensures taken { (id : List ℕ) → AreNamed made.old → result ≡ Err (BuildFault.Taken id) → IsClash id }
+{
+    let entries = held.remove(&path);
+    let Some((dir, name)) = path.split_last() else {
+        unreachable!()
+    };
+    let dirent = match make_dirent(alloc, name, entry, entries, made) {
+        Ok(dirent) => dirent,
+        Err(fault) => return Err(fault),
+    };
+    match hold(alloc, held, dir, dirent) {
+        Ok(()) => Ok(()),
+        Err(_) => Err(BuildFault::NoMemory),
+    }
+}
+
+/// Adds an entry to those of a directory.
+fn hold(
+    alloc: Global,
+    held: &mut PathTable<Items<Dirent>>,
+    dir: Path,
+    dirent: Dirent,
+) -> Result<(), AllocError>
+    ensures ok { OnOk result ((q : PathV) → held_at (map.get held.new q)
+        ≡ (if eq_by_cmp path_cmp q dir then held_at (map.get held.old q) ++ dirent ∷ [] else held_at (map.get held.old q))) }
+{
+    let mut listed = or_new(alloc, held.remove(&dir));
+    listed.push(dirent)?;
+    put(held, dir, listed)
+}
+
+fn or_new(alloc: Global, listed: Option<Items<Dirent>>) -> Items<Dirent>
+    ensures value { result ≡ held_at listed }
+{
+    match listed {
+        Some(listed) => listed,
+        None => Items::new(alloc),
+    }
+}
+
+/// The entry of a file, or of a directory with these entries, whose object is made.
+fn make_dirent(
+    alloc: Global,
+    name: Name,
+    entry: Entry,
+    entries: Option<Items<Dirent>>,
+    made: &mut KeyTable<Bytes>,
+) -> Result<Dirent, BuildFault>
+    requires ready { IsDistinct bytes_eq (names_of (held_at entries)) }
+    ensures value { IfOk result (IsEntryMade made.new name entry (held_at entries)) }
+    ensures kept { OnOk result (Keeps made.old made.new) }
+    ensures told { IfOk result (λ dirent. (id : List ℕ) → HasMade made.new id → (HasMade made.old id) ⊎ IsOwn entry dirent id) }
+    ensures named { AreNamed made.old → AreNamed made.new }
+    ensures taken { (id : List ℕ) → AreNamed made.old → result ≡ Err (BuildFault.Taken id) → IsClash id }
+{
+    match entry {
+        Entry::File {
+            id,
+            mode,
+            mtime,
+            modifier,
+            size,
+        } => Ok(Dirent {
+            name,
+            id,
+            mode,
+            mtime,
+            modifier,
+            size,
+        }),
+        Entry::Dir => match make_directory(alloc, entries, made) {
+            Ok(id) => directory_dirent(alloc, name, id),
+            Err(fault) => Err(fault),
+        },
+    }
+}
+
+/// The entry of a directory.
+fn directory_dirent(alloc: Global, name: Name, id: ObjId) -> Result<Dirent, BuildFault>
+    ensures value { IfOk result (λ dirent. dirent ≡ dirent_of name id) }
+    ensures memory { (id : List ℕ) → result ≢ Err (BuildFault.Taken id) }
+{
+    match Text::copy(alloc, "") {
+        Ok(modifier) => Ok(Dirent {
+            name,
+            id,
+            mode: DIRECTORY_MODE,
+            mtime: 0,
+            modifier,
+            size: 0,
+        }),
+        Err(_) => Err(BuildFault::NoMemory),
+    }
+}
+
+/// The object of a directory with these entries: none where it has none.
+fn make_directory(
+    alloc: Global,
+    entries: Option<Items<Dirent>>,
+    made: &mut KeyTable<Bytes>,
+) -> Result<ObjId, BuildFault>
+    requires ready { IsDistinct bytes_eq (names_of (held_at entries)) }
+    ensures value { IfOk result (λ id. Lists made.new id (held_at entries)) }
+    ensures kept { OnOk result (Keeps made.old made.new) }
+    ensures told { IfOk result (λ own. (id : List ℕ) → HasMade made.new id → (HasMade made.old id) ⊎ (id ≡ own)) }
+    ensures named { AreNamed made.old → AreNamed made.new }
+    ensures taken { (id : List ℕ) → AreNamed made.old → result ≡ Err (BuildFault.Taken id) → IsClash id }
+{
+    match entries {
+        Some(entries) => make_listed(alloc, entries, made),
+        None => Ok(ObjId::NIL),
+    }
+}
+
+fn make_listed(
+    alloc: Global,
+    entries: Items<Dirent>,
+    made: &mut KeyTable<Bytes>,
+) -> Result<ObjId, BuildFault>
+    requires ready { IsDistinct bytes_eq (names_of entries) }
+    ensures value { IfOk result (λ id. Lists made.new id entries) }
+    ensures kept { OnOk result (Keeps made.old made.new) }
+    ensures told { IfOk result (λ own. (id : List ℕ) → HasMade made.new id → (HasMade made.old id) ⊎ (id ≡ own)) }
+    ensures named { AreNamed made.old → AreNamed made.new }
+    ensures taken { (id : List ℕ) → AreNamed made.old → result ≡ Err (BuildFault.Taken id) → IsClash id }
+{
+    match directory_text(alloc, entries) {
+        Ok(bytes) => make_object(bytes, made),
+        Err(_) => Err(BuildFault::NoMemory),
+    }
+}
+
+/// The text of a directory object with these entries.
+fn directory_text(alloc: Global, entries: Items<Dirent>) -> Result<Bytes, AllocError>
+    requires ready { IsDistinct bytes_eq (names_of entries) }
+    ensures value { IfOk result (λ text. IsProper (FsObject.Dir entries) → fs_of text ≡ Ok (as_written (FsObject.Dir entries))) }
+{
+    let object = FsObject::Dir(DirObject { entries });
+    object.write(alloc)
+}
+
+/// Keeps an object under its id. The same object is kept once.
+fn make_object(bytes: Bytes, made: &mut KeyTable<Bytes>) -> Result<ObjId, BuildFault>
+    ensures value { IfOk result (λ id. IsMade made.new id bytes) }
+    ensures kept { OnOk result (Keeps made.old made.new) }
+    ensures told { IfOk result (λ own. (id : List ℕ) → HasMade made.new id → (HasMade made.old id) ⊎ (id ≡ own)) }
+    ensures named { AreNamed made.old → AreNamed made.new }
+    ensures taken { (id : List ℕ) → AreNamed made.old → result ≡ Err (BuildFault.Taken id) → IsClash id }
+{
+    let id = ObjId::of(bytes.slice());
+    if id.is_nil() {
+        return Err(BuildFault::Taken(id));
+    }
+    let key = Key { kind: Kind::Fs, id };
+    match made.get(&key) {
+        Some(other) => {
+            if are_equal(other.slice(), bytes.slice()) {
+                return Ok(id);
+            }
+            return Err(BuildFault::Taken(id));
+        }
+        None => {}
+    }
+    match keep(made, key, bytes) {
+        Ok(()) => Ok(id),
+        Err(_) => Err(BuildFault::NoMemory),
+    }
+}
+
+fn are_equal(left: &[u8], right: &[u8]) -> bool
+    ensures value { result ≡ bytes_eq left.now right.now }
+{
+    left == right
+}
+
+fn keep(made: &mut KeyTable<Bytes>, key: Key, bytes: Bytes) -> Result<(), AllocError>
+    ensures ok { OnOk result (made.new ≡ map.insert made.old key bytes) }
+    ensures err { OnErr result (made.new ≡ made.old) }
+{
+    match made.insert(key, bytes) {
+        Ok(_) => Ok(()),
+        Err(fault) => Err(fault),
+    }
+}

@@ -1,0 +1,10 @@
+//! Stored trees, read: which objects a commit needs, what stands at each path, the bytes of files.
+#![tactic(auto)]
+
+mod fault;
+mod name_order;
+mod reading;
+mod trail;
+
+pub use crate::fault::WalkFault;
+pub use crate::reading::commit_at;

@@ -1,0 +1,68 @@
+//! Single objects, read from a store.
+ghost use Rattle.std.specs.Prelude.{◌≡◌, IfOk, Some};
+ghost use Rattle.ids.specs.Key.{Objects};
+ghost use Rattle.object_graph.specs.Objects.{fs_at, commit_at};
+ghost use Rattle.object_store.specs.StoreView.{objects_of};
+ghost use Rattle.tree_walk.specs.Reading.{AnswersRead, Reads, stored_at};
+
+use crate::fault::WalkFault;
+use commit_objects::Commit;
+use fs_objects::FsObject;
+use ids::{Bytes, Key, Kind, ObjId};
+use json_words::ReadFault;
+use object_store::{Shelf, Store, StoreFault};
+use std::alloc::Global;
+
+/// The commit that is stored under the id.
+///
+/// Incomplete where none is stored, and Unreadable where its bytes are no commit of that name.
+pub fn commit_at<S: Shelf>(alloc: Global, store: &mut Store<S>, id: ObjId) -> Result<Commit, WalkFault>
+    ensures value { (objects : Objects) → objects_of S.contents store.old ≡ Some objects → AnswersRead (commit_at objects id) result }
+    ensures kept { Reads S.contents S.may_give S.faults store.old store.new result }
+{
+    let key = &Key {
+        kind: Kind::Commit,
+        id,
+    };
+    let bytes = bytes_at(store, key)?;
+    match Commit::read(alloc, bytes.slice()) {
+        Ok(commit) => if commit.id == id {
+            Ok(commit)
+        } else {
+            Err(WalkFault::Unreadable(*key))
+        },
+        Err(ReadFault::Bad(_)) => Err(WalkFault::Unreadable(*key)),
+        Err(ReadFault::NoMemory) => Err(WalkFault::Store(StoreFault::NoMemory)),
+    }
+}
+
+/// The file or directory object that is stored under the id.
+///
+/// Incomplete where none is stored, and Unreadable where its bytes are none.
+pub fn fs_at<S: Shelf>(alloc: Global, store: &mut Store<S>, id: ObjId) -> Result<FsObject, WalkFault>
+    ensures value { (objects : Objects) → objects_of S.contents store.old ≡ Some objects → AnswersRead (fs_at objects id) result }
+    ensures kept { Reads S.contents S.may_give S.faults store.old store.new result }
+{
+    let key = &Key {
+        kind: Kind::Fs,
+        id,
+    };
+    let bytes = bytes_at(store, key)?;
+    match FsObject::read(alloc, bytes.slice()) {
+        Ok(object) => Ok(object),
+        Err(ReadFault::Bad(_)) => Err(WalkFault::Unreadable(*key)),
+        Err(ReadFault::NoMemory) => Err(WalkFault::Store(StoreFault::NoMemory)),
+    }
+}
+
+/// The bytes that are stored under the key.
+pub fn bytes_at<S: Shelf>(store: &mut Store<S>, key: &Key) -> Result<Bytes, WalkFault>
+    ensures value { (objects : Objects) → objects_of S.contents store.old ≡ Some objects → AnswersRead (stored_at objects key.now) result }
+    ensures kept { Reads S.contents S.may_give S.faults store.old store.new result }
+{
+    match store.get(*key) {
+        Ok(Some(bytes)) => Ok(bytes),
+        Ok(None) => Err(WalkFault::Incomplete(*key)),
+        Err(fault) => Err(WalkFault::Store(fault)),
+    }
+}
