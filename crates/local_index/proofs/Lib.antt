@@ -1,0 +1,5 @@
+pub mod EntriesListed
+pub mod IndexReadBack
+pub mod MergeLemmas
+pub mod PathTextLemmas
+pub mod TextLemmas

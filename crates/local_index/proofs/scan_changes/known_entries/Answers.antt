@@ -1,0 +1,13 @@
+use Rattle.std.proofs.Common.{◌≡◌, List, map, subst, IfOk}
+use Rattle.std.specs.Map.Iter.{deref_pair}
+use Rattle.std.proofs.lemmas.Iterator.Consumers.{map_from_collect}
+use Rattle.tree_model.specs.Path.{PathV}
+use Rattle.local_index.specs.declared.index.Known.{Known}
+use Rattle.local_index.proofs.EntriesListed.{listed}
+use Rattle.local_index.proofs.scan_changes.known_entries.Goals as goal
+
+pub returns : goal.returns
+returns c = record {
+  value = subst (λ (all : List (PathV × Known)). IfOk c.collect.result (λ v. map deref_pair v.items ≡ all)) c.iter.ensures.rest
+      (map_from_collect _ c.collect.ensures.ran (listed c.iter.result));
+}
