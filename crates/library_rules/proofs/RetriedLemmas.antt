@@ -12,7 +12,7 @@ use Rattle.library_state.specs.declared.reply.Reply.TheVariants as reply
 use Rattle.object_graph.specs.Objects.{same_id}
 use Rattle.library_rules.specs.Answered.{Fails}
 use Rattle.library_rules.specs.Calls.{Due, Denies, Says, token_due, act_due, may, due}
-use Rattle.library_rules.specs.Changes.{moved, is_refused, installed, head_in, act_changes, step_changes, apply, with_added, without}
+use Rattle.library_rules.specs.Changes.{moved, is_refused, installed, head_in, act_changes, step_changes, counted, apply}
 use Rattle.library_rules.specs.History.{StepPermits, Permits, after}
 use Rattle.library_rules.specs.LibraryState.{State, is_kept, head_of}
 use Rattle.library_rules.specs.Permitted.{DuePermits}
@@ -21,7 +21,7 @@ use Rattle.library_rules.specs.declared.entry.Entry.{Entry}
 use Rattle.library_rules.specs.declared.entry.Step.{Step}
 use Rattle.library_rules.specs.declared.entry.Step.TheVariants as step
 use Rattle.library_rules.proofs.Members.{or_left, or_right, same_id-itself, kept_append}
-use Rattle.library_rules.proofs.Steps.{objects_after}
+use Rattle.library_rules.proofs.Unmoved.{moved_nothing}
 
 -- ---- an update keeps its commit
 
@@ -116,29 +116,30 @@ may_due s call pushed asks is =
     ∙ ap (act_due s asks.token) asks.updates
     ∙ kept_due (is_kept s.kept pushed) (Says (reply.Updated (head_of s.kept))) _ is
 
-same_kept : (secret : Option (List ℕ)) (moment : ℕ) (pushed : List ℕ) (r : Reply) (s : State) → is_kept s.kept pushed ≡ true → (act_changes secret moment (act.Update pushed) r s).kept ≡ s.kept
-same_kept secret moment pushed r s is = by (is_kept s.kept pushed) is
+same_state : (secret : Option (List ℕ)) (moment : ℕ) (pushed : List ℕ) (r : Reply) (s : State) → is_kept s.kept pushed ≡ true → act_changes secret moment (act.Update pushed) r s ≡ s
+same_state secret moment pushed r s is = by (is_kept s.kept pushed) is
   where
-    by : (b : Bool) → b ≡ true → (cond b s (installed (head_in r pushed) pushed moment s)).kept ≡ s.kept
+    by : (b : Bool) → b ≡ true → cond b s (installed (head_in r pushed) pushed moment s) ≡ s
     by true e = refl
     by false e = absurd (true≢false (sym e))
 
-either_same : (b : Bool) (x y : State) → y.kept ≡ x.kept → (cond b x y).kept ≡ x.kept
+either_same : (b : Bool) (x y : State) → y ≡ x → cond b x y ≡ x
 either_same true x y e = refl
 either_same false x y e = e
 
--- what is kept is known again: the answer is the head, and nothing changes
+-- what is kept is known again: the answer is the head, and nothing changes but the count of faults
 pub again : (s : State) (call : Call) (pushed : List ℕ) (e : Entry) → MayUpdate s call pushed → is_kept s.kept pushed ≡ true → e.step ≡ step.Asked call → Permits s e → SaysHead s e
 again s call pushed e asks is asked permits =
     let asked_permits : StepPermits s e (step.Asked call) = subst (StepPermits s e) asked permits in
     let said : DuePermits s e (Says (reply.Updated (head_of s.kept))) = subst (DuePermits s e) (may_due s call pushed asks is) asked_permits.0 in
-    let m = moved s e.added e.removed in
-    let P : Act → Type 0 = λ a. (act_changes call.secret e.moment a e.reply m).kept ≡ s.kept in
-    let R : Step → Type 0 = λ st. (step_changes e.moment st e.reply m).kept ≡ s.kept in
-    let told = subst P (sym asks.updates) (same_kept call.secret e.moment pushed e.reply m is) in
+    let P : Act → Type 0 = λ a. act_changes call.secret e.moment a e.reply s ≡ s in
+    let R : Step → Type 0 = λ st. step_changes e.moment st e.reply s ≡ s in
+    let told = subst P (sym asks.updates) (same_state call.secret e.moment pushed e.reply s is) in
+    let unchanged : step_changes e.moment e.step e.reply s ≡ s =
+    subst R (sym asked) (either_same (is_refused e.reply) s (act_changes call.secret e.moment call.act e.reply s) told) in
+    let unmoved : moved s e.added e.removed ≡ s =
+    ap (moved s e.added) asked_permits.1 ∙ ap (λ added. moved s added []) said.1 ∙ moved_nothing s in
     record {
       answers = elim said.0 as (λ _. (e.reply ≡ reply.Updated (head_of s.kept)) ⊎ Fails s e) [ inl plain ↦ inl plain.reply | inr fails ↦ inr fails ];
-      kept = subst R (sym asked) (either_same (is_refused e.reply) m (act_changes call.secret e.moment call.act e.reply m) told);
-      objects =
-          objects_after s e ∙ ap (λ removed. without (with_added s.objects e.added) removed) asked_permits.1 ∙ ap (with_added s.objects) said.1;
+      stays = ap (λ m. counted e.faults (step_changes e.moment e.step e.reply m)) unmoved ∙ ap (counted e.faults) unchanged;
     }

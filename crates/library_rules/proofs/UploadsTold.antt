@@ -1,5 +1,5 @@
 -- What was answered as stored, or not listed as absent, is safe. The key lemmas are put_is_safe and asked_is_safe.
-use Rattle.std.proofs.Common.{◌≡◌, ◌⊎◌, inl, inr, ℕ, Bool, true, false, cond, List, [], ◌∷◌, ◌++◌, filter, Option, None, Some, option_map, refl, sym, ap, subst, ◌∙◌}
+use Rattle.std.proofs.Common.{◌≡◌, ◌⊎◌, inl, inr, ℕ, Bool, true, false, cond, List, [], ◌∷◌, ◌++◌, not, filter, Option, None, Some, option_map, refl, sym, ap, subst, ◌∙◌}
 use Rattle.std.specs.FinSet as set
 use Rattle.std.specs.List.{list_any}
 use Rattle.std.proofs.lemmas.Bool.{and_from}
@@ -13,10 +13,10 @@ use Rattle.library_state.specs.declared.reply.Reply.{Reply}
 use Rattle.library_state.specs.declared.reply.Reply.TheVariants as reply
 use Rattle.library_state.specs.declared.token.Token.{Token}
 use Rattle.object_graph.specs.Objects.{same_id, is_nil}
-use Rattle.object_graph.specs.Traversal.{is_in}
-use Rattle.object_graph.proofs.Keys.{same_key, same_key-true, same_key-itself}
+use Rattle.object_graph.specs.Traversal.{is_in, distinct_from}
+use Rattle.object_graph.proofs.Keys.{same_key, same_key-true, same_key-itself, in_distinct}
 use Rattle.library_rules.specs.Answered.{Fails}
-use Rattle.library_rules.specs.Calls.{Due, Denies, Says, Stores, Installs, Merges, keys_of, first_refusal, put_refusals, taken, put_by, put_due, absent, token_of, may, token_due, due}
+use Rattle.library_rules.specs.Calls.{Due, Denies, Says, Stores, Installs, Merges, keys_of, ids_of, first_refusal, put_refusals, taken, put_by, put_due, absent, token_of, may, token_due, due}
 use Rattle.library_rules.specs.Changes.{with_added, without, keys_added, fresher, told_by, stored_keys, moved, act_changes, step_changes, apply}
 use Rattle.library_rules.specs.History.{StepPermits, Permits}
 use Rattle.library_rules.specs.LibraryState.{State, Running, is_stored, is_needed}
@@ -27,7 +27,7 @@ use Rattle.library_rules.specs.declared.entry.Step.{Step}
 use Rattle.library_rules.specs.declared.entry.Step.TheVariants as step
 use Rattle.library_rules.specs.declared.entry.Stored.{Stored}
 use Rattle.library_rules.proofs.Keeping.{added_stored}
-use Rattle.library_rules.proofs.Members.{same_id-true, or_cases, or_left, or_right, in_all, apart}
+use Rattle.library_rules.proofs.Members.{same_id-true, same_id-itself, or_cases, or_left, or_right, in_all, apart}
 use Rattle.library_rules.proofs.Steps.{objects_after}
 
 -- ---- fresh, where a collection runs
@@ -183,7 +183,7 @@ kept_by_filter P (k ∷ keys) key e p =
 
 abbrev TellsAbsent : State → Entry → List (List ℕ) → Due → Type 0
 TellsAbsent s e ids Denies = ⊥
-TellsAbsent s e ids (Says r) = e.added ≡ []
+TellsAbsent s e ids (Says r) = (r ≡ reply.Absent ids) × (e.added ≡ [])
 TellsAbsent s e ids (Stores x) = ⊥
 TellsAbsent s e ids (Installs pushed) = ⊥
 TellsAbsent s e ids (Merges user base pushed) = ⊥
@@ -194,27 +194,53 @@ module _ (s : State) (e : Entry) (ids : List (List ℕ)) (answers : e.reply ≡ 
 
   tells_absent : (d : Due) → DuePermits s e d → TellsAbsent s e ids d
   tells_absent Denies p = elim p.0 [ inl plain ↦ let said = plain.reply in cc | inr plain ↦ let said = plain.reply in cc ]
-  tells_absent (Says r) p = p.1
+  tells_absent (Says r) p = elim p.0 as (λ _. (r ≡ reply.Absent ids) × (e.added ≡ [])) [
+    | inl plain ↦ (sym plain.reply ∙ answers, p.1)
+    | inr fails ↦ absurd (no_absent_fault fails)
+  ]
   tells_absent (Stores x) p = elim p [ inl plain ↦ let said = plain.0.reply in cc | inr fails ↦ no_absent_fault fails.0 ]
   tells_absent (Installs pushed) p = elim p.0 [ inl plain ↦ let said = plain.reply in cc | inr fails ↦ no_absent_fault fails ]
   tells_absent (Merges user base pushed) p = elim p [ inl is ↦ let said = is.says.reply in cc | inr other ↦ let said = other.reply in cc ]
 
-  absent_right : (k : Kind) (asked_ids : List (List ℕ)) (b : Bool) → TellsAbsent s e ids (cond b (Says (reply.Absent (absent s k asked_ids))) Denies) → e.added ≡ []
-  absent_right k asked_ids true told = told
+  absent_right : (k : Kind) (asked_ids : List (List ℕ)) (b : Bool) → TellsAbsent s e ids (cond b (Says (reply.Absent (absent s k asked_ids))) Denies) → (absent s k asked_ids ≡ ids) × (e.added ≡ [])
+  absent_right k asked_ids true told = let said = told.0 in let same : absent s k asked_ids ≡ ids = cc in (same, told.1)
   absent_right k asked_ids false told = absurd told
 
-  absent_token : (k : Kind) (asked_ids : List (List ℕ)) (o : Option Token) → TellsAbsent s e ids (token_due s (act.Missing k asked_ids) o) → e.added ≡ []
+  absent_token : (k : Kind) (asked_ids : List (List ℕ)) (o : Option Token) → TellsAbsent s e ids (token_due s (act.Missing k asked_ids) o) → (absent s k asked_ids ≡ ids) × (e.added ≡ [])
   absent_token k asked_ids None told = absurd told
   absent_token k asked_ids (Some token) told = absent_right k asked_ids (may token (act.Missing k asked_ids)) told
 
--- an answer of what is absent leaves each stored key safe that was asked for
+-- ---- what isn't listed is stored
+
+id_listed : (keys : List Key) (key : Key) → is_in keys key ≡ true → list_any (same_id key.id) (ids_of keys) ≡ true
+id_listed [] key e = e
+id_listed (x ∷ keys) key e = elim (or_cases (same_key key x) (is_in keys key) e) as (λ _. list_any (same_id key.id) (ids_of (x ∷ keys)) ≡ true) [
+  | inl here ↦
+      let same : key ≡ x = same_key-true key x here in
+      or_left (same_id key.id x.id) (list_any (same_id key.id) (ids_of keys)) (subst (λ (y : Key). same_id key.id y.id ≡ true) same (same_id-itself key.id))
+  | inr later ↦ or_right (same_id key.id x.id) (list_any (same_id key.id) (ids_of keys)) (id_listed keys key later)
+]
+
+unlisted_stored : (s : State) (k : Kind) (ids : List (List ℕ)) (key : Key) → is_in (keys_of k ids) key ≡ true → list_any (same_id key.id) (absent s k ids) ≡ false → is_stored s.objects key ≡ true
+unlisted_stored s k ids key among unlisted = by (is_stored s.objects key) refl
+  where
+    by : (b : Bool) → is_stored s.objects key ≡ b → b ≡ true
+    by true is = refl
+    by false is =
+        let gone = filter (λ x. not (is_stored s.objects x)) (keys_of k ids) in
+        let there : is_in gone key ≡ true = kept_by_filter (λ x. not (is_stored s.objects x)) (keys_of k ids) key among (ap not is) in
+        absurd (apart (list_any (same_id key.id) (absent s k ids)) (id_listed (distinct_from [] gone) key (in_distinct gone key ∙ there)) unlisted)
+
+-- an answer of what is absent leaves each key safe that was asked for and isn't listed
 pub asked_is_safe : (s : State) (e : Entry) (call : Call) (k : Kind) (ids listed : List (List ℕ)) → Permits s e → e.step ≡ step.Asked call → call.act ≡ act.Missing k ids → e.reply ≡ reply.Absent listed
-    → (id : List ℕ) → list_any (same_id id) ids ≡ true → is_nil id ≡ false → is_stored s.objects (record { kind = k; id = id }) ≡ true → is_safe (apply s e) (record { kind = k; id = id }) ≡ true
-asked_is_safe s e call k ids listed permits asked acts answers id among other stored =
+    → (id : List ℕ) → list_any (same_id id) ids ≡ true → is_nil id ≡ false → list_any (same_id id) listed ≡ false → is_safe (apply s e) (record { kind = k; id = id }) ≡ true
+asked_is_safe s e call k ids listed permits asked acts answers id among other unlisted =
     let key : Key = record { kind = k; id = id } in
     let asked_permits : StepPermits s e (step.Asked call) = subst (StepPermits s e) asked permits in
     let P : Act → Type 0 = λ a. TellsAbsent s e listed (token_due s a (token_of s.tokens call.secret)) in
-    let adds = absent_token s e listed answers k ids (token_of s.tokens call.secret) (subst P acts (tells_absent s e listed answers (due s call) asked_permits.0)) in
+    let lists = absent_token s e listed answers k ids (token_of s.tokens call.secret) (subst P acts (tells_absent s e listed answers (due s call) asked_permits.0)) in
+    let stored = unlisted_stored s k ids key (asked_key k ids id among other) (ap (list_any (same_id id)) lists.0 ∙ unlisted) in
+    let adds = lists.1 in
     let m = moved s e.added e.removed in
     let grown : m.objects ≡ s.objects = ap (λ removed. without (with_added s.objects e.added) removed) asked_permits.1 ∙ ap (with_added s.objects) adds in
     let now : is_stored m.objects key ≡ true = ap (λ A. is_stored A key) grown ∙ stored in

@@ -1,5 +1,5 @@
 -- How an entry of the history is answered: as it was due, or by a fault. Our own. Read Plain, then Fails.
-use Rattle.std.specs.Prelude.{◌≡◌, ◌⊎◌, []}
+use Rattle.std.specs.Prelude.{◌≡◌, ◌≢◌, ◌⊎◌, [], Some}
 use Rattle.ids.specs.FaultCount.{Rose}
 use Rattle.library_state.specs.declared.refusal.Refusal.{Refusal}
 use Rattle.library_state.specs.declared.refusal.Refusal.TheVariants as refusal
@@ -13,11 +13,11 @@ pub record Plain (s : State) (e : Entry) (r : Reply) : Type 0 where
   pub reply : e.reply ≡ r
   pub faults : e.faults ≡ s.faults
 
--- what may come in the place of an answer: want of memory; damaged bytes; a failure of the storage, and with it alone
--- the count of its failures rises
+-- what may come in the place of an answer: want of memory; an id whose bytes have another name, or are gone; a failure
+-- of the storage, and with it alone the count of its failures rises
 abbrev pub IsFault : State → Entry → Refusal → Type 0
 IsFault s e refusal.NoMemory = e.faults ≡ s.faults
-IsFault s e (refusal.Damaged want got) = e.faults ≡ s.faults
+IsFault s e (refusal.Damaged want got) = (e.faults ≡ s.faults) × (got ≢ Some want)
 IsFault s e refusal.Store = Rose s.faults e.faults
 IsFault s e other = ⊥
 

@@ -1,4 +1,4 @@
--- What the head is after an update that took in a new commit. Our own. Read TakesIn, then IsMergedHead and IsForwarded.
+-- What the head is after an update that took in a new commit, in a sound state. Our own. Read TakesIn, then IsMergedHead and IsForwarded.
 use Rattle.std.specs.Prelude.{◌≡◌, ◌⊎◌, ℕ, true, false, List}
 use Rattle.library_state.specs.declared.call.Act.TheVariants as act
 use Rattle.library_state.specs.declared.call.Call.{Call}
@@ -13,7 +13,7 @@ use Rattle.library_rules.specs.MergeCommit.{OfTrees, IsTreeAt, merge_of}
 use Rattle.library_rules.specs.declared.entry.Entry.{Entry}
 use Rattle.library_rules.specs.declared.entry.Step.TheVariants as step
 
--- a permitted update that was answered with this head, of a commit that wasn't kept
+-- in a sound state, a permitted update that was answered with this head, of a commit that wasn't kept
 pub record TakesIn (s : State) (e : Entry) (pushed new : List ℕ) : Type 0 where
   pub sound : IsSound s
   pub permits : Permits s e

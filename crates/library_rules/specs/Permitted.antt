@@ -4,7 +4,6 @@ use Rattle.library_state.specs.declared.refusal.Refusal.{Refusal}
 use Rattle.library_state.specs.declared.refusal.Refusal.TheVariants as refusal
 use Rattle.library_state.specs.declared.reply.Reply.TheVariants as reply
 use Rattle.tree_model.specs.ThreeWayMerge as merged
-use Rattle.tree_model.specs.Tree.{Tree}
 use Rattle.library_rules.specs.Answered.{Plain, IsFault, Fails, OrFails}
 use Rattle.library_rules.specs.Calls.{Due, Denies, Says, Stores, Installs, Merges}
 use Rattle.library_rules.specs.LibraryState.{State}
@@ -25,8 +24,7 @@ MergeFails s e user base pushed (refusal.TooLong path size) =
 MergeFails s e user base pushed (refusal.TooMany paths) =
     (e.added ≡ []) × (e.faults ≡ s.faults) × OfTrees s base pushed (λ sides. merge_of sides ≡ merged.TooMany paths)
 MergeFails s e user base pushed (refusal.Taken id) =
-    (e.added ≡ []) × (e.faults ≡ s.faults) × OfTrees s base pushed (λ sides. (t : Tree) × (merge_of sides ≡ merged.MergedTree t))
-    × Clashes s e.moment user pushed id
+    (e.added ≡ []) × (e.faults ≡ s.faults) × Clashes s e.moment user base pushed id
 MergeFails s e user base pushed why = IsFault s e why × ((e.added ≡ []) ⊎ Partly s e.moment user base pushed e.added)
 
 -- the merge was refused, with its cause

@@ -8,7 +8,7 @@ use Rattle.library_state.specs.declared.reply.Reply.TheVariants as reply
 use Rattle.library_state.specs.declared.token.Token.{Token}
 use Rattle.library_rules.specs.Answered.{Fails}
 use Rattle.library_rules.specs.Calls.{token_of, may}
-use Rattle.library_rules.specs.Changes.{apply}
+use Rattle.library_rules.specs.Changes.{apply, counted}
 use Rattle.library_rules.specs.History.{after}
 use Rattle.library_rules.specs.LibraryState.{State, is_kept, head_of}
 use Rattle.library_rules.specs.declared.entry.Entry.{Entry}
@@ -43,5 +43,4 @@ pub record IsRetained (start : State) (es : List Entry) (from to : ℕ) (commit 
 -- the answer is the head, or a fault, and nothing changes but the count of faults
 pub record SaysHead (s : State) (e : Entry) : Type 0 where
   pub answers : (e.reply ≡ reply.Updated (head_of s.kept)) ⊎ Fails s e
-  pub kept : (apply s e).kept ≡ s.kept
-  pub objects : (apply s e).objects ≡ s.objects
+  pub stays : apply s e ≡ counted e.faults s

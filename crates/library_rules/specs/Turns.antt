@@ -36,8 +36,8 @@ pub record IsWholeTurn (s t : State) (moment : ℕ) (removed : List Key) (es : L
   pub turn : AreOfTurn s t moment removed es
   pub steps : told_steps es ≡ begins_of s.running ++ (step.Swept, reply.Checked) ∷ (step.Ended, reply.Checked) ∷ []
 
--- a turn that is refused: as it sweeps, and what it removed is gone; or before it begins; then, and where nothing was
--- removed and no fault counted, it leaves no entry
+-- a turn that is refused: as it sweeps, and what it removed is gone, where a sweep that removed nothing and counted no
+-- fault leaves no entry; or before it begins: an entry only where a fault was counted
 pub record IsRefusedTurn (s t : State) (moment : ℕ) (why : Refusal) (removed : List Key) (es : List Entry) : Type 0 where
   pub turn : AreOfTurn s t moment removed es
   pub steps : (told_steps es ≡ begins_of s.running ++ (step.Swept, reply.Refused why) ∷ [])

@@ -1,5 +1,5 @@
 //! Theorems on the rules of a library, each the contract of a function that does nothing.
-ghost use Rattle.std.specs.Prelude.{◌≡◌, ◌++◌, ℕ, ◌≤◌, ◌<◌, true, false, List, length, Option, Ok, Some};
+ghost use Rattle.std.specs.Prelude.{◌≡◌, ◌++◌, ℕ, ◌≤◌, ◌<◌, true, false, List, [], length, Option, Ok, Some};
 ghost use Rattle.ids.specs.Key.{Objects};
 ghost use Rattle.library_state.specs.ProperState.{IsProper};
 ghost use Rattle.library_state.specs.StateSpelling.{text_of};
@@ -20,10 +20,10 @@ ghost use Rattle.library_rules.specs.declared.entry.Entry.{Entry};
 ghost use Rattle.library_rules.specs.declared.entry.Step.{Step};
 ghost use Rattle.library_rules.specs.declared.entry.Step.TheVariants.{Asked};
 
-/// A refused call leaves everything as it was, but for the objects that it stored and the count of faults.
+/// A refused call leaves everything as it was, but for what it stored, which is fresh, and the count of faults.
 pub fn a_refused_call_changes_nothing_but_what_it_stored()
-    ensures { (s : State) → (e : Entry) → (call : Call) → e.step ≡ Asked call → is_refused e.reply ≡ true
-        → apply s e ≡ counted e.faults (moved s e.added e.removed) }
+    ensures { (s : State) → (e : Entry) → (call : Call) → Permits s e → e.step ≡ Asked call → is_refused e.reply ≡ true
+        → apply s e ≡ counted e.faults (moved s e.added []) }
 {}
 
 /// What is permitted, an entry or a read, keeps a sound state sound.
@@ -82,7 +82,7 @@ pub fn a_shelf_stands_for_a_state_by_its_text_and_its_objects()
         → Keeps s.objects lying → StandsFor slot lying s }
 {}
 
-/// A sound state is written as a proper one, so that its text is read back.
+/// A sound state is written as a proper one.
 pub fn a_sound_state_is_written_as_a_proper_one()
     ensures { (s : State) → IsSound s → IsProper (written_part s) }
 {}

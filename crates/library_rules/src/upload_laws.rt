@@ -21,7 +21,7 @@ ghost use Rattle.library_rules.specs.Uploads.{is_safe, IsUploaded};
 ghost use Rattle.library_rules.specs.declared.entry.Entry.{Entry};
 ghost use Rattle.library_rules.specs.declared.entry.Step.TheVariants as step;
 
-/// As a collection ends, what is stored is needed by a kept commit or fresh.
+/// A collection that ends leaves only objects that some kept commit needs, or whose keys are fresh.
 pub fn as_a_collection_ends_what_is_stored_is_needed_or_fresh()
     ensures { (s : State) → (e : Entry) → Permits s e → e.step ≡ step.Ended → (key : Key)
         → is_stored (apply s e).objects key ≡ true
@@ -39,8 +39,8 @@ pub fn an_answered_update_keeps_its_commit()
     ensures { (s : State) → (e : Entry) → (pushed : List ℕ) → IsUpdate e pushed → is_kept (apply s e).kept pushed ≡ true }
 {}
 
-/// An update that is sent again, since its reply was lost, is answered with the head, whatever happened between, until
-/// no head update of its commit is retained.
+/// An update that is sent again, since its reply was lost, is answered with the head, or by a fault, to whoever may update,
+/// whatever happened between, until no head update of its commit is retained; and only the count of faults may change.
 pub fn an_update_sent_again_is_answered_with_the_head()
     ensures { (start : State) → (es : List Entry) → (place : ℕ) → (now : ℕ) → (first : Entry) → (pushed : List ℕ)
         → entry_at es place ≡ Some first → IsUpdate first pushed → place < now → IsRetained start es (suc place) now pushed
@@ -56,7 +56,7 @@ pub fn a_new_head_is_the_merge_of_base_old_head_and_pushed_commit()
         → (base : List ℕ) × HasBase s base pushed × IsMergedHead s (apply s e) base pushed new × IsExact s (apply s e) base pushed new }
 {}
 
-/// What is safe stays safe through every step but a begin.
+/// In a sound state, what is safe stays safe through every permitted step but a begin.
 pub fn every_step_but_a_begin_keeps_a_safe_key_safe()
     ensures { (s : State) → (e : Entry) → IsSound s → Permits s e → e.step ≢ step.Began → (key : Key)
         → is_safe s key ≡ true → is_safe (apply s e) key ≡ true }
@@ -68,16 +68,16 @@ pub fn what_was_answered_as_stored_is_safe()
         → e.step ≡ step.Asked call → call.act ≡ act.Put key bytes → e.reply ≡ reply.Stored new → is_safe (apply s e) key ≡ true }
 {}
 
-/// An answer of what is absent leaves each stored key safe that was asked for.
+/// An answer of what is absent leaves each key safe that was asked for and isn't listed; forty zeros are no key.
 pub fn what_was_not_listed_as_absent_is_safe()
     ensures { (s : State) → (e : Entry) → (call : Call) → (kind : Kind) → (ids : List (List ℕ)) → (listed : List (List ℕ)) → Permits s e
         → e.step ≡ step.Asked call → call.act ≡ act.Missing kind ids → e.reply ≡ reply.Absent listed
         → (id : List ℕ) → list_any (same_id id) ids ≡ true → is_nil id ≡ false
-        → is_stored s.objects (record { kind = kind; id = id }) ≡ true → is_safe (apply s e) (record { kind = kind; id = id }) ≡ true }
+        → list_any (same_id id) listed ≡ false → is_safe (apply s e) (record { kind = kind; id = id }) ≡ true }
 {}
 
-/// An update is refused neither as stale nor as incomplete, where its token saw the last collection begin, and each key
-/// is safe that the traversal of the pushed commit visits, and each commit from it along first parents up to a kept one.
+/// No update is late, that is stale or incomplete, whose token was checked after the last collection began, and of whose
+/// commit all is safe: what its traversal visits, and the commits on the way along first parents to a kept one.
 pub fn an_update_whose_keys_are_safe_is_neither_stale_nor_incomplete()
     ensures { (s : State) → (e : Entry) → (call : Call) → (token : Token) → (pushed : List ℕ) → Permits s e
         → e.step ≡ step.Asked call → call.act ≡ act.Update pushed → token_of s.tokens call.secret ≡ Some token

@@ -17,7 +17,7 @@ use Rattle.library_state.specs.declared.state_fault.StateKey.{StateKey}
 use Rattle.library_state.specs.declared.state_fault.StateKey.TheVariants.{Whole, Version, Collection, Days, Kept, Lib, LibName, Opening, Tokens, Extra}
 use Rattle.library_state.specs.declared.token.Token.{Token}
 
--- the last value of an opening number and of a collection number
+-- openings and collections are counted up to this number
 abbrev pub last_number : ℕ
 last_number = 2 ^ 63
 

@@ -65,6 +65,6 @@ pub enum Refusal {
     Store,
     /// The library can count no further change, or no further collection.
     Spent,
-    /// There was no memory. It may come in any other refusal's place.
+    /// There was no memory. It may come in any answer's place.
     NoMemory,
 }

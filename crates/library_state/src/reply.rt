@@ -19,8 +19,8 @@ pub enum Reply {
     Updated(ObjId),
     /// History is kept for as many days as was asked.
     Limited,
-    /// The ids that were asked for, ascending.
+    /// The files and directories that one commit needs and the other doesn't, ascending.
     Listed(IdList),
-    /// The call was refused, and the library is as it was.
+    /// The call was refused; a merge may have stored some of its objects.
     Refused(Refusal),
 }

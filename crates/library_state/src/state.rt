@@ -26,7 +26,7 @@ pub struct LibState {
     pub tokens: Items<Token>,
 }
 
-/// The last value of an opening number and of a collection number: 2^63.
+/// Openings and collections are counted up to this number: 2^63.
 pub const LAST: u64 = 9_223_372_036_854_775_808;
 
 /// The greatest number of tokens of a library.
