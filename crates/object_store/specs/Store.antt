@@ -1,6 +1,6 @@
 -- When a store refuses an object, and when it finds one damaged. Our own; an object's name is the SHA-1 of FIPS 180-4.
--- Read put_refusal first, then damage_at; then what holds of any shelf: IsDamage, IsPutFault, IsGetFault.
-use Rattle.std.specs.Prelude.{ℕ, ◌≡◌, ◌⊎◌, Bool, true, false, ◌&&◌, not, if◌then◌else◌, nat_eq, List, Option, None, Some, Result, IsTrue, IsFalse, ⊤}
+-- Read put_refusal first, then damage_at; then what holds of any shelf: IsDamage, IsPutFault, IsGetFault, IsOfStored.
+use Rattle.std.specs.Prelude.{ℕ, ◌≡◌, ◌⊎◌, Bool, true, false, ◌&&◌, not, if◌then◌else◌, nat_eq, List, Option, None, Some, Result, IsSome, IsTrue, IsFalse, ⊤}
 use Rattle.std.specs.Cmp.Lexicographic.{pointwise}
 use Rattle.std.specs.FinMap as map
 use Rattle.sha1.specs.Sha1.{sha1}
@@ -12,6 +12,8 @@ use Rattle.ids.specs.declared.key.Kind.{Kind}
 use Rattle.ids.specs.declared.key.Kind.TheVariants.{Commit, Fs, Block}
 use Rattle.object_store.specs.declared.error.StoreFault.{StoreFault}
 use Rattle.object_store.specs.declared.error.StoreFault.TheVariants.{Taken, Wrong, Damaged, Shelf, NoMemory}
+use Rattle.object_store.specs.declared.put.Put.{Put}
+use Rattle.object_store.specs.declared.put.Put.TheVariants.{New, Same}
 use Rattle.object_store.specs.declared.shelf.Slot.{Slot}
 use Rattle.object_store.specs.declared.shelf.Slot.TheVariants.{Object}
 
@@ -132,3 +134,16 @@ IsPutFault may_give key bytes (Wrong id) = (id ≡ sha1 bytes) × IsTrue (has_ot
 IsPutFault may_give key bytes (Damaged want got) = IsDamage may_give key want got
 IsPutFault may_give key bytes Shelf = ⊤
 IsPutFault may_give key bytes NoMemory = ⊤
+
+-- a refusal for what is stored comes only where the key stands in the index, with this size; Taken of nil apart
+abbrev pub IsOfStored : Option ℕ → Key → StoreFault → Type 0
+IsOfStored size key (Taken id) = IsTrue (same_bytes key.id nil) ⊎ IsSome size
+IsOfStored size key (Wrong id) = ⊤
+IsOfStored size key (Damaged want got) = IsSome size
+IsOfStored size key Shelf = ⊤
+IsOfStored size key NoMemory = ⊤
+
+-- the same is stored already: the shelf may give these very bytes
+abbrev pub IsFoundSame : (Slot → Option (List ℕ) → Type 0) → Key → List ℕ → Put → Type 0
+IsFoundSame may_give key bytes New = ⊤
+IsFoundSame may_give key bytes Same = may_give (Object key) (Some bytes)

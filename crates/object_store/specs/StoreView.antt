@@ -82,7 +82,7 @@ PutChanges contents old new key bytes (Err (Wrong id)) = Keeps contents old new
 PutChanges contents old new key bytes (Err (Damaged want got)) = Keeps contents old new
 PutChanges contents old new key bytes (Err NoMemory) = Keeps contents old new
 
--- what a removal changes: after Shelf the object is out of the index, and may lie on the shelf
+-- what a removal changes: the key and its slot; where the shelf failed the key goes, and the slot is as it was or empty
 abbrev pub RemovalChanges : {S : Type 0} → (S → Option Contents) → StoreView S → StoreView S → Key → Result ⊤ StoreFault → Type 0
 RemovalChanges contents old new key (Ok done) =
     Makes contents new (map.remove old.index key) (removed_known (contents old.shelf) (Object key))

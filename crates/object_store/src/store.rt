@@ -6,7 +6,7 @@ ghost use Rattle.ids.specs.Key.{Objects};
 ghost use Rattle.ids.specs.MapView.{IsNext};
 ghost use Rattle.ids.specs.ObjectId.{nil};
 ghost use Rattle.ids.specs.Outcome.{ExactlyWith, RefusesAs};
-ghost use Rattle.object_store.specs.Store.{CountsShelf, IsGetFault, IsPutFault, IsWhole, damage_at, has_other_name, is_free, is_want, put_refusal, same_bytes};
+ghost use Rattle.object_store.specs.Store.{CountsShelf, IsFoundSame, IsGetFault, IsOfStored, IsPutFault, IsWhole, damage_at, has_other_name, is_free, is_want, put_refusal, same_bytes};
 ghost use Rattle.object_store.specs.StoreView.{IsStarted, Keeps, NoteChanges, PutChanges, RemovalChanges, StartsSo, left_after, objects_of, status_of, with_object};
 
 use crate::changing::{put_new, remove_object};
@@ -22,7 +22,7 @@ use std::marker::Model;
 /// The objects of a library on a shelf: those that lie there and whose keys stand in the store's index, with the size of
 /// each. Over a shelf that tells what it holds, contracts see a finite map from keys to bytes (`objects_of`).
 ///
-/// A slot of the shelf is changed by one call alone, and holds the old or the new as that call returns.
+/// Each call changes at most one slot of the shelf, and leaves the old or the new in it.
 #[derive(Drop)]
 pub struct Store<S: Shelf> {
     shelf: S,
@@ -42,13 +42,11 @@ impl<S: Shelf> Model for Store<S> {
 }
 
 impl<S: Shelf> Store<S> {
-    /// The store of all that lies on the shelf. It reads the names of the three kinds by one call of `next` an object and
-    /// three more. For each object it keeps a key and a size in a tree by key: 29 bytes, and under 150 with the tree's
-    /// nodes half full. A shelf that fails is given back as it was.
+    /// The store of all that lies on the shelf. With a fault the shelf is given back, and holds what it held.
     pub fn start(alloc: Global, shelf: S) -> Result<Store<S>, (S, StoreFault)>
         ensures ok { IfOk result (IsStarted S.contents shelf) }
         ensures err { IfErr result (λ refused. S.contents refused.0 ≡ S.contents shelf) }
-        ensures no_memory { IfErr result (λ refused. IsTrue (is_free refused.1)) }
+        ensures refused { IfErr result (λ refused. IsTrue (is_free refused.1)) }
         ensures faults { StartsSo S.faults shelf result }
     {
         let mut shelf = shelf;
@@ -65,6 +63,7 @@ impl<S: Shelf> Store<S> {
         ensures ok { OnOk result (objects_of S.contents self.new ≡ with_object (objects_of S.contents self.old) key bytes.now) }
         ensures err { OnErr result (objects_of S.contents self.new ≡ objects_of S.contents self.old) }
         ensures told { IfOk result (λ put. put ≡ (if is_some (map.get self.old.index key) then Put.Same else Put.New)) }
+        ensures found { IfOk result (IsFoundSame (S.may_give self.new.shelf) key bytes.now) }
         ensures kept { status_of S.contents self.new ≡ status_of S.contents self.old }
 
         // Of every shelf: what changes in the index and on the shelf.
@@ -75,6 +74,7 @@ impl<S: Shelf> Store<S> {
         ensures wrong { ExactlyWith is_want result StoreFault.Wrong (sha1 bytes.now) (IsTrue (has_other_name key bytes.now)) }
         ensures taken { IsFalse (has_other_name key bytes.now) → IsTrue (same_bytes key.id nil) → result ≡ Err (StoreFault.Taken key.id) }
         ensures cause { IfErr result (IsPutFault (S.may_give self.new.shelf) key bytes.now) }
+        ensures stored { IfErr result (IsOfStored (map.get self.old.index key) key) }
         ensures refused { (objects : Objects) → objects_of S.contents self.old ≡ Some objects
             → RefusesAs is_free result (put_refusal objects key bytes.now) }
         ensures faults { CountsShelf (S.faults self.old.shelf) (S.faults self.new.shelf) result }
@@ -91,8 +91,8 @@ impl<S: Shelf> Store<S> {
         }
     }
 
-    /// The bytes that are stored under the key, if there are any. Bytes that the shelf gives under a wrong name are never
-    /// given on.
+    /// The bytes that are stored under the key, if there are any. Bytes of a file, a directory or a block that the shelf
+    /// gives under a wrong name are never given on.
     pub fn get(&mut self, key: Key) -> Result<Option<Bytes>, StoreFault>
         ensures found { (objects : Objects) → objects_of S.contents self.old ≡ Some objects
             → IfOk result (λ found. found ≡ map.get objects key) }
@@ -103,6 +103,7 @@ impl<S: Shelf> Store<S> {
         ensures value { IfOk result (IsWhole (S.may_give self.new.shelf) key) }
 
         ensures damaged { IfErr result (IsGetFault (S.may_give self.new.shelf) key) }
+        ensures stored { IfErr result (IsOfStored (map.get self.old.index key) key) }
         ensures refused { (objects : Objects) → objects_of S.contents self.old ≡ Some objects
             → RefusesAs is_free result (damage_at objects key) }
         ensures faults { CountsShelf (S.faults self.old.shelf) (S.faults self.new.shelf) result }
@@ -144,8 +145,8 @@ impl<S: Shelf> Store<S> {
         self.index.len() as u64
     }
 
-    /// Removes a stored object. After Ok it is neither in the index nor on the shelf. After `Shelf` it is out of the
-    /// index and may lie on the shelf. After `NoMemory` all is as before.
+    /// Removes a stored object: its key from the index, and its bytes from the shelf. A shelf that fails may keep the
+    /// bytes, and the key goes all the same. Want of memory changes nothing.
     pub fn give_up(&mut self, key: Key) -> Result<(), StoreFault>
         requires stored { IsSome (map.get self.old.index key) }
         ensures ok { objects_of S.contents self.new ≡ left_after (objects_of S.contents self.old) key result }
