@@ -1,2 +1,4 @@
+pub mod Files
+pub mod Listings
 pub mod Reading
 pub mod Trail
