@@ -1,5 +1,5 @@
 -- Calls on a store, one after another. The key lemmas are reads_then, reads_err, told_after and read_ok.
-use Rattle.std.proofs.Common.{◌≡◌, ◌↔◌, ℕ, Bool, true, false, IsTrue, List, refl, sym, ap, ◌∙◌, subst, Option, None, Some, Result, Ok, Err}
+use Rattle.std.proofs.Common.{◌≡◌, ◌≤◌, ◌↔◌, [], length, drop, drop_of_length-le, ℕ, Bool, true, false, IsTrue, List, refl, sym, ap, ◌∙◌, subst, Option, None, Some, Result, Ok, Err}
 use Rattle.std.specs.Prelude.{⊤}
 use Rattle.std.specs.Cmp.Lexicographic.{bytes_decides}
 use Rattle.ids.specs.FaultCount.{FailsBy}
@@ -42,7 +42,15 @@ module _ {S : Type 0} {contents : S → Option Contents} {may_give : S → Slot 
     count = subst (λ n. FailsBy is_counted n (faults new.shelf) result) first.count second.count;
   }
 
+  -- what a call gave doesn't matter
+  pub reads_done : {T : Type 0} {old new : StoreView S} (value : T) → Reads contents may_give faults old new (Ok value) → Reads {T = ⊤} contents may_give faults old new (Ok tt)
+  reads_done value reads = record { kept = reads.kept; cause = tt; count = reads.count }
+
   -- the same objects are told after it
   pub told_after : {T : Type 0} {old new : StoreView S} {result : Result T WalkFault} {objects : Objects} → Reads contents may_give faults old new result
       → objects_of contents old ≡ Some objects → objects_of contents new ≡ Some objects
   told_after reads told = reads.kept.objects ∙ told
+
+-- what is left behind the end of a list
+pub nothing_left : {X : Type 0} (xs : List X) (n : ℕ) → length xs ≤ n → drop n xs ≡ []
+nothing_left xs n past = drop_of_length-le xs past

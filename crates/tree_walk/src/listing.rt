@@ -84,7 +84,7 @@ fn list_directory<S: Shelf>(
     if id.is_nil() {
         return Ok(());
     }
-    let directory = match fs_at(alloc, store, *id)? {
+    let directory = match fs_at(alloc, store, id)? {
         FsObject::File(_) => return Err(WalkFault::WrongKind(*id)),
         FsObject::Dir(directory) => directory,
     };
