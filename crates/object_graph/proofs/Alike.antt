@@ -21,6 +21,9 @@ pub record Alike (V : List Key → List Key → Type 0) (w v : Walk) : Type 0 wh
   pub paths : w.paths ≡ v.paths
   pub fault : w.fault ≡ v.fault
 
+pub alike_then : {V : List Key → List Key → Type 0} → ((a b c : List Key) → V a b → V b c → V a c) → {u v w : Walk} → Alike V u v → Alike V v w → Alike V u w
+alike_then join first second = record { keys = join _ _ _ first.keys second.keys; paths = first.paths ∙ second.paths; fault = first.fault ∙ second.fault }
+
 pub record Respects (V : List Key → List Key → Type 0) (f g : Step) : Type 0 where
   pub respects : (w v : Walk) → Alike V w v → Alike V (f w) (g v)
 

@@ -14,7 +14,7 @@ use Rattle.object_graph.proofs.Entries.{nothing_in_order}
 use Rattle.object_graph.proofs.Limits.{counted_none, file_paths}
 use Rattle.object_graph.specs.Listing.{Listed, prefixed, listed_entry, listed_in, listed}
 
-length-prefixed : (name : List ℕ) (xs : Listed) → length (prefixed name xs) ≡ length xs
+pub length-prefixed : (name : List ℕ) (xs : Listed) → length (prefixed name xs) ≡ length xs
 length-prefixed name [] = refl
 length-prefixed name (x ∷ xs) = ap suc (length-prefixed name xs)
 
@@ -95,6 +95,9 @@ module _ (blocks : Bool) (A : Objects) where
   unfolding listed_from
   none_from zero = refl
   none_from (suc room) = ap (listed_in (listed A room)) nothing_in_order
+
+  pub nothing_listed : (room : ℕ) (id : List ℕ) → dirents_at A id ≡ [] → listed A room id ≡ []
+  nothing_listed room id none = listed-from room id ∙ ap (listed_from room) none ∙ none_from room
 
   FromEntries : ℕ → Type 0
   FromEntries room = (path : PathV) (entries : List Dirent) (w : Walk) → (walk_entries blocks A (walk_below blocks A room) path (in_name_order entries) w).fault ≡ None

@@ -1,5 +1,5 @@
 -- Keys in lists. The key lemmas are in_front, in_last, in_pushed and in_distinct.
-use Rattle.std.proofs.Common.{◌≡◌, ◌||◌, ◌⊎◌, inl, inr, Bool, true, false, if◌then◌else◌, List, [], ◌∷◌, ◌++◌, refl, sym, ap, ◌∙◌}
+use Rattle.std.proofs.Common.{◌≡◌, ◌||◌, ◌⊎◌, inl, inr, Bool, true, false, if◌then◌else◌, List, [], ◌∷◌, ◌++◌, refl, sym, ap, ap₂, ◌∙◌, append-nil, append_assoc}
 use Rattle.std.specs.Cmp.{tied_itself, Equal-is}
 use Rattle.std.specs.Ordering.{eq_by_cmp, is_eq}
 use Rattle.ids.specs.Key.{key_cmp}
@@ -87,3 +87,56 @@ in_distinct_from met (k ∷ keys) key = by (is_in met k) refl (λ more. in_disti
 
 pub in_distinct : (keys : List Key) (key : Key) → is_in (distinct_from [] keys) key ≡ is_in keys key
 in_distinct keys key = in_distinct_from [] keys key
+
+-- a key behind others: it is new, or was met
+or_false : (a : Bool) → (a || false) ≡ a
+or_false true = refl
+or_false false = refl
+
+or_shift : (a b c : Bool) → ((a || b) || c) ≡ (b || (a || c))
+or_shift true true c = refl
+or_shift true false c = refl
+or_shift false true c = refl
+or_shift false false c = refl
+
+if_same : (t u : Bool) (xs ys : List Key) → t ≡ u → (if t then xs else ys) ≡ (if u then xs else ys)
+if_same t u xs ys e = ap (λ b. if b then xs else ys) e
+
+pub distinct_push : (met xs : List Key) (key : Key)
+    → distinct_from met (xs ++ key ∷ []) ≡ (if is_in met key || is_in xs key then distinct_from met xs else distinct_from met xs ++ key ∷ [])
+distinct_push met [] key = if_same (is_in met key) (is_in met key || false) [] (key ∷ []) (sym (or_false (is_in met key)))
+distinct_push met (x ∷ xs) key = by (is_in met x) refl (λ more. distinct_push more xs key)
+  where
+    again : is_in met x ≡ true → (is_in met key || is_in xs key) ≡ (is_in met key || (same_key key x || is_in xs key))
+    again is = met_again (same_key key x) (is_in met key) (is_in xs key) (is_in xs key) (λ same. ap (is_in met) (same_key-true key x same) ∙ is) refl
+
+    behind : (t : Bool) → (x ∷ (if t then distinct_from (x ∷ met) xs else distinct_from (x ∷ met) xs ++ key ∷ []))
+        ≡ (if t then x ∷ distinct_from (x ∷ met) xs else (x ∷ distinct_from (x ∷ met) xs) ++ key ∷ [])
+    behind true = refl
+    behind false = refl
+
+    by : (b : Bool) → is_in met x ≡ b
+        → ((more : List Key) → distinct_from more (xs ++ key ∷ []) ≡ (if is_in more key || is_in xs key then distinct_from more xs else distinct_from more xs ++ key ∷ []))
+        → (if b then distinct_from met (xs ++ key ∷ []) else x ∷ distinct_from (x ∷ met) (xs ++ key ∷ []))
+        ≡ (if is_in met key || (same_key key x || is_in xs key) then (if b then distinct_from met xs else x ∷ distinct_from (x ∷ met) xs)
+          else (if b then distinct_from met xs else x ∷ distinct_from (x ∷ met) xs) ++ key ∷ [])
+    by true is rest = rest met ∙ if_same (is_in met key || is_in xs key) (is_in met key || (same_key key x || is_in xs key)) (distinct_from met xs) (distinct_from met xs ++ key ∷ []) (again is)
+    by false is rest =
+        ap (λ ks. x ∷ ks) (rest (x ∷ met)) ∙ behind ((same_key key x || is_in met key) || is_in xs key)
+        ∙ if_same ((same_key key x || is_in met key) || is_in xs key) (is_in met key || (same_key key x || is_in xs key)) (x ∷ distinct_from (x ∷ met) xs) ((x ∷ distinct_from (x ∷ met) xs) ++ key ∷ [])
+          (or_shift (same_key key x) (is_in met key) (is_in xs key))
+
+-- lists with the same keys in the order of first visit
+abbrev pub Once : List Key → List Key → Type 0
+Once xs ys = distinct_from [] xs ≡ distinct_from [] ys
+
+pub once_push : (xs ys : List Key) (key : Key) → Once xs ys → Once (xs ++ key ∷ []) (ys ++ key ∷ [])
+once_push xs ys key once =
+    distinct_push [] xs key
+    ∙ ap₂ (λ (b : Bool) (ks : List Key). if b then ks else ks ++ key ∷ []) (sym (in_distinct xs key) ∙ ap (λ ks. is_in ks key) once ∙ in_distinct ys key) once
+    ∙ sym (distinct_push [] ys key)
+
+pub once_append : (xs ys zs : List Key) → Once xs ys → Once (xs ++ zs) (ys ++ zs)
+once_append xs ys [] once = ap (distinct_from []) (append-nil xs) ∙ once ∙ ap (distinct_from []) (sym (append-nil ys))
+once_append xs ys (z ∷ zs) once =
+    ap (distinct_from []) (sym (append_assoc xs (z ∷ []) zs)) ∙ once_append (xs ++ z ∷ []) (ys ++ z ∷ []) zs (once_push xs ys z once) ∙ ap (distinct_from []) (append_assoc ys (z ∷ []) zs)

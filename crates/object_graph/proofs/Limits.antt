@@ -119,6 +119,17 @@ counted_fits w few = by (nat_lt 1000000 (w.paths + 1)) refl
         too_many h = omega arith
     by false is = refl
 
+pub counted_over : (w : Walk) → 1000000 < w.paths + 1 → counted w ≡ failed (TooMany (w.paths + 1)) (record w { paths = w.paths + 1 })
+unfolding counted_with
+counted_over w many = by (nat_lt 1000000 (w.paths + 1)) refl
+  where
+    by : (b : Bool) → nat_lt 1000000 (w.paths + 1) ≡ b → counted_with w b ≡ failed (TooMany (w.paths + 1)) (record w { paths = w.paths + 1 })
+    by true is = refl
+    by false is = absurd (too_few (ltb-false 1000000 (w.paths + 1) is))
+      where
+        too_few : w.paths + 1 ≤ 1000000 → ⊥
+        too_few h = omega arith
+
 -- where one step has no fault, the other has none, from a start that has counted so many paths less
 pub record Spares (less : ℕ) (f g : Step) : Type 0 where
   pub none : (w v : Walk) → w.paths ≡ v.paths + less → v.fault ≡ None → (f w).fault ≡ None → (g v).fault ≡ None

@@ -16,10 +16,11 @@ use Rattle.tree_model.specs.declared.node.Node.{Node}
 use Rattle.fs_objects.specs.Mode.{is_directory_mode}
 use Rattle.fs_objects.specs.declared.dirent.Dirent.{Dirent}
 use Rattle.object_graph.specs.Objects.{name_cmp, same_id, entry_named, in_name_order, entry_of, directory_in, dirents_at, entry_in, entry_below, node_of}
-use Rattle.object_graph.specs.Traversal.{walk_object, walk_below}
+use Rattle.object_graph.specs.Traversal.{start, walk_object, walk_below, walk_root}
 use Rattle.object_graph.specs.declared.entry.Entry.{Entry}
 use Rattle.object_graph.proofs.Entries.{names_total, same_name-true, named_in_order, Apart, apart_in_order}
 use Rattle.object_graph.specs.Listing.{Listed, prefixed, listed_entry, listed_in, listed}
+use Rattle.object_graph.proofs.Keys.{within_itself}
 use Rattle.object_graph.proofs.Below.{Ran, entry_ran}
 
 abbrev pub same_path : PathV → PathV → Bool
@@ -165,7 +166,18 @@ module _ (blocks : Bool) (A : Objects) where
           within e (is_directory_mode e.mode)
           (subst (λ r. Ran (walk_object blocks A (walk_below blocks A r) (is_directory_mode e.mode) (path ++ e.name ∷ []) e.id) visits) less here.2) more
 
--- ---- the tree that a list makes
+-- ---- the table and the tree that a list makes
+
+pub find-listed : (q : PathV) (xs : Listed) → map.find path_cmp q xs ≡ found q xs
+find-listed q [] = refl
+find-listed q (x ∷ xs) = ap₂ (λ (b : Bool) (o : Option Entry). cond b (Some x.1) o) (sym (paths_tie q x.0)) (find-listed q xs)
+
+pub table_entries : (blocks : Bool) (A : Objects) (root : List ℕ) → (walk_root blocks A root start).fault ≡ None → (path : PathV)
+    → map.get (map.from_entries {R = path_cmp} (listed A 100 root)) path ≡ entry_below A path root
+table_entries blocks A root none path =
+    map.get-from_entries paths_total (listed A 100 root) path ∙ find-listed path (listed A 100 root)
+    ∙ found_listed blocks A path 100 [] root (walk_root blocks A root start).visits
+      (record { from = start; none = none; within = within_itself (walk_root blocks A root start).visits })
 
 abbrev pub nodes : Objects → Listed → List (PathV × Node)
 nodes A [] = []

@@ -24,6 +24,10 @@ abbrev pub needs_if : Objects → Option (List ℕ) → List Key
 needs_if objects None = []
 needs_if objects (Some id) = needs objects id
 
+-- the ids of files and directories among some keys that aren't among others, in ascending order
+abbrev pub fs_ids_of : (wanted known : List Key) → List (List ℕ)
+fs_ids_of wanted known = map.keys (map.retain_keys (fs_ids_among wanted) (λ id. not (is_in known (fs_key id))))
+
 -- the ids of the file and directory objects that the server's commit needs and the client's doesn't, in ascending order
 unfoldable pub fs_ids : Objects → (server : List ℕ) → (client : Option (List ℕ)) → List (List ℕ)
-fs_ids objects server client = map.keys (map.retain_keys (fs_ids_among (needs objects server)) (λ id. not (is_in (needs_if objects client) (fs_key id))))
+fs_ids objects server client = fs_ids_of (needs objects server) (needs_if objects client)

@@ -1,6 +1,7 @@
 //! Why a commit, a tree or a file could not be read from a store.
 use ids::{Key, ObjId};
 use object_store::StoreFault;
+use std::alloc::AllocError;
 use tree_model::Path;
 
 /// The first thing that is wrong, in the order of the traversal, or a failure of the store.
@@ -20,4 +21,17 @@ pub enum WalkFault {
     TooMany(u64),
     /// The store failed, by its `Damaged`, `Shelf` or `NoMemory`.
     Store(StoreFault),
+}
+
+impl From<AllocError> for WalkFault {
+    ghost use Rattle.std.specs.Prelude.{◌≡◌};
+    ghost use Rattle.object_store.specs.declared.error.StoreFault.{StoreFault};
+    ghost use Rattle.object_store.specs.declared.error.StoreFault.TheVariants.{NoMemory};
+    ghost use Rattle.tree_walk.specs.declared.fault.WalkFault.{WalkFault};
+
+    ghost from_gives = { λ _ r. r ≡ WalkFault.Store NoMemory };
+
+    fn from(_fault: AllocError) -> WalkFault {
+        WalkFault::Store(StoreFault::NoMemory)
+    }
 }

@@ -1,7 +1,7 @@
 //! Single objects, read from a store.
 ghost use Rattle.std.specs.Prelude.{◌≡◌, IfOk, Some};
 ghost use Rattle.ids.specs.Key.{Objects};
-ghost use Rattle.object_graph.specs.Objects.{fs_at, commit_at};
+ghost use Rattle.object_graph.specs.Objects.{fs_at, commit_at, block_key, fs_key, commit_key};
 ghost use Rattle.object_store.specs.StoreView.{objects_of};
 ghost use Rattle.tree_walk.specs.Reading.{AnswersRead, Reads, stored_at};
 
@@ -20,13 +20,11 @@ pub fn commit_at<S: Shelf>(alloc: Global, store: &mut Store<S>, id: ObjId) -> Re
     ensures value { (objects : Objects) → objects_of S.contents store.old ≡ Some objects → AnswersRead (commit_at objects id) result }
     ensures kept { Reads S.contents S.may_give S.faults store.old store.new result }
 {
-    let key = &Key {
-        kind: Kind::Commit,
-        id,
-    };
+    let id = &id;
+    let key = &commit_key(id);
     let bytes = bytes_at(store, key)?;
     match Commit::read(alloc, bytes.slice()) {
-        Ok(commit) => if commit.id == id {
+        Ok(commit) => if commit.id == *id {
             Ok(commit)
         } else {
             Err(WalkFault::Unreadable(*key))
@@ -39,14 +37,11 @@ pub fn commit_at<S: Shelf>(alloc: Global, store: &mut Store<S>, id: ObjId) -> Re
 /// The file or directory object that is stored under the id.
 ///
 /// Incomplete where none is stored, and Unreadable where its bytes are none.
-pub fn fs_at<S: Shelf>(alloc: Global, store: &mut Store<S>, id: ObjId) -> Result<FsObject, WalkFault>
-    ensures value { (objects : Objects) → objects_of S.contents store.old ≡ Some objects → AnswersRead (fs_at objects id) result }
+pub fn fs_at<S: Shelf>(alloc: Global, store: &mut Store<S>, id: &ObjId) -> Result<FsObject, WalkFault>
+    ensures value { (objects : Objects) → objects_of S.contents store.old ≡ Some objects → AnswersRead (fs_at objects id.now) result }
     ensures kept { Reads S.contents S.may_give S.faults store.old store.new result }
 {
-    let key = &Key {
-        kind: Kind::Fs,
-        id,
-    };
+    let key = &fs_key(id);
     let bytes = bytes_at(store, key)?;
     match FsObject::read(alloc, bytes.slice()) {
         Ok(object) => Ok(object),
@@ -64,5 +59,35 @@ pub fn bytes_at<S: Shelf>(store: &mut Store<S>, key: &Key) -> Result<Bytes, Walk
         Ok(Some(bytes)) => Ok(bytes),
         Ok(None) => Err(WalkFault::Incomplete(*key)),
         Err(fault) => Err(WalkFault::Store(fault)),
+    }
+}
+
+/// The key of a block.
+pub fn block_key(id: &ObjId) -> Key
+    ensures value { result ≡ block_key id.now }
+{
+    Key {
+        kind: Kind::Block,
+        id: *id,
+    }
+}
+
+/// The key of a file or directory object.
+pub fn fs_key(id: &ObjId) -> Key
+    ensures value { result ≡ fs_key id.now }
+{
+    Key {
+        kind: Kind::Fs,
+        id: *id,
+    }
+}
+
+/// The key of a commit.
+pub fn commit_key(id: &ObjId) -> Key
+    ensures value { result ≡ commit_key id.now }
+{
+    Key {
+        kind: Kind::Commit,
+        id: *id,
     }
 }

@@ -6,6 +6,7 @@ use std::alloc::{AllocError, Global};
 use tree_model::{Name, Path};
 
 /// The names from the root on, each lent by its directory.
+#[derive(Drop)]
 pub enum Trail<'a> {
     Root,
     Below(&'a Trail<'a>, &'a Name),
