@@ -1,0 +1,8 @@
+pub mod Retention
+pub mod Rights
+pub mod ProperState
+pub mod StateSpelling
+pub mod StateText
+pub mod Tokens
+pub mod TypedState
+pub mod TokenReading

@@ -1,19 +1,36 @@
-//! What is asked of a library and what it answers: secrets, tags, calls, replies and refusals.
+//! What a library knows and what is asked of it: its state, tokens and history, calls, replies and refusals.
 //!
-//! Shown upward: `Secret`, `Tag`, `Call`, `Act`, `Reply`, `Refusal`. Of the acts of a library those on blocks
-//! stand here so far. It answers no call itself.
+//! Shown upward: `LibState` with `read`, `write` and `cut`; `Secret`, `Right`, `Token`, `Install`, `History`, `Tag`;
+//! `Call`, `Act`, `Op`, `Reply`, `Refusal`; the trait `Clock`.
+//! Definitions: `specs/StateText.antt` (`state_of`), `StateSpelling.antt` (`text_of`), `Retention.antt` (`kept_for`).
+//! It answers no call itself.
 #![tactic(auto)]
 
 mod call;
+mod clock;
+mod history;
 mod refusal;
 mod reply;
+mod right;
 mod secret;
+mod state;
+mod state_fault;
+mod state_lists;
+mod state_reading;
+mod state_writing;
 mod tag;
 #[cfg(test)]
 mod tests;
+mod token;
 
-pub use crate::call::{Act, Call};
+pub use crate::call::{Act, Call, Op};
+pub use crate::clock::{Clock, ListClock};
+pub use crate::history::{History, Install};
 pub use crate::refusal::Refusal;
 pub use crate::reply::Reply;
+pub use crate::right::Right;
 pub use crate::secret::Secret;
+pub use crate::state::{LAST, LibState, MAX_DAYS, MAX_TOKENS};
+pub use crate::state_fault::{StateFault, StateKey};
 pub use crate::tag::Tag;
+pub use crate::token::Token;

@@ -1,0 +1,5 @@
+pub mod RetentionLemmas
+pub mod StateChecks
+pub mod StateReadBack
+pub mod StateTextLemmas
+pub mod TokenLemmas

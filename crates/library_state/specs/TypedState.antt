@@ -1,0 +1,27 @@
+-- For private clauses: what the types of the program tell of a state's ids and days: their texts are read as them.
+-- Read IsTyped first.
+use Rattle.std.specs.Prelude.{◌≡◌, ℕ, List, All, FitsSigned, Some}
+use Rattle.std.specs.Int.{w64}
+use Rattle.hex.specs.Hex.{encode_lower}
+use Rattle.uuid.specs.Text.{hyphenated_text, lower}
+use Rattle.json_words.specs.IdText.{object_id_of, library_id_of}
+use Rattle.library_state.specs.declared.history.Install.{Install}
+use Rattle.library_state.specs.declared.state.LibState.{LibState}
+use Rattle.library_state.specs.declared.token.Token.{Token}
+
+-- the digits of an id are read as it
+abbrev pub IsId : List ℕ → Type 0
+IsId id = object_id_of (encode_lower id) ≡ Some id
+
+pub record IsTypedInstall (install : Install) : Type 0 where
+  pub head : IsId install.head
+  pub pushed : IsId install.pushed
+
+pub record IsTypedToken (token : Token) : Type 0 where
+  pub secret : IsId token.secret
+
+pub record IsTyped (state : LibState) : Type 0 where
+  pub lib : library_id_of (hyphenated_text lower state.lib) ≡ Some state.lib
+  pub days : FitsSigned w64 state.days
+  pub kept : All IsTypedInstall state.kept
+  pub tokens : All IsTypedToken state.tokens
