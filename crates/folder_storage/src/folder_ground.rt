@@ -1,4 +1,5 @@
 //! Libraries in folders of the file system.
+ghost use Rattle.std.specs.Prelude.{◌≡◌};
 
 use crate::answer::answer;
 use crate::folder_shelf::FolderShelf;
@@ -19,8 +20,10 @@ pub struct FolderGround<R> {
 }
 
 impl<R> FolderGround<R> {
-    /// A ground over the file system of the runtime.
-    pub fn new(rt: R) -> FolderGround<R> {
+    /// A ground over the file system of the runtime, with no faults.
+    pub fn new(rt: R) -> FolderGround<R>
+        ensures faults { result.faults ≡ 0 }
+    {
         FolderGround { rt, faults: 0 }
     }
 }

@@ -1,4 +1,5 @@
 //! A shelf over the files of one library's folder.
+ghost use Rattle.std.specs.Prelude.{◌≡◌};
 
 use crate::answer::{answer, counted};
 use crate::library_folder::LibraryFolder;
@@ -35,7 +36,9 @@ pub struct FolderShelf<R> {
 
 impl<R> FolderShelf<R> {
     /// A shelf over this folder, with no faults.
-    pub(crate) fn new(folder: LibraryFolder<R>) -> FolderShelf<R> {
+    pub(crate) fn new(folder: LibraryFolder<R>) -> FolderShelf<R>
+        ensures faults { result.faults ≡ 0 }
+    {
         FolderShelf { folder, faults: 0 }
     }
 }

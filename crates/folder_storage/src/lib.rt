@@ -9,6 +9,7 @@
 #![tactic(auto)]
 
 mod answer;
+mod files;
 mod folder_ground;
 mod folder_shelf;
 mod ground;

@@ -1,4 +1,7 @@
 //! The folder of one library, held by this process.
+use crate::files::{
+    is_there, make_folder, sweep, sync_file, sync_folder, unless_missing, write_file,
+};
 use crate::listing::Listing;
 use crate::paths::{
     draft_path, kind_path, library_path, listed_folder, named_path, object_folder, object_path,
@@ -6,16 +9,9 @@ use crate::paths::{
 };
 use ids::{Bytes, Key, Kind, LibId, ObjId};
 use object_store::{Found, Slot};
-use std::fs::{DirBuilder, File, Files, OpenFile, OpenOptions};
-use std::io::{ErrorKind, Write};
-use std::os::unix::fs::{DirBuilderExt, OpenOptionsExt};
+use std::fs::{File, Files};
+use std::io::ErrorKind;
 use std::{fs, io};
-
-/// Who may look into a folder that is made: its owner alone.
-const FOLDER_MODE: u32 = 0o700;
-
-/// Who may read and write a file that is made: its owner alone.
-const FILE_MODE: u32 = 0o600;
 
 /// The folders of a library's folder, in which it is made ready.
 const FOLDERS: [&str; 4] = ["tmp", "commits", "fs", "blocks"];
@@ -82,44 +78,6 @@ pub(crate) fn make_library<R: Files<File = File> + AllocGlobal + Clone + Drop>(
     Ok(Some(made))
 }
 
-/// Whether a folder is there, in a folder that has to be there.
-fn is_there<R: Files>(rt: &R, above: &str, path: &str) -> io::Result<bool> {
-    let above = fs::metadata(rt, above)?;
-    if !above.is_dir() {
-        return Err(io::Error::from(ErrorKind::NotADirectory));
-    }
-    match fs::metadata(rt, path) {
-        Ok(_) => Ok(true),
-        Err(failure) if failure.kind() == ErrorKind::NotFound => Ok(false),
-        Err(failure) => Err(failure),
-    }
-}
-
-/// Makes a folder, unless something of that name is there.
-fn make_folder<R: Files>(rt: &R, path: &str) -> io::Result<()> {
-    let mut how = DirBuilder::new();
-    how.mode(FOLDER_MODE);
-    match how.create(rt, path) {
-        Ok(()) => Ok(()),
-        Err(failure) if failure.kind() == ErrorKind::AlreadyExists => Ok(()),
-        Err(failure) => Err(failure),
-    }
-}
-
-/// Makes what a folder names durable.
-fn sync_folder<R: Files<File = File>>(rt: &R, path: &str) -> io::Result<()> {
-    File::open(rt, path)?.sync_all()
-}
-
-/// Makes a file durable, unless it was removed.
-fn sync_file<R: Files<File = File>>(rt: &R, path: &str) -> io::Result<()> {
-    match File::open(rt, path) {
-        Ok(file) => file.sync_all(),
-        Err(failure) if failure.kind() == ErrorKind::NotFound => Ok(()),
-        Err(failure) => Err(failure),
-    }
-}
-
 /// Takes away all that is in the folder of a library that was not made to its end.
 fn take_away<R: Files + AllocGlobal>(rt: &R, path: &str) -> io::Result<()> {
     for name in FOLDERS {
@@ -128,42 +86,6 @@ fn take_away<R: Files + AllocGlobal>(rt: &R, path: &str) -> io::Result<()> {
     }
     let status = named_path(rt.alloc(), path, "status")?;
     unless_missing(fs::remove_file(rt, status.as_str()))
-}
-
-/// What a removal answers where nothing to remove is no failure.
-fn unless_missing(removed: io::Result<()>) -> io::Result<()> {
-    match removed {
-        Ok(()) => Ok(()),
-        Err(failure) if failure.kind() == ErrorKind::NotFound => Ok(()),
-        Err(failure) => Err(failure),
-    }
-}
-
-/// Takes away what a run that was killed left in the folder of spare files.
-fn sweep<R: Files + AllocGlobal + Clone + Drop>(rt: &R, path: &str) -> io::Result<()> {
-    for entry in fs::read_dir(rt, path)? {
-        if let Ok(entry) = entry {
-            let _ = fs::remove_file(rt, entry.path());
-        }
-    }
-    Ok(())
-}
-
-/// Writes a new file with these bytes, durably if that is asked.
-fn write_file<R: Files<File = File>>(
-    rt: &R,
-    path: &str,
-    bytes: &[u8],
-    is_durable: bool,
-) -> io::Result<()> {
-    let mut how = OpenOptions::new();
-    how.write(true).create(true).truncate(true).mode(FILE_MODE);
-    let mut file = how.open(rt, path)?;
-    file.write_all(bytes)?;
-    if is_durable {
-        return file.sync_all();
-    }
-    Ok(())
 }
 
 impl<R: Files<File = File> + AllocGlobal + Clone + Drop> LibraryFolder<R> {
