@@ -14,7 +14,7 @@ use Rattle.server_words.specs.declared.command.Place.TheVariants.{Memory, Folder
 abbrev pub is_control : ℕ → Bool
 is_control byte = nat_lt byte 32 || (byte == 127)
 
--- the name of a library or a user: 1 to 255 bytes, none of them a control character
+-- the name of a library or a user: 1 to 255 bytes without a control character
 abbrev pub is_name : List ℕ → Bool
 is_name text = nat_le 1 (length text) && (nat_le (length text) 255 && not (list_any is_control text))
 

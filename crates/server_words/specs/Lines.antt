@@ -102,5 +102,5 @@ help_text =
     ++ printed (codes "       seaf-server token FOLDER LIB USER TOKEN RIGHT")
     ++ printed (codes "       seaf-server inetd FOLDER LIB")
     ++ printed (codes "FOLDER keeps the libraries, or is :memory:. LIB is a UUID.")
-    ++ printed (codes "TOKEN has 40 hexadecimal digits. RIGHT is r, rw or own.")
+    ++ printed (codes "TOKEN has 40 lower-case hexadecimal digits. RIGHT is r, rw or own.")
     ++ printed (codes "inetd serves one connection over standard input and output.")

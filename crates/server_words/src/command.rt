@@ -11,7 +11,7 @@ pub enum Place {
     Folder(Text),
 }
 
-/// What the words ask for. Names have 1 to 255 bytes, and none of them is a control character.
+/// What the words ask for. Names have 1 to 255 bytes, and no byte of them is a control character.
 #[derive(Debug, Drop)]
 pub enum Command {
     /// Make a library of this name, with a first token, whose user owns it.

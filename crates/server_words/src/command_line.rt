@@ -20,8 +20,8 @@ use std::alloc::{AllocError, Global};
 /// | `--help`, `--version` | alone |
 ///
 /// FOLDER is not empty, and `:memory:` is no folder but the place in memory. LIB is a library id of 36 characters,
-/// TOKEN 40 lower-case hexadecimal digits, RIGHT `r`, `rw` or `own`. NAME and USER have 1 to 255 bytes, and none of
-/// them is a control character. Other words are `Usage`. Our own.
+/// TOKEN 40 lower-case hexadecimal digits, RIGHT `r`, `rw` or `own`. A NAME or USER without a byte, with more than
+/// 255, or with a control character in it (0 to 31, or 127) is refused. Other words are `Usage`. Our own.
 pub fn read_command(alloc: Global, words: &[Text]) -> Result<Command, AllocError>
     ensures value { IfOk result (λ command. command ≡ command_of words.now) }
     ensures bound { IfOk result NamesFit }

@@ -2,7 +2,7 @@
 use ids::{Key, ObjId};
 use library_state::StateKey;
 
-/// Why a command was not done. Of several causes the first in the order of the words is printed.
+/// Why a command was not done. Where several of these hold, the line is that of the one that stands first here.
 #[derive(Clone, Copy, Debug, PartialEq, Eq)]
 pub enum Fault {
     /// `create` found the library.
@@ -27,9 +27,9 @@ pub enum Fault {
     TooDeep,
     /// The tree of a kept commit has too many paths.
     TooMany,
-    /// What is stored under this id has another SHA-1.
+    /// What is stored under this id has another SHA-1, or the storage gave nothing for it.
     Damaged(ObjId),
-    /// Other bytes are stored under this id.
+    /// Other bytes are stored under this id, or it is forty zeros, which no object may have.
     Taken(ObjId),
     /// A token of the library has this secret already.
     SecretTaken,

@@ -3,7 +3,7 @@
 //! Shown upward: `Command` with `read_command`, `Place`; `Line` and `Fault` with their texts and statuses; `LineText`;
 //! the texts of `--help` and `--version`. Definitions: specs/CommandLine.antt (`command_of`), specs/Lines.antt
 //! (`line_text`, `status_of`). Laws on both: laws.rt.
-//! It does what no command asks for: it opens nothing and prints nothing itself.
+//! It does nothing that a command asks for: it opens nothing and prints nothing itself.
 #![tactic(auto)]
 
 mod command;
