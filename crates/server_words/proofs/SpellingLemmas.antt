@@ -1,0 +1,181 @@
+-- What is read as a command is its spelling, and the spelling of a command is read as it.
+-- The key lemmas are command_of-words_of and words_of-command_of, at the end.
+use Rattle.std.proofs.Common.{◌≡◌, ◌≢◌, ℕ, Bool, true, false, ◌&&◌, List, [], ◌∷◌, Option, Some, None, inl, refl, sym, cond, codes}
+use Rattle.std.proofs.lemmas.Bool.{false_from_ne_true}
+use Rattle.std.proofs.lemmas.Slice.Eq.{bytes_eq-Decides}
+use Rattle.std.specs.Option.{IfSome}
+use Rattle.std.specs.Result.{result_ok}
+use Rattle.std.specs.Str.{bytes_eq}
+use Rattle.hex.specs.Hex.{decode_of, encode_lower}
+use Rattle.hex.proofs.HexLemmas.{decode_of-encode_lower}
+use Rattle.uuid.specs.Text.{hyphenated_text, lower, parsed}
+use Rattle.uuid.proofs.RoundTrips.{parses_hyphenated}
+use Rattle.ids.specs.Digits.{digits_form}
+use Rattle.ids.specs.LibraryId.{library_form}
+use Rattle.ids.proofs.DigitsLemmas.{IsBytes-from_All, IsOf-encode_lower, decode_of-digits, encode_lower-digits}
+use Rattle.ids.proofs.LibraryText.{IsOf-hyphenated, parsed-library, hyphenated-library}
+use Rattle.json_words.specs.IdText.{has_form, library_id_of, object_id_of}
+use Rattle.json_words.proofs.IdLemmas.{IsOf-has_form, library_id_of-good, object_id_of-good}
+use Rattle.library_state.specs.Rights.{right_of, right_text}
+use Rattle.library_state.specs.declared.right.Right.{Right}
+use Rattle.library_state.specs.declared.right.Right.TheVariants.{Read, Write, Owner}
+use Rattle.server_words.specs.CommandLine.{command_of, create_by, create_command, inetd_by, is_name, place_word, secret_of, token_by, token_command}
+use Rattle.server_words.specs.Spelling.{IsBytesOf, IsCommand, IsPlace, place_text, words_of}
+use Rattle.server_words.specs.declared.command.Command.{Command}
+use Rattle.server_words.specs.declared.command.Command.TheVariants.{Create, Token, Inetd, Help, Version, Usage}
+use Rattle.server_words.specs.declared.command.Place.{Place}
+use Rattle.server_words.specs.declared.command.Place.TheVariants.{Memory, Folder}
+
+-- a test of two words
+same_word : (xs ys : List ℕ) → bytes_eq xs ys ≡ true → xs ≡ ys
+same_word xs ys h = (bytes_eq-Decides xs ys).0 h
+
+other_word : (xs ys : List ℕ) → xs ≢ ys → bytes_eq xs ys ≡ false
+other_word xs ys h = false_from_ne_true (bytes_eq xs ys) (λ t. h (same_word xs ys t))
+
+-- what a text is read as spells the text
+library_text_at : (text : List ℕ) (b : Bool) → has_form library_form text ≡ b → IfSome (cond b (parsed text) None) (λ id. text ≡ hyphenated_text lower id)
+library_text_at text true has =
+    let is = IsOf-has_form library_form text has in
+    rw (← parsed-library text is) (hyphenated-library text is)
+library_text_at text false has = tt
+
+library_text : (text : List ℕ) → IfSome (library_id_of text) (λ id. text ≡ hyphenated_text lower id)
+unfolding library_id_of
+library_text text = library_text_at text (has_form library_form text) refl
+
+secret_text_at : (text : List ℕ) (b : Bool) → has_form digits_form text ≡ b → IfSome (cond b (result_ok (decode_of text)) None) (λ id. text ≡ encode_lower id)
+secret_text_at text true has =
+    let is = IsOf-has_form digits_form text has in
+    rw (decode_of-digits text is) (sym (encode_lower-digits text is))
+secret_text_at text false has = tt
+
+secret_text : (text : List ℕ) → IfSome (secret_of text) (λ id. text ≡ encode_lower id)
+unfolding object_id_of
+secret_text text = secret_text_at text (has_form digits_form text) refl
+
+place_text_at : (folder : List ℕ) (b : Bool) → (b ≡ true → folder ≡ codes ":memory:") → folder ≡ place_text (cond b Memory (Folder folder))
+place_text_at folder true same = same refl
+place_text_at folder false same = refl
+
+place_word_text : (folder : List ℕ) → IfSome (place_word folder) (λ place. folder ≡ place_text place)
+place_word_text [] = tt
+place_word_text (c ∷ cs) = place_text_at (c ∷ cs) (bytes_eq (c ∷ cs) (codes ":memory:")) (same_word (c ∷ cs) (codes ":memory:"))
+
+right_text_at : (text : List ℕ) (r rw own : Bool) → (r ≡ true → text ≡ codes "r") → (rw ≡ true → text ≡ codes "rw") → (own ≡ true → text ≡ codes "own")
+    → IfSome (cond r (Some Read) (cond rw (Some Write) (cond own (Some Owner) None))) (λ right. text ≡ right_text right)
+right_text_at text true write own same-r same-rw same-own = same-r refl
+right_text_at text false true own same-r same-rw same-own = same-rw refl
+right_text_at text false false true same-r same-rw same-own = same-own refl
+right_text_at text false false false same-r same-rw same-own = tt
+
+right_word_text : (text : List ℕ) → IfSome (right_of text) (λ right. text ≡ right_text right)
+right_word_text text =
+    right_text_at text (bytes_eq text (codes "r")) (bytes_eq text (codes "rw")) (bytes_eq text (codes "own"))
+    (same_word text (codes "r")) (same_word text (codes "rw")) (same_word text (codes "own"))
+
+-- the words are the spelling of the command, unless it is Usage
+IsSpelling : List (List ℕ) → Command → Type 0
+IsSpelling words command = command ≢ Usage → words ≡ words_of command
+
+spelled_if : (b : Bool) (words : List (List ℕ)) (command : Command) → words ≡ words_of command → IsSpelling words (cond b command Usage)
+unfolding IsSpelling
+spelled_if true words command same other = same
+spelled_if false words command same other = absurd (other refl)
+
+create_spelling : (folder lib name user token : List ℕ) (p : Option Place) (l s : Option (List ℕ)) → IfSome p (λ place. folder ≡ place_text place)
+    → IfSome l (λ id. lib ≡ hyphenated_text lower id) → IfSome s (λ secret. token ≡ encode_lower secret)
+    → IsSpelling (codes "create" ∷ folder ∷ lib ∷ name ∷ user ∷ token ∷ []) (create_by name user p l s)
+unfolding IsSpelling
+create_spelling folder lib name user token (Some place) (Some id) (Some secret) same-p same-l same-s =
+    spelled_if (is_name name && is_name user) (codes "create" ∷ folder ∷ lib ∷ name ∷ user ∷ token ∷ []) (Create place id name user secret) (rw (same-p, same-l, same-s))
+create_spelling folder lib name user token None l s same-p same-l same-s = λ other. absurd (other refl)
+create_spelling folder lib name user token (Some place) None s same-p same-l same-s = λ other. absurd (other refl)
+create_spelling folder lib name user token (Some place) (Some id) None same-p same-l same-s = λ other. absurd (other refl)
+
+token_spelling : (folder lib user token right : List ℕ) (p : Option Place) (l s : Option (List ℕ)) (r : Option Right) → IfSome p (λ place. folder ≡ place_text place)
+    → IfSome l (λ id. lib ≡ hyphenated_text lower id) → IfSome s (λ secret. token ≡ encode_lower secret) → IfSome r (λ a. right ≡ right_text a)
+    → IsSpelling (codes "token" ∷ folder ∷ lib ∷ user ∷ token ∷ right ∷ []) (token_by user p l s r)
+unfolding IsSpelling
+token_spelling folder lib user token right (Some place) (Some id) (Some secret) (Some a) same-p same-l same-s same-r =
+    spelled_if (is_name user) (codes "token" ∷ folder ∷ lib ∷ user ∷ token ∷ right ∷ []) (Token place id user secret a) (rw (same-p, same-l, same-s, same-r))
+token_spelling folder lib user token right None l s r same-p same-l same-s same-r = λ other. absurd (other refl)
+token_spelling folder lib user token right (Some place) None s r same-p same-l same-s same-r = λ other. absurd (other refl)
+token_spelling folder lib user token right (Some place) (Some id) None r same-p same-l same-s same-r = λ other. absurd (other refl)
+token_spelling folder lib user token right (Some place) (Some id) (Some secret) None same-p same-l same-s same-r = λ other. absurd (other refl)
+
+inetd_spelling : (folder lib : List ℕ) (p : Option Place) (l : Option (List ℕ)) → IfSome p (λ place. folder ≡ place_text place)
+    → IfSome l (λ id. lib ≡ hyphenated_text lower id) → IsSpelling (codes "inetd" ∷ folder ∷ lib ∷ []) (inetd_by p l)
+unfolding IsSpelling
+inetd_spelling folder lib (Some place) (Some id) same-p same-l = λ other. rw (same-p, same-l)
+inetd_spelling folder lib None l same-p same-l = λ other. absurd (other refl)
+inetd_spelling folder lib (Some place) None same-p same-l = λ other. absurd (other refl)
+
+lone_spelling_at : (word : List ℕ) (b d : Bool) → (b ≡ true → word ≡ codes "--help") → (d ≡ true → word ≡ codes "--version")
+    → IsSpelling (word ∷ []) (cond b Help (cond d Version Usage))
+unfolding IsSpelling
+lone_spelling_at word true d help version = λ other. rw (help refl)
+lone_spelling_at word false true help version = λ other. rw (version refl)
+lone_spelling_at word false false help version = λ other. absurd (other refl)
+
+short_spelling_at : (word folder lib : List ℕ) (b : Bool) → (b ≡ true → word ≡ codes "inetd")
+    → IsSpelling (word ∷ folder ∷ lib ∷ []) (cond b (inetd_by (place_word folder) (library_id_of lib)) Usage)
+unfolding IsSpelling
+short_spelling_at word folder lib true inetd = λ other.
+    rw (inetd refl) (inetd_spelling folder lib (place_word folder) (library_id_of lib) (place_word_text folder) (library_text lib) other)
+short_spelling_at word folder lib false inetd = λ other. absurd (other refl)
+
+long_spelling_at : (word folder lib third fourth fifth : List ℕ) (b d : Bool) → (b ≡ true → word ≡ codes "create") → (d ≡ true → word ≡ codes "token")
+    → IsSpelling (word ∷ folder ∷ lib ∷ third ∷ fourth ∷ fifth ∷ [])
+    (cond b (create_command folder lib third fourth fifth) (cond d (token_command folder lib third fourth fifth) Usage))
+unfolding IsSpelling
+long_spelling_at word folder lib third fourth fifth true d create token = λ other.
+    rw (create refl)
+    (create_spelling folder lib third fourth fifth (place_word folder) (library_id_of lib) (secret_of fifth) (place_word_text folder) (library_text lib) (secret_text fifth) other)
+long_spelling_at word folder lib third fourth fifth false true create token = λ other.
+    rw (token refl)
+    (token_spelling folder lib third fourth fifth (place_word folder) (library_id_of lib) (secret_of fourth) (right_of fifth)
+    (place_word_text folder) (library_text lib) (secret_text fourth) (right_word_text fifth) other)
+long_spelling_at word folder lib third fourth fifth false false create token = λ other. absurd (other refl)
+
+pub words_of-command_of : (words : List (List ℕ)) → command_of words ≢ Usage → words ≡ words_of (command_of words)
+unfolding IsSpelling
+words_of-command_of [] other = absurd (other refl)
+words_of-command_of (word ∷ []) other =
+    lone_spelling_at word (bytes_eq word (codes "--help")) (bytes_eq word (codes "--version")) (same_word word (codes "--help")) (same_word word (codes "--version")) other
+words_of-command_of (word ∷ folder ∷ []) other = absurd (other refl)
+words_of-command_of (word ∷ folder ∷ lib ∷ []) other =
+    short_spelling_at word folder lib (bytes_eq word (codes "inetd")) (same_word word (codes "inetd")) other
+words_of-command_of (word ∷ folder ∷ lib ∷ a ∷ []) other = absurd (other refl)
+words_of-command_of (word ∷ folder ∷ lib ∷ a ∷ b ∷ []) other = absurd (other refl)
+words_of-command_of (word ∷ folder ∷ lib ∷ a ∷ b ∷ c ∷ []) other =
+    long_spelling_at word folder lib a b c (bytes_eq word (codes "create")) (bytes_eq word (codes "token")) (same_word word (codes "create")) (same_word word (codes "token")) other
+words_of-command_of (word ∷ folder ∷ lib ∷ a ∷ b ∷ c ∷ d ∷ more) other = absurd (other refl)
+
+-- what spells a part of a command is read as it
+place_word-place_text : (place : Place) → IsPlace place → place_word (place_text place) ≡ Some place
+place_word-place_text Memory is = refl
+place_word-place_text (Folder []) is = absurd (is.0 refl)
+place_word-place_text (Folder (c ∷ cs)) is = rw (other_word (c ∷ cs) (codes ":memory:") is.1)
+
+library_id_of-text : (lib : List ℕ) → IsBytesOf 16 lib → library_id_of (hyphenated_text lower lib) ≡ Some lib
+library_id_of-text lib is = library_id_of-good (hyphenated_text lower lib) lib (IsOf-hyphenated lib) (parses_hyphenated lower lib (inl refl) is.0 is.1)
+
+secret_of-digits : (secret : List ℕ) → IsBytesOf 20 secret → secret_of (encode_lower secret) ≡ Some secret
+secret_of-digits secret is =
+    object_id_of-good (encode_lower secret) secret (IsOf-encode_lower secret is.0 is.1) (decode_of-encode_lower secret (IsBytes-from_All secret is.1))
+
+right_of-right_text : (right : Right) → right_of (right_text right) ≡ Some right
+right_of-right_text Read = refl
+right_of-right_text Write = refl
+right_of-right_text Owner = refl
+
+pub command_of-words_of : (command : Command) → command ≢ Usage → IsCommand command → command_of (words_of command) ≡ command
+command_of-words_of (Create place lib name user secret) other is =
+    rw (place_word-place_text place is.0, library_id_of-text lib is.1, secret_of-digits secret is.4, is.2, is.3)
+command_of-words_of (Token place lib user secret right) other is =
+    rw (place_word-place_text place is.0, library_id_of-text lib is.1, secret_of-digits secret is.3, right_of-right_text right, is.2)
+command_of-words_of (Inetd place lib) other is = rw (place_word-place_text place is.0, library_id_of-text lib is.1)
+command_of-words_of Help other is = refl
+command_of-words_of Version other is = refl
+command_of-words_of Usage other is = absurd (other refl)

@@ -1,0 +1,14 @@
+-- `Secret::read` accepts exactly 40 lower-case hexadecimal digits.
+use Rattle.std.proofs.Common.{sym, refl}
+use Rattle.std.proofs.lemmas.Bool.{false≢true}
+use Rattle.json_words.proofs.IdLemmas.{object_id_of-good, object_id_of-bad}
+use Rattle.server_words.proofs.command_line.secret_of.Goals as goal
+
+pub returns-in-Ok : goal.returns-in-Ok
+returns-in-Ok c = record {
+  value = sym (object_id_of-good c.args.text.now c.in-Ok.secret (c.in-Ok.ensures.good.0 refl) c.in-Ok.ensures.decoded);
+}
+
+pub returns-in-Err : goal.returns-in-Err
+returns-in-Err c =
+    record { value = sym (object_id_of-bad c.args.text.now (λ is. false≢true (c.in-Err.ensures.good.1 is))) }

@@ -1,0 +1,91 @@
+-- The words of the command line, without the program's name, as a command. Our own. Read command_of first, at the end.
+use Rattle.std.specs.Prelude.{ℕ, ◌≤◌, ◌==◌, ◌&&◌, ◌||◌, Bool, not, nat_lt, nat_le, ⊤, if◌then◌else◌, List, [], ◌∷◌, length, Option, None, Some, codes}
+use Rattle.std.specs.List.{list_any}
+use Rattle.std.specs.Str.{bytes_eq}
+use Rattle.json_words.specs.IdText.{library_id_of, object_id_of}
+use Rattle.library_state.specs.Rights.{right_of}
+use Rattle.library_state.specs.declared.right.Right.{Right}
+use Rattle.server_words.specs.declared.command.Command.{Command}
+use Rattle.server_words.specs.declared.command.Command.TheVariants.{Create, Token, Inetd, Help, Version, Usage}
+use Rattle.server_words.specs.declared.command.Place.{Place}
+use Rattle.server_words.specs.declared.command.Place.TheVariants.{Memory, Folder}
+
+-- the bytes 0 to 31 and 127
+abbrev pub is_control : ℕ → Bool
+is_control byte = nat_lt byte 32 || (byte == 127)
+
+-- the name of a library or a user: 1 to 255 bytes without a control character
+abbrev pub is_name : List ℕ → Bool
+is_name text = nat_le 1 (length text) && (nat_le (length text) 255 && not (list_any is_control text))
+
+-- the place that a folder word names
+abbrev pub place_of : List ℕ → Place
+place_of folder = if bytes_eq folder (codes ":memory:") then Memory else Folder folder
+
+-- the place that a folder word names, and none where it is empty
+abbrev pub place_word : List ℕ → Option Place
+place_word [] = None
+place_word (c ∷ cs) = Some (place_of (c ∷ cs))
+
+-- the secret whose 40 lower-case hexadecimal digits a text is: they are spelled as an object id's
+abbrev pub secret_of : List ℕ → Option (List ℕ)
+secret_of = object_id_of
+
+abbrev pub create_by : List ℕ → List ℕ → Option Place → Option (List ℕ) → Option (List ℕ) → Command
+create_by name user (Some place) (Some lib) (Some secret) =
+    if is_name name && is_name user then Create place lib name user secret else Usage
+create_by name user _ _ _ = Usage
+
+abbrev pub token_by : List ℕ → Option Place → Option (List ℕ) → Option (List ℕ) → Option Right → Command
+token_by user (Some place) (Some lib) (Some secret) (Some right) =
+    if is_name user then Token place lib user secret right else Usage
+token_by user _ _ _ _ = Usage
+
+abbrev pub inetd_by : Option Place → Option (List ℕ) → Command
+inetd_by (Some place) (Some lib) = Inetd place lib
+inetd_by _ _ = Usage
+
+-- the command of a word that stands alone
+abbrev pub lone_command : List ℕ → Command
+lone_command word =
+    if bytes_eq word (codes "--help") then Help
+    else if bytes_eq word (codes "--version") then Version
+    else Usage
+
+-- the command of a word with two words after it
+abbrev pub short_command : List ℕ → List ℕ → List ℕ → Command
+short_command word folder lib =
+    if bytes_eq word (codes "inetd") then inetd_by (place_word folder) (library_id_of lib) else Usage
+
+-- `create FOLDER LIB NAME USER TOKEN`
+abbrev pub create_command : List ℕ → List ℕ → List ℕ → List ℕ → List ℕ → Command
+create_command folder lib name user token =
+    create_by name user (place_word folder) (library_id_of lib) (secret_of token)
+
+-- `token FOLDER LIB USER TOKEN RIGHT`
+abbrev pub token_command : List ℕ → List ℕ → List ℕ → List ℕ → List ℕ → Command
+token_command folder lib user token right =
+    token_by user (place_word folder) (library_id_of lib) (secret_of token) (right_of right)
+
+-- the command of a word with five words after it
+abbrev pub long_command : List ℕ → List ℕ → List ℕ → List ℕ → List ℕ → List ℕ → Command
+long_command word folder lib third fourth fifth =
+    if bytes_eq word (codes "create") then create_command folder lib third fourth fifth
+    else if bytes_eq word (codes "token") then token_command folder lib third fourth fifth
+    else Usage
+
+-- the command that the words are
+abbrev pub command_of : List (List ℕ) → Command
+command_of (word ∷ []) = lone_command word
+command_of (word ∷ folder ∷ lib ∷ []) = short_command word folder lib
+command_of (word ∷ folder ∷ lib ∷ third ∷ fourth ∷ fifth ∷ []) = long_command word folder lib third fourth fifth
+command_of words = Usage
+
+-- the names of a command have 1 to 255 bytes
+abbrev pub IsNameSize : List ℕ → Type 0
+IsNameSize text = (1 ≤ length text) × (length text ≤ 255)
+
+abbrev pub NamesFit : Command → Type 0
+NamesFit (Create place lib name user secret) = IsNameSize name × IsNameSize user
+NamesFit (Token place lib user secret right) = IsNameSize user
+NamesFit _ = ⊤

@@ -1,0 +1,46 @@
+-- How a command is spelled: the words that read as it, which are one list for each command. Our own.
+-- Read words_of, then IsCommand.
+use Rattle.std.specs.Prelude.{ℕ, ◌≢◌, ◌<◌, ◌≡◌, All, IsTrue, ⊤, List, [], ◌∷◌, length, codes}
+use Rattle.hex.specs.Hex.{encode_lower}
+use Rattle.uuid.specs.Text.{hyphenated_text, lower}
+use Rattle.library_state.specs.Rights.{right_text}
+use Rattle.server_words.specs.CommandLine.{is_name}
+use Rattle.server_words.specs.declared.command.Command.{Command}
+use Rattle.server_words.specs.declared.command.Command.TheVariants.{Create, Token, Inetd, Help, Version, Usage}
+use Rattle.server_words.specs.declared.command.Place.{Place}
+use Rattle.server_words.specs.declared.command.Place.TheVariants.{Memory, Folder}
+
+-- the word of a place
+abbrev pub place_text : Place → List ℕ
+place_text Memory = codes ":memory:"
+place_text (Folder path) = path
+
+-- the words of a command. Usage has none of its own
+abbrev pub words_of : Command → List (List ℕ)
+words_of (Create place lib name user secret) =
+    codes "create" ∷ place_text place ∷ hyphenated_text lower lib ∷ name ∷ user ∷ encode_lower secret ∷ []
+words_of (Token place lib user secret right) =
+    codes "token" ∷ place_text place ∷ hyphenated_text lower lib ∷ user ∷ encode_lower secret ∷ right_text right ∷ []
+words_of (Inetd place lib) = codes "inetd" ∷ place_text place ∷ hyphenated_text lower lib ∷ []
+words_of Help = codes "--help" ∷ []
+words_of Version = codes "--version" ∷ []
+words_of Usage = []
+
+-- a folder's path is a word of its own: not empty, and not the word of the place in memory
+abbrev pub IsPlace : Place → Type 0
+IsPlace Memory = ⊤
+IsPlace (Folder path) = (path ≢ []) × (path ≢ codes ":memory:")
+
+-- so many bytes
+abbrev pub IsBytesOf : ℕ → List ℕ → Type 0
+IsBytesOf size bytes = (length bytes ≡ size) × All (λ byte. byte < 256) bytes
+
+-- the parts of a command are what their words can be
+abbrev pub IsCommand : Command → Type 0
+IsCommand (Create place lib name user secret) =
+    IsPlace place × IsBytesOf 16 lib × IsTrue (is_name name) × IsTrue (is_name user) × IsBytesOf 20 secret
+IsCommand (Token place lib user secret right) = IsPlace place × IsBytesOf 16 lib × IsTrue (is_name user) × IsBytesOf 20 secret
+IsCommand (Inetd place lib) = IsPlace place × IsBytesOf 16 lib
+IsCommand Help = ⊤
+IsCommand Version = ⊤
+IsCommand Usage = ⊤

@@ -1,0 +1,44 @@
+//! What the words of the command line can ask for.
+use ids::{LibId, Text};
+use library_state::{Right, Secret};
+
+/// Where libraries are kept.
+#[derive(Debug, Drop)]
+pub enum Place {
+    /// In memory, until the program ends. Its word is `:memory:`.
+    Memory,
+    /// In the folder at this path, which is not empty.
+    Folder(Text),
+}
+
+/// What the words ask for. Names have 1 to 255 bytes, and no byte of them is a control character.
+#[derive(Debug, Drop)]
+pub enum Command {
+    /// Make a library of this name, with a first token, whose user owns it.
+    Create {
+        place: Place,
+        lib: LibId,
+        name: Text,
+        user: Text,
+        secret: Secret,
+    },
+    /// Add a token to a library.
+    Token {
+        place: Place,
+        lib: LibId,
+        user: Text,
+        secret: Secret,
+        right: Right,
+    },
+    /// Serve one connection over standard input and output.
+    Inetd {
+        place: Place,
+        lib: LibId,
+    },
+    /// Print the words that there are.
+    Help,
+    /// Print the program's name and version.
+    Version,
+    /// Words that are no command.
+    Usage,
+}

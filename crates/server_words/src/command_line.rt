@@ -1,0 +1,226 @@
+//! Reading the words of the command line.
+ghost use Rattle.std.specs.Prelude.{◌≡◌, IfOk};
+ghost use Rattle.std.specs.Bool.{OnTrue};
+ghost use Rattle.std.specs.List.{list_any};
+ghost use Rattle.server_words.specs.CommandLine.{IsNameSize, NamesFit, command_of, create_command, is_control, is_name, lone_command, long_command, place_word, secret_of, short_command, token_command};
+
+use crate::command::{Command, Place};
+use ids::Text;
+use json_words::library_id;
+use library_state::{Right, Secret};
+use std::alloc::{AllocError, Global};
+
+/// The command that the words are, which stand without the program's name.
+///
+/// | words | |
+/// |---|---|
+/// | `create FOLDER LIB NAME USER TOKEN` | make a library |
+/// | `token FOLDER LIB USER TOKEN RIGHT` | add a token |
+/// | `inetd FOLDER LIB` | serve one connection |
+/// | `--help`, `--version` | alone |
+///
+/// FOLDER is not empty, and `:memory:` is no folder but the place in memory. LIB is a library id of 36 characters,
+/// TOKEN 40 lower-case hexadecimal digits, RIGHT `r`, `rw` or `own`. A NAME or USER without a byte, with more than
+/// 255, or with a control character in it (0 to 31, or 127) is refused. Other words are `Usage`. Our own.
+pub fn read_command(alloc: Global, words: &[Text]) -> Result<Command, AllocError>
+    ensures value { IfOk result (λ command. command ≡ command_of words.now) }
+    ensures bound { IfOk result NamesFit }
+{
+    match words {
+        [word] => Ok(lone_command(word.slice())),
+        [word, folder, lib] => short_command(alloc, word.slice(), folder.slice(), lib.slice()),
+        [word, folder, lib, third, fourth, fifth] => long_command(
+            alloc,
+            word.slice(),
+            folder.slice(),
+            lib.slice(),
+            third.slice(),
+            fourth.slice(),
+            fifth.slice(),
+        ),
+        _ => Ok(Command::Usage),
+    }
+}
+
+/// The command of a word that stands alone.
+fn lone_command(word: &str) -> Command
+    ensures value { result ≡ lone_command word.now }
+{
+    if word == "--help" {
+        return Command::Help;
+    }
+    if word == "--version" {
+        return Command::Version;
+    }
+    Command::Usage
+}
+
+/// The command of a word with two words after it.
+fn short_command(alloc: Global, word: &str, folder: &str, lib: &str) -> Result<Command, AllocError>
+    ensures value { IfOk result (λ command. command ≡ short_command word.now folder.now lib.now) }
+{
+    if word != "inetd" {
+        return Ok(Command::Usage);
+    }
+    let lib = match library_id(lib) {
+        Some(lib) => lib,
+        None => return Ok(Command::Usage),
+    };
+    match place_word(alloc, folder)? {
+        Some(place) => Ok(Command::Inetd { place, lib }),
+        None => Ok(Command::Usage),
+    }
+}
+
+/// The place that a folder word names, and none where it is empty.
+fn place_word(alloc: Global, folder: &str) -> Result<Option<Place>, AllocError>
+    ensures value { IfOk result (λ place. place ≡ place_word folder.now) }
+{
+    if folder.is_empty() {
+        return Ok(None);
+    }
+    if folder == ":memory:" {
+        return Ok(Some(Place::Memory));
+    }
+    Ok(Some(Place::Folder(Text::copy(alloc, folder)?)))
+}
+
+/// The command of a word with five words after it.
+fn long_command(
+    alloc: Global,
+    word: &str,
+    folder: &str,
+    lib: &str,
+    third: &str,
+    fourth: &str,
+    fifth: &str,
+) -> Result<Command, AllocError>
+    ensures value { IfOk result (λ command. command
+        ≡ long_command word.now folder.now lib.now third.now fourth.now fifth.now) }
+    ensures bound { IfOk result NamesFit }
+{
+    if word == "create" {
+        return create_command(alloc, folder, lib, third, fourth, fifth);
+    }
+    if word == "token" {
+        return token_command(alloc, folder, lib, third, fourth, fifth);
+    }
+    Ok(Command::Usage)
+}
+
+/// The command `create` with these words.
+fn create_command(
+    alloc: Global,
+    folder: &str,
+    lib: &str,
+    name: &str,
+    user: &str,
+    token: &str,
+) -> Result<Command, AllocError>
+    ensures value { IfOk result (λ command. command ≡ create_command folder.now lib.now name.now user.now token.now) }
+    ensures bound { IfOk result NamesFit }
+{
+    let lib = match library_id(lib) {
+        Some(lib) => lib,
+        None => return Ok(Command::Usage),
+    };
+    let secret = match secret_of(token) {
+        Some(secret) => secret,
+        None => return Ok(Command::Usage),
+    };
+    let place = match place_word(alloc, folder)? {
+        Some(place) => place,
+        None => return Ok(Command::Usage),
+    };
+    if !is_name(name) {
+        return Ok(Command::Usage);
+    }
+    if !is_name(user) {
+        return Ok(Command::Usage);
+    }
+    Ok(Command::Create {
+        place,
+        lib,
+        name: Text::copy(alloc, name)?,
+        user: Text::copy(alloc, user)?,
+        secret,
+    })
+}
+
+/// The command `token` with these words.
+fn token_command(
+    alloc: Global,
+    folder: &str,
+    lib: &str,
+    user: &str,
+    token: &str,
+    right: &str,
+) -> Result<Command, AllocError>
+    ensures value { IfOk result (λ command. command ≡ token_command folder.now lib.now user.now token.now right.now) }
+    ensures bound { IfOk result NamesFit }
+{
+    let lib = match library_id(lib) {
+        Some(lib) => lib,
+        None => return Ok(Command::Usage),
+    };
+    let secret = match secret_of(token) {
+        Some(secret) => secret,
+        None => return Ok(Command::Usage),
+    };
+    let right = match Right::of(right) {
+        Some(right) => right,
+        None => return Ok(Command::Usage),
+    };
+    let place = match place_word(alloc, folder)? {
+        Some(place) => place,
+        None => return Ok(Command::Usage),
+    };
+    if !is_name(user) {
+        return Ok(Command::Usage);
+    }
+    Ok(Command::Token {
+        place,
+        lib,
+        user: Text::copy(alloc, user)?,
+        secret,
+        right,
+    })
+}
+
+/// The secret whose 40 digits a text is.
+fn secret_of(text: &str) -> Option<Secret>
+    ensures value { result ≡ secret_of text.now }
+{
+    match Secret::read(text) {
+        Ok(secret) => Some(secret),
+        Err(_) => None,
+    }
+}
+
+/// Whether a text has 1 to 255 bytes, and no control character.
+fn is_name(text: &str) -> bool
+    ensures value { result ≡ is_name text.now }
+    ensures bound { OnTrue result (IsNameSize text.now) }
+{
+    if text.is_empty() {
+        return false;
+    }
+    if text.len() > 255 {
+        return false;
+    }
+    !has_control(text.as_bytes())
+}
+
+/// Whether a byte is a control character.
+fn has_control(bytes: &[u8]) -> bool
+    ensures value { result ≡ list_any is_control bytes.now }
+{
+    bytes.iter().any(|byte| is_control(*byte))
+}
+
+/// Whether it is one of the bytes 0 to 31 or 127.
+fn is_control(byte: u8) -> bool
+    ensures value { result ≡ is_control byte }
+{
+    byte < 32 || byte == 127
+}

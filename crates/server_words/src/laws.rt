@@ -1,0 +1,16 @@
+//! What holds of words and commands, for all of them: theorems on the definitions, with no code.
+ghost use Rattle.std.specs.Prelude.{◌≡◌, ◌≢◌, ℕ, List};
+ghost use Rattle.server_words.specs.CommandLine.{command_of};
+ghost use Rattle.server_words.specs.Spelling.{IsCommand, words_of};
+
+use crate::command::Command;
+
+/// No two lines of words are one command: what is read as a command is its spelling, to the byte.
+pub fn a_command_is_spelled_in_one_way()
+    ensures { (words : List (List ℕ)) → command_of words ≢ Command.Usage → words ≡ words_of (command_of words) }
+{}
+
+/// Every command can be asked for: its spelling is read as it.
+pub fn a_command_is_read_from_its_spelling()
+    ensures { (command : Command) → command ≢ Command.Usage → IsCommand command → command_of (words_of command) ≡ command }
+{}

@@ -1,0 +1,22 @@
+//! The words of `seaf-server` as a command, and the lines that it prints.
+//!
+//! Shown upward: `Command` with `read_command`, `Place`; `Line` and `Fault` with their texts and statuses; `LineText`;
+//! the texts of `--help` and `--version`. Definitions: specs/CommandLine.antt (`command_of`), specs/Lines.antt
+//! (`line_text`, `status_of`). Laws on both: laws.rt.
+//! It does nothing that a command asks for: it opens nothing and prints nothing itself.
+#![tactic(auto)]
+
+mod command;
+mod command_line;
+mod fault;
+pub mod laws;
+mod line;
+mod line_text;
+#[cfg(test)]
+mod tests;
+
+pub use crate::command::{Command, Place};
+pub use crate::command_line::read_command;
+pub use crate::fault::Fault;
+pub use crate::line::{Line, help_text, version_text};
+pub use crate::line_text::LineText;
