@@ -8,7 +8,7 @@ use Rattle.std.specs.Str.{bytes_eq}
 use Rattle.object_store.specs.Shelf.{Contents}
 use Rattle.object_store.specs.MemoryShelf.{MemoryShelfState}
 use Rattle.folder_storage.specs.Ground.{ChangesStanding, Standing, Absent, Kept, HandedOut, StandAsBefore, TakesBack}
-use Rattle.folder_storage.specs.MemoryGround.{IsPlaceOf, entry_out, is_at, returned, standing_in, standing_of}
+use Rattle.folder_storage.specs.MemoryGround.{IsPlaceOf, entry_out, is_at, returned, standing_in, standing_of, standings}
 use Rattle.folder_storage.specs.declared.memory_ground.KeptLibrary.{KeptLibrary}
 
 -- an entry is of one library alone
@@ -82,22 +82,18 @@ standing-push (x ∷ xs) y f l absent here =
 blank : KeptLibrary
 blank = entry_out [] []
 
--- how each library of a list stands
-abbrev pub told : List KeptLibrary → List ℕ → List ℕ → Option Standing
-told xs f l = Some (standing_in xs f l)
-
 some_standing : (a b : Standing) → Some a ≡ Some b → a ≡ b
 some_standing a b e = cc
 
 -- the shelf that is taken is that of a library that is kept
 pub taken-found : (xs : List KeptLibrary) (f l : List ℕ) (i : ℕ) (shelf : MemoryShelfState) → IsPlaceOf xs f l i → ((d : KeptLibrary) → Some shelf ≡ (get_or xs i d).shelf)
-    → (standing : Standing) → told xs f l ≡ Some standing → (held : Contents) × (standing ≡ Kept held) × (Some shelf.contents ≡ Some held)
+    → (standing : Standing) → standings xs f l ≡ Some standing → (held : Contents) × (standing ≡ Kept held) × (Some shelf.contents ≡ Some held)
 taken-found xs f l i shelf is value standing same =
     (shelf.contents, sym (some_standing (standing_in xs f l) standing same) ∙ standing-place xs f l i blank is ∙ ap standing_of (sym (value blank)), refl)
 
 -- a library whose shelf is taken is handed out, and the others stand as they did
 pub taken-changes : (xs ys : List KeptLibrary) (f l : List ℕ) (i : ℕ) → IsPlaceOf xs f l i → ((d : KeptLibrary) → ys ≡ slice_set xs i (record (get_or xs i d) { shelf = None }))
-    → ChangesStanding (told xs) (told ys) f l HandedOut
+    → ChangesStanding (standings xs) (standings ys) f l HandedOut
 taken-changes xs ys f l i is sets = record {
   here = rw (sets blank) (ap Some (standing-set xs f l i blank None is));
   others = λ g m other. rw (sets blank) (ap Some (standing-set_other xs f l g m i blank None is other));
@@ -114,14 +110,18 @@ set-taken xs i d o same = rw same (set-own xs i d)
 
 -- where no shelf was there to be taken, every library stands as it did
 pub taken-stays : (xs ys : List KeptLibrary) (i : ℕ) → ((d : KeptLibrary) → None ≡ (get_or xs i d).shelf)
-    → ((d : KeptLibrary) → ys ≡ slice_set xs i (record (get_or xs i d) { shelf = None })) → StandAsBefore (told xs) (told ys)
-taken-stays xs ys i value sets g m = ap (λ zs. told zs g m) (sets blank ∙ set-taken xs i blank None (value blank))
+    → ((d : KeptLibrary) → ys ≡ slice_set xs i (record (get_or xs i d) { shelf = None })) → StandAsBefore (standings xs) (standings ys)
+taken-stays xs ys i value sets g m = ap (λ zs. standings zs g m) (sets blank ∙ set-taken xs i blank None (value blank))
+
+-- and the library was handed out
+pub taken-out : (xs : List KeptLibrary) (f l : List ℕ) (i : ℕ) → IsPlaceOf xs f l i → ((d : KeptLibrary) → None ≡ (get_or xs i d).shelf) → standing_in xs f l ≡ HandedOut
+taken-out xs f l i is value = standing-place xs f l i blank is ∙ ap standing_of (sym (value blank))
 
 -- a library that wasn't there and is added is handed out, and the others stand as they did
 entry_out-here : (f l : List ℕ) → is_at (entry_out f l) f l ≡ true
 entry_out-here f l = and_from (bytes_eq f f) (bytes_eq l l) ((bytes_eq-Decides f f).1 refl) ((bytes_eq-Decides l l).1 refl)
 
-pub added-changes : (xs ys : List KeptLibrary) (f l : List ℕ) → standing_in xs f l ≡ Absent → ys ≡ xs ++ entry_out f l ∷ [] → ChangesStanding (told xs) (told ys) f l HandedOut
+pub added-changes : (xs ys : List KeptLibrary) (f l : List ℕ) → standing_in xs f l ≡ Absent → ys ≡ xs ++ entry_out f l ∷ [] → ChangesStanding (standings xs) (standings ys) f l HandedOut
 added-changes xs ys f l absent adds = record {
   here = rw adds (ap Some (standing-push xs (entry_out f l) f l absent (entry_out-here f l)));
   others = λ g m other. rw adds (ap Some (standing-push_other xs (entry_out f l) g m (is_at-other (entry_out f l) f l g m (entry_out-here f l) other)));
@@ -143,7 +143,7 @@ some_contents a b e = cc
 -- a shelf goes back to a library that was handed out
 pub laid-takes_back : (xs ys : List KeptLibrary) (f l : List ℕ) (i : ℕ) (shelf : MemoryShelfState) → IsPlaceOf xs f l i
     → ((d : KeptLibrary) → ys ≡ slice_set xs i (record (get_or xs i d) { shelf = returned (get_or xs i d).shelf shelf }))
-    → TakesBack (told xs) (told ys) f l (Some shelf.contents)
+    → TakesBack (standings xs) (standings ys) f l (Some shelf.contents)
 laid-takes_back xs ys f l i shelf is sets =
     let o = (get_or xs i blank).shelf in
     let now : standing_in ys f l ≡ standing_of (returned o shelf) = rw (sets blank) (standing-set xs f l i blank (returned o shelf) is) in
@@ -155,6 +155,6 @@ laid-takes_back xs ys f l i shelf is sets =
     }
 
 -- a library that is there isn't absent
-pub placed-there : (xs : List KeptLibrary) (f l : List ℕ) (i : ℕ) → IsPlaceOf xs f l i → (standing : Standing) → told xs f l ≡ Some standing → standing ≢ Absent
+pub placed-there : (xs : List KeptLibrary) (f l : List ℕ) (i : ℕ) → IsPlaceOf xs f l i → (standing : Standing) → standings xs f l ≡ Some standing → standing ≢ Absent
 placed-there xs f l i is standing same absent =
     standing_of-there (get_or xs i blank).shelf (sym (standing-place xs f l i blank is) ∙ some_standing (standing_in xs f l) standing same ∙ absent)

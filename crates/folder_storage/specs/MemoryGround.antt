@@ -2,7 +2,7 @@
 use Rattle.std.specs.Prelude.{◌≡◌, ℕ, ◌<◌, ◌&&◌, Bool, true, false, List, [], ◌∷◌, length, slice_index_or, if◌then◌else◌, Option, None, Some}
 use Rattle.std.specs.Str.{bytes_eq}
 use Rattle.object_store.specs.MemoryShelf.{MemoryShelfState}
-use Rattle.folder_storage.specs.Ground.{Standing, Absent, Kept, HandedOut}
+use Rattle.folder_storage.specs.Ground.{Standing, Standings, Absent, Kept, HandedOut}
 use Rattle.folder_storage.specs.declared.memory_ground.KeptLibrary.{KeptLibrary}
 
 -- whether it is this library
@@ -17,6 +17,10 @@ standing_of (Some shelf) = Kept shelf.contents
 abbrev pub standing_in : List KeptLibrary → List ℕ → List ℕ → Standing
 standing_in [] folder lib = Absent
 standing_in (kept ∷ more) folder lib = if is_at kept folder lib then standing_of kept.shelf else standing_in more folder lib
+
+-- the same, of each library
+abbrev pub standings : List KeptLibrary → Standings
+standings libraries folder lib = Some (standing_in libraries folder lib)
 
 -- the first entry of a library
 pub record IsPlaceOf (libraries : List KeptLibrary) (folder lib : List ℕ) (place : ℕ) : Type 0 where

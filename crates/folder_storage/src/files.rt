@@ -1,5 +1,5 @@
 //! Files and folders, as a library's folder wants them.
-use std::fs::{DirBuilder, File, Files, OpenOptions};
+use std::fs::{DirBuilder, File, Files, Metadata, OpenOptions};
 use std::io::{ErrorKind, Write};
 use std::os::unix::fs::{DirBuilderExt, OpenOptionsExt};
 use std::{fs, io};
@@ -16,9 +16,17 @@ pub(crate) fn is_there<R: Files>(rt: &R, above: &str, path: &str) -> io::Result<
     if !above.is_dir() {
         return Err(io::Error::from(ErrorKind::NotADirectory));
     }
+    match metadata_if_there(rt, path)? {
+        Some(_) => Ok(true),
+        None => Ok(false),
+    }
+}
+
+/// What is told of a file or folder, if it is there.
+pub(crate) fn metadata_if_there<R: Files>(rt: &R, path: &str) -> io::Result<Option<Metadata>> {
     match fs::metadata(rt, path) {
-        Ok(_) => Ok(true),
-        Err(failure) if failure.kind() == ErrorKind::NotFound => Ok(false),
+        Ok(metadata) => Ok(Some(metadata)),
+        Err(failure) if failure.kind() == ErrorKind::NotFound => Ok(None),
         Err(failure) => Err(failure),
     }
 }
@@ -65,9 +73,9 @@ pub(crate) fn sync_file<R: Files<File = File>>(rt: &R, path: &str) -> io::Result
     }
 }
 
-/// What a removal answers where nothing to remove is no failure.
-pub(crate) fn unless_missing(removed: io::Result<()>) -> io::Result<()> {
-    match removed {
+/// The answer of a call on a path, where that nothing is there is no failure.
+pub(crate) fn unless_missing(done: io::Result<()>) -> io::Result<()> {
+    match done {
         Ok(()) => Ok(()),
         Err(failure) if failure.kind() == ErrorKind::NotFound => Ok(()),
         Err(failure) => Err(failure),

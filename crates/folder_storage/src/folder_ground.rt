@@ -11,6 +11,9 @@ use std::fs::{File, Files};
 
 /// Libraries in folders of the file system, each in a folder of its own, named by its id. It tells nothing of them.
 ///
+/// It has a library once its first state text is durable. One that was made and goes back before is not there, and what
+/// was put is taken away when it is made anew.
+///
 /// A folder above that isn't there, a missing permission, a full disk, and a library that another process has are
 /// faults; no library is missing for them.
 #[derive(Drop)]

@@ -13,8 +13,8 @@ use std::fs::{File, Files};
 /// # Layout
 ///
 /// `FOLDER/LIB` holds `status`, and `commits`, `fs` and `blocks` with the files `xx/` and the other 38 digits of an
-/// object's id, as Seafile's server lays them out. A file is written as `tmp/spare` and moved to its place, so that a
-/// slot holds the old or the new whole. Folders are their owner's alone (0700), and so are files (0600).
+/// object's id: our own, with Seafile's names of the kinds. A file is written as `tmp/spare` and moved to its place, so
+/// that a slot holds the old or the new whole. Folders are their owner's alone (0700), and so are files (0600).
 ///
 /// A library that is made stands in `FOLDER/LIB.new` until its first state text is durable, and then takes its name:
 /// one that was not made to its end is not there, and is made anew.
@@ -27,7 +27,12 @@ use std::fs::{File, Files};
 /// each folder that was touched; then the state text, and its folder. So after a loss of power a state text that
 /// stands names only objects that stand. An object that no state text names yet may be lost then. What such a loss
 /// leaves of it, mostly an empty file, is no object to `next`, unless its name is that of no bytes, so that it can be
-/// put again. A library that is only read costs no sync.
+/// put again.
+///
+/// That holds for what earlier runs put, too: the first state text that a run puts takes in the objects whose files, and
+/// whose `xx` folders, were changed no earlier than 10 seconds before `status`, or all of them where there is none. It
+/// rests on file times: on times that nobody else sets, and on a clock that is not set back by more than these 10
+/// seconds between a state text and what is put after it. A library that is only read costs no sync.
 #[derive(Drop)]
 pub struct FolderShelf<R> {
     folder: LibraryFolder<R>,

@@ -8,9 +8,11 @@ use object_store::{Shelf, ShelfFailed};
 
 /// Where libraries are kept, each by the word of its folder and its id.
 ///
-/// A ground in memory tells how each library stands; an adapter over a real one tells nothing. A shelf that was handed
-/// out is given back, and then stands there with what it holds. The count of faults rises in each call that answers
-/// `Shelf` and in no other but `give_back`, up to 2^64 - 1.
+/// A ground in memory tells how each library stands, and has a library once it was made. An adapter over a real one
+/// tells nothing, and may have a library from its first state text on alone: one that goes back without is forgotten,
+/// and can be made anew. A shelf that was handed out is given back, and a library that the ground has then stands there
+/// with what the shelf holds. The count of faults rises in each call that answers `Shelf` and in no other but
+/// `give_back`, up to 2^64 - 1.
 pub trait Ground {
     ghost use Rattle.std.specs.Prelude.{Option};
 

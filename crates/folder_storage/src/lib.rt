@@ -9,6 +9,7 @@
 #![tactic(auto)]
 
 mod answer;
+mod earlier;
 mod files;
 mod folder_ground;
 mod folder_shelf;

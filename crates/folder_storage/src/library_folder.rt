@@ -1,4 +1,5 @@
 //! The folder of one library, held by this process.
+use crate::earlier::earlier_objects;
 use crate::files::{
     is_there, make_folder, sweep, sync_file, sync_folder, unless_missing, write_file,
 };
@@ -28,8 +29,10 @@ pub(crate) struct LibraryFolder<R> {
     above: Option<String>,
     /// The open folder, which is locked as long as it is open.
     lock: File,
-    /// The objects that were put since they were last made durable.
-    unsynced: Vec<Key>,
+    /// The objects that were put and not made durable: those of this run, and of earlier ones once they were sought.
+    pub(crate) unsynced: Vec<Key>,
+    /// Whether the objects of earlier runs are among them, or were made durable.
+    has_earlier: bool,
     /// What was listed last.
     listing: Option<Listing>,
 }
@@ -108,6 +111,7 @@ impl<R: Files<File = File> + AllocGlobal + Clone + Drop> LibraryFolder<R> {
             above: None,
             lock,
             unsynced: Vec::new(rt.alloc()),
+            has_earlier: false,
             listing: None,
         })
     }
@@ -174,10 +178,10 @@ impl<R: Files<File = File> + AllocGlobal + Clone + Drop> LibraryFolder<R> {
     pub(crate) fn move_in(&mut self, slot: &Slot, spare: &Spare) -> io::Result<()> {
         match slot {
             Slot::Object(key) => {
-                self.move_object(spare)?;
+                // First, since a move that fails may have been done.
                 self.forget_listing(key);
                 self.unsynced.push(*key)?;
-                Ok(())
+                self.move_object(spare)
             }
             Slot::Status => self.move_status(spare),
         }
@@ -213,10 +217,10 @@ impl<R: Files<File = File> + AllocGlobal + Clone + Drop> LibraryFolder<R> {
         Ok(())
     }
 
-    /// Makes every object durable that was put since this was done last: its file, and then each folder that was
-    /// touched.
+    /// Makes every object durable that was put since this was done last, by whichever run: its file, and then each
+    /// folder that was touched.
     fn make_durable(&mut self) -> io::Result<()> {
-        self.unsynced.sort()?;
+        self.seek_unsynced()?;
         let library = self.path.as_str();
         for key in &self.unsynced {
             let path = object_path(self.rt.alloc(), library, key)?;
@@ -229,6 +233,20 @@ impl<R: Files<File = File> + AllocGlobal + Clone + Drop> LibraryFolder<R> {
         }
         self.unsynced.clear();
         Ok(())
+    }
+
+    /// Takes what earlier runs put among the objects that are to be made durable, once in this run, and sorts them.
+    pub(crate) fn seek_unsynced(&mut self) -> io::Result<()> {
+        self.unsynced.sort()?;
+        if self.has_earlier {
+            return Ok(());
+        }
+        let earlier = earlier_objects(&self.rt, self.path.as_str(), &self.unsynced)?;
+        for key in &earlier {
+            self.unsynced.push(*key)?;
+        }
+        self.has_earlier = true;
+        Ok(self.unsynced.sort()?)
     }
 
     /// The path of a slot's file.
@@ -299,7 +317,7 @@ fn first_byte(id: &Option<ObjId>) -> u8 {
     }
 }
 
-/// Makes durable the folder of an object, unless it is that of the one before.
+/// Makes durable the folder of an object, unless it is that of the one before. It may be missing: then the object is.
 fn sync_folders<R: Files<File = File> + AllocGlobal>(
     rt: &R,
     library: &str,
@@ -314,7 +332,8 @@ fn sync_folders<R: Files<File = File> + AllocGlobal>(
         None => (false, false),
     };
     if !same_folder {
-        sync_folder(rt, object_folder(rt.alloc(), library, key)?.as_str())?;
+        let folder = object_folder(rt.alloc(), library, key)?;
+        unless_missing(sync_folder(rt, folder.as_str()))?;
     }
     if !same_kind {
         sync_folder(rt, kind_path(rt.alloc(), library, key.kind)?.as_str())?;

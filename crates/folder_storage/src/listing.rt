@@ -2,7 +2,7 @@
 use ids::{Kind, ObjId};
 use object_store::Found;
 use std::alloc::Global;
-use std::fs::{DirEntry, File, Files};
+use std::fs::{DirEntry, File, Files, Metadata};
 use std::io::ErrorKind;
 use std::{fs, io};
 
@@ -69,6 +69,25 @@ fn found_at<R: Files<File = File> + Drop>(
     first: u8,
     entry: io::Result<DirEntry<R>>,
 ) -> io::Result<Option<Found>> {
+    let (id, metadata) = match object_file(alloc, first, entry)? {
+        Some(file) => file,
+        None => return Ok(None),
+    };
+    if is_lost(&id, metadata.len()) {
+        return Ok(None);
+    }
+    Ok(Some(Found {
+        id,
+        size: metadata.len(),
+    }))
+}
+
+/// The id that the name of an object's file tells, and what is told of the file, if an entry is one.
+pub(crate) fn object_file<R: Files<File = File> + Drop>(
+    alloc: Global,
+    first: u8,
+    entry: io::Result<DirEntry<R>>,
+) -> io::Result<Option<(ObjId, Metadata)>> {
     let entry = match entry {
         Ok(entry) => entry,
         Err(failure) if is_bad_name(&failure) => return Ok(None),
@@ -79,13 +98,11 @@ fn found_at<R: Files<File = File> + Drop>(
         None => return Ok(None),
     };
     let metadata = entry.metadata()?;
-    if !metadata.is_file() || is_lost(&id, metadata.len()) {
-        return Ok(None);
+    if metadata.is_file() {
+        Ok(Some((id, metadata)))
+    } else {
+        Ok(None)
     }
-    Ok(Some(Found {
-        id,
-        size: metadata.len(),
-    }))
 }
 
 /// Whether a file of this size is what a loss of power left of an object: it is empty, and its name is not that of no

@@ -1,7 +1,8 @@
 //! Libraries in memory.
 ghost use Rattle.std.specs.Prelude.{◌≡◌, ◌<◌, ℕ, List, [], ◌∷◌, ◌++◌, vec_len, slice_index_or, slice_set, IfErr, IfNone, IfOk, IfSome, OnErr, OnOk, None, Some};
-ghost use Rattle.folder_storage.specs.Ground.{Absent, no_contents};
-ghost use Rattle.folder_storage.specs.MemoryGround.{IsPlaceOf, entry_out, is_at, returned, standing_in};
+ghost use Rattle.object_store.specs.Shelf.{CountsFaults};
+ghost use Rattle.folder_storage.specs.Ground.{Absent, FindsLibrary, HandedOut, HandsOut, MakesLibrary, StandAsBefore, Standing, no_contents};
+ghost use Rattle.folder_storage.specs.MemoryGround.{IsPlaceOf, entry_out, is_at, returned, standing_in, standings};
 
 use crate::ground::Ground;
 use ids::{Items, LibId, Text};
@@ -16,7 +17,8 @@ pub struct KeptLibrary {
     pub shelf: Option<MemoryShelf>,
 }
 
-/// Libraries in memory. It tells how each stands, and fails only where a library is looked for that was handed out.
+/// Libraries in memory. It tells how each stands, and has a library once it was made, with or without a state text. It
+/// answers `Shelf` only where a library is looked for that was handed out, and never where one is made.
 #[derive(Drop)]
 pub struct MemoryGround {
     alloc: Global,
@@ -39,16 +41,22 @@ impl MemoryGround {
 }
 
 impl Ground for MemoryGround {
-    ghost use Rattle.std.specs.Prelude.{Some};
-    ghost use Rattle.folder_storage.specs.MemoryGround.{standing_in};
+    ghost use Rattle.folder_storage.specs.MemoryGround.{standings};
 
     type S = MemoryShelf;
 
-    ghost stands = { λ ground folder lib. Some (standing_in ground.libraries.items folder lib) };
+    ghost stands = { λ ground. standings ground.libraries.items };
 
     ghost faults = { λ ground. ground.faults };
 
-    fn find(&mut self, folder: &str, lib: LibId) -> Result<Option<MemoryShelf>, ShelfFailed> {
+    fn find(&mut self, folder: &str, lib: LibId) -> Result<Option<MemoryShelf>, ShelfFailed>
+        ensures found { (standing : Standing) → standings self.old.libraries.items folder.now lib ≡ Some standing
+            → IfOk result (FindsLibrary (λ shelf. Some shelf.contents) standing) }
+        ensures ok { IfOk result (HandsOut (standings self.old.libraries.items) (standings self.new.libraries.items) folder.now lib) }
+        ensures err { OnErr result (StandAsBefore (standings self.old.libraries.items) (standings self.new.libraries.items)) }
+        ensures shelf { IfErr result (λ failed. failed ≡ ShelfFailed.Shelf → standing_in self.old.libraries.items folder.now lib ≡ HandedOut) }
+        ensures faults { CountsFaults self.old.faults self.new.faults result }
+    {
         let place = match place_of(&self.libraries, folder, &lib) {
             Some(place) => place,
             None => return Ok(None),
@@ -62,7 +70,14 @@ impl Ground for MemoryGround {
         }
     }
 
-    fn make(&mut self, folder: &str, lib: LibId) -> Result<Option<MemoryShelf>, ShelfFailed> {
+    fn make(&mut self, folder: &str, lib: LibId) -> Result<Option<MemoryShelf>, ShelfFailed>
+        ensures found { (standing : Standing) → standings self.old.libraries.items folder.now lib ≡ Some standing
+            → IfOk result (MakesLibrary (λ shelf. Some shelf.contents) standing) }
+        ensures ok { IfOk result (HandsOut (standings self.old.libraries.items) (standings self.new.libraries.items) folder.now lib) }
+        ensures err { OnErr result (StandAsBefore (standings self.old.libraries.items) (standings self.new.libraries.items)) }
+        ensures no_memory { IfErr result (λ failed. failed ≡ ShelfFailed.NoMemory) }
+        ensures faults { CountsFaults self.old.faults self.new.faults result }
+    {
         match place_of(&self.libraries, folder, &lib) {
             Some(_) => Ok(None),
             None => match add_library(self.alloc, &mut self.libraries, folder, lib) {

@@ -1,5 +1,5 @@
 -- What is found is handed out.
-use Rattle.folder_storage.proofs.StandingLemmas.{taken-found, taken-changes, taken-stays}
+use Rattle.folder_storage.proofs.StandingLemmas.{taken-found, taken-changes, taken-out, taken-stays}
 use Rattle.folder_storage.proofs.memory_ground.MemoryGroundGround.find.Goals as goal
 
 pub returns-in-Some-take_at-clause-found : goal.returns-in-Some-take_at-clause-found
@@ -13,3 +13,7 @@ returns-in-Some-take_at-clause-ok c =
 pub returns-in-None-take_at-clause-err : goal.returns-in-None-take_at-clause-err
 returns-in-None-take_at-clause-err c =
     taken-stays c.args.self.now.libraries.items c.take_at.new.libraries.items c.in-Some.place c.in-None-take_at.ensures.value c.in-None-take_at.ensures.ok
+
+pub returns-in-None-take_at-clause-shelf : goal.returns-in-None-take_at-clause-shelf
+returns-in-None-take_at-clause-shelf c same =
+    taken-out c.args.self.now.libraries.items c.args.folder.now c.args.lib c.in-Some.place (rw c.deref.ensures.value at c.in-Some.ensures.found) c.in-None-take_at.ensures.value
