@@ -119,12 +119,12 @@ distinct_push met (x ∷ xs) key = by (is_in met x) refl (λ more. distinct_push
         → ((more : List Key) → distinct_from more (xs ++ key ∷ []) ≡ (if is_in more key || is_in xs key then distinct_from more xs else distinct_from more xs ++ key ∷ []))
         → (if b then distinct_from met (xs ++ key ∷ []) else x ∷ distinct_from (x ∷ met) (xs ++ key ∷ []))
         ≡ (if is_in met key || (same_key key x || is_in xs key) then (if b then distinct_from met xs else x ∷ distinct_from (x ∷ met) xs)
-          else (if b then distinct_from met xs else x ∷ distinct_from (x ∷ met) xs) ++ key ∷ [])
+        else (if b then distinct_from met xs else x ∷ distinct_from (x ∷ met) xs) ++ key ∷ [])
     by true is rest = rest met ∙ if_same (is_in met key || is_in xs key) (is_in met key || (same_key key x || is_in xs key)) (distinct_from met xs) (distinct_from met xs ++ key ∷ []) (again is)
     by false is rest =
         ap (λ ks. x ∷ ks) (rest (x ∷ met)) ∙ behind ((same_key key x || is_in met key) || is_in xs key)
         ∙ if_same ((same_key key x || is_in met key) || is_in xs key) (is_in met key || (same_key key x || is_in xs key)) (x ∷ distinct_from (x ∷ met) xs) ((x ∷ distinct_from (x ∷ met) xs) ++ key ∷ [])
-          (or_shift (same_key key x) (is_in met key) (is_in xs key))
+        (or_shift (same_key key x) (is_in met key) (is_in xs key))
 
 -- lists with the same keys in the order of first visit
 abbrev pub Once : List Key → List Key → Type 0

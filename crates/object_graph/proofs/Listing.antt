@@ -177,7 +177,7 @@ pub table_entries : (blocks : Bool) (A : Objects) (root : List ℕ) → (walk_ro
 table_entries blocks A root none path =
     map.get-from_entries paths_total (listed A 100 root) path ∙ find-listed path (listed A 100 root)
     ∙ found_listed blocks A path 100 [] root (walk_root blocks A root start).visits
-      (record { from = start; none = none; within = within_itself (walk_root blocks A root start).visits })
+    (record { from = start; none = none; within = within_itself (walk_root blocks A root start).visits })
 
 abbrev pub nodes : Objects → Listed → List (PathV × Node)
 nodes A [] = []

@@ -212,7 +212,7 @@ joins_stop objects all rest id key bytes fault joins at read = by (map.get objec
     by : (o : Option (List ℕ)) → map.get objects (block_key id) ≡ o → AnswersRead (stored_in (block_key id) o) (Err fault) → IsDue (blocks_due objects all) fault
     by None is read =
         due_of (Some (Incomplete (block_key id))) (blocks_due objects all)
-          (λ due e. sym joins.due ∙ ap (λ (o : Option (List ℕ)). if is_some o then blocks_due objects rest else Some (Incomplete (block_key id))) is ∙ e) fault read
+        (λ due e. sym joins.due ∙ ap (λ (o : Option (List ℕ)). if is_some o then blocks_due objects rest else Some (Incomplete (block_key id))) is ∙ e) fault read
     by (Some given) is read = due_of None (blocks_due objects all) (λ due e. nothing e) fault read
       where
         nothing : {x : TreeFault} → None ≡ Some x → blocks_due objects all ≡ Some x
@@ -264,9 +264,9 @@ same_append (a ∷ p) (b ∷ q) x y e = ap (λ c. nat_eq a b && c) (same_append 
 pub fronts_same : (l r x y : List ℕ) (n : ℕ) → n ≡ min (length l) (length r) → take n l ≡ take n r → same_id (drop n l ++ x) (drop n r ++ y) ≡ same_id (l ++ x) (r ++ y)
 fronts_same l r x y n is same =
     sym (ap₂ (λ (a b : List ℕ). same_id (a ++ x) (b ++ y)) (sym (take-append-drop n l)) (sym (take-append-drop n r))
-      ∙ ap₂ same_id (append_assoc (take n l) (drop n l) x) (append_assoc (take n r) (drop n r) y)
-      ∙ same_append (take n l) (take n r) (drop n l ++ x) (drop n r ++ y) (ap length same)
-      ∙ ap (λ b. b && same_id (drop n l ++ x) (drop n r ++ y)) (ap (λ xs. same_id (take n l) xs) (sym same) ∙ same_itself (take n l)))
+    ∙ ap₂ same_id (append_assoc (take n l) (drop n l) x) (append_assoc (take n r) (drop n r) y)
+    ∙ same_append (take n l) (take n r) (drop n l ++ x) (drop n r ++ y) (ap length same)
+    ∙ ap (λ b. b && same_id (drop n l ++ x) (drop n r ++ y)) (ap (λ xs. same_id (take n l) xs) (sym same) ∙ same_itself (take n l)))
 
 pub fronts_differ : (l r x y : List ℕ) → same_id (take (min (length l) (length r)) l) (take (min (length l) (length r)) r) ≡ false → same_id (l ++ x) (r ++ y) ≡ false
 fronts_differ l r x y differ =
@@ -283,7 +283,7 @@ pub bytes_of_file : (objects : Objects) (id : List ℕ) (file : FileObject) (res
 bytes_of_file objects id file (Ok bytes) none read is = (none, is.1 ∙ sym (contents_are objects id file read))
 bytes_of_file objects id file (Err fault) none read is =
     due_of (blocks_due objects file.blocks) (walk_file_at objects id start).fault
-      (λ due at. nothing (sym (no_block_due objects id file (sym (whole_due objects id file read) ∙ none)) ∙ at)) fault is
+    (λ due at. nothing (sym (no_block_due objects id file (sym (whole_due objects id file read) ∙ none)) ∙ at)) fault is
   where
     nothing : {x : TreeFault} → None ≡ Some x → (walk_file_at objects id start).fault ≡ Some x
     nothing e = cc
@@ -299,19 +299,19 @@ step_on objects l r count ready fronts =
     let at_left : drop (l.place + count) l.block ≡ drop count (drop l.place l.block) = dropped l.place count l.block in
     let at_right : drop (r.place + count) r.block ≡ drop count (drop r.place r.block) = dropped r.place count r.block in
     let same : same_id (drop (l.place + count) l.block ++ x) (drop (r.place + count) r.block ++ y) ≡ same_id (rest_of objects l) (rest_of objects r) =
-        ap₂ (λ (a b : List ℕ). same_id (a ++ x) (b ++ y)) at_left at_right ∙ fronts_same (drop l.place l.block) (drop r.place r.block) x y count fronts.0 fronts.1 in
+    ap₂ (λ (a b : List ℕ). same_id (a ++ x) (b ++ y)) at_left at_right ∙ fronts_same (drop l.place l.block) (drop r.place r.block) x y count fronts.0 fronts.1 in
     let left_less : length (drop count (drop l.place l.block)) + count ≡ length (drop l.place l.block) = omega (arith, length-drop count (drop l.place l.block), fronts.0) in
     let right_less : length (drop count (drop r.place r.block)) + count ≡ length (drop r.place r.block) = omega (arith, length-drop count (drop r.place r.block), fronts.0) in
     let before : length (drop l.place l.block) + length x ≡ length (drop r.place r.block) + length y =
-        sym (length-append (drop l.place l.block) x) ∙ ready.bound ∙ length-append (drop r.place r.block) y in
+    sym (length-append (drop l.place l.block) x) ∙ ready.bound ∙ length-append (drop r.place r.block) y in
     let after : length (drop count (drop l.place l.block)) + length x ≡ length (drop count (drop r.place r.block)) + length y = omega (arith, left_less, right_less, before) in
     record {
       ready = record {
         left_stored = ready.left_stored;
         right_stored = ready.right_stored;
         bound =
-          ap (λ a. length (a ++ x)) at_left ∙ length-append (drop count (drop l.place l.block)) x ∙ after
-          ∙ sym (length-append (drop count (drop r.place r.block)) y) ∙ ap (λ b. length (b ++ y)) (sym at_right);
+            ap (λ a. length (a ++ x)) at_left ∙ length-append (drop count (drop l.place l.block)) x ∙ after
+            ∙ sym (length-append (drop count (drop r.place r.block)) y) ∙ ap (λ b. length (b ++ y)) (sym at_right);
       };
       same = same;
     }
@@ -334,24 +334,27 @@ due_of_whole objects id file whole = sym (whole_due objects id file whole.read) 
 
 pub one_file : (objects : Objects) (left right : List ℕ) (l r : FileObject) → IsWhole objects left l → IsWhole objects right r → left ≡ right
     → files_due objects left right ≡ None × true ≡ same_id (contents_of objects left) (contents_of objects right)
-one_file objects left right l r whole other same =
-    (second_due objects left right whole.none ∙ other.none,
-     subst (λ id. true ≡ same_id (contents_of objects left) (contents_of objects id)) same (sym (same_itself (contents_of objects left))))
+one_file objects left right l r whole other same = (
+  second_due objects left right whole.none ∙ other.none,
+  subst (λ id. true ≡ same_id (contents_of objects left) (contents_of objects id)) same (sym (same_itself (contents_of objects left))),
+)
 
 pub two_sizes : (objects : Objects) (left right : List ℕ) (l r : FileObject) → IsWhole objects left l → IsWhole objects right r → l.size ≢ r.size
     → files_due objects left right ≡ None × false ≡ same_id (contents_of objects left) (contents_of objects right)
-two_sizes objects left right l r whole other apart =
-    (second_due objects left right whole.none ∙ other.none,
-     sym (ap₂ same_id (contents_are objects left l whole.read) (contents_are objects right r other.read)
-       ∙ other_lengths (joined objects l.blocks) (joined objects r.blocks)
-         (λ same. apart (whole_size objects left l (due_of_whole objects left l whole) ∙ same ∙ sym (whole_size objects right r (due_of_whole objects right r other))))))
+two_sizes objects left right l r whole other apart = (
+  second_due objects left right whole.none ∙ other.none,
+  sym (ap₂ same_id (contents_are objects left l whole.read) (contents_are objects right r other.read)
+      ∙ other_lengths (joined objects l.blocks) (joined objects r.blocks)
+      (λ same. apart (whole_size objects left l (due_of_whole objects left l whole) ∙ same ∙ sym (whole_size objects right r (due_of_whole objects right r other))))),
+)
 
 pub blocks_compared : (objects : Objects) (left right : List ℕ) (l r : FileObject) (result : Result Bool WalkFault) → IsWhole objects left l → IsWhole objects right r
     → Answers None (λ same. same ≡ same_id (joined objects l.blocks) (joined objects r.blocks)) result
     → Answers (files_due objects left right) (λ same. same ≡ same_id (contents_of objects left) (contents_of objects right)) result
-blocks_compared objects left right l r (Ok same) whole other is =
-    (second_due objects left right whole.none ∙ other.none,
-     is.1 ∙ ap₂ same_id (sym (contents_are objects left l whole.read)) (sym (contents_are objects right r other.read)))
+blocks_compared objects left right l r (Ok same) whole other is = (
+  second_due objects left right whole.none ∙ other.none,
+  is.1 ∙ ap₂ same_id (sym (contents_are objects left l whole.read)) (sym (contents_are objects right r other.read)),
+)
 blocks_compared objects left right l r (Err fault) whole other is = due_of None (files_due objects left right) (λ due at. nothing at) fault is
   where
     nothing : {x : TreeFault} → None ≡ Some x → files_due objects left right ≡ Some x
@@ -365,9 +368,9 @@ compared objects left right l r xs ys result whole other at_left at_right sizes 
     let none_left : blocks_due objects l.blocks ≡ None = no_block_due objects left l (due_of_whole objects left l whole) in
     let none_right : blocks_due objects r.blocks ≡ None = no_block_due objects right r (due_of_whole objects right r other) in
     let lengths : length (joined objects l.blocks) ≡ length (joined objects r.blocks) =
-        sym (whole_size objects left l (due_of_whole objects left l whole)) ∙ sizes ∙ whole_size objects right r (due_of_whole objects right r other) in
+    sym (whole_size objects left l (due_of_whole objects left l whole)) ∙ sizes ∙ whole_size objects right r (due_of_whole objects right r other) in
     let is : Answers None (λ same. same ≡ same_id (joined objects xs) (joined objects ys)) result =
-        answers (ap (blocks_due objects) at_left ∙ none_left) (ap (blocks_due objects) at_right ∙ none_right)
-          (ap (λ ids. length (joined objects ids)) at_left ∙ lengths ∙ ap (λ ids. length (joined objects ids)) (sym at_right)) in
+    answers (ap (blocks_due objects) at_left ∙ none_left) (ap (blocks_due objects) at_right ∙ none_right)
+    (ap (λ ids. length (joined objects ids)) at_left ∙ lengths ∙ ap (λ ids. length (joined objects ids)) (sym at_right)) in
     blocks_compared objects left right l r result whole other
-      (subst₂ (λ (us vs : List (List ℕ)). Answers None (λ same. same ≡ same_id (joined objects us) (joined objects vs)) result) at_left at_right is)
+    (subst₂ (λ (us vs : List (List ℕ)). Answers None (λ same. same ≡ same_id (joined objects us) (joined objects vs)) result) at_left at_right is)

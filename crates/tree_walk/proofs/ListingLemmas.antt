@@ -109,12 +109,13 @@ entry_object objects less path e old wants few is =
 pub entry_of_directory : (objects : Objects) (less : ℕ) (path : PathV) (e : Dirent) (old new : Listed) (result : Result ⊤ WalkFault) → length old < 1000000 → is_directory_mode e.mode ≡ true
     → Lists (directory_step objects less (path ++ e.name ∷ []) e.id) (path ++ e.name ∷ []) (listed objects less e.id) (old ++ (path ++ e.name ∷ [], entry_of e) ∷ []) new result
     → Lists (entry_step objects (suc less) path e) path (listed_one objects (suc less) e) old new result
-entry_of_directory objects less path e old new (Ok done) few is lists =
-    (entry_object objects less path e old true few is ∙ lists.0,
-     lists.1
-     ∙ append_assoc old ((path ++ e.name ∷ [], entry_of e) ∷ []) (rooted (path ++ e.name ∷ []) (listed objects less e.id))
-     ∙ ap (λ more. old ++ (path ++ e.name ∷ [], entry_of e) ∷ more) (sym (rooted-prefixed path e.name (listed objects less e.id)))
-     ∙ ap (λ b. old ++ rooted path ((e.name ∷ [], entry_of e) ∷ prefixed e.name (if b then listed objects less e.id else []))) (sym is))
+entry_of_directory objects less path e old new (Ok done) few is lists = (
+  entry_object objects less path e old true few is ∙ lists.0,
+  lists.1
+      ∙ append_assoc old ((path ++ e.name ∷ [], entry_of e) ∷ []) (rooted (path ++ e.name ∷ []) (listed objects less e.id))
+      ∙ ap (λ more. old ++ (path ++ e.name ∷ [], entry_of e) ∷ more) (sym (rooted-prefixed path e.name (listed objects less e.id)))
+      ∙ ap (λ b. old ++ rooted path ((e.name ∷ [], entry_of e) ∷ prefixed e.name (if b then listed objects less e.id else []))) (sym is),
+)
 entry_of_directory objects less path e old new (Err fault) few is lists =
     due_of _ _ (λ due at. entry_object objects less path e old true few is ∙ at) fault lists
 
@@ -140,9 +141,10 @@ file_fault objects less path id paths = by (is_nil id)
 pub entry_of_file : (objects : Objects) (less : ℕ) (path : PathV) (e : Dirent) (old : Listed) → length old < 1000000 → is_directory_mode e.mode ≡ false
     → (file : FileObject) → file_at objects e.id ≡ Ok file
     → Lists {T = ⊤} (entry_step objects (suc less) path e) path (listed_one objects (suc less) e) old (old ++ (path ++ e.name ∷ [], entry_of e) ∷ []) (Ok tt)
-entry_of_file objects less path e old few is file read =
-    (entry_object objects less path e old false few is ∙ file_fault objects less (path ++ e.name ∷ []) e.id _ ∙ ap fault_of read,
-     ap (λ b. old ++ rooted path ((e.name ∷ [], entry_of e) ∷ prefixed e.name (if b then listed objects less e.id else []))) (sym is))
+entry_of_file objects less path e old few is file read = (
+  entry_object objects less path e old false few is ∙ file_fault objects less (path ++ e.name ∷ []) e.id _ ∙ ap fault_of read,
+  ap (λ b. old ++ rooted path ((e.name ∷ [], entry_of e) ∷ prefixed e.name (if b then listed objects less e.id else []))) (sym is),
+)
 
 pub entry_of_bad_file : (objects : Objects) (less : ℕ) (path : PathV) (e : Dirent) (old : Listed) → length old < 1000000 → is_directory_mode e.mode ≡ false
     → (fault : WalkFault) → AnswersRead (file_at objects e.id) (Err fault) → IsDue (entry_step objects (suc less) path e (counts (length old))).fault fault
@@ -197,7 +199,7 @@ entries_next objects room path e entries old new lists =
     let mid : Walk = entry_step objects room path e (counts (length old)) in
     let own : mid.paths ≡ length old + length (listed_one objects room e) = entry_paths objects room path e (length old) lists.0 in
     let longer : length new ≡ length old + length (listed_one objects room e) =
-        ap length lists.1 ∙ length-append old (rooted path (listed_one objects room e)) ∙ ap (λ n. length old + n) (length-rooted path (listed_one objects room e)) in
+    ap length lists.1 ∙ length-append old (rooted path (listed_one objects room e)) ∙ ap (λ n. length old + n) (length-rooted path (listed_one objects room e)) in
     let alike : Alike AnyKeys (counts (length new)) mid = record { keys = tt; paths = longer ∙ sym own; fault = sym lists.0 } in
     let same = entries_alike AnyKeys any_push false objects room path entries (counts (length new)) mid alike in
     same.fault ∙ ap (λ (v : Walk). v.fault) (sym (goes_on mid (entries_step objects room path entries) lists.0))
@@ -212,18 +214,18 @@ pub goes_next : (objects : Objects) (room : ℕ) (path : PathV) (all rest : List
 goes_next objects room path all rest e old mid new goes lists = record {
   due = entries_next objects room path e rest mid new lists ∙ goes.due;
   found =
-    ap (λ xs. xs ++ rooted path (listed_from objects room rest)) lists.1
-    ∙ append_assoc mid (rooted path (listed_one objects room e)) (rooted path (listed_from objects room rest))
-    ∙ ap (λ xs. mid ++ xs) (sym (rooted-append path (listed_one objects room e) (listed_from objects room rest)))
-    ∙ ap (λ xs. mid ++ rooted path xs) (sym (from-cons objects room e rest))
-    ∙ goes.found;
+      ap (λ xs. xs ++ rooted path (listed_from objects room rest)) lists.1
+      ∙ append_assoc mid (rooted path (listed_one objects room e)) (rooted path (listed_from objects room rest))
+      ∙ ap (λ xs. mid ++ xs) (sym (rooted-append path (listed_one objects room e) (listed_from objects room rest)))
+      ∙ ap (λ xs. mid ++ rooted path xs) (sym (from-cons objects room e rest))
+      ∙ goes.found;
 }
 
 pub goes_stop : (objects : Objects) (room : ℕ) (path : PathV) (all rest : List Dirent) (e : Dirent) (old mid : Listed) → GoesOn objects room path all (e ∷ rest) old mid
     → (fault : WalkFault) → IsDue (entry_step objects room path e (counts (length mid))).fault fault → IsDue (entries_step objects room path all (counts (length old))).fault fault
 goes_stop objects room path all rest e old mid goes fault is =
     due_of (entries_step objects room path (e ∷ rest) (counts (length mid))).fault _ (λ due at. sym goes.due ∙ at) fault
-      (due_first (entry_step objects room path e (counts (length mid))) (entries_step objects room path rest) fault is)
+    (due_first (entry_step objects room path e (counts (length mid))) (entries_step objects room path rest) fault is)
 
 pub goes_end : (objects : Objects) (room : ℕ) (path : PathV) (all : List Dirent) (old new : Listed) → GoesOn objects room path all [] old new
     → Lists {T = ⊤} (entries_step objects room path all) path (listed_from objects room all) old new (Ok tt)
@@ -240,7 +242,7 @@ pub nil_directory : (objects : Objects) (room : ℕ) (path : PathV) (id : List �
     → Lists {T = ⊤} (directory_step objects room path id) path (listed objects room id) old old (Ok tt)
 nil_directory objects room path id old is =
     subst (λ i. Lists {T = ⊤} (directory_step objects room path i) path (listed objects room i) old old (Ok tt)) (sym is)
-      (refl, sym (append-nil old) ∙ ap (λ xs. old ++ rooted path xs) (sym (nothing_listed false objects room nil refl)))
+    (refl, sym (append-nil old) ∙ ap (λ xs. old ++ rooted path xs) (sym (nothing_listed false objects room nil refl)))
 
 -- a directory's entries
 pub directory_entries : (objects : Objects) (room : ℕ) (path : PathV) (id : List ℕ) (entries sorted : List Dirent) (old new : Listed) (result : Result ⊤ WalkFault)
@@ -264,7 +266,7 @@ directory_entries objects room path id entries sorted old new result other read 
     fault : (directory_step objects room path id (counts (length old))).fault ≡ (entries_step objects room path (in_name_order entries) (counts (length old))).fault
     fault =
         ap₂ (λ (n : Bool) (r : Result FsObject TreeFault).
-          (if n then counts (length old) else then_read r (walk_found false objects (walk_below false objects room) true path id) (visited (fs_key id) (counts (length old)))).fault) other read
+        (if n then counts (length old) else then_read r (walk_found false objects (walk_below false objects room) true path id) (visited (fs_key id) (counts (length old)))).fault) other read
         ∙ (entries_alike AnyKeys any_push false objects room path (in_name_order entries) (visited (fs_key id) (counts (length old))) (counts (length old)) alike).fault
 
     by : (result : Result ⊤ WalkFault) → Lists (entries_step objects room path (in_name_order entries)) path (listed_from objects room (in_name_order entries)) old new result
@@ -280,8 +282,8 @@ pub entry_directory : (objects : Objects) (room less : ℕ) (path own : PathV) (
     → Lists (entry_step objects room path e) path (listed_one objects room e) old new result
 entry_directory objects room less path own e old added new result fits at more few is lists =
     subst (λ r. Lists (entry_step objects r path e) path (listed_one objects r e) old new result) (sym fits)
-      (entry_of_directory objects less path e old new result few is
-        (subst₂ (λ (p : PathV) (xs : Listed). Lists (directory_step objects less p e.id) p (listed objects less e.id) xs new result) at more lists))
+    (entry_of_directory objects less path e old new result few is
+    (subst₂ (λ (p : PathV) (xs : Listed). Lists (directory_step objects less p e.id) p (listed objects less e.id) xs new result) at more lists))
 
 pub entry_file : (objects : Objects) (room less : ℕ) (path : PathV) (e : Dirent) (old added : Listed) → room ≡ suc less
     → added ≡ old ++ (path ++ e.name ∷ [], entry_of e) ∷ [] → length old < 1000000 → is_directory_mode e.mode ≡ false
@@ -289,7 +291,7 @@ pub entry_file : (objects : Objects) (room less : ℕ) (path : PathV) (e : Diren
     → Lists {T = ⊤} (entry_step objects room path e) path (listed_one objects room e) old added (Ok tt)
 entry_file objects room less path e old added fits more few is file read =
     subst₂ (λ (r : ℕ) (xs : Listed). Lists {T = ⊤} (entry_step objects r path e) path (listed_one objects r e) old xs (Ok tt)) (sym fits) (sym more)
-      (entry_of_file objects less path e old few is file read)
+    (entry_of_file objects less path e old few is file read)
 
 pub entry_bad_file : (objects : Objects) (room less : ℕ) (path : PathV) (e : Dirent) (old : Listed) → room ≡ suc less
     → length old < 1000000 → is_directory_mode e.mode ≡ false

@@ -100,7 +100,7 @@ met_more order known paths key met new = record {
 pub nothing_met : (order : List Key) (known : map.FinMap key_cmp ⊤) → order ≡ [] → known ≡ map.empty → IsMet order known 0
 nothing_met order known none empty =
     subst₂ (λ (ks : List Key) (m : map.FinMap key_cmp ⊤). IsMet ks m 0) (sym none) (sym empty)
-      (record { there = λ key. ap is_some (map.get-empty key_cmp key); once = refl; few = omega arith })
+    (record { there = λ key. ap is_some (map.get-empty key_cmp key); once = refl; few = omega arith })
 
 pub key_is_met : (met : MetView) (key : Key) → is_in met.keys key ≡ true → with_key_met key met ≡ met
 key_is_met met key is = ap (λ (b : Bool). record met { keys = if b then met.keys else met.keys ++ key ∷ [] }) is
@@ -183,16 +183,16 @@ pub entry_directory : (objects : Objects) (room less : ℕ) (path own : PathV) (
     → mid ≡ one_more old → old.paths < 1000000 → is_directory_mode e.mode ≡ true → Walks (visit_directory objects less own e.id) mid result → Walks (visit_entry objects room path e) old result
 entry_directory objects room less path own e old mid result fits at more few is walks =
     walks_same (visit_entry objects room path e) (visit_directory objects less own e.id) old mid result
-      (entry_object objects room less path e old true fits few is
-        ∙ ap₂ (λ (p : PathV) (m : MetView). visit_directory objects less p e.id (seen m)) (sym at) (sym more)) walks
+    (entry_object objects room less path e old true fits few is
+    ∙ ap₂ (λ (p : PathV) (m : MetView). visit_directory objects less p e.id (seen m)) (sym at) (sym more)) walks
 
 pub entry_file : (objects : Objects) (room less : ℕ) (path : PathV) (e : Dirent) (old mid : MetView) (result : Result MetView WalkFault) → room ≡ suc less
     → mid ≡ one_more old → old.paths < 1000000 → is_directory_mode e.mode ≡ false → Walks (walk_file_at objects e.id) mid result → Walks (visit_entry objects room path e) old result
 entry_file objects room less path e old mid result fits more few is walks =
     walks_same (visit_entry objects room path e) (walk_file_at objects e.id) old mid result
-      (entry_object objects room less path e old false fits few is
-        ∙ file_anywhere objects less (path ++ e.name ∷ []) e.id (seen (one_more old))
-        ∙ ap (λ (m : MetView). walk_file_at objects e.id (seen m)) (sym more)) walks
+    (entry_object objects room less path e old false fits few is
+    ∙ file_anywhere objects less (path ++ e.name ∷ []) e.id (seen (one_more old))
+    ∙ ap (λ (m : MetView). walk_file_at objects e.id (seen m)) (sym more)) walks
 
 -- ---- entries, one after another
 
@@ -209,14 +209,14 @@ walks_next objects room path all rest e old mid new goes walks =
     let w : Walk = visit_entry objects room path e (seen mid) in
     let on : then_walk w (visit_entries objects room path rest) ≡ visit_entries objects room path rest w = goes_on w (visit_entries objects room path rest) walks.none in
     let same : Alike Once (visit_entries objects room path rest (seen new)) (visit_entries objects room path rest w) =
-        entries_alike Once once_push true objects room path rest (seen new) w (alike_met w new walks) in
+    entries_alike Once once_push true objects room path rest (seen new) w (alike_met w new walks) in
     record { alike = alike_then join_once (subst (λ (v : Walk). Alike Once (visit_entries objects room path rest (seen new)) v) (sym on) same) goes.alike }
 
 pub walks_stop : (objects : Objects) (room : ℕ) (path : PathV) (all rest : List Dirent) (e : Dirent) (old mid : MetView) → WalksOn objects room path all (e ∷ rest) old mid
     → (fault : WalkFault) → Walks (visit_entry objects room path e) mid (Err fault) → Walks (visit_entries objects room path all) old (Err fault)
 walks_stop objects room path all rest e old mid goes fault is =
     due_of (visit_entries objects room path (e ∷ rest) (seen mid)).fault (visit_entries objects room path all (seen old)).fault (λ due at. sym goes.alike.fault ∙ at) fault
-      (due_first (visit_entry objects room path e (seen mid)) (visit_entries objects room path rest) fault is)
+    (due_first (visit_entry objects room path e (seen mid)) (visit_entries objects room path rest) fault is)
 
 pub walks_end : (objects : Objects) (room : ℕ) (path : PathV) (all : List Dirent) (old new : MetView) → WalksOn objects room path all [] old new → Walks (visit_entries objects room path all) old (Ok new)
 walks_end objects room path all old new goes = met_alike (visit_entries objects room path all (seen old)) new goes.alike
@@ -242,8 +242,8 @@ directory_entries objects room path id entries sorted old mid result other read 
     alike : Alike Once (visit_entries objects room path sorted (seen mid)) (visit_directory objects room path id (seen old))
     alike =
         subst (λ (v : Walk). Alike Once (visit_entries objects room path sorted (seen mid)) v) (sym whole)
-          (subst (λ es. Alike Once (visit_entries objects room path sorted (seen mid)) (visit_entries objects room path es (visited (fs_key id) (seen old)))) same
-            (entries_alike Once once_push true objects room path sorted (seen mid) (visited (fs_key id) (seen old)) start))
+        (subst (λ es. Alike Once (visit_entries objects room path sorted (seen mid)) (visit_entries objects room path es (visited (fs_key id) (seen old)))) same
+        (entries_alike Once once_push true objects room path sorted (seen mid) (visited (fs_key id) (seen old)) start))
 
 -- an object that can't be read, or is a file
 pub directory_stops : (objects : Objects) (room : ℕ) (path : PathV) (id : List ℕ) (met : MetView) (fault : WalkFault) → is_nil id ≡ false → AnswersRead (fs_at objects id) (Err fault)
@@ -266,7 +266,7 @@ pub directory_file : (objects : Objects) (room : ℕ) (path : PathV) (id : List 
     → (visit_directory objects room path id (seen met)).fault ≡ Some (WrongKind id)
 directory_file objects room path id met file other read =
     ap₂ (λ (n : Bool) (r : Result FsObject TreeFault).
-      (if n then seen met else then_read r (walk_found true objects (walk_below true objects room) true path id) (visited (fs_key id) (seen met))).fault) other read
+    (if n then seen met else then_read r (walk_found true objects (walk_below true objects room) true path id) (visited (fs_key id) (seen met))).fault) other read
 
 -- ---- a file
 
@@ -337,12 +337,12 @@ file_whole objects id old mid new file blocks other read none visit at more =
     let last : MetView = record first { keys = with_blocks first.keys file.blocks } in
     let is : new ≡ last = more ∙ ap₂ (λ (m : MetView) (ids : List (List ℕ)). record m { keys = with_blocks m.keys ids }) visit at in
     let keys : Once walk.visits last.keys =
-        ap (distinct_from []) (blocks_visits objects file.blocks v clear)
-        ∙ sym (once_append first.keys (old.keys ++ fs_key id ∷ []) (block_keys file.blocks) (with_key-once old.keys (fs_key id)))
-        ∙ sym (with_blocks-once file.blocks first.keys) in
+    ap (distinct_from []) (blocks_visits objects file.blocks v clear)
+    ∙ sym (once_append first.keys (old.keys ++ fs_key id ∷ []) (block_keys file.blocks) (with_key-once old.keys (fs_key id)))
+    ∙ sym (with_blocks-once file.blocks first.keys) in
     let met : HasMet walk last = record { none = clear; keys = keys; paths = blocks_paths true objects file.blocks v } in
     subst (λ (m : MetView). HasMet (walk_file_at objects id (seen old)) m) (sym is)
-      (subst (λ (w : Walk). HasMet w last) (sym (whole_walk objects id old file other read none)) met)
+    (subst (λ (w : Walk). HasMet w last) (sym (whole_walk objects id old file other read none)) met)
 
 -- ---- a commit
 
@@ -358,7 +358,7 @@ pub commit_met : (objects : Objects) (id : List ℕ) (commit : Commit) (first mi
 commit_met objects id commit first mid last keys read none visit walks same once =
     let from : mid ≡ with_key_met (commit_key id) (record { keys = []; paths = 0 }) = visit ∙ ap (with_key_met (commit_key id)) none in
     let is : walk_commit objects id ≡ visit_directory objects 100 [] commit.root (seen mid) =
-        commit_walk objects id commit read ∙ ap (λ (m : MetView). visit_directory objects 100 [] commit.root (seen m)) (sym from) in
+    commit_walk objects id commit read ∙ ap (λ (m : MetView). visit_directory objects 100 [] commit.root (seen m)) (sym from) in
     let met : HasMet (walk_commit objects id) last = subst (λ (w : Walk). HasMet w last) (sym is) walks in
     (met.none, sym once ∙ ap (distinct_from []) same ∙ sym met.keys)
 
@@ -368,7 +368,7 @@ pub commit_stops : (objects : Objects) (id : List ℕ) (commit : Commit) (first 
 commit_stops objects id commit first mid fault read none visit walks =
     let from : mid ≡ with_key_met (commit_key id) (record { keys = []; paths = 0 }) = visit ∙ ap (with_key_met (commit_key id)) none in
     let is : walk_commit objects id ≡ visit_directory objects 100 [] commit.root (seen mid) =
-        commit_walk objects id commit read ∙ ap (λ (m : MetView). visit_directory objects 100 [] commit.root (seen m)) (sym from) in
+    commit_walk objects id commit read ∙ ap (λ (m : MetView). visit_directory objects 100 [] commit.root (seen m)) (sym from) in
     subst (λ (w : Walk). IsDue w.fault fault) (sym is) walks
 
 pub commit_unread : (objects : Objects) (id : List ℕ) (fault : WalkFault) → AnswersRead (commit_at objects id) (Err fault) → IsDue (walk_commit objects id).fault fault

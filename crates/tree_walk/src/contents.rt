@@ -18,7 +18,11 @@ use std::alloc::Global;
 /// The bytes of a file. Forty zeros are the empty file.
 ///
 /// The first fault of the file's traversal is answered, its size among them.
-pub fn file_bytes<S: Shelf>(alloc: Global, store: &mut Store<S>, id: ObjId) -> Result<Bytes, WalkFault>
+pub fn file_bytes<S: Shelf>(
+    alloc: Global,
+    store: &mut Store<S>,
+    id: ObjId,
+) -> Result<Bytes, WalkFault>
     ensures value { (objects : Objects) → objects_of S.contents store.old ≡ Some objects
         → Answers (walk_file_at objects id start).fault (λ bytes. bytes ≡ contents_of objects id) result }
     ensures kept { Reads S.contents S.may_give S.faults store.old store.new result }
@@ -45,7 +49,12 @@ fn join<S: Shelf>(alloc: Global, store: &mut Store<S>, blocks: &[ObjId]) -> Resu
 ///
 /// The first fault of the left file's traversal is answered, and then that of the right one's. Files of two sizes, and one
 /// file twice, are told apart without reading a block.
-pub fn same_file<S: Shelf>(alloc: Global, store: &mut Store<S>, left: ObjId, right: ObjId) -> Result<bool, WalkFault>
+pub fn same_file<S: Shelf>(
+    alloc: Global,
+    store: &mut Store<S>,
+    left: ObjId,
+    right: ObjId,
+) -> Result<bool, WalkFault>
     ensures value { (objects : Objects) → objects_of S.contents store.old ≡ Some objects
         → Answers (files_due objects left right) (λ same. same ≡ same_id (contents_of objects left) (contents_of objects right)) result }
     ensures kept { Reads S.contents S.may_give S.faults store.old store.new result }
@@ -63,7 +72,12 @@ pub fn same_file<S: Shelf>(alloc: Global, store: &mut Store<S>, left: ObjId, rig
     if left_file.size != right_file.size {
         return Ok(false);
     }
-    same_blocks(alloc, store, left_file.blocks.slice(), right_file.blocks.slice())
+    same_blocks(
+        alloc,
+        store,
+        left_file.blocks.slice(),
+        right_file.blocks.slice(),
+    )
 }
 
 /// Whether two ids are one.
@@ -74,7 +88,12 @@ fn is_one(left: &ObjId, right: &ObjId) -> bool
 }
 
 /// Whether blocks that are stored have the same bytes joined, where they have as many.
-fn same_blocks<S: Shelf>(alloc: Global, store: &mut Store<S>, left: &[ObjId], right: &[ObjId]) -> Result<bool, WalkFault>
+fn same_blocks<S: Shelf>(
+    alloc: Global,
+    store: &mut Store<S>,
+    left: &[ObjId],
+    right: &[ObjId],
+) -> Result<bool, WalkFault>
     ensures value { (objects : Objects) → objects_of S.contents store.old ≡ Some objects → blocks_due objects left.now ≡ None → blocks_due objects right.now ≡ None
         → length (joined objects left.now) ≡ length (joined objects right.now)
         → Answers None (λ same. same ≡ same_id (joined objects left.now) (joined objects right.now)) result }
@@ -99,7 +118,11 @@ fn same_blocks<S: Shelf>(alloc: Global, store: &mut Store<S>, left: &[ObjId], ri
 }
 
 /// One step of a comparison: a block is read into memory, or what is in memory of both is compared.
-fn step<S: Shelf>(store: &mut Store<S>, left: &mut Unread<'_>, right: &mut Unread<'_>) -> Result<Option<bool>, WalkFault>
+fn step<S: Shelf>(
+    store: &mut Store<S>,
+    left: &mut Unread<'_>,
+    right: &mut Unread<'_>,
+) -> Result<Option<bool>, WalkFault>
     ensures value { (objects : Objects) → objects_of S.contents store.old ≡ Some objects → AreReady objects left.old right.old
         → StepsSo objects left.old right.old left.new right.new result }
     ensures bound { IfOk result (Lighter left.old right.old left.new right.new) }

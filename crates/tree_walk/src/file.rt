@@ -17,7 +17,11 @@ use std::alloc::Global;
 /// The file object that is stored under the id; for forty zeros that of no blocks.
 ///
 /// Incomplete and Unreadable as for any object, and WrongKind where it is a directory.
-pub fn file_at<S: Shelf>(alloc: Global, store: &mut Store<S>, id: &ObjId) -> Result<FileObject, WalkFault>
+pub fn file_at<S: Shelf>(
+    alloc: Global,
+    store: &mut Store<S>,
+    id: &ObjId,
+) -> Result<FileObject, WalkFault>
     ensures value { (objects : Objects) → objects_of S.contents store.old ≡ Some objects → AnswersRead (file_at objects id.now) result }
     ensures kept { Reads S.contents S.may_give S.faults store.old store.new result }
 {
@@ -36,7 +40,11 @@ pub fn file_at<S: Shelf>(alloc: Global, store: &mut Store<S>, id: &ObjId) -> Res
 /// The file object that is stored under the id, if it is whole: its blocks are stored, and have as many bytes as it tells.
 ///
 /// The first fault of the file's traversal is answered.
-pub fn whole_file_at<S: Shelf>(alloc: Global, store: &mut Store<S>, id: &ObjId) -> Result<FileObject, WalkFault>
+pub fn whole_file_at<S: Shelf>(
+    alloc: Global,
+    store: &mut Store<S>,
+    id: &ObjId,
+) -> Result<FileObject, WalkFault>
     ensures value { (objects : Objects) → objects_of S.contents store.old ≡ Some objects
         → Answers (walk_file_at objects id.now start).fault (λ file. file_at objects id.now ≡ Ok file) result }
     ensures kept { Reads S.contents S.may_give S.faults store.old store.new result }
@@ -49,7 +57,11 @@ pub fn whole_file_at<S: Shelf>(alloc: Global, store: &mut Store<S>, id: &ObjId) 
 }
 
 /// A file's blocks are stored, and have as many bytes as it tells. It reads no block.
-pub fn check_blocks<S: Shelf>(store: &Store<S>, id: &ObjId, file: &FileObject) -> Result<(), WalkFault>
+pub fn check_blocks<S: Shelf>(
+    store: &Store<S>,
+    id: &ObjId,
+    file: &FileObject,
+) -> Result<(), WalkFault>
     ensures value { (objects : Objects) → objects_of S.contents store.now ≡ Some objects → Answers (file_due objects id.now file.now) (λ done. ⊤) result }
     ensures kept { Reads S.contents S.may_give S.faults store.now store.now result }
 {

@@ -22,7 +22,12 @@ use std::collections::BTreeMap;
 /// The ids of the files and directories that the server's commit needs and the client's doesn't, in ascending order.
 ///
 /// The first fault of the server's traversal is answered, and then that of the client's.
-pub fn fs_ids<S: Shelf>(alloc: Global, store: &mut Store<S>, server: ObjId, client: Option<ObjId>) -> Result<IdList, WalkFault>
+pub fn fs_ids<S: Shelf>(
+    alloc: Global,
+    store: &mut Store<S>,
+    server: ObjId,
+    client: Option<ObjId>,
+) -> Result<IdList, WalkFault>
     ensures value { (objects : Objects) → objects_of S.contents store.old ≡ Some objects
         → Answers (commits_due objects server client) (λ ids. ids ≡ fs_ids objects server client) result }
     ensures kept { Reads S.contents S.may_give S.faults store.old store.new result }
@@ -37,7 +42,11 @@ pub fn fs_ids<S: Shelf>(alloc: Global, store: &mut Store<S>, server: ObjId, clie
 }
 
 /// What a commit needs, if there is one.
-fn needs_if<S: Shelf>(alloc: Global, store: &mut Store<S>, commit: Option<ObjId>) -> Result<KeyList, WalkFault>
+fn needs_if<S: Shelf>(
+    alloc: Global,
+    store: &mut Store<S>,
+    commit: Option<ObjId>,
+) -> Result<KeyList, WalkFault>
     ensures value { (objects : Objects) → objects_of S.contents store.old ≡ Some objects
         → Answers (commit_due objects commit) (λ keys. keys ≡ needs_if objects commit) result }
     ensures kept { Reads S.contents S.may_give S.faults store.old store.new result }
@@ -59,7 +68,11 @@ fn list(alloc: Global, wanted: KeyList, known: &KeyList) -> Result<IdList, Alloc
 }
 
 /// The ids of those keys that are of files or directories and aren't known.
-fn ids_of(alloc: Global, wanted: Vec<Key>, known: &KeyTable<()>) -> Result<BTreeMap<ObjId, ()>, AllocError>
+fn ids_of(
+    alloc: Global,
+    wanted: Vec<Key>,
+    known: &KeyTable<()>,
+) -> Result<BTreeMap<ObjId, ()>, AllocError>
     ensures value { IfOk result (λ ids. map_of id_cmp ids ≡ with_ids known.now wanted.items map.empty) }
     ensures ordered { IfOk result (IsOrdered id_cmp) }
 {

@@ -31,7 +31,11 @@ pub const MAX_NAMES: u32 = 100;
 ///
 /// It visits no blocks: of a file it looks at the object alone. The first fault in the order of the traversal is answered.
 /// It takes time in proportion to the paths, and holds each path once.
-pub fn tree<S: Shelf>(alloc: Global, store: &mut Store<S>, root: ObjId) -> Result<PathTable<Entry>, WalkFault>
+pub fn tree<S: Shelf>(
+    alloc: Global,
+    store: &mut Store<S>,
+    root: ObjId,
+) -> Result<PathTable<Entry>, WalkFault>
     ensures value { (objects : Objects) → objects_of S.contents store.old ≡ Some objects
         → Answers (walk_root false objects root start).fault (AreEntriesOf objects root) result }
     ensures kept { Reads S.contents S.may_give S.faults store.old store.new result }
@@ -147,7 +151,12 @@ fn list_entry<S: Shelf>(
 }
 
 /// Adds an entry to what was found, at its path.
-fn add(alloc: Global, path: &Path, entry: &Dirent, found: &mut Vec<(Path, Entry)>) -> Result<(), AllocError>
+fn add(
+    alloc: Global,
+    path: &Path,
+    entry: &Dirent,
+    found: &mut Vec<(Path, Entry)>,
+) -> Result<(), AllocError>
     ensures ok { OnOk result (found.new.items ≡ found.old.items ++ (path.now ++ entry.now.name ∷ [], entry_of entry.now) ∷ []) }
 {
     let own = path.child(alloc, &entry.name)?;

@@ -47,12 +47,20 @@ impl Met {
         if self.known.has(key) {
             return Ok(self);
         }
-        let Met { order, known, paths } = self;
+        let Met {
+            order,
+            known,
+            paths,
+        } = self;
         let mut order = order;
         let mut known = known;
         insert(&mut known, key)?;
         order.push(*key)?;
-        Ok(Met { order, known, paths })
+        Ok(Met {
+            order,
+            known,
+            paths,
+        })
     }
 
     /// The number of paths, at most 1,000,000.
@@ -68,7 +76,11 @@ impl Met {
         requires fits { self.paths < 1000000 }
         ensures value { result ≡ record self { paths = self.paths + 1 } }
     {
-        let Met { order, known, paths } = self;
+        let Met {
+            order,
+            known,
+            paths,
+        } = self;
         Met {
             order,
             known,
@@ -81,7 +93,11 @@ impl Met {
         ensures value { result ≡ self.keys }
         ensures once { distinct_from [] result ≡ result }
     {
-        let Met { order, known: _, paths: _ } = self;
+        let Met {
+            order,
+            known: _,
+            paths: _,
+        } = self;
         order
     }
 }

@@ -16,7 +16,11 @@ use std::alloc::Global;
 /// The commit that is stored under the id.
 ///
 /// Incomplete where none is stored, and Unreadable where its bytes are no commit of that name.
-pub fn commit_at<S: Shelf>(alloc: Global, store: &mut Store<S>, id: ObjId) -> Result<Commit, WalkFault>
+pub fn commit_at<S: Shelf>(
+    alloc: Global,
+    store: &mut Store<S>,
+    id: ObjId,
+) -> Result<Commit, WalkFault>
     ensures value { (objects : Objects) → objects_of S.contents store.old ≡ Some objects → AnswersRead (commit_at objects id) result }
     ensures kept { Reads S.contents S.may_give S.faults store.old store.new result }
 {
@@ -37,7 +41,11 @@ pub fn commit_at<S: Shelf>(alloc: Global, store: &mut Store<S>, id: ObjId) -> Re
 /// The file or directory object that is stored under the id.
 ///
 /// Incomplete where none is stored, and Unreadable where its bytes are none.
-pub fn fs_at<S: Shelf>(alloc: Global, store: &mut Store<S>, id: &ObjId) -> Result<FsObject, WalkFault>
+pub fn fs_at<S: Shelf>(
+    alloc: Global,
+    store: &mut Store<S>,
+    id: &ObjId,
+) -> Result<FsObject, WalkFault>
     ensures value { (objects : Objects) → objects_of S.contents store.old ≡ Some objects → AnswersRead (fs_at objects id.now) result }
     ensures kept { Reads S.contents S.may_give S.faults store.old store.new result }
 {

@@ -44,7 +44,11 @@ fn push_id(text: &mut String, id: &ObjId) -> Result<(), Fail> {
 }
 
 /// Puts a directory of these entries, each a name, a mode and an id, in this order.
-fn put_directory(alloc: Global, store: &mut Shelved, entries: &[(&str, &str, &ObjId)]) -> Result<ObjId, Fail> {
+fn put_directory(
+    alloc: Global,
+    store: &mut Shelved,
+    entries: &[(&str, &str, &ObjId)],
+) -> Result<ObjId, Fail> {
     let mut text = String::from_str(alloc, "{\"type\":3,\"version\":1,\"dirents\":[")?;
     for (place, entry) in entries.iter().enumerate() {
         let (name, mode, id) = entry;
@@ -64,7 +68,12 @@ fn put_directory(alloc: Global, store: &mut Shelved, entries: &[(&str, &str, &Ob
 }
 
 /// Puts a file of these blocks, which tells this size.
-fn put_file(alloc: Global, store: &mut Shelved, blocks: &[&ObjId], size: &str) -> Result<ObjId, Fail> {
+fn put_file(
+    alloc: Global,
+    store: &mut Shelved,
+    blocks: &[&ObjId],
+    size: &str,
+) -> Result<ObjId, Fail> {
     let mut text = String::from_str(alloc, "{\"type\":1,\"version\":1,\"block_ids\":[")?;
     for (place, id) in blocks.iter().enumerate() {
         if place > 0 {
@@ -82,7 +91,9 @@ fn put_file(alloc: Global, store: &mut Shelved, blocks: &[&ObjId], size: &str) -
 fn put_commit(alloc: Global, store: &mut Shelved, root: &ObjId) -> Result<ObjId, Fail> {
     let mut text = String::from_str(alloc, "{\"commit_id\":\"")?;
     text.push_str(COMMIT)?;
-    text.push_str("\",\"repo_id\":\"11111111-1111-1111-1111-111111111111\",\"ctime\":0,\"root_id\":")?;
+    text.push_str(
+        "\",\"repo_id\":\"11111111-1111-1111-1111-111111111111\",\"ctime\":0,\"root_id\":",
+    )?;
     push_id(&mut text, root)?;
     text.push_str("}")?;
     let id = match ObjId::read(COMMIT) {
@@ -120,7 +131,9 @@ fn fault_of<T: Drop>(answer: Result<T, WalkFault>) -> Option<WalkFault> {
 }
 
 #[test]
-fn a_path_of_a_hundred_names_is_walked_and_of_a_hundred_and_one_is_too_deep(rt: HostRuntime) -> Result<(), Fail> {
+fn a_path_of_a_hundred_names_is_walked_and_of_a_hundred_and_one_is_too_deep(
+    rt: HostRuntime,
+) -> Result<(), Fail> {
     let mut store = empty(rt.alloc())?;
     let root = put_chain(rt.alloc(), &mut store, 100)?;
     let commit = put_commit(rt.alloc(), &mut store, &root)?;
@@ -141,8 +154,14 @@ fn a_path_of_a_hundred_names_is_walked_and_of_a_hundred_and_one_is_too_deep(rt: 
         path = path.child(rt.alloc(), &name)?;
     }
     let twin = path.copy(rt.alloc())?;
-    assert_eq!(rt; fault_of(needs(rt.alloc(), &mut store, commit)), Some(WalkFault::TooDeep(path)));
-    assert_eq!(rt; fault_of(tree(rt.alloc(), &mut store, *root)), Some(WalkFault::TooDeep(twin)));
+    assert_eq!(rt;
+        fault_of(needs(rt.alloc(), &mut store, commit)),
+        Some(WalkFault::TooDeep(path))
+    );
+    assert_eq!(rt;
+        fault_of(tree(rt.alloc(), &mut store, *root)),
+        Some(WalkFault::TooDeep(twin))
+    );
     Ok(())
 }
 
@@ -151,7 +170,11 @@ fn a_directory_that_is_named_twice_counts_twice(rt: HostRuntime) -> Result<(), F
     let mut store = empty(rt.alloc())?;
     let mut below = ObjId::NIL;
     for _ in 0..12 {
-        below = put_directory(rt.alloc(), &mut store, &[("a", DIRECTORY, &below), ("b", DIRECTORY, &below)])?;
+        below = put_directory(
+            rt.alloc(),
+            &mut store,
+            &[("a", DIRECTORY, &below), ("b", DIRECTORY, &below)],
+        )?;
     }
     let root = &below;
     match tree(rt.alloc(), &mut store, *root) {
@@ -167,7 +190,12 @@ fn a_directory_that_is_named_twice_counts_twice(rt: HostRuntime) -> Result<(), F
 }
 
 /// The first fault of a commit whose root lists a later entry `z` with no object, and before it `a` of this mode and id.
-fn first_fault(alloc: Global, store: &mut Shelved, mode: &str, id: &ObjId) -> Result<Option<WalkFault>, Fail> {
+fn first_fault(
+    alloc: Global,
+    store: &mut Shelved,
+    mode: &str,
+    id: &ObjId,
+) -> Result<Option<WalkFault>, Fail> {
     let later = ObjId::of(b"later");
     let root = put_directory(alloc, store, &[("z", FILE, &later), ("a", mode, id)])?;
     let commit = put_commit(alloc, store, &root)?;
@@ -187,13 +215,18 @@ fn an_object_that_is_not_stored_is_incomplete(rt: HostRuntime) -> Result<(), Fai
     let gone = &ObjId::of(b"gone");
     assert_eq!(rt;
         first_fault(rt.alloc(), &mut store, FILE, gone)?,
-        Some(WalkFault::Incomplete(Key { kind: Kind::Fs, id: *gone }))
+        Some(WalkFault::Incomplete(Key {
+            kind: Kind::Fs,
+            id: *gone
+        }))
     );
     Ok(())
 }
 
 #[test]
-fn a_block_that_is_not_stored_is_incomplete_and_a_tree_without_it_is_told(rt: HostRuntime) -> Result<(), Fail> {
+fn a_block_that_is_not_stored_is_incomplete_and_a_tree_without_it_is_told(
+    rt: HostRuntime,
+) -> Result<(), Fail> {
     let (mut store, block) = with_block(rt.alloc())?;
     let gone = &ObjId::of(b"gone");
     let file = put_file(rt.alloc(), &mut store, &[&block, gone], "9")?;
@@ -202,7 +235,10 @@ fn a_block_that_is_not_stored_is_incomplete_and_a_tree_without_it_is_told(rt: Ho
     let commit = put_commit(rt.alloc(), &mut store, root)?;
     assert_eq!(rt;
         fault_of(needs(rt.alloc(), &mut store, commit)),
-        Some(WalkFault::Incomplete(Key { kind: Kind::Block, id: *gone }))
+        Some(WalkFault::Incomplete(Key {
+            kind: Kind::Block,
+            id: *gone
+        }))
     );
     match tree(rt.alloc(), &mut store, *root) {
         Ok(entries) => assert_eq!(rt; entries.len(), 1),
@@ -218,7 +254,10 @@ fn bytes_outside_the_grammar_are_unreadable(rt: HostRuntime) -> Result<(), Fail>
     let bad = &bad;
     assert_eq!(rt;
         first_fault(rt.alloc(), &mut store, FILE, bad)?,
-        Some(WalkFault::Unreadable(Key { kind: Kind::Fs, id: *bad }))
+        Some(WalkFault::Unreadable(Key {
+            kind: Kind::Fs,
+            id: *bad
+        }))
     );
     Ok(())
 }
@@ -228,13 +267,25 @@ fn an_object_of_the_other_kind_is_told(rt: HostRuntime) -> Result<(), Fail> {
     let (mut store, block) = with_block(rt.alloc())?;
     let file = put_file(rt.alloc(), &mut store, &[&block], "3")?;
     let file = &file;
-    assert_eq!(rt; first_fault(rt.alloc(), &mut store, DIRECTORY, file)?, Some(WalkFault::WrongKind(*file)));
-    assert_eq!(rt; fault_of(tree(rt.alloc(), &mut store, *file)), Some(WalkFault::WrongKind(*file)));
+    assert_eq!(rt;
+        first_fault(rt.alloc(), &mut store, DIRECTORY, file)?,
+        Some(WalkFault::WrongKind(*file))
+    );
+    assert_eq!(rt;
+        fault_of(tree(rt.alloc(), &mut store, *file)),
+        Some(WalkFault::WrongKind(*file))
+    );
     let (mut store, _) = with_block(rt.alloc())?;
     let directory = put_directory(rt.alloc(), &mut store, &[])?;
     let directory = &directory;
-    assert_eq!(rt; first_fault(rt.alloc(), &mut store, FILE, directory)?, Some(WalkFault::WrongKind(*directory)));
-    assert_eq!(rt; fault_of(file_bytes(rt.alloc(), &mut store, *directory)), Some(WalkFault::WrongKind(*directory)));
+    assert_eq!(rt;
+        first_fault(rt.alloc(), &mut store, FILE, directory)?,
+        Some(WalkFault::WrongKind(*directory))
+    );
+    assert_eq!(rt;
+        fault_of(file_bytes(rt.alloc(), &mut store, *directory)),
+        Some(WalkFault::WrongKind(*directory))
+    );
     Ok(())
 }
 
@@ -243,8 +294,14 @@ fn a_size_that_is_not_that_of_the_blocks_is_told(rt: HostRuntime) -> Result<(), 
     let (mut store, block) = with_block(rt.alloc())?;
     let long = put_file(rt.alloc(), &mut store, &[&block], "4")?;
     let long = &long;
-    assert_eq!(rt; first_fault(rt.alloc(), &mut store, FILE, long)?, Some(WalkFault::WrongSize(*long)));
-    assert_eq!(rt; fault_of(file_bytes(rt.alloc(), &mut store, *long)), Some(WalkFault::WrongSize(*long)));
+    assert_eq!(rt;
+        first_fault(rt.alloc(), &mut store, FILE, long)?,
+        Some(WalkFault::WrongSize(*long))
+    );
+    assert_eq!(rt;
+        fault_of(file_bytes(rt.alloc(), &mut store, *long)),
+        Some(WalkFault::WrongSize(*long))
+    );
     Ok(())
 }
 
@@ -252,11 +309,21 @@ fn a_size_that_is_not_that_of_the_blocks_is_told(rt: HostRuntime) -> Result<(), 
 fn a_commit_of_another_name_is_unreadable(rt: HostRuntime) -> Result<(), Fail> {
     let mut store = empty(rt.alloc())?;
     let other = &ObjId::of(b"other");
-    let key = &Key { kind: Kind::Commit, id: *other };
-    assert_eq!(rt; fault_of(commit_at(rt.alloc(), &mut store, *other)), Some(WalkFault::Incomplete(*key)));
-    let text = b"{\"commit_id\":\"cccccccccccccccccccccccccccccccccccccccc\",\"repo_id\":\"11111111-1111-1111-1111-111111111111\",\"ctime\":0,\"root_id\":\"0000000000000000000000000000000000000000\"}";
+    let key = &Key {
+        kind: Kind::Commit,
+        id: *other,
+    };
+    assert_eq!(rt;
+        fault_of(commit_at(rt.alloc(), &mut store, *other)),
+        Some(WalkFault::Incomplete(*key))
+    );
+    let text =
+        b"{\"commit_id\":\"cccccccccccccccccccccccccccccccccccccccc\",\"repo_id\":\"11111111-1111-1111-1111-111111111111\",\"ctime\":0,\"root_id\":\"0000000000000000000000000000000000000000\"}";
     assert_eq!(rt; store.put(*key, text), Ok(Put::New));
-    assert_eq!(rt; fault_of(commit_at(rt.alloc(), &mut store, *other)), Some(WalkFault::Unreadable(*key)));
+    assert_eq!(rt;
+        fault_of(commit_at(rt.alloc(), &mut store, *other)),
+        Some(WalkFault::Unreadable(*key))
+    );
     let commit = put_commit(rt.alloc(), &mut store, &ObjId::NIL)?;
     assert_eq!(rt; fault_of(commit_at(rt.alloc(), &mut store, commit)), None);
     Ok(())
@@ -274,7 +341,13 @@ fn the_same_bytes_in_other_cuts_are_the_same_file(rt: HostRuntime) -> Result<(),
     let cut = put_file(rt.alloc(), &mut store, &[&none, &ab, &c, &none], "3")?;
     let other = put_file(rt.alloc(), &mut store, &[&ab, &d], "3")?;
     let short = put_file(rt.alloc(), &mut store, &[&ab], "2")?;
-    let rows = [(&whole, &cut, true), (&whole, &other, false), (&cut, &short, false), (&whole, &whole, true), (&ObjId::NIL, &short, false)];
+    let rows = [
+        (&whole, &cut, true),
+        (&whole, &other, false),
+        (&cut, &short, false),
+        (&whole, &whole, true),
+        (&ObjId::NIL, &short, false),
+    ];
     for row in &rows {
         let (left, right, same) = row;
         match same_file(rt.alloc(), &mut store, **left, **right) {

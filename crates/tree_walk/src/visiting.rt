@@ -25,7 +25,11 @@ use std::alloc::{AllocError, Global};
 ///
 /// The first fault in the order of the traversal is answered. Blocks are looked up and not read. It takes time in
 /// proportion to the visits, and holds each key once and the entries of the directories above the one that it is in.
-pub fn needs<S: Shelf>(alloc: Global, store: &mut Store<S>, commit: ObjId) -> Result<KeyList, WalkFault>
+pub fn needs<S: Shelf>(
+    alloc: Global,
+    store: &mut Store<S>,
+    commit: ObjId,
+) -> Result<KeyList, WalkFault>
     ensures value { (objects : Objects) → objects_of S.contents store.old ≡ Some objects
         → Answers (walk_commit objects commit).fault (λ keys. keys ≡ needs objects commit) result }
     ensures kept { Reads S.contents S.may_give S.faults store.old store.new result }
@@ -122,7 +126,12 @@ fn walk_entry<S: Shelf>(
 }
 
 /// Visits a file and its blocks.
-fn walk_file<S: Shelf>(alloc: Global, store: &mut Store<S>, id: &ObjId, met: Met) -> Result<Met, WalkFault>
+fn walk_file<S: Shelf>(
+    alloc: Global,
+    store: &mut Store<S>,
+    id: &ObjId,
+    met: Met,
+) -> Result<Met, WalkFault>
     ensures value { (objects : Objects) → objects_of S.contents store.old ≡ Some objects → Walks (walk_file_at objects id.now) met result }
     ensures kept { Reads S.contents S.may_give S.faults store.old store.new result }
 {

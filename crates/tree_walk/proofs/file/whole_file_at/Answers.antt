@@ -13,4 +13,4 @@ returns-in-Ok-clause-value g c = λ objects told.
 pub returns-in-Err-clause-value : goal.returns-in-Err-clause-value
 returns-in-Err-clause-value g c = λ objects told.
     file_stops objects c.args.id.now c.in_ok-file.file c.in-Err.fault (read_ok _ _ (c.in_ok-file.ensures.value objects told))
-      (c.in-Err.ensures.value objects (told_after c.in_ok-file.ensures.kept told))
+    (c.in-Err.ensures.value objects (told_after c.in_ok-file.ensures.kept told))

@@ -8,8 +8,8 @@ use Rattle.tree_walk.proofs.fs_list.list.Goals as goal
 pub returns : goal.returns
 returns c = record {
   value =
-    c.in_ok-list.ensures.value
-    ∙ ap map.keys (c.in_ok-ids.ensures.value
+      c.in_ok-list.ensures.value
+      ∙ ap map.keys (c.in_ok-ids.ensures.value
       ∙ ap (λ ks. with_ids c.in_ok-known.known ks map.empty) c.into_vec.ensures.value
       ∙ with_ids_are c.in_ok-known.known c.args.known.now (subst (λ ks. Knows ks c.in_ok-known.known) c.slice.ensures.value c.in_ok-known.ensures.value) c.args.wanted);
 }

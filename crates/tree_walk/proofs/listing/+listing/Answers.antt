@@ -15,21 +15,21 @@ list_directory-returns-then-is_nil-clause-value g t c = λ objects told.
 pub list_directory-returns-in-Ok-clause-value : goal.list_directory-returns-in-Ok-clause-value
 list_directory-returns-in-Ok-clause-value g t c = λ objects told.
     directory_entries objects c.args.room c.args.path.now c.args.id.now c.in-Dir.directory c.in-Ok.entries.items c.args.found.now.items c.list_entries.new.found.items c.list_entries.result
-      (other_id c.args.id.now c.is_nil.result c.is_nil.ensures.value c.if-is_nil.false)
-      (read_ok _ _ (c.in_ok-fs_at.ensures.value objects told) ∙ ap Ok c.in-Dir.is)
-      c.in-Ok.ensures.value
-      (subst (λ es. Lists (entries_step objects c.args.room c.args.path.now es) c.args.path.now (listed_from objects c.args.room es) c.args.found.now.items c.list_entries.new.found.items c.list_entries.result)
-        c.as_slice.ensures.value (c.list_entries.ensures.value objects (told_after c.in_ok-fs_at.ensures.kept told)))
+    (other_id c.args.id.now c.is_nil.result c.is_nil.ensures.value c.if-is_nil.false)
+    (read_ok _ _ (c.in_ok-fs_at.ensures.value objects told) ∙ ap Ok c.in-Dir.is)
+    c.in-Ok.ensures.value
+    (subst (λ es. Lists (entries_step objects c.args.room c.args.path.now es) c.args.path.now (listed_from objects c.args.room es) c.args.found.now.items c.list_entries.new.found.items c.list_entries.result)
+    c.as_slice.ensures.value (c.list_entries.ensures.value objects (told_after c.in_ok-fs_at.ensures.kept told)))
 
 pub list_entries-loop-entry-preserved : goal.list_entries-loop-entry-preserved
 list_entries-loop-entry-preserved g t c = record {
   reads = reads_then _ _ c.loop-entry.invariant.reads c.in_ok-list_entry.ensures.kept;
   goes = λ objects told.
-    goes_next objects c.args.room c.args.path.now c.args.entries.now (drop (c.loop-entry.entry-index + 1) c.args.entries.now) c.entry-item.result
+      goes_next objects c.args.room c.args.path.now c.args.entries.now (drop (c.loop-entry.entry-index + 1) c.args.entries.now) c.entry-item.result
       c.args.found.now.items c.loop-entry.found.items c.list_entry.new.found.items
       (subst (λ rest. GoesOn objects c.args.room c.args.path.now c.args.entries.now rest c.args.found.now.items c.loop-entry.found.items)
-        (next_entry c.args.entries.now c.loop-entry.entry-index c.entry-item.result (omega arith) c.entry-item.is)
-        (c.loop-entry.invariant.goes objects told))
+      (next_entry c.args.entries.now c.loop-entry.entry-index c.entry-item.result (omega arith) c.entry-item.is)
+      (c.loop-entry.invariant.goes objects told))
       (c.in_ok-list_entry.ensures.value objects (told_after c.loop-entry.invariant.reads told));
 }
 
@@ -47,22 +47,22 @@ list_entry-returns-then-is_directory_mode-clause-value g t c = λ objects told.
     let few : length c.args.found.now.items < 1000000 = omega arith in
     let room : c.args.room ≡ suc (c.args.room - 1) = omega arith in
     entry_directory objects c.args.room (c.args.room - 1) c.args.path.now c.in_ok-own.own c.args.entry.now
-      c.args.found.now.items c.add.new.found.items c.list_directory.new.found.items c.list_directory.result
-      room c.in_ok-own.ensures.value c.in_ok-add.ensures.ok few (sym c.is_directory_mode.ensures.value ∙ c.if-is_directory_mode.true)
-      (c.list_directory.ensures.value objects told)
+    c.args.found.now.items c.add.new.found.items c.list_directory.new.found.items c.list_directory.result
+    room c.in_ok-own.ensures.value c.in_ok-add.ensures.ok few (sym c.is_directory_mode.ensures.value ∙ c.if-is_directory_mode.true)
+    (c.list_directory.ensures.value objects told)
 
 pub list_entry-returns-in-Ok-clause-value : goal.list_entry-returns-in-Ok-clause-value
 list_entry-returns-in-Ok-clause-value g t c = λ objects told.
     let few : length c.args.found.now.items < 1000000 = omega arith in
     let room : c.args.room ≡ suc (c.args.room - 1) = omega arith in
     entry_file objects c.args.room (c.args.room - 1) c.args.path.now c.args.entry.now c.args.found.now.items c.add.new.found.items
-      room c.in_ok-add.ensures.ok few (sym c.is_directory_mode.ensures.value ∙ c.if-is_directory_mode.false)
-      c.in-Ok.field-0 (read_ok _ _ (c.in-Ok.ensures.value objects told))
+    room c.in_ok-add.ensures.ok few (sym c.is_directory_mode.ensures.value ∙ c.if-is_directory_mode.false)
+    c.in-Ok.field-0 (read_ok _ _ (c.in-Ok.ensures.value objects told))
 
 pub list_entry-returns-clause-value : goal.list_entry-returns-clause-value
 list_entry-returns-clause-value g t c = λ objects told.
     let few : length c.args.found.now.items < 1000000 = omega arith in
     let room : c.args.room ≡ suc (c.args.room - 1) = omega arith in
     entry_bad_file objects c.args.room (c.args.room - 1) c.args.path.now c.args.entry.now c.args.found.now.items
-      room few (sym c.is_directory_mode.ensures.value ∙ c.if-is_directory_mode.false)
-      c.in-Err.fault (c.in-Err.ensures.value objects told)
+    room few (sym c.is_directory_mode.ensures.value ∙ c.if-is_directory_mode.false)
+    c.in-Err.fault (c.in-Err.ensures.value objects told)

@@ -10,22 +10,22 @@ use Rattle.tree_walk.proofs.visiting.+visiting.Goals as goal
 pub walk_directory-returns-in-Ok-clause-value : goal.walk_directory-returns-in-Ok-clause-value
 walk_directory-returns-in-Ok-clause-value g t c = λ objects told.
     directory_entries objects c.args.room (names_of c.args.trail.now) c.args.id.now c.in-Dir.directory c.in-Ok.entries.items c.args.met c.in_ok-met.met c.walk_entries.result
-      (other_id c.args.id.now c.is_nil.result c.is_nil.ensures.value c.if-is_nil.false)
-      (read_ok _ _ (c.in_ok-fs_at.ensures.value objects told) ∙ ap Ok c.in-Dir.is)
-      c.in-Ok.ensures.value
-      (c.in_ok-met.ensures.value ∙ ap (λ k. with_key_met k c.args.met) c.fs_key.ensures.value)
-      (subst (λ es. Walks (visit_entries objects c.args.room (names_of c.args.trail.now) es) c.in_ok-met.met c.walk_entries.result)
-        c.as_slice.ensures.value (c.walk_entries.ensures.value objects (told_after c.in_ok-fs_at.ensures.kept told)))
+    (other_id c.args.id.now c.is_nil.result c.is_nil.ensures.value c.if-is_nil.false)
+    (read_ok _ _ (c.in_ok-fs_at.ensures.value objects told) ∙ ap Ok c.in-Dir.is)
+    c.in-Ok.ensures.value
+    (c.in_ok-met.ensures.value ∙ ap (λ k. with_key_met k c.args.met) c.fs_key.ensures.value)
+    (subst (λ es. Walks (visit_entries objects c.args.room (names_of c.args.trail.now) es) c.in_ok-met.met c.walk_entries.result)
+    c.as_slice.ensures.value (c.walk_entries.ensures.value objects (told_after c.in_ok-fs_at.ensures.kept told)))
 
 pub walk_entries-loop-entry-preserved : goal.walk_entries-loop-entry-preserved
 walk_entries-loop-entry-preserved g t c = record {
   reads = reads_then _ _ c.loop-entry.invariant.reads (reads_done _ c.in_ok-met.ensures.kept);
   goes = λ objects told.
-    walks_next objects c.args.room (names_of c.args.trail.now) c.args.entries.now (drop (c.loop-entry.entry-index + 1) c.args.entries.now) c.entry-item.result
+      walks_next objects c.args.room (names_of c.args.trail.now) c.args.entries.now (drop (c.loop-entry.entry-index + 1) c.args.entries.now) c.entry-item.result
       c.args.met c.loop-entry.met c.in_ok-met.met
       (subst (λ rest. WalksOn objects c.args.room (names_of c.args.trail.now) c.args.entries.now rest c.args.met c.loop-entry.met)
-        (next_entry c.args.entries.now c.loop-entry.entry-index c.entry-item.result (omega arith) c.entry-item.is)
-        (c.loop-entry.invariant.goes objects told))
+      (next_entry c.args.entries.now c.loop-entry.entry-index c.entry-item.result (omega arith) c.entry-item.is)
+      (c.loop-entry.invariant.goes objects told))
       (c.in_ok-met.ensures.value objects (told_after c.loop-entry.invariant.reads told));
 }
 
@@ -42,9 +42,9 @@ walk_entry-returns-then-is_directory_mode-clause-value g t c = λ objects told.
     let few : c.args.met.paths < 1000000 = omega arith in
     let room : c.args.room ≡ suc (c.args.room - 1) = omega arith in
     entry_directory objects c.args.room (c.args.room - 1) (names_of c.args.trail.now) (names_of c.args.trail.now ++ c.args.entry.now.name ∷ []) c.args.entry.now
-      c.args.met c.counted-met.result c.walk_directory.result
-      room refl c.counted-met.ensures.value few (sym c.is_directory_mode.ensures.value ∙ c.if-is_directory_mode.true)
-      (c.walk_directory.ensures.value objects told)
+    c.args.met c.counted-met.result c.walk_directory.result
+    room refl c.counted-met.ensures.value few (sym c.is_directory_mode.ensures.value ∙ c.if-is_directory_mode.true)
+    (c.walk_directory.ensures.value objects told)
 
 pub walk_entry-returns-else-is_directory_mode-clause-value :
     goal.walk_entry-returns-else-is_directory_mode-clause-value
@@ -52,6 +52,6 @@ walk_entry-returns-else-is_directory_mode-clause-value g t c = λ objects told.
     let few : c.args.met.paths < 1000000 = omega arith in
     let room : c.args.room ≡ suc (c.args.room - 1) = omega arith in
     entry_file objects c.args.room (c.args.room - 1) (names_of c.args.trail.now) c.args.entry.now
-      c.args.met c.counted-met.result c.walk_file.result
-      room c.counted-met.ensures.value few (sym c.is_directory_mode.ensures.value ∙ c.if-is_directory_mode.false)
-      (c.walk_file.ensures.value objects told)
+    c.args.met c.counted-met.result c.walk_file.result
+    room c.counted-met.ensures.value few (sym c.is_directory_mode.ensures.value ∙ c.if-is_directory_mode.false)
+    (c.walk_file.ensures.value objects told)

@@ -10,15 +10,15 @@ returns-in-Err-clause-value g c = λ objects told. commit_unread objects c.args.
 pub returns-in-Ok-walk_directory-clause-value : goal.returns-in-Ok-walk_directory-clause-value
 returns-in-Ok-walk_directory-clause-value g c = λ objects told.
     commit_met objects c.args.commit c.in-Ok.commit c.new.result c.in_ok-met.met c.in-Ok-walk_directory.met c.into_keys.result
-      (read_ok _ _ (c.in-Ok.ensures.value objects told)) c.new.ensures.value
-      (c.in_ok-met.ensures.value ∙ ap (λ k. with_key_met k c.new.result) c.commit_key.ensures.value)
-      (c.in-Ok-walk_directory.ensures.value objects (told_after c.in-Ok.ensures.kept told))
-      c.into_keys.ensures.value c.into_keys.ensures.once
+    (read_ok _ _ (c.in-Ok.ensures.value objects told)) c.new.ensures.value
+    (c.in_ok-met.ensures.value ∙ ap (λ k. with_key_met k c.new.result) c.commit_key.ensures.value)
+    (c.in-Ok-walk_directory.ensures.value objects (told_after c.in-Ok.ensures.kept told))
+    c.into_keys.ensures.value c.into_keys.ensures.once
 
 pub returns-in-Err-walk_directory-clause-value :
     goal.returns-in-Err-walk_directory-clause-value
 returns-in-Err-walk_directory-clause-value g c = λ objects told.
     commit_stops objects c.args.commit c.in-Ok.commit c.new.result c.in_ok-met.met c.in-Err-walk_directory.fault
-      (read_ok _ _ (c.in-Ok.ensures.value objects told)) c.new.ensures.value
-      (c.in_ok-met.ensures.value ∙ ap (λ k. with_key_met k c.new.result) c.commit_key.ensures.value)
-      (c.in-Err-walk_directory.ensures.value objects (told_after c.in-Ok.ensures.kept told))
+    (read_ok _ _ (c.in-Ok.ensures.value objects told)) c.new.ensures.value
+    (c.in_ok-met.ensures.value ∙ ap (λ k. with_key_met k c.new.result) c.commit_key.ensures.value)
+    (c.in-Err-walk_directory.ensures.value objects (told_after c.in-Ok.ensures.kept told))

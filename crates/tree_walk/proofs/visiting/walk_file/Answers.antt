@@ -7,13 +7,13 @@ use Rattle.tree_walk.proofs.visiting.walk_file.Goals as goal
 pub returns-in-Err-clause-value : goal.returns-in-Err-clause-value
 returns-in-Err-clause-value g c = λ objects told.
     file_bad objects c.args.id.now c.args.met c.in_ok-file.file c.in-Err.fault (read_ok _ _ (c.in_ok-file.ensures.value objects told))
-      (c.in-Err.ensures.value objects (told_after c.in_ok-file.ensures.kept told))
+    (c.in-Err.ensures.value objects (told_after c.in_ok-file.ensures.kept told))
 
 pub returns-in-Ok-visit_blocks-clause-value : goal.returns-in-Ok-visit_blocks-clause-value
 returns-in-Ok-visit_blocks-clause-value g c = λ objects told.
     file_whole objects c.args.id.now c.args.met c.in_ok-met.met c.in-Ok-visit_blocks.met c.in_ok-file.file c.slice.result.now
-      (other_id c.args.id.now c.is_nil.result c.is_nil.ensures.value c.if-is_nil.false)
-      (read_ok _ _ (c.in_ok-file.ensures.value objects told))
-      (c.in-Ok.ensures.value objects (told_after c.in_ok-file.ensures.kept told)).0
-      (c.in_ok-met.ensures.value ∙ ap (λ k. with_key_met k c.args.met) c.fs_key.ensures.value)
-      c.slice.ensures.value c.in-Ok-visit_blocks.ensures.value
+    (other_id c.args.id.now c.is_nil.result c.is_nil.ensures.value c.if-is_nil.false)
+    (read_ok _ _ (c.in_ok-file.ensures.value objects told))
+    (c.in-Ok.ensures.value objects (told_after c.in_ok-file.ensures.kept told)).0
+    (c.in_ok-met.ensures.value ∙ ap (λ k. with_key_met k c.args.met) c.fs_key.ensures.value)
+    c.slice.ensures.value c.in-Ok-visit_blocks.ensures.value

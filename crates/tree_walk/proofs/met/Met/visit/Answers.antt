@@ -10,4 +10,4 @@ use Rattle.tree_walk.proofs.met.Met.visit.Goals as goal
 pub invariant_of-result : goal.invariant_of-result
 invariant_of-result c =
     subst₂ (λ (ks : List Key) (m : map.FinMap key_cmp ⊤). IsMet ks m c.self.inside.paths) (sym c.in_ok-push.ensures.ok) (sym c.in_ok-insert.ensures.ok)
-      (met_more c.self.inside.order c.self.inside.known c.self.inside.paths c.args.key.now c.self.invariant (sym c.has.ensures.value ∙ c.if-has.false))
+    (met_more c.self.inside.order c.self.inside.known c.self.inside.paths c.args.key.now c.self.invariant (sym c.has.ensures.value ∙ c.if-has.false))
