@@ -1,1 +1,5 @@
-pub mod StoreLemmas
+pub mod MapLemmas
+pub mod HeldLemmas
+pub mod IndexLemmas
+pub mod MemoryLemmas
+pub mod RefusalLemmas

@@ -1,53 +1,60 @@
-//! The map from keys to bytes.
-ghost use Rattle.std.specs.Prelude.{◌≡◌, IfOk, IfErr, OnOk, OnErr, IsTrue, length, option_map, is_some, if◌then◌else◌};
+//! The objects of a library: a finite map from keys to bytes, kept on a shelf.
+ghost use Rattle.std.specs.Prelude.{◌≡◌, ℕ, List, length, IfOk, IfErr, OnOk, OnErr, IsTrue, IsFalse, IsSome, is_some, option_map, Some, Option, if◌then◌else◌};
 ghost use Rattle.std.specs.FinMap as map;
 ghost use Rattle.sha1.specs.Sha1.{sha1};
+ghost use Rattle.ids.specs.Key.{Objects};
+ghost use Rattle.ids.specs.MapView.{IsNext};
+ghost use Rattle.ids.specs.ObjectId.{nil};
 ghost use Rattle.ids.specs.Outcome.{ExactlyWith, RefusesAs};
-ghost use Rattle.object_store.specs.Store.{is_free, put_refusal, has_other_name, IsTaken};
+ghost use Rattle.object_store.specs.Store.{CountsShelf, IsGetFault, IsPutFault, IsWhole, damage_at, has_other_name, is_free, is_want, put_refusal, same_bytes};
+ghost use Rattle.object_store.specs.StoreView.{IsStarted, Keeps, NoteChanges, PutChanges, RemovalChanges, StartsSo, left_after, objects_of, status_of, with_object};
 
+use crate::changing::{put_new, remove_object};
 use crate::error::StoreFault;
-use ids::{Bytes, Key, KeyTable, Kind, ObjId};
+use crate::fetching::{fault_of, fetch_whole, name_refusal, put_stored};
+use crate::key_index::read_index;
+use crate::put::Put;
+use crate::shelf::{Shelf, Slot};
+use ids::{Bytes, Key, KeyTable};
 use std::alloc::Global;
 use std::marker::Model;
 
-/// Whether a put stored something.
-#[derive(Clone, Copy, Debug, PartialEq, Eq)]
-pub enum Put {
-    /// The object is stored now and was not before.
-    New,
-    /// The same object was stored already.
-    Same,
-}
-
-/// The objects of a library. Contracts see it as a finite map from keys to bytes.
+/// The objects of a library on a shelf: those that lie there and whose keys stand in the store's index, with the size of
+/// each. Over a shelf that tells what it holds, contracts see a finite map from keys to bytes (`objects_of`).
+///
+/// A slot of the shelf is changed by one call alone, and holds the old or the new as that call returns.
 #[derive(Drop)]
-pub struct Store {
-    alloc: Global,
-    held: KeyTable<Bytes>,
+pub struct Store<S: Shelf> {
+    shelf: S,
+    index: KeyTable<u64>,
 }
 
-impl Model for Store {
-    ghost use Rattle.std.specs.Prelude.{List, ℕ};
-    ghost use Rattle.std.specs.Coded.{coded_list, coded_ℕ};
-    ghost use Rattle.std.specs.FinMap as map;
-    ghost use Rattle.ids.specs.Key.{key_cmp};
-    ghost use Rattle.ids.specs.contracts.key.Key as key_contracts;
+impl<S: Shelf> Model for Store<S> {
+    ghost use Rattle.object_store.specs.StoreView.{IsIndexed, StoreView, store_code};
 
-    ghost Value = { map.FinMap key_cmp (List ℕ) };
+    ghost Value = { StoreView S };
 
-    ghost coded = { map.code key_contracts.the_row.coded (coded_list coded_ℕ) };
+    ghost coded = { store_code S.code };
 
-    ghost view = { λ a. a.held };
+    ghost view = { λ a. record { shelf = a.shelf; index = a.index } };
+
+    ghost invariant = { λ a. IsIndexed S.contents a.shelf a.index };
 }
 
-impl Store {
-    /// The store of no object.
-    pub fn new(alloc: Global) -> Store
-        ensures value { result ≡ map.empty }
+impl<S: Shelf> Store<S> {
+    /// The store of all that lies on the shelf. It reads the names of the three kinds by one call of `next` an object and
+    /// three more. For each object it keeps a key and a size in a tree by key: 29 bytes, and under 150 with the tree's
+    /// nodes half full. A shelf that fails is given back as it was.
+    pub fn start(alloc: Global, shelf: S) -> Result<Store<S>, (S, StoreFault)>
+        ensures ok { IfOk result (IsStarted S.contents shelf) }
+        ensures err { IfErr result (λ refused. S.contents refused.0 ≡ S.contents shelf) }
+        ensures no_memory { IfErr result (λ refused. IsTrue (is_free refused.1)) }
+        ensures faults { StartsSo S.faults shelf result }
     {
-        Store {
-            alloc,
-            held: KeyTable::new(alloc),
+        let mut shelf = shelf;
+        match read_index(alloc, &mut shelf) {
+            Ok(index) => Ok(Store { shelf, index }),
+            Err(fault) => Err((shelf, fault)),
         }
     }
 
@@ -55,80 +62,139 @@ impl Store {
     ///
     /// Of a file, a directory or a block the id is the SHA-1 of the bytes. A commit's id is its caller's to check.
     pub fn put(&mut self, key: Key, bytes: &[u8]) -> Result<Put, StoreFault>
-        ensures ok { OnOk result (self.new ≡ map.insert self.old key bytes.now) }
-        ensures err { OnErr result (self.new ≡ self.old) }
-        ensures told { IfOk result (λ put. put ≡ (if is_some (map.get self.old key) then Put.Same else Put.New)) }
+        ensures ok { OnOk result (objects_of S.contents self.new ≡ with_object (objects_of S.contents self.old) key bytes.now) }
+        ensures err { OnErr result (objects_of S.contents self.new ≡ objects_of S.contents self.old) }
+        ensures told { IfOk result (λ put. put ≡ (if is_some (map.get self.old.index key) then Put.Same else Put.New)) }
+        ensures kept { status_of S.contents self.new ≡ status_of S.contents self.old }
 
-        // The refusals, in the order in which they are looked for. Want of memory may come in their place.
-        ensures wrong { ExactlyWith is_free result StoreFault.Wrong (sha1 bytes.now) (IsTrue (has_other_name key bytes.now)) }
-        ensures taken { ExactlyWith is_free result StoreFault.Taken key.id (IsTaken self.old key bytes.now) }
-        ensures refused { RefusesAs is_free result (put_refusal self.old key bytes.now) }
+        // Of every shelf: what changes in the index and on the shelf.
+        ensures changes { PutChanges S.contents self.old self.new key bytes.now result }
+
+        // The refusals, in the order in which they are looked for. A wrong name and the id that names nothing are found
+        // before the shelf is asked. Want of memory and a failure of the shelf may come in the place of the others.
+        ensures wrong { ExactlyWith is_want result StoreFault.Wrong (sha1 bytes.now) (IsTrue (has_other_name key bytes.now)) }
+        ensures taken { IsFalse (has_other_name key bytes.now) → IsTrue (same_bytes key.id nil) → result ≡ Err (StoreFault.Taken key.id) }
+        ensures cause { IfErr result (IsPutFault (S.may_give self.new.shelf) key bytes.now) }
+        ensures refused { (objects : Objects) → objects_of S.contents self.old ≡ Some objects
+            → RefusesAs is_free result (put_refusal objects key bytes.now) }
+        ensures faults { CountsShelf (S.faults self.old.shelf) (S.faults self.new.shelf) result }
     {
-        if let Some(fault) = self.refusal(&key, bytes) {
+        if let Some(fault) = name_refusal(&key, bytes) {
             return Err(fault);
         }
-        if self.held.has(&key) {
-            return Ok(Put::Same);
+        if self.index.has(&key) {
+            return put_stored(&mut self.shelf, &key, bytes);
         }
-        let copied = match Bytes::copy(self.alloc, bytes) {
-            Ok(copied) => copied,
-            Err(_) => return Err(StoreFault::NoMemory),
-        };
-        match self.held.insert(key, copied) {
-            Ok(_) => {}
-            Err(_) => return Err(StoreFault::NoMemory),
+        match put_new(&mut self.shelf, &mut self.index, &key, bytes) {
+            Ok(()) => Ok(Put::New),
+            Err(fault) => Err(fault),
         }
-        Ok(Put::New)
     }
 
-    /// A copy of the bytes that are stored under the key, if there are any.
+    /// The bytes that are stored under the key, if there are any. Bytes that the shelf gives under a wrong name are never
+    /// given on.
     pub fn get(&mut self, key: Key) -> Result<Option<Bytes>, StoreFault>
-        ensures found { IfOk result (λ found. found ≡ map.get self.old key) }
-        ensures kept { self.new ≡ self.old }
-        ensures no_memory { IfErr result (λ fault. fault ≡ StoreFault.NoMemory) }
+        ensures found { (objects : Objects) → objects_of S.contents self.old ≡ Some objects
+            → IfOk result (λ found. found ≡ map.get objects key) }
+        ensures kept { Keeps S.contents self.old self.new }
+
+        // Of every shelf: something is found exactly where the key stands in the index, and under its own name.
+        ensures told { IfOk result (λ found. is_some found ≡ is_some (map.get self.old.index key)) }
+        ensures value { IfOk result (IsWhole (S.may_give self.new.shelf) key) }
+
+        ensures damaged { IfErr result (IsGetFault (S.may_give self.new.shelf) key) }
+        ensures refused { (objects : Objects) → objects_of S.contents self.old ≡ Some objects
+            → RefusesAs is_free result (damage_at objects key) }
+        ensures faults { CountsShelf (S.faults self.old.shelf) (S.faults self.new.shelf) result }
     {
-        let stored = match self.held.get(&key) {
-            Some(stored) => stored,
-            None => return Ok(None),
-        };
-        match Bytes::copy(self.alloc, stored.slice()) {
-            Ok(copied) => Ok(Some(copied)),
-            Err(_) => Err(StoreFault::NoMemory),
+        if !self.index.has(&key) {
+            return Ok(None);
+        }
+        match fetch_whole(&mut self.shelf, &key) {
+            Ok(bytes) => Ok(Some(bytes)),
+            Err(cause) => Err(cause),
         }
     }
 
     /// The number of bytes that are stored under the key, if there are any. It takes no memory.
     pub fn has(&self, key: Key) -> Option<u64>
-        ensures value { result ≡ option_map length (map.get self.now key) }
+        ensures value { result ≡ map.get self.now.index key }
+        ensures found { (objects : Objects) → objects_of S.contents self.now ≡ Some objects
+            → result ≡ option_map length (map.get objects key) }
     {
-        match self.held.get(&key) {
-            Some(stored) => Some(stored.len() as u64),
+        match self.index.get(&key) {
+            Some(size) => Some(*size),
             None => None,
         }
     }
 
-    /// Why the object is not to be stored, if it is not.
-    fn refusal(&self, key: &Key, bytes: &[u8]) -> Option<StoreFault>
-        ensures value { result ≡ put_refusal self.now key.now bytes.now }
+    /// The least stored key above this one, or the least of all. It takes no memory.
+    pub fn after(&self, key: Option<Key>) -> Option<Key>
+        ensures value { IsNext self.now.index key result }
+        ensures found { (objects : Objects) → objects_of S.contents self.now ≡ Some objects → IsNext objects key result }
     {
-        if key.kind != Kind::Commit {
-            let name = ObjId::of(bytes);
-            if name != key.id {
-                return Some(StoreFault::Wrong(name));
-            }
+        self.index.next(key)
+    }
+
+    /// The number of stored keys. It takes no memory.
+    pub fn count(&self) -> u64
+        ensures value { result ≡ map.len self.now.index }
+        ensures found { (objects : Objects) → objects_of S.contents self.now ≡ Some objects → result ≡ map.len objects }
+    {
+        self.index.len() as u64
+    }
+
+    /// Removes a stored object. After Ok it is neither in the index nor on the shelf. After `Shelf` it is out of the
+    /// index and may lie on the shelf. After `NoMemory` all is as before.
+    pub fn give_up(&mut self, key: Key) -> Result<(), StoreFault>
+        requires stored { IsSome (map.get self.old.index key) }
+        ensures ok { objects_of S.contents self.new ≡ left_after (objects_of S.contents self.old) key result }
+        ensures kept { status_of S.contents self.new ≡ status_of S.contents self.old }
+        ensures changes { RemovalChanges S.contents self.old self.new key result }
+        ensures faults { CountsShelf (S.faults self.old.shelf) (S.faults self.new.shelf) result }
+    {
+        remove_object(&mut self.shelf, &mut self.index, &key)
+    }
+
+    /// Writes the status text. After `Shelf` the old or the new text stands, after `NoMemory` the old.
+    pub fn note(&mut self, text: &[u8]) -> Result<(), StoreFault>
+        ensures ok { OnOk result (status_of S.contents self.new ≡ option_map (λ _. Some text.now) (status_of S.contents self.old)) }
+        ensures changes { NoteChanges S.contents self.old self.new text.now result }
+        ensures kept { objects_of S.contents self.new ≡ objects_of S.contents self.old }
+        ensures faults { CountsShelf (S.faults self.old.shelf) (S.faults self.new.shelf) result }
+    {
+        match self.shelf.put(Slot::Status, text) {
+            Ok(()) => Ok(()),
+            Err(failed) => Err(fault_of(failed)),
         }
-        if key.id == ObjId::NIL {
-            return Some(StoreFault::Taken(key.id));
+    }
+
+    /// The status text, if one was written.
+    pub fn noted(&mut self) -> Result<Option<Bytes>, StoreFault>
+        ensures found { (status : Option (List ℕ)) → status_of S.contents self.old ≡ Some status
+            → IfOk result (λ found. found ≡ status) }
+        ensures value { IfOk result (S.may_give self.new.shelf Slot.Status) }
+        ensures kept { Keeps S.contents self.old self.new }
+        ensures refused { IfErr result (λ fault. IsTrue (is_free fault)) }
+        ensures faults { CountsShelf (S.faults self.old.shelf) (S.faults self.new.shelf) result }
+    {
+        match self.shelf.fetch(Slot::Status) {
+            Ok(text) => Ok(text),
+            Err(failed) => Err(fault_of(failed)),
         }
-        match self.held.get(key) {
-            Some(stored) => {
-                if stored.slice() == bytes {
-                    None
-                } else {
-                    Some(StoreFault::Taken(key.id))
-                }
-            }
-            None => None,
-        }
+    }
+
+    /// The shelf's count of faults. It takes no memory.
+    pub fn faults(&self) -> u64
+        ensures value { result ≡ S.faults self.now.shelf }
+    {
+        self.shelf.faults()
+    }
+
+    /// The shelf.
+    pub fn end(self) -> S
+        ensures value { result ≡ self.shelf }
+    {
+        self.shelf
     }
 }

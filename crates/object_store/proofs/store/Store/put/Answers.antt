@@ -1,12 +1,60 @@
--- To put what is stored changes nothing.
-use Rattle.std.proofs.Common.{sym, ◌∙◌}
-use Rattle.ids.proofs.KeyOrder.{key_cmp_total, key_cmp_exact}
-use Rattle.ids.proofs.MapLemmas.{insert-same}
-use Rattle.object_store.proofs.StoreLemmas.{stored-same}
+-- A put changes what is held under its key alone, and is refused for the name first, then for what is stored.
+use Rattle.std.proofs.Common.{sym, ◌∙◌, Some, length}
+use Rattle.std.specs.FinMap as map
+use Rattle.object_store.proofs.RefusalLemmas.{given-stored, if-same, new-due, new-refused, not-held, put-failed, put-made, put-refused, same-held, there-held, absent-key}
+use Rattle.object_store.specs.Shelf.{put_known}
+use Rattle.object_store.specs.Store.{put_refusal}
+use Rattle.object_store.specs.declared.put.Put.{Put}
+use Rattle.object_store.specs.declared.shelf.Slot.TheVariants.{Object}
 use Rattle.object_store.proofs.store.Store.put.Goals as goal
+use Rattle.object_store.proofs.store.Store.put.Goals.{in-Ok, in-Err}
 
 pub returns-then-has-clause-ok : goal.returns-then-has-clause-ok
-returns-then-has-clause-ok c =
-    let there = rw c.self.view_is at c.has.ensures.value in
-    let same = stored-same c.args.self.now c.args.key c.args.bytes.now (sym c.in_default.ensures.value) (sym there ∙ c.if-has.true) in
-    sym (insert-same key_cmp_total key_cmp_exact c.args.self.now c.args.key c.args.bytes.now same)
+returns-then-has-clause-ok g c =
+    if-same (g.S.Shelf.may_give c.put_stored.new.shelf) c.args.key c.args.bytes.now c.put_stored.result c.put_stored.ensures.value (λ gives.
+    rw (← c.self.view_is, c.put_stored.ensures.kept)
+    (same-held (g.S.Shelf.contents c.self.inside.shelf) c.self.inside.index c.args.key c.args.bytes.now (sym c.has.ensures.value ∙ c.if-has.true)
+    (λ held is. g.met.S.Shelf.told c.put_stored.new.shelf held (Object c.args.key) (Some c.args.bytes.now) (c.put_stored.ensures.kept ∙ is) gives)))
+
+pub returns-then-has-clause-refused : goal.returns-then-has-clause-refused
+returns-then-has-clause-refused g c objects told =
+    let known = rw (← c.self.view_is) at told in
+    let there = sym c.has.ensures.value ∙ c.if-has.true in
+    let tells = given-stored (g.S.Shelf.contents c.self.inside.shelf) c.self.inside.index objects c.args.key known there
+    (g.S.Shelf.may_give c.put_stored.new.shelf)
+    (λ held given is gives. g.met.S.Shelf.told c.put_stored.new.shelf held (Object c.args.key) given (c.put_stored.ensures.kept ∙ is) gives) in
+    let held = there-held (g.S.Shelf.contents c.self.inside.shelf) c.self.inside.index objects c.args.key known c.self.invariant there in
+    put-refused (g.S.Shelf.may_give c.put_stored.new.shelf) c.args.key c.args.bytes.now objects (sym c.in_default.ensures.value) held tells
+    c.put_stored.result c.put_stored.ensures.value
+
+pub returns-clause-ok : goal.returns-clause-ok
+returns-clause-ok g c =
+    elim c.match-put_new.branch [
+      | in-Ok w ↦ rw (w.result-is, ← c.self.view_is)
+          (put-made c.self.inside.index c.put_new.new.index c.args.key (length c.args.bytes.now) c.args.bytes.now (g.S.Shelf.contents c.self.inside.shelf)
+          (g.S.Shelf.contents c.put_new.new.shelf) w.in-Ok.ensures.value.0 w.in-Ok.ensures.value.1)
+      | in-Err w ↦ rw w.result-is tt
+    ]
+
+pub returns-clause-err : goal.returns-clause-err
+returns-clause-err g c =
+    elim c.match-put_new.branch [
+      | in-Ok w ↦ rw w.result-is tt
+      | in-Err w ↦ rw (w.result-is, ← c.self.view_is)
+          (put-failed c.self.inside.index c.put_new.new.index (map.insert c.self.inside.index c.args.key (length c.args.bytes.now)) c.args.key c.args.bytes.now
+          (g.S.Shelf.contents c.self.inside.shelf) (g.S.Shelf.contents c.put_new.new.shelf) w.in-Err.fault
+          (absent-key c.self.inside.index c.args.key (sym c.has.ensures.value ∙ c.if-has.false)) w.in-Err.ensures.value)
+    ]
+
+pub returns-clause-refused : goal.returns-clause-refused
+returns-clause-refused g c objects told =
+    let known = rw (← c.self.view_is) at told in
+    let absent = not-held (g.S.Shelf.contents c.self.inside.shelf) c.self.inside.index objects c.args.key known (sym c.has.ensures.value ∙ c.if-has.false) in
+    elim c.match-put_new.branch [
+      | in-Ok w ↦ rw w.result-is (new-due objects c.args.key c.args.bytes.now (sym c.in_default.ensures.value) absent)
+      | in-Err w ↦ rw w.result-is
+          (new-refused Put c.self.inside.index (map.insert c.self.inside.index c.args.key (length c.args.bytes.now)) c.self.inside.index c.put_new.new.index
+          (g.S.Shelf.contents c.self.inside.shelf) (put_known (g.S.Shelf.contents c.self.inside.shelf) (Object c.args.key) c.args.bytes.now)
+          (g.S.Shelf.contents c.put_new.new.shelf) w.in-Err.fault
+          (put_refusal objects c.args.key c.args.bytes.now) w.in-Err.ensures.value)
+    ]

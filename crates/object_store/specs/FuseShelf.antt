@@ -1,0 +1,43 @@
+-- A shelf that stops after so many calls, as contracts see it. Read first: MemoryShelf. Our own.
+use Rattle.std.specs.Prelude.{◌≡◌, ℕ, ◌-◌, ◌<◌, List, Option, Some, Result, Err, nat_lt, if◌then◌else◌, refl}
+use Rattle.std.specs.Coded.{Coded, code_by, coded×, coded_ℕ}
+use Rattle.object_store.specs.MemoryShelf.{Answers, MemoryShelfState, counted, memory_shelf_code, what_is_told}
+use Rattle.object_store.specs.Shelf.{Contents, lies_in}
+use Rattle.object_store.specs.declared.shelf.ShelfFailed.{ShelfFailed}
+use Rattle.object_store.specs.declared.shelf.ShelfFailed.TheVariants.{Shelf, NoMemory}
+use Rattle.object_store.specs.declared.shelf.Slot.{Slot}
+
+-- `left` is the number of calls that it still passes on
+pub record FuseShelfState : Type 0 where
+  pub inner : MemoryShelfState
+  pub left : ℕ
+  pub faults : ℕ
+
+-- it is stored as its fields
+abbrev pub fuse_shelf_code : Coded FuseShelfState
+fuse_shelf_code = code_by (MemoryShelfState × (ℕ × ℕ)) (coded× memory_shelf_code (coded× coded_ℕ coded_ℕ))
+    (λ shelf. (shelf.inner, (shelf.left, shelf.faults))) (λ t. record { inner = t.0; left = t.1.0; faults = t.1.1 }) (λ _. refl)
+
+-- the shelf once the next call was counted
+abbrev pub burnt : FuseShelfState → FuseShelfState
+burnt shelf = record shelf {
+  left = shelf.left - 1;
+  faults = if nat_lt 0 shelf.left then shelf.faults else counted shelf.faults;
+}
+
+-- the shelf after a call that the shelf in memory refused
+abbrev pub failed_by : FuseShelfState → ShelfFailed → FuseShelfState
+failed_by shelf Shelf = record shelf { faults = counted shelf.faults }
+failed_by shelf NoMemory = shelf
+
+-- one call fewer is left; it is the shelf's in memory, but where none was left it failed and changed nothing
+pub record Passes {T : Type 0} (old new : FuseShelfState) (changed : Contents) (result : Result T ShelfFailed) : Type 0 where
+  pub left : new.left ≡ old.left - 1
+  pub passed : 0 < old.left → Answers old.inner new.inner changed result
+  pub stopped : old.left ≡ 0 → result ≡ Err Shelf
+  pub kept : old.left ≡ 0 → new.inner ≡ old.inner
+
+-- it gives what it tells
+pub fuse_told : (shelf : FuseShelfState) (held : Contents) (slot : Slot) (given : Option (List ℕ))
+    → Some shelf.inner.contents ≡ Some held → given ≡ lies_in shelf.inner.contents slot → given ≡ lies_in held slot
+fuse_told shelf held slot given told is = what_is_told shelf.inner held slot given told is

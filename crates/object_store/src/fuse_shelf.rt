@@ -1,0 +1,152 @@
+//! A shelf that stops after so many calls, as a machine that loses power.
+ghost use Rattle.std.specs.Prelude.{◌≡◌, ◌<◌, ◌^◌, ◌-◌, ℕ, List, IfOk, Some, nat_lt};
+ghost use Rattle.object_store.specs.FuseShelf.{Passes, burnt, failed_by};
+ghost use Rattle.object_store.specs.Shelf.{Changes, Contents, CountsFaults, FindsNext, lies_in, put_known, removed_known, with_put, without};
+
+use crate::memory_shelf::MemoryShelf;
+use crate::shelf::{Found, Shelf, ShelfFailed, Slot};
+use ids::{Bytes, Kind, ObjId};
+use std::marker::Model;
+
+/// A shelf in memory that passes so many calls on, and then fails every call and changes nothing any more.
+#[derive(Drop)]
+pub struct FuseShelf {
+    inner: MemoryShelf,
+    left: u64,
+    faults: u64,
+}
+
+impl Model for FuseShelf {
+    ghost use Rattle.object_store.specs.FuseShelf.{FuseShelfState, fuse_shelf_code};
+
+    ghost Value = { FuseShelfState };
+
+    ghost coded = { fuse_shelf_code };
+
+    ghost view = { λ a. record { inner = a.inner; left = a.left; faults = a.faults } };
+}
+
+impl FuseShelf {
+    /// A shelf that passes `calls` calls on.
+    pub fn new(inner: MemoryShelf, calls: u64) -> FuseShelf
+        ensures value { result ≡ record { inner = inner; left = calls; faults = 0 } }
+    {
+        FuseShelf {
+            inner,
+            left: calls,
+            faults: 0,
+        }
+    }
+
+    /// The shelf in memory, as the last call that was passed on left it.
+    pub fn end(self) -> MemoryShelf
+        ensures value { result ≡ self.inner }
+    {
+        self.inner
+    }
+
+    /// Whether the next call is passed on. Where it is not, that is a fault.
+    fn burn(&mut self) -> bool
+        ensures value { result ≡ nat_lt 0 self.old.left }
+        ensures ok { self.new ≡ burnt self.old }
+        ensures bound { self.old.faults < 2 ^ 64 }
+    {
+        if self.left == 0 {
+            self.faults = self.faults.saturating_add(1);
+            return false;
+        }
+        let _faults = self.faults;
+        self.left -= 1;
+        true
+    }
+
+    /// Counts a fault of the shelf in memory.
+    fn fail(&mut self, failed: ShelfFailed) -> ShelfFailed
+        ensures value { result ≡ failed }
+        ensures ok { self.new ≡ failed_by self.old failed }
+        ensures bound { self.old.faults < 2 ^ 64 }
+    {
+        let faults = self.faults;
+        match failed {
+            ShelfFailed::Shelf => self.faults = faults.saturating_add(1),
+            ShelfFailed::NoMemory => {}
+        }
+        failed
+    }
+}
+
+impl Shelf for FuseShelf {
+    ghost use Rattle.object_store.specs.FuseShelf.{fuse_told};
+
+    ghost contents = { λ shelf. Some shelf.inner.contents };
+
+    ghost may_give = { λ shelf slot given. given ≡ lies_in shelf.inner.contents slot };
+
+    ghost faults = { λ shelf. shelf.faults };
+
+    fn fetch(&mut self, slot: Slot) -> Result<Option<Bytes>, ShelfFailed>
+        ensures found { IfOk result (λ given. given ≡ lies_in self.new.inner.contents slot) }
+        ensures kept { Some self.new.inner.contents ≡ Some self.old.inner.contents }
+        ensures faults { CountsFaults self.old.faults self.new.faults result }
+        ensures value { Passes self.old self.new self.old.inner.contents result }
+    {
+        if !self.burn() {
+            return Err(ShelfFailed::Shelf);
+        }
+        match self.inner.fetch(slot) {
+            Ok(given) => Ok(given),
+            Err(failed) => Err(self.fail(failed)),
+        }
+    }
+
+    fn put(&mut self, slot: Slot, bytes: &[u8]) -> Result<(), ShelfFailed>
+        ensures ok { Changes (Some self.old.inner.contents) (put_known (Some self.old.inner.contents) slot bytes.now) (Some self.new.inner.contents) result }
+        ensures faults { CountsFaults self.old.faults self.new.faults result }
+        ensures value { Passes self.old self.new (with_put self.old.inner.contents slot bytes.now) result }
+    {
+        if !self.burn() {
+            return Err(ShelfFailed::Shelf);
+        }
+        match self.inner.put(slot, bytes) {
+            Ok(()) => Ok(()),
+            Err(failed) => Err(self.fail(failed)),
+        }
+    }
+
+    fn remove(&mut self, slot: Slot) -> Result<(), ShelfFailed>
+        ensures ok { Changes (Some self.old.inner.contents) (removed_known (Some self.old.inner.contents) slot) (Some self.new.inner.contents) result }
+        ensures faults { CountsFaults self.old.faults self.new.faults result }
+        ensures value { Passes self.old self.new (without self.old.inner.contents slot) result }
+    {
+        if !self.burn() {
+            return Err(ShelfFailed::Shelf);
+        }
+        match self.inner.remove(slot) {
+            Ok(()) => Ok(()),
+            Err(failed) => Err(self.fail(failed)),
+        }
+    }
+
+    fn next(&mut self, kind: Kind, after: Option<ObjId>) -> Result<Option<Found>, ShelfFailed>
+        ensures found { (held : Contents) → Some self.old.inner.contents ≡ Some held → IfOk result (FindsNext held.objects kind after) }
+        ensures kept { Some self.new.inner.contents ≡ Some self.old.inner.contents }
+        ensures faults { CountsFaults self.old.faults self.new.faults result }
+        ensures value { Passes self.old self.new self.old.inner.contents result }
+    {
+        if !self.burn() {
+            return Err(ShelfFailed::Shelf);
+        }
+        match self.inner.next(kind, after) {
+            Ok(found) => Ok(found),
+            Err(failed) => Err(self.fail(failed)),
+        }
+    }
+
+    fn faults(&self) -> u64
+        ensures value { result ≡ self.now.faults }
+    {
+        self.faults
+    }
+
+    ghost told = { fuse_told };
+}

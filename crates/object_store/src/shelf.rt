@@ -1,0 +1,76 @@
+//! A shelf: slots of bytes, which storage or a stand-in for it keeps.
+ghost use Rattle.std.specs.Prelude.{◌≡◌, ℕ, List, IfOk, Some};
+ghost use Rattle.object_store.specs.Shelf.{Changes, Contents, CountsFaults, FindsNext, lies_in, put_known, removed_known};
+
+use ids::{Bytes, Key, Kind, ObjId};
+
+/// A place on a shelf: that of an object, or that of the status text.
+#[derive(Clone, Copy, Debug, PartialEq, Eq)]
+pub enum Slot {
+    Object(Key),
+    Status,
+}
+
+/// Why a call on a shelf failed.
+#[derive(Clone, Copy, Debug, PartialEq, Eq)]
+pub enum ShelfFailed {
+    /// The shelf failed, and counted it.
+    Shelf,
+    NoMemory,
+}
+
+/// An object's name, and the number of its bytes.
+#[derive(Clone, Copy, Debug, PartialEq, Eq)]
+pub struct Found {
+    pub id: ObjId,
+    pub size: u64,
+}
+
+/// Slots of bytes.
+///
+/// A shelf in memory tells what it holds; an adapter over real storage tells nothing. The count of faults rises in each
+/// call that answers `Shelf` and in no other, up to 2^64 - 1.
+pub trait Shelf {
+    ghost use Rattle.std.specs.Prelude.{Option};
+    ghost use Rattle.object_store.specs.declared.shelf.Slot.{Slot};
+
+    // What lies in its slots.
+    ghost contents: { Self → Option Contents };
+
+    // A fetch of a slot may give this.
+    ghost may_give: { Self → Slot → Option (List ℕ) → Type 0 };
+
+    ghost faults: { Self → ℕ };
+
+    /// The bytes that lie in a slot, if any do.
+    fn fetch(&mut self, slot: Slot) -> Result<Option<Bytes>, ShelfFailed>
+        ensures found { IfOk result (may_give self.new slot) }
+        ensures kept { contents self.new ≡ contents self.old }
+        ensures faults { CountsFaults (faults self.old) (faults self.new) result };
+
+    /// Lays these bytes into a slot, in place of what lies there. After `Shelf` the slot holds the old or the new, and
+    /// every other slot what it held; after `NoMemory` nothing is changed.
+    fn put(&mut self, slot: Slot, bytes: &[u8]) -> Result<(), ShelfFailed>
+        ensures ok { Changes (contents self.old) (put_known (contents self.old) slot bytes.now) (contents self.new) result }
+        ensures faults { CountsFaults (faults self.old) (faults self.new) result };
+
+    /// Empties a slot. After `Shelf` the slot is as it was or empty, and every other slot holds what it held; after
+    /// `NoMemory` nothing is changed.
+    fn remove(&mut self, slot: Slot) -> Result<(), ShelfFailed>
+        ensures ok { Changes (contents self.old) (removed_known (contents self.old) slot) (contents self.new) result }
+        ensures faults { CountsFaults (faults self.old) (faults self.new) result };
+
+    /// The object of the kind with the least id above `after`, or the least of all, if there is one.
+    fn next(&mut self, kind: Kind, after: Option<ObjId>) -> Result<Option<Found>, ShelfFailed>
+        ensures found { (held : Contents) → contents self.old ≡ Some held → IfOk result (FindsNext held.objects kind after) }
+        ensures kept { contents self.new ≡ contents self.old }
+        ensures faults { CountsFaults (faults self.old) (faults self.new) result };
+
+    /// The count of faults. It takes no memory, never fails, and is itself no call that is counted.
+    fn faults(&self) -> u64
+        ensures value { result ≡ faults self.now };
+
+    // A shelf that tells what it holds gives that.
+    ghost told: { (shelf : Self) (held : Contents) (slot : Slot) (given : Option (List ℕ))
+        → contents shelf ≡ Some held → may_give shelf slot given → given ≡ lies_in held slot };
+}
