@@ -1,16 +1,16 @@
 -- Rows at the front of bytes. The lemmas that callers want are whole_row, no_row_short, no_row_digits, no_row_size,
--- rows_text-push and the law rows_told_once.
-use Rattle.std.proofs.Common.{◌≡◌, ◌≢◌, ℕ, zero, suc, ◌+◌, ◌-◌, ◌*◌, ◌<◌, ◌≤◌, All, List, [], ◌∷◌, ◌++◌, length, take, drop, get_or, refl, sym, ap, subst, ◌∙◌, arith, append_assoc, append-nil, length-append, length-drop, Result, Ok, Err}
-use Rattle.std.proofs.lemmas.List.{take-append-drop, drop_more, length-take-le, get_or-append-add, take-append-le, drop_at, take_at}
-use Rattle.std.proofs.lemmas.List.Elements.{All-push, All-get_or, All-cons, All-nil}
+-- rows_text-push and rows_once.
+use Rattle.std.proofs.Common.{◌≡◌, ℕ, zero, suc, ◌+◌, ◌-◌, ◌*◌, ◌<◌, ◌≤◌, All, List, [], ◌∷◌, ◌++◌, length, take, drop, get_or, refl, sym, ap, subst, ◌∙◌, arith, append_assoc, append-nil, length-append, length-drop, Result, Ok, Err}
+use Rattle.std.proofs.lemmas.List.{take-append-drop, drop_more, length-take-le, get_or-append-add, take_at, drop_at}
+use Rattle.std.proofs.lemmas.List.Elements.{All-get_or}
 use Rattle.std.proofs.lemmas.Nat.{be_bytes_4, from_be_bytes-to_be_bytes_4}
 use Rattle.std.specs.Int.{from_be_bytes, to_be_bytes, w32}
 use Rattle.hex.proofs.HexLemmas.{length-encode_with, decode_of-encode_lower}
-use Rattle.hex.specs.Hex.{decode_of, encode_lower, lower_digits}
+use Rattle.hex.specs.Hex.{encode_lower, lower_digits, decode_of}
 use Rattle.ids.proofs.DigitsLemmas.{IsOf-encode_lower, IsBytes-from_All}
 use Rattle.ids.specs.Digits.{digits_form}
 use Rattle.ids.specs.Form.{IsOf}
-use Rattle.http_front.specs.Rows.{HasNoRow, IsRow, row_text, row_with, rows_text}
+use Rattle.http_front.specs.Rows.{HasNoRow, IsRow, row_text, row_with, rows_text, IsRowsOf}
 use Rattle.http_front.specs.declared.row.Row.{Row}
 
 -- ---- lists
@@ -134,3 +134,70 @@ place_more rows id bytes size =
     let forty = length-digits id size in
     let sum : length (row_text row) ≡ 44 + length bytes = own ∙ (λ i. forty i + inner i) ∙ (let s : 40 + (4 + length bytes) ≡ 44 + length bytes = omega arith in s) in
     ap length (rows_text-push rows row) ∙ length-append (rows_text rows) (row_text row) ∙ ap (λ n. length (rows_text rows) + n) sum
+
+-- ---- rows are read in one way
+
+first_row : (row : Row) (rows : List Row) → All IsRow (row ∷ rows) → IsRow row
+first_row row rows all = all zero row (omega arith)
+
+later_rows : (row : Row) (rows : List Row) → All IsRow (row ∷ rows) → All IsRow rows
+later_rows row rows all k d below = all (suc k) d (omega (arith, below))
+
+-- what is behind a front of one length
+behind_same : (front other rest more : List ℕ) → front ≡ other → front ++ rest ≡ other ++ more → rest ≡ more
+behind_same front other rest more same whole =
+    sym (drop_at front rest (length front) refl) ∙ ap (drop (length front)) whole ∙ drop_at other more (length front) (sym (ap length same))
+
+parted : (xs ys rest more : List ℕ) → length xs ≡ length ys → xs ++ rest ≡ ys ++ more → (xs ≡ ys) × (rest ≡ more)
+parted xs ys rest more size whole =
+    let same : xs ≡ ys = sym (take_at xs rest (length xs) refl) ∙ ap (take (length xs)) whole ∙ take_at ys more (length xs) (sym size) in
+    (same, behind_same xs ys rest more same whole)
+
+ok_same : {E : Type 0} (a b : List ℕ) → ◌≡◌ {A = Result (List ℕ) E} (Ok a) (Ok b) → a ≡ b
+ok_same a b e = cc
+
+id_once : (id other : List ℕ) → All (λ byte. byte < 256) id → All (λ byte. byte < 256) other → encode_lower id ≡ encode_lower other → id ≡ other
+id_once id other bytes other_bytes same =
+    ok_same id other (sym (decode_of-encode_lower id (IsBytes-from_All id bytes)) ∙ ap decode_of same ∙ decode_of-encode_lower other (IsBytes-from_All other other_bytes))
+
+one_row : (row other : Row) (rest more : List ℕ) → IsRow row → IsRow other → row_text row ++ rest ≡ row_text other ++ more → (row ≡ other) × (rest ≡ more)
+one_row row other rest more is is_other whole =
+    let front = row_front (row_text row ++ rest) row rest is refl in
+    let other_front = row_front (row_text row ++ rest) other more is_other whole in
+    let digits : encode_lower row.id ≡ encode_lower other.id = sym front.digits ∙ other_front.digits in
+    let ids : row.id ≡ other.id = id_once row.id other.id is.id_bytes is_other.id_bytes digits in
+    let size : length row.bytes ≡ length other.bytes = sym front.told ∙ other_front.told in
+    let cut : encode_lower row.id ++ (to_be_bytes w32 (length row.bytes) ++ (row.bytes ++ rest)) ≡ encode_lower other.id ++ (to_be_bytes w32 (length other.bytes) ++ (other.bytes ++ more)) =
+    sym (row_cut row rest) ∙ whole ∙ row_cut other more in
+    let after_id = behind_same _ _ _ _ digits cut in
+    let after_size = behind_same _ _ _ _ (ap (to_be_bytes w32) size) after_id in
+    let parts = parted row.bytes other.bytes rest more size after_size in
+    (λ i. record { id = ids i; bytes = parts.0 i }, parts.1)
+
+-- rows with no row behind them are all that stand there
+same_rows : (rows others : List Row) (rest more : List ℕ) → All IsRow rows → All IsRow others → HasNoRow rest → HasNoRow more → rows_text rows ++ rest ≡ rows_text others ++ more
+    → (rows ≡ others) × (rest ≡ more)
+same_rows [] [] rest more all all_others none none_more whole = (refl, whole)
+same_rows [] (other ∷ others) rest more all all_others none none_more whole =
+    absurd (none other (rows_text others ++ more) (first_row other others all_others) (whole ∙ append_assoc (row_text other) (rows_text others) more))
+same_rows (row ∷ rows) [] rest more all all_others none none_more whole =
+    absurd (none_more row (rows_text rows ++ rest) (first_row row rows all) (sym whole ∙ append_assoc (row_text row) (rows_text rows) rest))
+same_rows (row ∷ rows) (other ∷ others) rest more all all_others none none_more whole =
+    let one = one_row row other (rows_text rows ++ rest) (rows_text others ++ more) (first_row row rows all) (first_row other others all_others)
+    (sym (append_assoc (row_text row) (rows_text rows) rest) ∙ whole ∙ append_assoc (row_text other) (rows_text others) more) in
+    let later = same_rows rows others rest more (later_rows row rows all) (later_rows other others all_others) none none_more one.1 in
+    (λ i. one.0 i ∷ later.0 i, later.1)
+
+nothing_left : HasNoRow []
+nothing_left = no_row_short [] (omega arith)
+
+pub rows_once : (body : List ℕ) (told other : Result (List Row) ℕ) → IsRowsOf body told → IsRowsOf body other → told ≡ other
+rows_once body (Ok rows) (Ok others) is is_other =
+    ap Ok (same_rows rows others [] [] is.0 is_other.0 nothing_left nothing_left (append-nil (rows_text rows) ∙ sym is.1 ∙ is_other.1 ∙ sym (append-nil (rows_text others)))).0
+rows_once body (Ok rows) (Err at) is bad =
+    absurd (bad.more (sym (same_rows rows bad.front [] bad.rest is.0 bad.are_rows nothing_left bad.no_row (append-nil (rows_text rows) ∙ sym is.1 ∙ bad.whole)).1))
+rows_once body (Err at) (Ok rows) bad is =
+    absurd (bad.more (same_rows bad.front rows bad.rest [] bad.are_rows is.0 bad.no_row nothing_left (sym bad.whole ∙ is.1 ∙ sym (append-nil (rows_text rows)))).1)
+rows_once body (Err at) (Err place) bad worse =
+    let same = same_rows bad.front worse.front bad.rest worse.rest bad.are_rows worse.are_rows bad.no_row worse.no_row (sym bad.whole ∙ worse.whole) in
+    ap Err (bad.place ∙ ap (λ rows. length (rows_text rows)) same.0 ∙ sym worse.place)

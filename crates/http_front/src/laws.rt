@@ -1,9 +1,12 @@
 //! Theorems about the stream of requests and the table of calls.
-ghost use Rattle.std.specs.Prelude.{◌≡◌, ◌⊎◌, ℕ, List, Some};
+ghost use Rattle.std.specs.Prelude.{◌≡◌, ◌⊎◌, ℕ, List, Option, Result, Some};
+ghost use Rattle.library_state.specs.declared.refusal.Refusal.{Refusal};
+ghost use Rattle.http_front.specs.Order.{IsOrder};
 ghost use Rattle.http_front.specs.RequestStream.{Extends, Reads, Request};
 ghost use Rattle.http_front.specs.Route.{IsCall, method_in, path_in, route_of};
 ghost use Rattle.http_front.specs.Target.{path_of};
 ghost use Rattle.http_front.specs.declared.method.Method.{Method};
+ghost use Rattle.http_front.specs.declared.order.Order.{Order};
 ghost use Rattle.http_front.specs.declared.route.Route.{Route};
 
 /// Bytes spell their requests in one way: of two readings of them one begins with the other.
@@ -23,4 +26,10 @@ pub fn a_request_names_a_call_by_its_method_and_path()
 pub fn a_call_is_named_by_its_own_method_and_path()
     ensures { (target : List ℕ) (route : Route) → IsCall route → path_of target ≡ path_in route
         → route_of (method_in route) target ≡ Some route }
+{}
+
+/// A request asks for one thing, or is refused for one cause.
+pub fn a_request_asks_for_one_thing()
+    ensures { (method : Method) (target : List ℕ) (secret : Option (List ℕ)) (body : List ℕ) (due other : Result Order Refusal)
+        → IsOrder method target secret body due → IsOrder method target secret body other → due ≡ other }
 {}

@@ -1,11 +1,11 @@
 -- The ids that are told so far, and the set of them. The lemmas that callers want are once_old, once_new, told_old and
 -- told_new.
-use Rattle.std.proofs.Common.{◌≡◌, ℕ, Bool, true, false, ◌||◌, not, cond, List, [], ◌∷◌, ◌++◌, filter, is_some, Some, refl, sym, ap, ◌∙◌, append-nil}
+use Rattle.std.proofs.Common.{◌≡◌, ℕ, Bool, true, false, ◌||◌, not, cond, List, [], ◌∷◌, ◌++◌, is_some, Some, refl, sym, ap, ◌∙◌, append-nil}
 use Rattle.std.proofs.lemmas.List.Elements.{filter-append}
 use Rattle.std.proofs.lemmas.Map.Text.{is_eq-slice_cmp}
-use Rattle.std.specs.Cmp.Lexicographic.{same_text, slice_cmp}
+use Rattle.std.specs.Cmp.Lexicographic.{same_text}
 use Rattle.std.specs.FinMap as map
-use Rattle.std.specs.Ordering.{eq_by_cmp, nat_cmp}
+use Rattle.std.specs.Ordering.{eq_by_cmp}
 use Rattle.std.specs.Str.{bytes_eq}
 use Rattle.ids.proofs.KeyOrder.{key_cmp_total}
 use Rattle.ids.specs.Key.{key_cmp}

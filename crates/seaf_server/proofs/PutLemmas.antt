@@ -1,5 +1,5 @@
 -- What speaks against an object, by what was found of it. The lemmas that callers want are put_fine, put_wrong, put_bad.
-use Rattle.std.proofs.Common.{◌≡◌, ℕ, Bool, true, false, cond, List, Option, None, Some, refl, ap, sym, ◌∙◌}
+use Rattle.std.proofs.Common.{◌≡◌, ℕ, Bool, true, false, cond, List, None, Some, refl, ap, sym, ◌∙◌}
 use Rattle.ids.specs.Key.{Objects}
 use Rattle.ids.specs.declared.key.Key.{Key}
 use Rattle.library_state.specs.declared.refusal.Refusal.{Refusal}

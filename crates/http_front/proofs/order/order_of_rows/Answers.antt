@@ -1,8 +1,6 @@
 -- The order of the rows, or the fault of the body.
-use Rattle.std.proofs.Common.{Ok, Err, refl, sym, subst}
-use Rattle.json_words.specs.declared.answer.ReadFault.{ReadFault}
+use Rattle.std.proofs.Common.{Ok, refl}
 use Rattle.http_front.proofs.OrderLemmas.{rows_refused}
-use Rattle.http_front.specs.Order.{OrdersAs, PutsRows}
 use Rattle.http_front.proofs.order.order_of_rows.Goals as goal
 
 pub returns-in-Ok : goal.returns-in-Ok

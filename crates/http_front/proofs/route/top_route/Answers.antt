@@ -1,4 +1,3 @@
-use Rattle.std.proofs.Common.{sym, ◌∙◌}
 use Rattle.http_front.proofs.TargetLemmas.{cut_at_slash, no_slash}
 use Rattle.http_front.proofs.RouteLemmas.{top_and_more}
 use Rattle.http_front.proofs.route.top_route.Goals as goal

@@ -1,5 +1,5 @@
 -- Bytes that are no text are no digits.
-use Rattle.std.proofs.Common.{◌≡◌, false, true, subst}
+use Rattle.std.proofs.Common.{subst}
 use Rattle.std.proofs.lemmas.Str.{IsUtf8-from_ascii}
 use Rattle.std.specs.Str.{IsUtf8}
 use Rattle.hex.proofs.HexLemmas.{IsAscii-encode_with}

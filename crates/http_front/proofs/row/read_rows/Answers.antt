@@ -1,4 +1,4 @@
-use Rattle.std.proofs.Common.{◌≡◌, ◌≢◌, ◌+◌, ◌-◌, ◌∷◌, ◌++◌, [], ◌<◌, ◌≤◌, ℕ, List, All, length, drop, sym, ap, subst, arith, ◌∙◌, length-drop}
+use Rattle.std.proofs.Common.{◌≡◌, ◌+◌, ◌-◌, ◌∷◌, ◌++◌, [], ◌<◌, ℕ, List, All, length, drop, sym, ap, subst, arith, ◌∙◌, length-drop}
 use Rattle.std.proofs.lemmas.List.Elements.{All-push}
 use Rattle.std.specs.Int.{to_be_bytes, w32}
 use Rattle.hex.specs.Hex.{encode_lower}

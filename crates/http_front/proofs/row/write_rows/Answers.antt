@@ -1,10 +1,10 @@
 -- One row more is in the text.
-use Rattle.std.proofs.Common.{◌≡◌, ◌<◌, ◌+◌, ◌∷◌, ◌++◌, [], ℕ, List, All, length, take, sym, ap, subst, ◌∙◌}
+use Rattle.std.proofs.Common.{◌≡◌, ◌<◌, ◌+◌, ◌∷◌, ◌++◌, [], ℕ, List, length, take, sym, ap, subst, ◌∙◌}
 use Rattle.std.proofs.lemmas.List.{take_more}
 use Rattle.std.proofs.lemmas.List.Elements.{All-push}
 use Rattle.std.specs.Int.{to_be_bytes, w32}
 use Rattle.hex.specs.Hex.{encode_lower}
-use Rattle.http_front.specs.Rows.{FitRows, row_text, rows_text}
+use Rattle.http_front.specs.Rows.{FitRows, rows_text}
 use Rattle.http_front.specs.declared.row.Row.{Row}
 use Rattle.http_front.proofs.RowLemmas.{rows_text-push}
 use Rattle.http_front.proofs.row.write_rows.Goals as goal

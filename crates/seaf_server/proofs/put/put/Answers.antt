@@ -1,5 +1,5 @@
 -- The first cause, or the store's answer.
-use Rattle.std.proofs.Common.{◌≡◌, is_some, inl, sym, ap, subst, ◌∙◌}
+use Rattle.std.proofs.Common.{is_some, inl, sym, ap, subst, ◌∙◌}
 use Rattle.std.specs.FinMap as map
 use Rattle.library_state.specs.declared.reply.Reply.{Reply}
 use Rattle.seaf_server.specs.Library.{IsReply, put_reply}
