@@ -1,6 +1,8 @@
 //! Whole runs over a link and a sink in memory: worked replies, statuses, and links and sinks that fail.
 ghost use Rattle.std.specs.Prelude.{◌≤◌};
 
+mod shelf_rows;
+
 use crate::running::run;
 use http_front::{MemoryLink, MemorySink};
 use ids::{Bytes, Items, Text};
