@@ -1,3 +1,6 @@
 pub mod RunLemmas
 pub mod MissingLemmas
-pub mod PutLemmas
+pub mod ReplyLemmas
+pub mod LibraryLemmas
+pub mod SimulationLemmas
+pub mod ServedLemmas

@@ -1,5 +1,6 @@
--- What speaks against an object that is to be stored. Our own. Read refusal_of_put first, at the end.
-use Rattle.std.specs.Prelude.{ℕ, Bool, not, if◌then◌else◌, List, Option, None, Some, Result, Ok, Err}
+-- What speaks against an object that is to be stored. Our own. Read refusal_of_put first, and then told_refusal.
+use Rattle.std.specs.Prelude.{ℕ, Bool, false, not, ◌||◌, if◌then◌else◌, List, Option, None, Some, option_map, Result, Ok, Err}
+use Rattle.std.specs.FinMap as map
 use Rattle.std.specs.Str.{bytes_eq}
 use Rattle.sha1.specs.Sha1.{sha1}
 use Rattle.commit_objects.specs.Commit.{commit_of}
@@ -11,14 +12,13 @@ use Rattle.fs_objects.specs.FsObject.{fs_of}
 use Rattle.fs_objects.specs.declared.fault.BadFs.{BadFs}
 use Rattle.fs_objects.specs.declared.fs_object.FsObject.{FsObject}
 use Rattle.ids.specs.Key.{Objects}
+use Rattle.ids.specs.ObjectId.{nil}
 use Rattle.ids.specs.declared.key.Key.{Key}
 use Rattle.ids.specs.declared.key.Kind.{Kind}
 use Rattle.ids.specs.declared.key.Kind.TheVariants as kind
 use Rattle.library_state.specs.declared.refusal.Refusal.{Refusal}
-use Rattle.library_state.specs.declared.refusal.Refusal.TheVariants.{Wrong, BadFs as RefusedFs, BadCommit as RefusedCommit, OtherLibrary, Taken, NoMemory}
-use Rattle.library_state.specs.declared.reply.Reply.{Reply}
-use Rattle.library_state.specs.declared.reply.Reply.TheVariants.{Stored, Refused}
-use Rattle.object_store.specs.Store.{has_other_name, is_taken}
+use Rattle.library_state.specs.declared.refusal.Refusal.TheVariants.{Wrong, BadFs as RefusedFs, BadCommit as RefusedCommit, OtherLibrary, Taken, Damaged, Store, NoMemory}
+use Rattle.object_store.specs.Store.{has_other_name, put_refusal, same_bytes}
 use Rattle.object_store.specs.declared.error.StoreFault.{StoreFault}
 use Rattle.object_store.specs.declared.error.StoreFault.TheVariants as store_fault
 
@@ -31,7 +31,14 @@ first_of None later = later
 abbrev pub wrong_name : Key → List ℕ → Option Refusal
 wrong_name key bytes = if has_other_name key bytes then Some (Wrong (sha1 bytes)) else None
 
+abbrev pub are_other : Option (List ℕ) → List ℕ → Bool
+are_other None bytes = false
+are_other (Some stored) bytes = not (same_bytes stored bytes)
+
 -- other bytes are stored under the key, or its id names nothing
+abbrev pub is_taken : Objects → Key → List ℕ → Bool
+is_taken objects key bytes = same_bytes key.id nil || are_other (map.get objects key) bytes
+
 abbrev pub taken : Objects → Key → List ℕ → Option Refusal
 taken objects key bytes = if is_taken objects key bytes then Some (Taken key.id) else None
 
@@ -67,17 +74,23 @@ form_refusal kind.Block lib id bytes = None
 abbrev pub grammar_refusal : List ℕ → Key → List ℕ → Option Refusal
 grammar_refusal lib key bytes = form_refusal key.kind lib key.id bytes
 
--- what speaks against the object: first another name, then its form, then what is stored
+-- what speaks against the object whatever is stored: first another name, then its form
+abbrev pub own_refusal : List ℕ → Key → List ℕ → Option Refusal
+own_refusal lib key bytes = first_of (wrong_name key bytes) (grammar_refusal lib key bytes)
+
+-- what speaks against the object: first that, then what is stored
 unfoldable pub refusal_of_put : List ℕ → Objects → Key → List ℕ → Option Refusal
-refusal_of_put lib objects key bytes = first_of (wrong_name key bytes) (first_of (grammar_refusal lib key bytes) (taken objects key bytes))
+refusal_of_put lib objects key bytes = first_of (own_refusal lib key bytes) (taken objects key bytes)
 
 -- the refusal that a fault of the store is
 abbrev pub refusal_of : StoreFault → Refusal
 refusal_of (store_fault.Wrong got) = Wrong got
 refusal_of (store_fault.Taken id) = Taken id
+refusal_of (store_fault.Damaged want got) = Damaged want got
+refusal_of store_fault.Shelf = Store
 refusal_of store_fault.NoMemory = NoMemory
 
--- a put is refused for the store's cause, and else it tells whether nothing was stored before
-abbrev pub stored_reply : Option StoreFault → Bool → Reply
-stored_reply None was_stored = Stored (not was_stored)
-stored_reply (Some fault) was_stored = Refused (refusal_of fault)
+-- the same where what is stored may be damaged, which is told before that it is taken
+unfoldable pub told_refusal : List ℕ → Objects → Key → List ℕ → Option Refusal
+told_refusal lib objects key bytes =
+    first_of (own_refusal lib key bytes) (option_map refusal_of (put_refusal objects key bytes))

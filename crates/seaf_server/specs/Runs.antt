@@ -8,10 +8,9 @@ use Rattle.worker_server.specs.ServedConnection.{CountsEnd, Session}
 use Rattle.worker_server.specs.declared.served.Served.{Served}
 use Rattle.worker_server.specs.declared.served.Served.TheVariants.{Ended, Limit, Cut, Refused, ReadFault, WriteFault, NoMemory}
 use Rattle.seaf_server.specs.CommandLine.{Printed, printed_of}
-use Rattle.seaf_server.specs.Library.{AnswersCall, new_library}
+use Rattle.seaf_server.specs.Library.{AnswersCall, Library, new_library}
 use Rattle.seaf_server.specs.declared.command_line.Command.{Command}
 use Rattle.seaf_server.specs.declared.command_line.Command.TheVariants.{Inetd}
-use Rattle.seaf_server.specs.declared.depot.Depot.{Depot}
 
 -- what is seen of a link: the bytes that it has left and was given, and its count of faults
 pub record LinkView : Type 0 where
@@ -37,7 +36,7 @@ status_of NoMemory = 3
 -- one connection with a new library, whose end gives the status
 pub record ServesLibrary (lib : List ℕ) (before now : LinkView) (status : ℕ) : Type 0 where
   pub how : Served
-  pub after : Depot
+  pub after : Library
   pub session : (input : List ℕ) → before.left ≡ Some input
       → Session AnswersCall input before.given now.given (new_library lib) after how
   pub ran : (calls : List (Told ⊤)) × Ran AnswersCall (new_library lib) calls after

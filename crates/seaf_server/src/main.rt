@@ -1,7 +1,8 @@
 //! The server program: one connection over standard input and output, answered from a library in memory.
 //!
-//! `run` is the server's top call, and `serve_link` the promise of one connection. Definitions: specs/Library.antt,
-//! specs/CommandLine.antt, specs/Runs.antt. `main` makes the real objects and calls `run`.
+//! `run` is the server's top call, and `serve_link` the promise of one connection, over any shelf. Definitions:
+//! specs/Library.antt, specs/DepotView.antt, specs/CommandLine.antt, specs/Runs.antt. `main` makes the real objects and
+//! calls `run`.
 #![tactic(auto)]
 
 mod adapters;
@@ -11,6 +12,7 @@ mod missing;
 mod put;
 mod running;
 mod serving;
+mod steady_shelf;
 #[cfg(test)]
 mod tests;
 

@@ -1,22 +1,32 @@
 //! Putting an object: what speaks against it, and the store's answer.
-ghost use Rattle.std.specs.Prelude.{◌≡◌, IfOk, is_some};
+ghost use Rattle.std.specs.Prelude.{◌≡◌, IfOk, is_some, option_map, Some};
 ghost use Rattle.std.specs.FinMap as map;
+ghost use Rattle.ids.specs.Key.{Objects};
+ghost use Rattle.library_state.specs.declared.call.Act.{Act};
 ghost use Rattle.object_store.specs.Store.{put_refusal};
-ghost use Rattle.seaf_server.specs.Library.{IsReply, put_reply, stored_after};
-ghost use Rattle.seaf_server.specs.Put.{commit_refusal, fs_refusal, grammar_refusal, refusal_of, refusal_of_commit, refusal_of_put, stored_reply, wrong_name};
+ghost use Rattle.object_store.specs.StoreView.{objects_of, status_of};
+ghost use Rattle.seaf_server.specs.DepotView.{CountsReply, IsToldReply, PutsSo, RepliesSo, index_after, known_after};
+ghost use Rattle.seaf_server.specs.Library.{put_reply};
+ghost use Rattle.seaf_server.specs.Put.{commit_refusal, fs_refusal, grammar_refusal, refusal_of, refusal_of_commit, wrong_name};
+ghost use Rattle.seaf_server.specs.Replies.{put_told};
 
 use commit_objects::Commit;
 use fs_objects::FsObject;
 use ids::{Key, Kind, LibId, ObjId};
 use json_words::ReadFault;
-use library_state::{Refusal, Reply};
-use object_store::{Put, Store, StoreFault};
+use library_state::{Act, Refusal, Reply};
+use object_store::{Put, Shelf, Store, StoreFault};
 use std::alloc::{AllocError, Global};
 
 /// The reply to a put. The name of a file or directory is hashed once, and before its grammar is told.
-pub fn put(alloc: Global, lib: &LibId, store: &mut Store, key: Key, bytes: &[u8]) -> Reply
-    ensures value { IsReply (put_reply (refusal_of_put lib.now store.old key bytes.now) (is_some (map.get store.old key))) result }
-    ensures after { store.new ≡ stored_after store.old key bytes.now result }
+pub fn put<S: Shelf>(
+    alloc: Global,
+    lib: &LibId,
+    store: &mut Store<S>,
+    key: Key,
+    bytes: &[u8],
+) -> Reply
+    ensures value { RepliesSo S.contents S.may_give S.faults lib.now store.old store.new (Act.Put key bytes.now) result }
 {
     let found = match grammar_refusal(alloc, lib, &key, bytes) {
         Ok(found) => found,
@@ -33,23 +43,39 @@ pub fn put(alloc: Global, lib: &LibId, store: &mut Store, key: Key, bytes: &[u8]
 }
 
 /// The reply to a put of bytes that are of their kind's form.
-fn put_in(store: &mut Store, key: Key, bytes: &[u8]) -> Reply
-    ensures value { IsReply (stored_reply (put_refusal store.old key bytes.now) (is_some (map.get store.old key))) result }
-    ensures after { store.new ≡ stored_after store.old key bytes.now result }
+fn put_in<S: Shelf>(store: &mut Store<S>, key: Key, bytes: &[u8]) -> Reply
+    ensures told { (objects : Objects) → objects_of S.contents store.old ≡ Some objects
+        → IsToldReply (put_reply (option_map refusal_of (put_refusal objects key bytes.now)) (is_some (map.get objects key))) result }
+    ensures cause { PutsSo (S.may_give store.new.shelf) store.old.index (wrong_name key bytes.now) key bytes.now result }
+    ensures after { objects_of S.contents store.new ≡ known_after (objects_of S.contents store.old) (Act.Put key bytes.now) result }
+    ensures changes { store.new.index ≡ index_after store.old.index (Act.Put key bytes.now) result }
+    ensures kept { status_of S.contents store.new ≡ status_of S.contents store.old }
+    ensures faults { CountsReply (S.faults store.old.shelf) (S.faults store.new.shelf) result }
 {
-    match store.put(key, bytes) {
-        Ok(put) => Reply::Stored(put == Put::New),
+    let put = store.put(key, bytes);
+    reply_to_put(put)
+}
+
+/// The reply to a put where the store answered this.
+fn reply_to_put(put: Result<Put, StoreFault>) -> Reply
+    ensures value { result ≡ put_told put }
+{
+    match put {
+        Ok(Put::New) => Reply::Stored(true),
+        Ok(Put::Same) => Reply::Stored(false),
         Err(fault) => Reply::Refused(refusal_of(fault)),
     }
 }
 
 /// The refusal that a fault of the store is.
-fn refusal_of(fault: StoreFault) -> Refusal
+pub fn refusal_of(fault: StoreFault) -> Refusal
     ensures value { result ≡ refusal_of fault }
 {
     match fault {
         StoreFault::Wrong(got) => Refusal::Wrong(got),
         StoreFault::Taken(id) => Refusal::Taken(id),
+        StoreFault::Damaged { want, got } => Refusal::Damaged { want, got },
+        StoreFault::Shelf => Refusal::Store,
         StoreFault::NoMemory => Refusal::NoMemory,
     }
 }

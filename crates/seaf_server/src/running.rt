@@ -7,6 +7,7 @@ ghost use Rattle.seaf_server.specs.Runs.{LinkView, PrintsSo, RunsSo, ServesLibra
 use crate::command_line::{Command, command_of, help_text, usage_text, version_text};
 use crate::depot::Depot;
 use crate::serving::serve_link;
+use crate::steady_shelf::SteadyShelf;
 use http_front::{Link, Sink};
 use ids::{LibId, Text};
 use object_store::Store;
@@ -62,10 +63,11 @@ fn inetd<L: Link>(alloc: Global, lib: LibId, link: &mut L) -> u8
         (record { left = L.left link.old; given = L.given link.old; faults = L.faults link.old })
         (record { left = L.left link.new; given = L.given link.new; faults = L.faults link.new }) result }
 {
-    let mut depot = Depot {
-        lib,
-        store: Store::new(alloc),
+    let store = match Store::start(alloc, SteadyShelf::new(alloc)) {
+        Ok(store) => store,
+        Err(_) => return status_of(Served::NoMemory),
     };
+    let mut depot = Depot { lib, store };
     status_of(serve_link(alloc, &mut depot, link))
 }
 

@@ -2,6 +2,7 @@
 ghost use Rattle.std.specs.Prelude.{◌≤◌};
 
 mod objects;
+mod shelf_rows;
 
 use crate::running::run;
 use http_front::{MemoryLink, MemorySink};

@@ -1,23 +1,13 @@
--- The connection began with no object.
-use Rattle.std.proofs.Common.{List, subst}
-use Rattle.ids.specs.Key.{Objects}
-use Rattle.worker_server.specs.Calls.{Told, Ran}
-use Rattle.worker_server.specs.ServedConnection.{Session}
-use Rattle.std.specs.Prelude.{⊤}
-use Rattle.seaf_server.specs.Library.{AnswersCall}
+-- The connection began with no object, and its depot is a library in memory.
+use Rattle.seaf_server.proofs.ServedLemmas.{begun-library, served-library, unserved-library}
 use Rattle.seaf_server.proofs.running.inetd.Goals as goal
+
+pub returns-in-Err : goal.returns-in-Err
+returns-in-Err g c = record { serves = unserved-library c.args.lib _ c.status_of.result c.status_of.ensures.value }
 
 pub returns : goal.returns
 returns g c = record {
-  serves = record {
-    how = c.serve_link.result;
-    after = c.serve_link.new.depot;
-    session = λ input e.
-        subst (λ (s : Objects). Session AnswersCall input (g.L.Link.given c.args.link.now) (g.L.Link.given c.serve_link.new.link) (record { lib = c.args.lib; store = s }) c.serve_link.new.depot c.serve_link.result)
-        c.new.ensures.value (c.serve_link.ensures.session input e);
-    ran = subst (λ (s : Objects). (calls : List (Told ⊤)) × Ran AnswersCall (record { lib = c.args.lib; store = s }) calls c.serve_link.new.depot)
-        c.new.ensures.value c.serve_link.ensures.ran;
-    faults = c.serve_link.ensures.faults;
-    status_is = c.status_of.ensures.value;
-  };
+  serves = served-library c.args.lib (record { lib = c.args.lib; store = c.in-Ok.store }) c.serve_link.new.depot _ _ c.serve_link.result c.status_of-2.result
+      (begun-library c.args.lib c.in-Ok.store c.new.result c.new.ensures.value c.in-Ok.ensures.ok)
+      c.serve_link.ensures.session c.serve_link.ensures.ran c.serve_link.ensures.faults c.status_of-2.ensures.value;
 }
