@@ -1,6 +1,0 @@
-pub mod FileLemmas
-pub mod KnownLemmas
-pub mod ListingLemmas
-pub mod Ordered
-pub mod ReadsLemmas
-pub mod VisitLemmas
