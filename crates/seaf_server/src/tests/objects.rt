@@ -7,10 +7,10 @@ use std::alloc::{AllocError, Global};
 use std::process::Abort;
 use std::test::Fail;
 
-const LIB: &str = "11111111-2222-4333-8444-555555555555";
+pub(super) const LIB: &str = "11111111-2222-4333-8444-555555555555";
 
 /// The SHA-1 of `abc`, of the file object of that block, and of `{}`.
-const ABC: &str = "a9993e364706816aba3e25717850c26c9cd0d89d";
+pub(super) const ABC: &str = "a9993e364706816aba3e25717850c26c9cd0d89d";
 
 const FILE: &str = "f94650066818ed77bd0283d828bd992667a2d5ad";
 
@@ -25,10 +25,10 @@ const FILE_TEXT: &str =
     "{\"block_ids\":[\"a9993e364706816aba3e25717850c26c9cd0d89d\"],\"size\":3,\"type\":1,\"version\":1}";
 
 /// What one connection answers to some requests, each as its own: method and path, body, status line, body.
-type Row<'a> = (&'a str, &'a str, &'a str, &'a str);
+pub(super) type Row<'a> = (&'a str, &'a str, &'a str, &'a str);
 
 /// The requests of the rows, one after another.
-fn requests_of(alloc: Global, rows: &[Row<'_>]) -> Result<String, AllocError> {
+pub(super) fn requests_of(alloc: Global, rows: &[Row<'_>]) -> Result<String, AllocError> {
     let mut input = String::new(alloc);
     for (start, body, _, _) in rows {
         let size = body.len();
@@ -41,7 +41,7 @@ fn requests_of(alloc: Global, rows: &[Row<'_>]) -> Result<String, AllocError> {
 }
 
 /// The replies of the rows, of which those with a body are JSON, unless it begins with an id.
-fn replies_of(alloc: Global, rows: &[Row<'_>]) -> Result<String, AllocError> {
+pub(super) fn replies_of(alloc: Global, rows: &[Row<'_>]) -> Result<String, AllocError> {
     let mut replies = String::new(alloc);
     for (_, _, status, body) in rows {
         let size = body.len();

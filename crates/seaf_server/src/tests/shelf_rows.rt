@@ -1,9 +1,12 @@
 //! One connection over shelves that give damaged bytes, and over shelves that fail.
-use super::*;
+use super::objects::{ABC, LIB, Row, replies_of, requests_of};
 use crate::depot::Depot;
 use crate::serving::serve_link;
-use ids::{Key, Kind, LibId, ObjId};
+use http_front::MemoryLink;
+use ids::{Bytes, Items, Key, Kind, LibId, ObjId};
 use object_store::{MemoryShelf, OddShelf, Shelf, Slot, Store};
+use std::process::Abort;
+use std::test::Fail;
 use worker_server::Served;
 
 /// Serves the rows from a library on this shelf.
