@@ -3,3 +3,4 @@ pub mod FindingsLemmas
 pub mod FolderLemmas
 pub mod ListingLemmas
 pub mod SortedEntries
+pub mod VisibleTreeLemmas

@@ -1,8 +1,9 @@
 -- The visible tree of a folder, its stuck directories, and what a checkout leaves. Our own. Read held_at, then left_at.
-use Rattle.std.specs.Prelude.{◌≡◌, ℕ, ◌&&◌, ◌||◌, Bool, if◌then◌else◌, List, nat_lt, Option, Some, None, option_and_then}
+use Rattle.std.specs.Prelude.{◌≡◌, ℕ, ◌&&◌, ◌||◌, Bool, if◌then◌else◌, List, length, nat_lt, Option, Some, None, option_and_then}
 use Rattle.std.specs.Option.{option_map}
 use Rattle.std.specs.List.{filter_map, list_any}
 use Rattle.std.specs.FinMap as map
+use Rattle.block_chunker.specs.declared.cuts.Cuts.{Cuts}
 use Rattle.tree_model.specs.Path.{PathV}
 use Rattle.tree_model.specs.Tree.{Tree}
 use Rattle.tree_model.specs.declared.node.Node.{Node}
@@ -10,7 +11,10 @@ use Rattle.tree_model.specs.declared.node.Node.TheVariants as node
 use Rattle.tree_model.specs.DirectorySurvival.{is_within, is_under}
 use Rattle.folder_side.specs.declared.holding.Holding.{Holding}
 use Rattle.folder_side.specs.declared.holding.Holding.TheVariants.{Dir, File, Other}
+use Rattle.folder_side.specs.declared.scan_report.Seen.{Seen}
+use Rattle.folder_side.specs.declared.scan_report.Seen.TheVariants as seen
 use Rattle.folder_side.specs.Folder.{Contents, at, is_other, is_dir}
+use Rattle.folder_side.specs.ScanReport.{block_names}
 
 -- a directory or a file by its bytes alone
 pub data PlainNode : Type 0 where
@@ -33,6 +37,11 @@ held_of Other = None
 -- what a folder visibly holds: its files and directories
 abbrev pub held_at : Contents → PathV → Option PlainNode
 held_at c path = option_and_then held_of (at c path)
+
+-- what a scan sees of it: a file by the names of its chunks and its length
+abbrev pub seen_as : Cuts → PlainNode → Seen
+seen_as cuts PlainDir = seen.Dir
+seen_as cuts (PlainFile bytes) = seen.File (block_names cuts bytes) (length bytes)
 
 -- A directory is stuck where, at any depth, it has an entry that is neither a file nor a directory, or one
 -- without a good name: it can't be removed

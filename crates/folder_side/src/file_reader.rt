@@ -110,9 +110,9 @@ impl Reading {
     }
 }
 
-/// Reads a file from its start to its end and cuts it into chunks, of which no more than one is in memory.
+/// Reads a file from its start to its end and cuts it into chunks.
 ///
-/// The file is read in pieces that fit the buffer.
+/// The file is read in pieces that fit the buffer. No more of it is in memory than one chunk and two pieces.
 pub fn read_file<F: Folder>(
     alloc: Global,
     folder: &mut F,

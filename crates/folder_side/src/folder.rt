@@ -1,6 +1,6 @@
 //! A folder of files, as a sync sees it.
 
-ghost use Rattle.std.specs.Prelude.{◌≡◌, ℕ, ◌<◌, ◌≤◌, ◌++◌, [], List, length, Option, Some, IfOk, OnOk};
+ghost use Rattle.std.specs.Prelude.{◌≡◌, ℕ, ◌<◌, ◌≤◌, ◌++◌, [], List, length, Option, Some, None, IsSome, IfOk, OnOk};
 ghost use Rattle.std.specs.Option.{option_map};
 ghost use Rattle.folder_side.specs.Folder.{Contents, IsFolder, Changes, PartAt, listing_at, with_file, with_dir, without, at, FolderFails, TakesFile, IsFree, IsRemovable};
 
@@ -74,11 +74,12 @@ pub trait Folder {
         ensures faults { FolderFails (faults self.old) (faults self.new) result };
 
     /// Moves the spare to a path in a directory, in place of a file that is there; anything else there is a
-    /// fault.
+    /// fault, and so it is where there is no spare.
     fn spare_move(&mut self, file: &Path) -> Result<(), FolderFault>
         ensures ok { (bytes : List ℕ) → spare self.old ≡ Some bytes →
             Changes (with_file file.now bytes) (told self.old) (told self.new) result }
-        ensures found { (c : Contents) → told self.old ≡ Some c → OnOk result (TakesFile c file.now) }
+        ensures found { (c : Contents) → told self.old ≡ Some c → OnOk result (IsSome (spare self.old) × TakesFile c file.now) }
+        ensures kept { spare self.old ≡ None → told self.new ≡ told self.old }
         ensures faults { FolderFails (faults self.old) (faults self.new) result };
 
     /// Makes a directory in a directory, where nothing is yet.

@@ -28,10 +28,10 @@ const PIECE: usize = 65_536;
 
 /// Scans a folder: reads each file once, cuts it into chunks and names them.
 ///
-/// A file is read in pieces of at most 65,536 bytes, and no more than one chunk of it is in memory. An
-/// entry that is neither a file nor a directory, such as a symbolic link, is never opened: it is listed in
-/// `skipped`. A directory that is in the folder is listed in `nameless` where it has entries without a good
-/// name. The folder isn't changed.
+/// A file is read in pieces of at most 65,536 bytes, and no more of it is in memory than one chunk and two
+/// pieces. An entry that is neither a file nor a directory, such as a symbolic link, is never opened: it is
+/// listed in `skipped`. The folder itself or a directory in it is listed in `nameless` where it has entries
+/// without a good name. The folder isn't changed.
 pub fn scan<F: Folder>(alloc: Global, folder: &mut F, cuts: Cuts) -> Result<Scan, ScanFault>
     ensures value { (c : Contents) → F.told folder.old ≡ Some c → IfOk result (IsScan cuts c) }
     ensures bound { (c : Contents) → F.told folder.old ≡ Some c → OnOk result (IsWithinLimits c) }

@@ -2,7 +2,8 @@
 //!
 //! Shown upward: the trait `Folder`, `MemoryFolder`, which tells what it holds, `scan` with its report, and
 //! `read_file`, which cuts a file into chunks.
-//! Definitions: `specs/Folder.antt`, `specs/WorkingTree.antt`, `specs/ScanReport.antt`.
+//! Definitions: `specs/Folder.antt`, `specs/WorkingTree.antt`, `specs/ScanReport.antt`. What a scan means for the
+//! visible tree: `laws`.
 //! It knows no library, writes no index and merges nothing.
 #![tactic(auto)]
 
@@ -12,6 +13,7 @@ mod findings;
 mod folder;
 mod folder_scan;
 mod holding;
+pub mod laws;
 mod memory_contents;
 mod memory_folder;
 mod scan_report;

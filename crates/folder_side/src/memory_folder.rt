@@ -209,7 +209,8 @@ impl Folder for MemoryFolder {
     fn spare_move(&mut self, file: &Path) -> Result<(), FolderFault>
         ensures ok { (bytes : List ℕ) → self.old.spare ≡ Some bytes →
             Changes (with_file file.now bytes) (Some self.old.contents) (Some self.new.contents) result }
-        ensures found { (c : Contents) → Some self.old.contents ≡ Some c → OnOk result (TakesFile c file.now) }
+        ensures found { (c : Contents) → Some self.old.contents ≡ Some c → OnOk result (IsSome self.old.spare × TakesFile c file.now) }
+        ensures kept { self.old.spare ≡ None → Some self.new.contents ≡ Some self.old.contents }
         ensures faults { FolderFails self.old.faults self.new.faults result }
 
         // It fails exactly where it is to fail, where there is no spare, and where a file can't stand.

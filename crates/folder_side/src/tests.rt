@@ -99,6 +99,24 @@ fn a_scan_tells_chunks_links_and_nameless_entries(rt: HostRuntime) -> Result<(),
 }
 
 #[test]
+fn a_link_is_skipped_and_a_nameless_entry_names_its_directory(rt: HostRuntime) -> Result<(), Fail> {
+    let alloc = rt.alloc();
+    let mut folder = MemoryFolder::new(alloc, Items::new(alloc));
+    let _ = folder.add(path(alloc, "l")?, Holding::Other)?;
+    let _ = folder.add(path(alloc, "d")?, Holding::Dir)?;
+    let _ = folder.set_nameless(path(alloc, "d")?, 1)?;
+    match scan(alloc, &mut folder, Cuts::USUAL) {
+        Ok(scan) => {
+            assert_eq!(rt; lines(alloc, &scan.skipped)?.as_str(), "l\n");
+            assert_eq!(rt; lines(alloc, &scan.nameless)?.as_str(), "d\n");
+            assert_eq!(rt; seen_lines(alloc, &scan)?.as_str(), "d directory\n");
+        }
+        Err(_) => return Err(Fail::from("not scanned")),
+    }
+    Ok(())
+}
+
+#[test]
 fn a_failing_call_ends_a_scan(rt: HostRuntime) -> Result<(), Fail> {
     let alloc = rt.alloc();
     for number in 0..5 {
@@ -250,6 +268,21 @@ fn files_are_written_in_place_of_files_alone(rt: HostRuntime) -> Result<(), Fail
             expected,
             "{case}"
         );
+    }
+    Ok(())
+}
+
+#[test]
+fn a_spare_that_is_not_there_is_not_moved(rt: HostRuntime) -> Result<(), Fail> {
+    let alloc = rt.alloc();
+    let mut folder = folder(alloc, [].as_slice())?;
+    let file = path(alloc, "a-b")?;
+    assert_eq!(rt; folder.spare_move(&file), Err(FolderFault::Folder));
+    assert_eq!(rt; folder.spare_add(b"x"), Err(FolderFault::Folder));
+    assert_eq!(rt; folder.faults(), 2);
+    match bytes_from(alloc, &mut folder, &file, 0) {
+        Ok(bytes) => assert_eq!(rt; bytes.as_slice(), b"abc".as_slice()),
+        Err(_) => return Err(Fail::from("not read")),
     }
     Ok(())
 }

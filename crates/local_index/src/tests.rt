@@ -14,6 +14,10 @@ const LIB: &str = "11111111-2222-4333-8444-555555555555";
 const TEXT: &str =
     "{\"base\":\"cccccccccccccccccccccccccccccccccccccccc\",\"entries\":[{\"path\":\"d\"},{\"id\":\"0000000000000000000000000000000000000000\",\"mode\":33188,\"modifier\":\"me\",\"mtime\":5,\"own\":\"0000000000000000000000000000000000000000\",\"path\":\"d/a\",\"size\":0}],\"lib\":\"11111111-2222-4333-8444-555555555555\",\"version\":1}";
 
+/// The same text with a number for its base.
+const BASE_IS_1: &str =
+    "{\"base\":1,\"entries\":[{\"path\":\"d\"},{\"id\":\"0000000000000000000000000000000000000000\",\"mode\":33188,\"modifier\":\"me\",\"mtime\":5,\"own\":\"0000000000000000000000000000000000000000\",\"path\":\"d/a\",\"size\":0}],\"lib\":\"11111111-2222-4333-8444-555555555555\",\"version\":1}";
+
 /// An index text without a base, with these entries.
 fn index_text(alloc: Global, entries: &str) -> Result<String, AllocError> {
     let mut text = String::from_str(alloc, "{\"base\":null,\"entries\":[")?;
@@ -120,6 +124,12 @@ fn the_first_failing_check_of_a_text_is_told(rt: HostRuntime) -> Result<(), Fail
     ] {
         assert_eq!(rt; fault(alloc, text), expected, "{text}");
     }
+    Ok(())
+}
+
+#[test]
+fn a_number_is_no_base_whatever_the_entries_are(rt: HostRuntime) -> Result<(), Fail> {
+    assert_eq!(rt; fault(rt.alloc(), BASE_IS_1), Some(IndexKey::Base));
     Ok(())
 }
 
