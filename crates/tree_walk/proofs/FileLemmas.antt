@@ -1,0 +1,376 @@
+-- Files: what is wrong with them, their sizes and their bytes. The key lemmas are file_walk, sizes_end, joins_end and
+-- blocks_of_file.
+use Rattle.std.proofs.Common.{◌≡◌, ◌≢◌, ◌≤◌, ◌<◌, ◌+◌, ◌^◌, ◌==◌, ◌&&◌, ℕ, zero, suc, Bool, true, false, nat_eq, nat_lt, if◌then◌else◌, is_some, List, [], ◌∷◌, ◌++◌, length, refl, sym, ap, ap₂, ◌∙◌, subst, Option, None, Some, Result, Ok, Err, option_map, unwrap_or, arith, length-append, append_assoc, append-nil, eqb-true, eq-eqb, ne_eqb, ltb-true, ltb-false, le-ltb, lt-ltb, take, drop, min, take-append-drop, length-take, length-drop, drop-drop, add_comm, subst₂}
+use Rattle.std.specs.Prelude.{⊤}
+use Rattle.std.specs.FinMap as map
+use Rattle.std.specs.Cmp.Lexicographic.{pointwise, bytes_decides}
+use Rattle.ids.specs.Key.{Objects}
+use Rattle.ids.specs.declared.key.Key.{Key}
+use Rattle.fs_objects.specs.declared.file_object.FileObject.{FileObject}
+use Rattle.fs_objects.specs.declared.fs_object.FsObject.{FsObject}
+use Rattle.fs_objects.specs.declared.fs_object.FsObject.TheVariants as fs
+use Rattle.object_graph.specs.Objects.{block_bytes, block_key, blocks_at, blocks_of, contents_of, fs_at, fs_key, is_nil, joined, same_id}
+use Rattle.object_graph.specs.Traversal.{Walk, start, visited, failed, next_by, then_walk, then_read, walk_block, walk_blocks, walk_below, walk_file, walk_file_at, walk_found, sized}
+use Rattle.object_graph.specs.declared.fault.TreeFault.{TreeFault}
+use Rattle.object_graph.specs.declared.fault.TreeFault.TheVariants.{Incomplete, WrongSize}
+use Rattle.object_graph.proofs.Schemes.{Step, goes_on, stands_still}
+use Rattle.tree_walk.specs.Files.{added, added_all, as_file, blocks_due, file_at, file_due, files_due, first_due, fitting, size_due, rest_of, AreReady, Fronts, GoesOn}
+use Rattle.tree_walk.specs.Reading.{Answers, AnswersRead, IsDue, stored_at, stored_in}
+use Rattle.tree_walk.specs.declared.fault.WalkFault.{WalkFault}
+use Rattle.tree_walk.specs.declared.unread.Unread.{Unread}
+use Rattle.tree_walk.proofs.ListingLemmas.{due_of, due_first}
+
+-- ---- what is wrong with a file
+
+pub blocks_walk : (objects : Objects) (ids : List (List ℕ)) (w : Walk) → w.fault ≡ None → (walk_blocks true objects ids w).fault ≡ blocks_due objects ids
+blocks_walk objects [] w clear = clear
+blocks_walk objects (id ∷ ids) w clear = by (is_some (map.get objects (block_key id))) (blocks_walk objects ids (visited (block_key id) w) clear)
+  where
+    by : (b : Bool) → (walk_blocks true objects ids (visited (block_key id) w)).fault ≡ blocks_due objects ids
+        → (then_walk (if b then visited (block_key id) w else failed (Incomplete (block_key id)) (visited (block_key id) w)) (walk_blocks true objects ids)).fault
+        ≡ (if b then blocks_due objects ids else Some (Incomplete (block_key id)))
+    by true rest = ap (λ (v : Walk). v.fault) (goes_on (visited (block_key id) w) (walk_blocks true objects ids) clear) ∙ rest
+    by false rest = refl
+
+pub file_walk : (objects : Objects) (id : List ℕ) (file : FileObject) (w : Walk) → w.fault ≡ None → (walk_file true objects id file w).fault ≡ file_due objects id file
+file_walk objects id file w clear =
+    by (walk_blocks true objects file.blocks w) (blocks_due objects file.blocks) (blocks_walk objects file.blocks w clear)
+  where
+    size : (v : Walk) → v.fault ≡ None → (b : Bool) → (if b then v else failed (WrongSize id) v).fault ≡ (if b then None else Some (WrongSize id))
+    size v none true = none
+    size v none false = refl
+
+    by : (v : Walk) (o : Option TreeFault) → v.fault ≡ o → (then_walk v (sized true objects id file)).fault ≡ first_due o (size_due objects id file)
+    by v None is = ap (λ (u : Walk). u.fault) (goes_on v (sized true objects id file) is) ∙ size v is (file.size == length (joined objects file.blocks))
+    by v (Some fault) is = ap (λ (u : Walk). u.fault) (stands_still v (sized true objects id file) fault is) ∙ is
+
+-- what is due of a file that was read
+abbrev pub due_read : Objects → List ℕ → Result FileObject TreeFault → Option TreeFault
+due_read objects id (Ok file) = file_due objects id file
+due_read objects id (Err fault) = Some fault
+
+pub walk_due : (objects : Objects) (id : List ℕ) (w : Walk) → w.fault ≡ None → (walk_file_at objects id w).fault ≡ due_read objects id (file_at objects id)
+walk_due objects id w clear = by (is_nil id)
+  where
+    read : (r : Result FsObject TreeFault) → (then_read r (walk_found true objects (walk_below true objects 100) false [] id) (visited (fs_key id) w)).fault ≡ due_read objects id (as_file id r)
+    read (Ok (fs.File file)) = file_walk objects id file (visited (fs_key id) w) clear
+    read (Ok (fs.Dir entries)) = refl
+    read (Err fault) = refl
+
+    by : (n : Bool) → (if n then w else then_read (fs_at objects id) (walk_found true objects (walk_below true objects 100) false [] id) (visited (fs_key id) w)).fault
+        ≡ due_read objects id (if n then Ok (record { blocks = []; size = 0 }) else as_file id (fs_at objects id))
+    by true = clear
+    by false = read (fs_at objects id)
+
+-- a file that was read, and is whole or not
+pub whole_due : (objects : Objects) (id : List ℕ) (file : FileObject) → file_at objects id ≡ Ok file → (walk_file_at objects id start).fault ≡ file_due objects id file
+whole_due objects id file read = walk_due objects id start refl ∙ ap (due_read objects id) read
+
+pub file_stops : (objects : Objects) (id : List ℕ) (file : FileObject) (fault : WalkFault) → file_at objects id ≡ Ok file → IsDue objects (file_due objects id file) fault → IsDue objects (walk_file_at objects id start).fault fault
+file_stops objects id file fault read is = due_of objects (file_due objects id file) (walk_file_at objects id start).fault (λ due at. whole_due objects id file read ∙ at) fault is
+
+pub unread_stops : (objects : Objects) (id : List ℕ) (fault : WalkFault) → AnswersRead objects (file_at objects id) (Err fault) → IsDue objects (walk_file_at objects id start).fault fault
+unread_stops objects id fault is = by (file_at objects id) (walk_due objects id start refl) is
+  where
+    by : (r : Result FileObject TreeFault) → (walk_file_at objects id start).fault ≡ due_read objects id r → AnswersRead objects r (Err fault) → IsDue objects (walk_file_at objects id start).fault fault
+    by (Ok file) same is = due_of objects None (walk_file_at objects id start).fault (λ due at. nothing at) fault is
+      where
+        nothing : {x : TreeFault} → None ≡ Some x → (walk_file_at objects id start).fault ≡ Some x
+        nothing e = cc
+    by (Err due) same is = due_of objects (Some due) (walk_file_at objects id start).fault (λ x at. same ∙ at) fault is
+
+-- the blocks of a whole file are stored, and its size is that of its bytes
+pub no_block_due : (objects : Objects) (id : List ℕ) (file : FileObject) → file_due objects id file ≡ None → blocks_due objects file.blocks ≡ None
+no_block_due objects id file none = by (blocks_due objects file.blocks) none
+  where
+    by : (o : Option TreeFault) → first_due o (size_due objects id file) ≡ None → o ≡ None
+    by None none = refl
+    by (Some fault) none = none
+
+pub whole_size : (objects : Objects) (id : List ℕ) (file : FileObject) → file_due objects id file ≡ None → file.size ≡ length (joined objects file.blocks)
+whole_size objects id file none = eqb-true file.size (length (joined objects file.blocks)) (size (file.size == length (joined objects file.blocks)) (by (blocks_due objects file.blocks) none))
+  where
+    by : (o : Option TreeFault) → first_due o (size_due objects id file) ≡ None → size_due objects id file ≡ None
+    by None none = none
+    by (Some fault) none = cc
+
+    size : (b : Bool) → (if b then None else Some (WrongSize id)) ≡ None → b ≡ true
+    size true none = refl
+    size false none = cc
+
+pub blocks_of_file : (objects : Objects) (id : List ℕ) (file : FileObject) → file_at objects id ≡ Ok file → blocks_at objects id ≡ file.blocks
+blocks_of_file objects id file = by (is_nil id)
+  where
+    read : (r : Result FsObject TreeFault) → as_file id r ≡ Ok file → blocks_of r ≡ file.blocks
+    read (Ok (fs.File f)) is = let same : f ≡ file = cc in ap (λ (x : FileObject). x.blocks) same
+    read (Ok (fs.Dir entries)) is = cc
+    read (Err fault) is = cc
+
+    by : (n : Bool) → (if n then Ok (record { blocks = []; size = 0 }) else as_file id (fs_at objects id)) ≡ Ok file → (if n then [] else blocks_of (fs_at objects id)) ≡ file.blocks
+    by true is = let same : record { blocks = []; size = 0 } ≡ file = ok_is is in ap (λ (x : FileObject). x.blocks) same
+      where
+        ok_is : {x : FileObject} → (let r : Result FileObject TreeFault = Ok x in r) ≡ Ok file → x ≡ file
+        ok_is e = cc
+    by false is = read (fs_at objects id) is
+
+-- ---- the size of blocks
+
+added-fitting : (n size : ℕ) → added (fitting n) size ≡ fitting (n + size)
+added-fitting n size = by (nat_lt n (2 ^ 64)) refl
+  where
+    by : (b : Bool) → nat_lt n (2 ^ 64) ≡ b → added (if b then Some n else None) size ≡ fitting (n + size)
+    by true is = refl
+    by false is = ap (λ (c : Bool). if c then Some (n + size) else None) (sym (le-ltb (n + size) (2 ^ 64) large))
+      where
+        large : 2 ^ 64 ≤ n + size
+        large = omega (arith, ltb-false n (2 ^ 64) is)
+
+added_all-fitting : (objects : Objects) (ids : List (List ℕ)) (n : ℕ) → added_all objects (fitting n) ids ≡ fitting (n + length (joined objects ids))
+added_all-fitting objects [] n = ap fitting (omega arith)
+added_all-fitting objects (id ∷ ids) n =
+    ap (λ (t : Option ℕ). added_all objects t ids) (added-fitting n (length (block_bytes objects id)))
+    ∙ added_all-fitting objects ids (n + length (block_bytes objects id))
+    ∙ ap fitting (omega (arith, length-append (block_bytes objects id) (joined objects ids)))
+
+-- the sizes of the blocks so far, with those of the rest, are those of all
+pub record Sizes (objects : Objects) (all rest : List (List ℕ)) (total : Option ℕ) : Type 0 where
+  pub due : blocks_due objects rest ≡ blocks_due objects all
+  pub sum : added_all objects total rest ≡ added_all objects (Some 0) all
+
+pub sizes_next : (objects : Objects) (all rest : List (List ℕ)) (id : List ℕ) (key : Key) (size : ℕ) (total : Option ℕ) → Sizes objects all (id ∷ rest) total → key ≡ block_key id
+    → Some size ≡ option_map length (map.get objects key) → Sizes objects all rest (added total size)
+sizes_next objects all rest id key size total sizes at found = by (map.get objects (block_key id)) refl (found ∙ ap (λ k. option_map length (map.get objects k)) at)
+  where
+    by : (o : Option (List ℕ)) → map.get objects (block_key id) ≡ o → Some size ≡ option_map length o → Sizes objects all rest (added total size)
+    by None is found = cc
+    by (Some bytes) is found =
+        let same : size ≡ length bytes = cc in
+        record {
+          due = ap (λ (o : Option (List ℕ)). if is_some o then blocks_due objects rest else Some (Incomplete (block_key id))) (sym is) ∙ sizes.due;
+          sum = ap (λ n. added_all objects (added total n) rest) (same ∙ ap (λ (o : Option (List ℕ)). length (unwrap_or o [])) (sym is)) ∙ sizes.sum;
+        }
+
+pub sizes_missing : (objects : Objects) (all rest : List (List ℕ)) (id : List ℕ) (key : Key) (total : Option ℕ) → Sizes objects all (id ∷ rest) total → key ≡ block_key id
+    → None ≡ option_map length (map.get objects key) → blocks_due objects all ≡ Some (Incomplete key)
+sizes_missing objects all rest id key total sizes at found = by (map.get objects (block_key id)) refl (found ∙ ap (λ k. option_map length (map.get objects k)) at)
+  where
+    by : (o : Option (List ℕ)) → map.get objects (block_key id) ≡ o → None ≡ option_map length o → blocks_due objects all ≡ Some (Incomplete key)
+    by None is found = sym sizes.due ∙ ap (λ (o : Option (List ℕ)). if is_some o then blocks_due objects rest else Some (Incomplete (block_key id))) is ∙ ap (λ k. Some (Incomplete k)) (sym at)
+    by (Some bytes) is found = cc
+
+pub sizes_end : (objects : Objects) (all : List (List ℕ)) (total : Option ℕ) → Sizes objects all [] total → blocks_due objects all ≡ None × total ≡ fitting (length (joined objects all))
+sizes_end objects all total sizes = (sym sizes.due, sizes.sum ∙ added_all-fitting objects all 0 ∙ ap fitting (omega arith))
+
+fitting_is : (n m : ℕ) → fitting n ≡ Some m → m ≡ n
+fitting_is n m is = by (nat_lt n (2 ^ 64)) is
+  where
+    by : (b : Bool) → (if b then Some n else None) ≡ Some m → m ≡ n
+    by true is = cc
+    by false is = cc
+
+-- the size that is told is that of the blocks, or it isn't
+pub size_right : (objects : Objects) (id : List ℕ) (file : FileObject) (total : Option ℕ) → blocks_due objects file.blocks ≡ None → total ≡ fitting (length (joined objects file.blocks))
+    → total ≡ Some file.size → file_due objects id file ≡ None
+size_right objects id file total none is same =
+    let equal : file.size ≡ length (joined objects file.blocks) = fitting_is (length (joined objects file.blocks)) file.size (sym is ∙ same) in
+    ap₂ (λ (o : Option TreeFault) (b : Bool). first_due o (if b then None else Some (WrongSize id))) none (eq-eqb file.size (length (joined objects file.blocks)) equal)
+
+pub size_wrong : (objects : Objects) (id : List ℕ) (file : FileObject) (total : Option ℕ) → blocks_due objects file.blocks ≡ None → total ≡ fitting (length (joined objects file.blocks))
+    → total ≢ Some file.size → file.size < 2 ^ 64 → file_due objects id file ≡ Some (WrongSize id)
+size_wrong objects id file total none is other small =
+    ap₂ (λ (o : Option TreeFault) (b : Bool). first_due o (if b then None else Some (WrongSize id))) none (ne_eqb file.size (length (joined objects file.blocks)) differs)
+  where
+    differs : file.size ≢ length (joined objects file.blocks)
+    differs same = other (is ∙ ap fitting (sym same) ∙ ap (λ (b : Bool). if b then Some file.size else None) (lt-ltb file.size (2 ^ 64) small))
+
+-- ---- the bytes of blocks
+
+pub record Joins (objects : Objects) (all rest : List (List ℕ)) (bytes : List ℕ) : Type 0 where
+  pub due : blocks_due objects rest ≡ blocks_due objects all
+  pub joins : bytes ++ joined objects rest ≡ joined objects all
+
+stored_key : (objects : Objects) (key : Key) (bytes : List ℕ) → stored_at objects key ≡ Ok bytes → map.get objects key ≡ Some bytes
+stored_key objects key bytes is = by (map.get objects key) is
+  where
+    by : (o : Option (List ℕ)) → stored_in key o ≡ Ok bytes → o ≡ Some bytes
+    by None is = cc
+    by (Some given) is = let same : given ≡ bytes = cc in ap Some same
+
+pub joins_next : (objects : Objects) (all rest : List (List ℕ)) (id : List ℕ) (key : Key) (bytes more : List ℕ) → Joins objects all (id ∷ rest) bytes → key ≡ block_key id
+    → stored_at objects key ≡ Ok more → Joins objects all rest (bytes ++ more)
+joins_next objects all rest id key bytes more joins at read =
+    let found : map.get objects (block_key id) ≡ Some more = ap (map.get objects) (sym at) ∙ stored_key objects key more read in
+    record {
+      due = ap (λ (o : Option (List ℕ)). if is_some o then blocks_due objects rest else Some (Incomplete (block_key id))) (sym found) ∙ joins.due;
+      joins = append_assoc bytes more (joined objects rest) ∙ ap (λ (o : Option (List ℕ)). bytes ++ (unwrap_or o [] ++ joined objects rest)) (sym found) ∙ joins.joins;
+    }
+
+pub joins_stop : (objects : Objects) (all rest : List (List ℕ)) (id : List ℕ) (key : Key) (bytes : List ℕ) (fault : WalkFault) → Joins objects all (id ∷ rest) bytes → key ≡ block_key id
+    → AnswersRead objects (stored_at objects key) (Err fault) → IsDue objects (blocks_due objects all) fault
+joins_stop objects all rest id key bytes fault joins at read = by (map.get objects (block_key id)) refl (subst (λ k. AnswersRead objects (stored_at objects k) (Err fault)) at read)
+  where
+    by : (o : Option (List ℕ)) → map.get objects (block_key id) ≡ o → AnswersRead objects (stored_in (block_key id) o) (Err fault) → IsDue objects (blocks_due objects all) fault
+    by None is read =
+        due_of objects (Some (Incomplete (block_key id))) (blocks_due objects all)
+        (λ due e. sym joins.due ∙ ap (λ (o : Option (List ℕ)). if is_some o then blocks_due objects rest else Some (Incomplete (block_key id))) is ∙ e) fault read
+    by (Some given) is read = due_of objects None (blocks_due objects all) (λ due e. nothing e) fault read
+      where
+        nothing : {x : TreeFault} → None ≡ Some x → blocks_due objects all ≡ Some x
+        nothing e = cc
+
+pub joins_end : (objects : Objects) (all : List (List ℕ)) (bytes : List ℕ) → Joins objects all [] bytes → blocks_due objects all ≡ None × bytes ≡ joined objects all
+joins_end objects all bytes joins = (sym joins.due, sym (append-nil bytes) ∙ joins.joins)
+
+-- ---- two files
+
+pub second_due : (objects : Objects) (left right : List ℕ) → (walk_file_at objects left start).fault ≡ None → files_due objects left right ≡ (walk_file_at objects right start).fault
+second_due objects left right none =
+    ap (λ (v : Walk). v.fault) (goes_on (walk_file_at objects left start) (walk_file_at objects right) none)
+    ∙ walk_due objects right (walk_file_at objects left start) none ∙ sym (walk_due objects right start refl)
+
+pub first_stops : (objects : Objects) (left right : List ℕ) (fault : WalkFault) → IsDue objects (walk_file_at objects left start).fault fault → IsDue objects (files_due objects left right) fault
+first_stops objects left right fault is = due_first objects (walk_file_at objects left start) (walk_file_at objects right) fault is
+
+pub second_stops : (objects : Objects) (left right : List ℕ) (fault : WalkFault) → (walk_file_at objects left start).fault ≡ None
+    → IsDue objects (walk_file_at objects right start).fault fault → IsDue objects (files_due objects left right) fault
+second_stops objects left right fault none is = due_of objects (walk_file_at objects right start).fault (files_due objects left right) (λ due at. second_due objects left right none ∙ at) fault is
+
+pub same_itself : (xs : List ℕ) → same_id xs xs ≡ true
+same_itself xs = (bytes_decides xs xs).1 refl
+
+-- bytes of two lengths differ
+pub other_lengths : (xs ys : List ℕ) → length xs ≢ length ys → same_id xs ys ≡ false
+other_lengths xs ys other = by (same_id xs ys) refl
+  where
+    by : (b : Bool) → same_id xs ys ≡ b → same_id xs ys ≡ false
+    by true is = absurd (other (ap length ((bytes_decides xs ys).0 is)))
+    by false is = is
+
+pub contents_are : (objects : Objects) (id : List ℕ) (file : FileObject) → file_at objects id ≡ Ok file → contents_of objects id ≡ joined objects file.blocks
+contents_are objects id file read = ap (joined objects) (blocks_of_file objects id file read)
+
+-- ---- fronts of both
+
+same_append : (p q x y : List ℕ) → length p ≡ length q → same_id (p ++ x) (q ++ y) ≡ (same_id p q && same_id x y)
+same_append [] [] x y e = refl
+same_append [] (b ∷ q) x y e = absurd (omega arith)
+same_append (a ∷ p) [] x y e = absurd (omega arith)
+same_append (a ∷ p) (b ∷ q) x y e = ap (λ c. nat_eq a b && c) (same_append p q x y (omega arith)) ∙ and_assoc (nat_eq a b) (same_id p q) (same_id x y)
+  where
+    and_assoc : (a b c : Bool) → (a && (b && c)) ≡ ((a && b) && c)
+    and_assoc true b c = refl
+    and_assoc false b c = refl
+
+pub fronts_same : (l r x y : List ℕ) (n : ℕ) → n ≡ min (length l) (length r) → take n l ≡ take n r → same_id (drop n l ++ x) (drop n r ++ y) ≡ same_id (l ++ x) (r ++ y)
+fronts_same l r x y n is same =
+    sym (ap₂ (λ (a b : List ℕ). same_id (a ++ x) (b ++ y)) (sym (take-append-drop n l)) (sym (take-append-drop n r))
+    ∙ ap₂ same_id (append_assoc (take n l) (drop n l) x) (append_assoc (take n r) (drop n r) y)
+    ∙ same_append (take n l) (take n r) (drop n l ++ x) (drop n r ++ y) (ap length same)
+    ∙ ap (λ b. b && same_id (drop n l ++ x) (drop n r ++ y)) (ap (λ xs. same_id (take n l) xs) (sym same) ∙ same_itself (take n l)))
+
+pub fronts_differ : (l r x y : List ℕ) → same_id (take (min (length l) (length r)) l) (take (min (length l) (length r)) r) ≡ false → same_id (l ++ x) (r ++ y) ≡ false
+fronts_differ l r x y differ =
+    let n : ℕ = min (length l) (length r) in
+    let lengths : length (take n l) ≡ length (take n r) = omega (arith, length-take {A = ℕ}) in
+    ap₂ (λ (a b : List ℕ). same_id (a ++ x) (b ++ y)) (sym (take-append-drop n l)) (sym (take-append-drop n r))
+    ∙ ap₂ same_id (append_assoc (take n l) (drop n l) x) (append_assoc (take n r) (drop n r) y)
+    ∙ same_append (take n l) (take n r) (drop n l ++ x) (drop n r ++ y) lengths
+    ∙ ap (λ b. b && same_id (drop n l ++ x) (drop n r ++ y)) differ
+
+-- the bytes of a whole file
+pub bytes_of_file : (objects : Objects) (id : List ℕ) (file : FileObject) (result : Result (List ℕ) WalkFault) → (walk_file_at objects id start).fault ≡ None → file_at objects id ≡ Ok file
+    → Answers objects (blocks_due objects file.blocks) (λ bytes. bytes ≡ joined objects file.blocks) result → Answers objects (walk_file_at objects id start).fault (λ bytes. bytes ≡ contents_of objects id) result
+bytes_of_file objects id file (Ok bytes) none read is = (none, is.1 ∙ sym (contents_are objects id file read))
+bytes_of_file objects id file (Err fault) none read is =
+    due_of objects (blocks_due objects file.blocks) (walk_file_at objects id start).fault
+    (λ due at. nothing (sym (no_block_due objects id file (sym (whole_due objects id file read) ∙ none)) ∙ at)) fault is
+  where
+    nothing : {x : TreeFault} → None ≡ Some x → (walk_file_at objects id start).fault ≡ Some x
+    nothing e = cc
+
+-- ---- steps of a comparison
+
+-- the same bytes at the front of both
+pub step_on : (objects : Objects) (l r : Unread) (count : ℕ) → AreReady objects l r → Fronts (drop l.place l.block) (drop r.place r.block) (Some count)
+    → GoesOn objects l r (record l { place = l.place + count }) (record r { place = r.place + count })
+step_on objects l r count ready fronts =
+    let x : List ℕ = joined objects l.blocks.now in
+    let y : List ℕ = joined objects r.blocks.now in
+    let at_left : drop (l.place + count) l.block ≡ drop count (drop l.place l.block) = dropped l.place count l.block in
+    let at_right : drop (r.place + count) r.block ≡ drop count (drop r.place r.block) = dropped r.place count r.block in
+    let same : same_id (drop (l.place + count) l.block ++ x) (drop (r.place + count) r.block ++ y) ≡ same_id (rest_of objects l) (rest_of objects r) =
+    ap₂ (λ (a b : List ℕ). same_id (a ++ x) (b ++ y)) at_left at_right ∙ fronts_same (drop l.place l.block) (drop r.place r.block) x y count fronts.0 fronts.1 in
+    let left_less : length (drop count (drop l.place l.block)) + count ≡ length (drop l.place l.block) = omega (arith, length-drop count (drop l.place l.block), fronts.0) in
+    let right_less : length (drop count (drop r.place r.block)) + count ≡ length (drop r.place r.block) = omega (arith, length-drop count (drop r.place r.block), fronts.0) in
+    let before : length (drop l.place l.block) + length x ≡ length (drop r.place r.block) + length y =
+    sym (length-append (drop l.place l.block) x) ∙ ready.bound ∙ length-append (drop r.place r.block) y in
+    let after : length (drop count (drop l.place l.block)) + length x ≡ length (drop count (drop r.place r.block)) + length y = omega (arith, left_less, right_less, before) in
+    record {
+      ready = record {
+        left_stored = ready.left_stored;
+        right_stored = ready.right_stored;
+        bound =
+            ap (λ a. length (a ++ x)) at_left ∙ length-append (drop count (drop l.place l.block)) x ∙ after
+            ∙ sym (length-append (drop count (drop r.place r.block)) y) ∙ ap (λ b. length (b ++ y)) (sym at_right);
+      };
+      same = same;
+    }
+  where
+    dropped : (p n : ℕ) (xs : List ℕ) → drop (p + n) xs ≡ drop n (drop p xs)
+    dropped p n xs = sym (drop-drop n p xs)
+
+pub step_apart : (objects : Objects) (l r : Unread) → Fronts (drop l.place l.block) (drop r.place r.block) None → false ≡ same_id (rest_of objects l) (rest_of objects r)
+step_apart objects l r fronts = sym (fronts_differ (drop l.place l.block) (drop r.place r.block) (joined objects l.blocks.now) (joined objects r.blocks.now) fronts)
+
+-- ---- two whole files
+
+-- a file that was read whole
+pub record IsWhole (objects : Objects) (id : List ℕ) (file : FileObject) : Type 0 where
+  pub none : (walk_file_at objects id start).fault ≡ None
+  pub read : file_at objects id ≡ Ok file
+
+pub due_of_whole : (objects : Objects) (id : List ℕ) (file : FileObject) → IsWhole objects id file → file_due objects id file ≡ None
+due_of_whole objects id file whole = sym (whole_due objects id file whole.read) ∙ whole.none
+
+pub one_file : (objects : Objects) (left right : List ℕ) (l r : FileObject) → IsWhole objects left l → IsWhole objects right r → left ≡ right
+    → files_due objects left right ≡ None × true ≡ same_id (contents_of objects left) (contents_of objects right)
+one_file objects left right l r whole other same = (
+  second_due objects left right whole.none ∙ other.none,
+  subst (λ id. true ≡ same_id (contents_of objects left) (contents_of objects id)) same (sym (same_itself (contents_of objects left))),
+)
+
+pub two_sizes : (objects : Objects) (left right : List ℕ) (l r : FileObject) → IsWhole objects left l → IsWhole objects right r → l.size ≢ r.size
+    → files_due objects left right ≡ None × false ≡ same_id (contents_of objects left) (contents_of objects right)
+two_sizes objects left right l r whole other apart = (
+  second_due objects left right whole.none ∙ other.none,
+  sym (ap₂ same_id (contents_are objects left l whole.read) (contents_are objects right r other.read)
+      ∙ other_lengths (joined objects l.blocks) (joined objects r.blocks)
+      (λ same. apart (whole_size objects left l (due_of_whole objects left l whole) ∙ same ∙ sym (whole_size objects right r (due_of_whole objects right r other))))),
+)
+
+pub blocks_compared : (objects : Objects) (left right : List ℕ) (l r : FileObject) (result : Result Bool WalkFault) → IsWhole objects left l → IsWhole objects right r
+    → Answers objects None (λ same. same ≡ same_id (joined objects l.blocks) (joined objects r.blocks)) result
+    → Answers objects (files_due objects left right) (λ same. same ≡ same_id (contents_of objects left) (contents_of objects right)) result
+blocks_compared objects left right l r (Ok same) whole other is = (
+  second_due objects left right whole.none ∙ other.none,
+  is.1 ∙ ap₂ same_id (sym (contents_are objects left l whole.read)) (sym (contents_are objects right r other.read)),
+)
+blocks_compared objects left right l r (Err fault) whole other is = due_of objects None (files_due objects left right) (λ due at. nothing at) fault is
+  where
+    nothing : {x : TreeFault} → None ≡ Some x → files_due objects left right ≡ Some x
+    nothing e = cc
+
+pub compared : (objects : Objects) (left right : List ℕ) (l r : FileObject) (xs ys : List (List ℕ)) (result : Result Bool WalkFault) → IsWhole objects left l → IsWhole objects right r
+    → xs ≡ l.blocks → ys ≡ r.blocks → l.size ≡ r.size
+    → (blocks_due objects xs ≡ None → blocks_due objects ys ≡ None → length (joined objects xs) ≡ length (joined objects ys) → Answers objects None (λ same. same ≡ same_id (joined objects xs) (joined objects ys)) result)
+    → Answers objects (files_due objects left right) (λ same. same ≡ same_id (contents_of objects left) (contents_of objects right)) result
+compared objects left right l r xs ys result whole other at_left at_right sizes answers =
+    let none_left : blocks_due objects l.blocks ≡ None = no_block_due objects left l (due_of_whole objects left l whole) in
+    let none_right : blocks_due objects r.blocks ≡ None = no_block_due objects right r (due_of_whole objects right r other) in
+    let lengths : length (joined objects l.blocks) ≡ length (joined objects r.blocks) =
+    sym (whole_size objects left l (due_of_whole objects left l whole)) ∙ sizes ∙ whole_size objects right r (due_of_whole objects right r other) in
+    let is : Answers objects None (λ same. same ≡ same_id (joined objects xs) (joined objects ys)) result =
+    answers (ap (blocks_due objects) at_left ∙ none_left) (ap (blocks_due objects) at_right ∙ none_right)
+    (ap (λ ids. length (joined objects ids)) at_left ∙ lengths ∙ ap (λ ids. length (joined objects ids)) (sym at_right)) in
+    blocks_compared objects left right l r result whole other
+    (subst₂ (λ (us vs : List (List ℕ)). Answers objects None (λ same. same ≡ same_id (joined objects us) (joined objects vs)) result) at_left at_right is)

@@ -1,0 +1,26 @@
+//! Stored trees, read: which objects a commit needs, what stands at each path, the bytes of files.
+#![tactic(auto)]
+
+mod contents;
+mod fault;
+mod file;
+mod found;
+mod fs_list;
+mod kind;
+mod known;
+mod listing;
+mod met;
+mod name_order;
+mod reading;
+#[cfg(test)]
+mod tests;
+mod trail;
+mod unread;
+mod visiting;
+
+pub use crate::contents::{file_bytes, same_file};
+pub use crate::fault::WalkFault;
+pub use crate::fs_list::fs_ids;
+pub use crate::listing::{MAX_NAMES, MAX_PATHS, tree};
+pub use crate::reading::commit_at;
+pub use crate::visiting::needs;

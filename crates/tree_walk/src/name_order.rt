@@ -1,0 +1,58 @@
+//! The entries of a directory in the order of their names.
+ghost use Rattle.std.specs.Prelude.{◌≡◌, IfOk, OnOk};
+ghost use Rattle.std.specs.BTreeMap.{IsOrdered};
+ghost use Rattle.std.specs.FinMap as map;
+ghost use Rattle.ids.specs.MapView.{map_of};
+ghost use Rattle.object_graph.specs.Objects.{by_name, in_name_order, name_cmp};
+
+use fs_objects::{DirObject, Dirent};
+use std::alloc::{AllocError, Global};
+use std::collections::BTreeMap;
+use tree_model::Name;
+
+/// The entries in ascending byte order of name. They are moved, and each name is copied once.
+pub fn in_name_order(alloc: Global, directory: DirObject) -> Result<Vec<Dirent>, AllocError>
+    ensures value { IfOk result (λ sorted. sorted.items ≡ in_name_order directory) }
+{
+    let DirObject { entries } = directory;
+    let table = by_name(alloc, entries.into_vec())?;
+    values_of(alloc, table)
+}
+
+/// The entries under their names.
+fn by_name(alloc: Global, entries: Vec<Dirent>) -> Result<BTreeMap<Name, Dirent>, AllocError>
+    ensures value { IfOk result (λ table. map_of name_cmp table ≡ by_name entries.items) }
+    ensures ordered { IfOk result (IsOrdered name_cmp) }
+{
+    let mut entries = entries;
+    let mut table = BTreeMap::new(alloc);
+    while let Some(entry) = entries.pop() {
+        let name = entry.name.copy(alloc)?;
+        insert(&mut table, name, entry)?;
+    }
+    Ok(table)
+}
+
+/// Puts an entry into the table. After an error the table is as it was.
+fn insert(table: &mut BTreeMap<Name, Dirent>, name: Name, entry: Dirent) -> Result<(), AllocError>
+    ensures ok { OnOk result (map_of name_cmp table.new ≡ map.insert (map_of name_cmp table.old) name entry) }
+    ensures ordered { IsOrdered name_cmp table.new }
+{
+    match table.insert(name, entry) {
+        Ok(_) => Ok(()),
+        Err(failed) => Err(failed.into()),
+    }
+}
+
+/// The entries of a table, in the order of their names.
+fn values_of(alloc: Global, table: BTreeMap<Name, Dirent>) -> Result<Vec<Dirent>, AllocError>
+    requires ordered { IsOrdered name_cmp table }
+    ensures value { IfOk result (λ sorted. sorted.items ≡ map.values (map_of name_cmp table)) }
+{
+    let mut table = table;
+    let mut sorted = Vec::with_capacity(alloc, table.len())?;
+    while let Some((_, entry)) = table.pop_first() {
+        sorted.push(entry)?;
+    }
+    Ok(sorted)
+}
