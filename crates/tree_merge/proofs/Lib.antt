@@ -1,3 +1,4 @@
+pub mod ChoiceLemmas
 pub mod BuildingLemmas
 pub mod ConflictLemmas
 pub mod DecisionLemmas
@@ -7,3 +8,17 @@ pub mod PathsInOrder
 pub mod PlaceLemmas
 pub mod SideLemmas
 pub mod TableLemmas
+pub mod TellingLemmas
+pub mod GoodModes
+pub mod StoredTrees
+pub mod DirectoryLemmas
+pub mod CompleteRoots
+pub mod ListedPaths
+pub mod WholeLemmas
+pub mod UnstoredLemmas
+pub mod Visited
+pub mod JoinedSides
+pub mod MergedEntries
+pub mod MergedRoot
+pub mod MergingLemmas
+pub mod BuiltLemmas

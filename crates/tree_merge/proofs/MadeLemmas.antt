@@ -5,7 +5,6 @@ use Rattle.std.specs.List.{IsDistinct}
 use Rattle.std.specs.Ordering.{eq_by_cmp}
 use Rattle.std.specs.Cmp.Lexicographic.{bytes_decides}
 use Rattle.std.specs.Str.{bytes_eq}
-use Rattle.sha1.specs.Sha1.{sha1}
 use Rattle.ids.specs.Key.{Objects, key_cmp}
 use Rattle.ids.specs.ObjectId.{nil}
 use Rattle.ids.specs.declared.key.Key.{Key}
@@ -20,9 +19,9 @@ use Rattle.object_graph.specs.Objects.{fs_key, fs_in, as_read, is_nil, entries_o
 use Rattle.object_graph.specs.Unchanged.{Keeps}
 use Rattle.tree_merge.specs.declared.tree_builder.BuildFault.{BuildFault}
 use Rattle.tree_merge.specs.declared.tree_builder.BuildFault.TheVariants.{Taken}
-use Rattle.tree_merge.specs.TreeBuilding.{AreNamed, IsOwnName, HasMade, IsMade, IsClash, Lists}
+use Rattle.tree_merge.specs.TreeBuilding.{AreNamed, IsOwnName, HasMade, IsMade, IsRefused, IsRefusedList, Lists}
 use Rattle.object_graph.proofs.Keys.{same_key-true, same_key-itself}
-use Rattle.tree_merge.proofs.DirentLemmas.{written_listing}
+use Rattle.tree_merge.proofs.DirentLemmas.{written_listing, distinct_none}
 
 abbrev same_key : Key → Key → Bool
 same_key = eq_by_cmp key_cmp
@@ -65,7 +64,7 @@ module _ (old new : Objects) (key : Key) (bytes : List ℕ) (is : new ≡ map.in
           subst (λ (c : List ℕ). IsOwnName k c) same (subst (λ (j : Key). IsOwnName j bytes) (sym is) own)
       by false apart h = named k b h
 
-not_nil : (id : List ℕ) → id ≢ nil → is_nil id ≡ false
+pub not_nil : (id : List ℕ) → id ≢ nil → is_nil id ≡ false
 not_nil id some = by (is_nil id) refl
   where
     by : (b : Bool) → is_nil id ≡ b → is_nil id ≡ false
@@ -75,19 +74,24 @@ not_nil id some = by (is_nil id) refl
 -- a directory whose text was made has its entries
 pub lists_written : (made : Objects) (id bytes : List ℕ) (entries : List Dirent) → IsMade made id bytes
     → (IsProper (fs.Dir entries) → fs_of bytes ≡ Ok (as_written (fs.Dir entries))) → IsDistinct bytes_eq (names_of entries) → Lists made id entries
-lists_written made id bytes entries is_made reads distinct proper objects keeps n =
-    ap (λ (b : Bool). entry_named n (if b then [] else entries_of (fs_in (fs_key id) (map.get objects (fs_key id))))) (not_nil id is_made.some)
-    ∙ ap (λ (o : Option (List ℕ)). entry_named n (entries_of (fs_in (fs_key id) o))) (keeps.kept (fs_key id) bytes is_made.there)
-    ∙ ap (λ (r : Result _ _). entry_named n (entries_of (as_read (fs_key id) r))) (reads proper)
-    ∙ written_listing entries distinct n
+lists_written made id bytes entries is_made reads distinct = record {
+  names = λ proper objects keeps n.
+      ap (λ (b : Bool). entry_named n (if b then [] else entries_of (fs_in (fs_key id) (map.get objects (fs_key id))))) (not_nil id is_made.some)
+      ∙ ap (λ (o : Option (List ℕ)). entry_named n (entries_of (fs_in (fs_key id) o))) (keeps.kept (fs_key id) bytes is_made.there)
+      ∙ ap (λ (r : Result _ _). entry_named n (entries_of (as_read (fs_key id) r))) (reads proper)
+      ∙ written_listing entries distinct n;
+  distinct = distinct;
+  written = inr (record { bytes = bytes; there = is_made.there; reads = reads });
+}
 
 -- forty zeros are the directory of no entries
 pub lists_nothing : (made : Objects) → Lists made nil []
-lists_nothing made proper objects keeps n = refl
+lists_nothing made = record { names = λ proper objects keeps n. refl; distinct = distinct_none; written = inl refl }
 
--- two directory texts of one id
-pub clash_of : (id bytes other : List ℕ) → id ≡ sha1 bytes → (other ≢ bytes) → id ≡ sha1 other → IsClash id
-clash_of id bytes other own apart same = record { bytes = bytes; own = own; clash = inr (other, apart, same) }
+-- a text that can't be made is that of a directory that can't
+pub refused_list : (made : Objects) (bytes id : List ℕ) (entries : List Dirent) → IsRefused made bytes id
+    → (IsProper (fs.Dir entries) → fs_of bytes ≡ Ok (as_written (fs.Dir entries))) → IsDistinct bytes_eq (names_of entries) → IsRefusedList made entries id
+refused_list made bytes id entries refused reads distinct = record { bytes = bytes; reads = reads; distinct = distinct; refused = refused }
 
 pub kept_itself : (made : Objects) → Keeps made made
 kept_itself made = record { kept = λ k b there. there }
@@ -98,3 +102,7 @@ kept_then a b c one two = record { kept = λ k bytes there. two.kept k bytes (on
 -- the id of a refusal
 pub taken_told : {T : Type 0} (r : Result T BuildFault) (p q : List ℕ) → r ≡ Err (Taken p) → r ≡ Err (Taken q) → q ≡ p
 taken_told r p q e f = cc
+
+-- the fault of a refusal
+pub fault_told : {T : Type 0} (f g : BuildFault) → (let r : Result T BuildFault = Err f in r) ≡ Err g → f ≡ g
+fault_told f g e = cc

@@ -11,7 +11,10 @@ use Rattle.tree_model.specs.DirectorySurvival.{Sides}
 use Rattle.tree_model.specs.ConflictCopies.{in_trees, leaver_at}
 use Rattle.tree_model.specs.ThreeWayMerge.{node_at}
 use Rattle.object_graph.specs.Objects.{node_of}
+use Rattle.tree_merge.specs.FileChoice.{IsWholeIf}
 use Rattle.tree_merge.specs.FileEntry.{file_in, is_directory, version_of}
+use Rattle.tree_merge.specs.Sides.{Entries}
+use Rattle.tree_merge.specs.declared.file_entry.FileEntry.{FileEntry}
 use Rattle.tree_merge.specs.declared.decision.Decided.{Decided}
 use Rattle.tree_merge.specs.declared.decision.Placing.{Placing}
 use Rattle.tree_merge.specs.declared.sides.Three.{Three}
@@ -34,6 +37,22 @@ pub record IsPlaced (objects : Objects) (files : Choice) (stays : Bool) (placing
 
 abbrev pub Marks : Type 0
 Marks = map.FinMap path_cmp ⊤
+
+-- the files of the placing are stored whole
+abbrev pub IsWholePlacing : Objects → Placing → Type 0
+IsWholePlacing objects placing = IsWholeIf objects (file_in placing.node) × IsWholeIf objects placing.leaver
+
+-- so are those of a table
+abbrev pub AreWholeIn : Objects → Entries → Type 0
+AreWholeIn objects entries = (path : PathV) → IsWholeIf objects (file_in (map.get entries path))
+
+abbrev pub AreWholeFiles : Objects → map.FinMap path_cmp FileEntry → Type 0
+AreWholeFiles objects files = (path : PathV) → IsWholeIf objects (map.get files path)
+
+-- and so are those that were decided
+pub record IsWholeDecided (objects : Objects) (decided : Decided) : Type 0 where
+  pub nodes : AreWholeIn objects decided.nodes
+  pub leavers : AreWholeFiles objects decided.leavers
 
 -- what is decided at a path is written down, and what was written down of other paths stays
 pub record HasSettled (path : PathV) (placing : Placing) (before after : Marks) (old new : Decided) : Type 0 where

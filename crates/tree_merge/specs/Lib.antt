@@ -4,3 +4,5 @@ pub mod Sides
 pub mod TreeBuilding
 pub mod ConflictNaming
 pub mod Decision
+pub mod Telling
+pub mod Merging

@@ -1,5 +1,7 @@
--- The objects of a tree that is given by its entries. Our own. Read IsSound, then IsDirectoryOf and IsClash.
-use Rattle.std.specs.Prelude.{◌≡◌, ◌≢◌, ◌⊎◌, ℕ, true, List, [], ◌∷◌, ◌++◌, Option, Some, None, IsSome, All, option_and_then, pos, if◌then◌else◌}
+-- The objects of a tree that is given by its entries. Our own. Read IsSound, then IsDirectoryOf, IsDirectoryText and IsClash.
+use Rattle.std.specs.Prelude.{◌≡◌, ◌≢◌, ◌⊎◌, ℕ, true, List, [], ◌∷◌, ◌++◌, Option, Some, None, IsSome, All, option_map, option_and_then, pos, if◌then◌else◌, Ok}
+use Rattle.std.specs.List.{IsDistinct}
+use Rattle.std.specs.Str.{bytes_eq}
 use Rattle.std.specs.FinMap as map
 use Rattle.std.specs.Ordering.{eq_by_cmp}
 use Rattle.sha1.specs.Sha1.{sha1}
@@ -8,10 +10,14 @@ use Rattle.ids.specs.ObjectId.{nil}
 use Rattle.ids.specs.declared.key.Key.{Key}
 use Rattle.ids.specs.declared.key.Kind.TheVariants as kind
 use Rattle.tree_model.specs.Path.{PathV, path_cmp}
-use Rattle.fs_objects.specs.Mode.{is_file_mode}
+use Rattle.fs_objects.specs.Directory.{names_of}
+use Rattle.fs_objects.specs.FsObject.{fs_of}
+use Rattle.fs_objects.specs.Mode.{is_directory_mode, is_file_mode}
 use Rattle.fs_objects.specs.Proper.{IsProperEntry}
+use Rattle.fs_objects.specs.Spelling.{in_written_order}
 use Rattle.fs_objects.specs.declared.dirent.Dirent.{Dirent}
-use Rattle.object_graph.specs.Objects.{fs_key, dirents_at, entry_named, directory_in}
+use Rattle.fs_objects.specs.declared.fs_object.FsObject.TheVariants as fs
+use Rattle.object_graph.specs.Objects.{fs_key, dirents_at, entry_named, entry_of, directory_in}
 use Rattle.object_graph.specs.Unchanged.{Keeps}
 use Rattle.object_graph.specs.declared.entry.Entry.{Entry}
 use Rattle.object_graph.specs.declared.entry.Entry.TheVariants as entry
@@ -50,11 +56,30 @@ pub record IsOwnName (key : Key) (bytes : List ℕ) : Type 0 where
 abbrev pub AreNamed : Objects → Type 0
 AreNamed made = (key : Key) (bytes : List ℕ) → map.get made key ≡ Some bytes → IsOwnName key bytes
 
--- the SHA-1 of some bytes is forty zeros, or that of other bytes
-pub record IsClash (id : List ℕ) : Type 0 where
+-- the bytes are those of a directory of the tree: the tree has, under each name below some path, what the entry of that name is
+pub record IsDirectoryText (entries : Entries) (bytes : List ℕ) : Type 0 where
+  pub path : PathV
+  pub is_dir : (path ≡ []) ⊎ (map.get entries path ≡ Some entry.Dir)
+  pub dirents : List Dirent
+  pub reads : fs_of bytes ≡ Ok (fs.Dir dirents)
+  pub told : (name : List ℕ) → option_map entry_of (entry_named name dirents) ≡ map.get entries (path ++ name ∷ [])
+
+-- an id of a directory: forty zeros, or that of an object that was made
+abbrev pub IsNilOrMade : Objects → List ℕ → Type 0
+IsNilOrMade made id = (id ≡ nil) ⊎ HasMade made id
+
+-- each object that was made is a directory of the tree, and so is each directory that it lists
+pub record AreDirectories (entries : Entries) (made : Objects) : Type 0 where
+  pub texts : (key : Key) (bytes : List ℕ) → map.get made key ≡ Some bytes → IsDirectoryText entries bytes
+  pub below : (key : Key) (bytes : List ℕ) → map.get made key ≡ Some bytes → (dirents : List Dirent) → fs_of bytes ≡ Ok (fs.Dir dirents)
+      → (name : List ℕ) (e : Dirent) → entry_named name dirents ≡ Some e → is_directory_mode e.mode ≡ true → IsNilOrMade made e.id
+
+-- a directory of the tree has this SHA-1, which is forty zeros, or that of another directory of the tree
+pub record IsClash (entries : Entries) (id : List ℕ) : Type 0 where
   pub bytes : List ℕ
   pub own : id ≡ sha1 bytes
-  pub clash : (id ≡ nil) ⊎ ((other : List ℕ) × (other ≢ bytes) × (id ≡ sha1 other))
+  pub text : IsDirectoryText entries bytes
+  pub clash : (id ≡ nil) ⊎ ((other : List ℕ) × (other ≢ bytes) × (id ≡ sha1 other) × IsDirectoryText entries other)
 
 -- ---- for private clauses
 
@@ -72,9 +97,29 @@ pub record IsMade (made : Objects) (id bytes : List ℕ) : Type 0 where
   pub there : map.get made (fs_key id) ≡ Some bytes
   pub some : id ≢ nil
 
+-- the object under the id has these entries, in the order in which they are written; none is stored under forty zeros
+pub record IsWritten (made : Objects) (id : List ℕ) (entries : List Dirent) : Type 0 where
+  pub bytes : List ℕ
+  pub there : map.get made (fs_key id) ≡ Some bytes
+  pub reads : All IsProperEntry entries → fs_of bytes ≡ Ok (fs.Dir (in_written_order entries))
+
 -- among all objects that have those made, the directory of this id has these entries
-abbrev pub Lists : Objects → List ℕ → List Dirent → Type 0
-Lists made id entries = All IsProperEntry entries → (objects : Objects) → Keeps made objects → (name : List ℕ) → entry_named name (dirents_at objects id) ≡ entry_named name entries
+pub record Lists (made : Objects) (id : List ℕ) (entries : List Dirent) : Type 0 where
+  pub names : All IsProperEntry entries → (objects : Objects) → Keeps made objects → (name : List ℕ) → entry_named name (dirents_at objects id) ≡ entry_named name entries
+  pub distinct : IsDistinct bytes_eq (names_of entries)
+  pub written : (id ≡ nil) ⊎ IsWritten made id entries
+
+-- an object with these bytes can't be made: its id is forty zeros, or that of other bytes that were made
+pub record IsRefused (made : Objects) (bytes id : List ℕ) : Type 0 where
+  pub own : id ≡ sha1 bytes
+  pub clash : (id ≡ nil) ⊎ ((other : List ℕ) × (other ≢ bytes) × (map.get made (fs_key id) ≡ Some other))
+
+-- nor can a directory of these entries
+pub record IsRefusedList (made : Objects) (entries : List Dirent) (id : List ℕ) : Type 0 where
+  pub bytes : List ℕ
+  pub reads : All IsProperEntry entries → fs_of bytes ≡ Ok (fs.Dir (in_written_order entries))
+  pub distinct : IsDistinct bytes_eq (names_of entries)
+  pub refused : IsRefused made bytes id
 
 -- the entry of a directory whose object lists these
 pub record IsDirectoryMade (made : Objects) (name : List ℕ) (entries : List Dirent) (dirent : Dirent) : Type 0 where

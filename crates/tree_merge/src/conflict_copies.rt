@@ -5,7 +5,7 @@ ghost use Rattle.ids.specs.Key.{Objects};
 ghost use Rattle.tree_model.specs.Path.{PathV};
 ghost use Rattle.tree_model.specs.DirectorySurvival.{Sides};
 ghost use Rattle.tree_merge.specs.Sides.{AreTrees};
-ghost use Rattle.tree_merge.specs.Decision.{IsDecided};
+ghost use Rattle.tree_merge.specs.Decision.{AreWholeIn, IsDecided, IsWholeDecided};
 ghost use Rattle.tree_merge.specs.ConflictNaming.{IsNamed, IsFreePlace, IsLongPlace, IsPlaceAt, IsLongAt, HasCopied};
 
 use crate::decision::Decided;
@@ -49,6 +49,7 @@ pub(crate) fn name_leavers(alloc: Global, decided: Decided) -> Result<Named, Cop
     requires some { map.get decided.leavers [] ≡ None }
     requires fits { map.len decided.known + map.len decided.leavers ≤ 4_000_000_000 }
     ensures value { (objects : Objects) → (s : Sides) → AreTrees s → IsDecided objects s decided → IsNamed objects s result }
+    ensures whole { IfOk result (λ named. (objects : Objects) → IsWholeDecided objects decided → AreWholeIn objects named.nodes) }
 {
     let Decided {
         mut nodes,

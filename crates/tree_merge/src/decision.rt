@@ -2,25 +2,28 @@
 ghost use Rattle.std.specs.Prelude.{◌≡◌, ◌≤◌, ◌||◌, ◌&&◌, not, Some, OnOk, IfOk, IfErr, List, [], ℕ, None, is_some, option_map};
 ghost use Rattle.std.specs.Option.{option_or};
 ghost use Rattle.std.specs.FinMap as map;
-ghost use Rattle.ids.specs.FaultCount.{FailsBy};
 ghost use Rattle.ids.specs.Key.{Objects};
+ghost use Rattle.object_graph.specs.Unchanged.{Keeps};
+ghost use Rattle.object_store.specs.StoreView.{objects_of};
 ghost use Rattle.tree_model.specs.Path.{PathV};
 ghost use Rattle.tree_model.specs.FileMerge.{choice, Choice};
 ghost use Rattle.tree_model.specs.DirectorySurvival.{Sides};
+ghost use Rattle.tree_walk.specs.Reading.{Reads};
 ghost use Rattle.tree_merge.specs.FileEntry.{as_entry};
-ghost use Rattle.tree_merge.specs.FileChoice.{IsChoice, IsWholeThree, IsWholeAt};
+ghost use Rattle.tree_merge.specs.FileChoice.{IsChoice, IsWholeIf, IsWholeThree, IsWholeAt};
 ghost use Rattle.tree_merge.specs.Sides.{AreSeen, AreTrees};
-ghost use Rattle.tree_merge.specs.Decision.{choice_in, kept_by, IsPlaced, HasSettled, HasGrown, IsDecided, IsDecidedAt};
+ghost use Rattle.tree_merge.specs.Decision.{choice_in, kept_by, IsPlaced, HasSettled, HasGrown, IsDecided, IsDecidedAt, IsWholeDecided, IsWholePlacing};
+ghost use Rattle.tree_merge.specs.Telling.{AnswersWell};
 
 use crate::file_entry::{FileEntry, file_in, is_directory};
 use crate::file_merge::{Chosen, choose};
-use crate::files::Files;
 use crate::sides::Three;
 use crate::tables::{mark_parent, put, put_if};
 use object_graph::Entry;
-use object_store::StoreFault;
+use object_store::{Shelf, Store, StoreFault};
 use std::alloc::{AllocError, Global};
 use tree_model::{Path, PathTable};
+use tree_walk::WalkFault;
 
 /// What a merge decides at the paths of the three trees.
 #[derive(Drop)]
@@ -45,21 +48,20 @@ pub(crate) struct Placing {
 /// Decides at each path of the three trees.
 ///
 /// It goes from the last path to the first, so that a directory's entries are decided before it.
-pub(crate) fn decide<F: Files>(
+pub(crate) fn decide<S: Shelf>(
     alloc: Global,
-    files: &mut F,
+    store: &mut Store<S>,
     mut joined: PathTable<Three>,
-) -> Result<Decided, StoreFault>
-    requires whole { (path : PathV) → IsWholeAt (F.is_whole files.old) (map.get joined path) }
-    ensures value { (objects : Objects) → F.stored files.old ≡ Some objects
-        → (s : Sides) → AreTrees s → AreSeen objects joined s → IfOk result (IsDecided objects s) }
+) -> Result<Decided, WalkFault>
+    ensures value { (objects : Objects) → objects_of S.contents store.old ≡ Some objects
+        → (more : Objects) → Keeps objects more
+        → ((path : PathV) → IsWholeAt objects (map.get joined path))
+        → (s : Sides) → AreTrees s → AreSeen more joined s → AnswersWell objects (IsDecided more s) result }
+    ensures whole { IfOk result (λ decided. (objects : Objects) → ((path : PathV) → IsWholeAt objects (map.get joined path)) → IsWholeDecided objects decided) }
     ensures bound { IfOk result (λ decided. map.len decided.leavers ≤ map.len joined) }
     ensures known { IfOk result (λ decided. map.len decided.known ≤ map.len joined) }
     ensures root { IfOk result (λ decided. map.get joined [] ≡ None → map.get decided.leavers [] ≡ None) }
-    ensures kept { F.stored files.new ≡ F.stored files.old }
-    ensures whole { (id : List ℕ) → F.is_whole files.old id → F.is_whole files.new id }
-    ensures faults { FailsBy F.counts (F.faults files.old) (F.faults files.new) result }
-    ensures cause { IfErr result (F.tells files.new) }
+    ensures kept { Reads S.contents S.may_give S.faults store.old store.new result }
 {
     let mut staying = PathTable::new(alloc);
     let mut decided = Decided {
@@ -68,7 +70,7 @@ pub(crate) fn decide<F: Files>(
         known: PathTable::new(alloc),
     };
     while let Some((path, three)) = joined.pop_last() {
-        match decide_at(alloc, files, path, three, &mut staying, &mut decided) {
+        match decide_at(alloc, store, path, three, &mut staying, &mut decided) {
             Ok(()) => {}
             Err(fault) => return Err(fault),
         }
@@ -77,43 +79,44 @@ pub(crate) fn decide<F: Files>(
 }
 
 /// Decides at one path, all paths behind which are decided.
-fn decide_at<F: Files>(
+fn decide_at<S: Shelf>(
     alloc: Global,
-    files: &mut F,
+    store: &mut Store<S>,
     path: Path,
     three: Three,
     staying: &mut PathTable<()>,
     decided: &mut Decided,
-) -> Result<(), StoreFault>
-    requires whole { IsWholeThree (F.is_whole files.old) three }
-    ensures ok { (objects : Objects) → F.stored files.old ≡ Some objects
-        → OnOk result (IsDecidedAt objects path three staying.old staying.new decided.old decided.new) }
+) -> Result<(), WalkFault>
+    ensures value { (objects : Objects) → objects_of S.contents store.old ≡ Some objects
+        → (more : Objects) → Keeps objects more → IsWholeThree objects three
+        → AnswersWell objects (λ done. IsDecidedAt more path three staying.old staying.new decided.old decided.new) result }
+    ensures whole { OnOk result ((objects : Objects) → IsWholeThree objects three → IsWholeDecided objects decided.old → IsWholeDecided objects decided.new) }
     ensures bound { OnOk result (HasGrown path decided.old decided.new) }
-    ensures kept { F.stored files.new ≡ F.stored files.old }
-    ensures whole { (id : List ℕ) → F.is_whole files.old id → F.is_whole files.new id }
-    ensures faults { FailsBy F.counts (F.faults files.old) (F.faults files.new) result }
-    ensures cause { IfErr result (F.tells files.new) }
+    ensures kept { Reads S.contents S.may_give S.faults store.old store.new result }
 {
     let is_marked = staying.has(&path);
-    match place(files, three, is_marked) {
+    match place(alloc, store, three, is_marked) {
         Ok(placing) => settle(alloc, path, placing, staying, decided),
         Err(fault) => Err(fault),
     }
 }
 
 /// Decides at one path, where it is known whether an entry below it makes it survive.
-fn place<F: Files>(files: &mut F, three: Three, is_marked: bool) -> Result<Placing, StoreFault>
-    requires whole { IsWholeThree (F.is_whole files.old) three }
-    ensures value { (objects : Objects) → F.stored files.old ≡ Some objects
-        → IfOk result (IsPlaced objects (choice_in objects three) (kept_by three || is_marked)) }
-    ensures kept { F.stored files.new ≡ F.stored files.old }
-    ensures whole { (id : List ℕ) → F.is_whole files.old id → F.is_whole files.new id }
-    ensures faults { FailsBy F.counts (F.faults files.old) (F.faults files.new) result }
-    ensures cause { IfErr result (F.tells files.new) }
+fn place<S: Shelf>(
+    alloc: Global,
+    store: &mut Store<S>,
+    three: Three,
+    is_marked: bool,
+) -> Result<Placing, WalkFault>
+    ensures value { (objects : Objects) → objects_of S.contents store.old ≡ Some objects
+        → (more : Objects) → Keeps objects more → IsWholeThree objects three
+        → AnswersWell objects (IsPlaced more (choice_in more three) (kept_by three || is_marked)) result }
+    ensures whole { IfOk result (λ placing. (objects : Objects) → IsWholeThree objects three → IsWholePlacing objects placing) }
+    ensures kept { Reads S.contents S.may_give S.faults store.old store.new result }
 {
     let stays = is_kept(&three) | is_marked;
     let Three { base, head, pushed } = three;
-    let chosen = choose(files, file_in(base), file_in(head), file_in(pushed))?;
+    let chosen = choose(alloc, store, file_in(base), file_in(head), file_in(pushed))?;
     Ok(placing_of(chosen, stays))
 }
 
@@ -129,6 +132,7 @@ fn is_kept(three: &Three) -> bool
 
 fn placing_of(chosen: Chosen, stays: bool) -> Placing
     ensures value { (objects : Objects) → (files : Choice) → IsChoice objects files chosen → IsPlaced objects files stays result }
+    ensures whole { (objects : Objects) → IsWholeIf objects chosen.main → IsWholeIf objects chosen.side → IsWholePlacing objects result }
 {
     let Chosen { main, side } = chosen;
     let keeps = main.is_some() | side.is_some() | stays;
@@ -172,14 +176,14 @@ fn settle(
     placing: Placing,
     staying: &mut PathTable<()>,
     decided: &mut Decided,
-) -> Result<(), StoreFault>
+) -> Result<(), WalkFault>
     ensures ok { OnOk result (HasSettled path placing staying.old staying.new decided.old decided.new) }
     ensures bound { OnOk result (HasGrown path decided.old decided.new) }
-    ensures err { IfErr result (λ fault. fault ≡ StoreFault.NoMemory) }
+    ensures err { IfErr result (λ fault. fault ≡ WalkFault.Store StoreFault.NoMemory) }
 {
     match settle_in(alloc, path, placing, staying, decided) {
         Ok(()) => Ok(()),
-        Err(_) => Err(StoreFault::NoMemory),
+        Err(_) => Err(WalkFault::Store(StoreFault::NoMemory)),
     }
 }
 

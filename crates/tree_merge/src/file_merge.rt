@@ -1,14 +1,18 @@
 //! The files at one path: which keeps its name, and which gets a conflict name.
-ghost use Rattle.std.specs.Prelude.{◌≡◌, ℕ, List, Some, IfOk, IfErr, option_map, None};
-ghost use Rattle.ids.specs.FaultCount.{FailsBy};
+ghost use Rattle.std.specs.Prelude.{◌≡◌, IfOk, Some, option_map, None};
 ghost use Rattle.ids.specs.Key.{Objects};
+ghost use Rattle.object_graph.specs.Unchanged.{Keeps};
+ghost use Rattle.object_store.specs.StoreView.{objects_of};
 ghost use Rattle.tree_model.specs.FileMerge.{same_file, same_version, choice};
+ghost use Rattle.tree_walk.specs.Reading.{Reads};
 ghost use Rattle.tree_merge.specs.FileEntry.{version_of};
 ghost use Rattle.tree_merge.specs.FileChoice.{IsChoice, IsWholeIf, changed_both};
+ghost use Rattle.tree_merge.specs.Telling.{AnswersWell, IsWhole};
 
 use crate::file_entry::FileEntry;
-use crate::files::Files;
-use object_store::StoreFault;
+use object_store::{Shelf, Store};
+use std::alloc::Global;
+use tree_walk::{WalkFault, same_file};
 
 /// The file that keeps its name at a path, and the one that gets a conflict name.
 #[derive(Drop)]
@@ -18,29 +22,28 @@ pub(crate) struct Chosen {
 }
 
 /// The files of a path after a merge, by the first row of the table of docs/MERGE.md that holds.
-pub(crate) fn choose<F: Files>(
-    files: &mut F,
+pub(crate) fn choose<S: Shelf>(
+    alloc: Global,
+    store: &mut Store<S>,
     base: Option<FileEntry>,
     head: Option<FileEntry>,
     pushed: Option<FileEntry>,
-) -> Result<Chosen, StoreFault>
-    requires base { IsWholeIf (F.is_whole files.old) base }
-    requires head { IsWholeIf (F.is_whole files.old) head }
-    requires pushed { IsWholeIf (F.is_whole files.old) pushed }
-    ensures value { (objects : Objects) → F.stored files.old ≡ Some objects
-        → IfOk result (IsChoice objects (choice (option_map (version_of objects) base) (option_map (version_of objects) head) (option_map (version_of objects) pushed))) }
-    ensures kept { F.stored files.new ≡ F.stored files.old }
-    ensures whole { (id : List ℕ) → F.is_whole files.old id → F.is_whole files.new id }
-    ensures faults { FailsBy F.counts (F.faults files.old) (F.faults files.new) result }
-    ensures cause { IfErr result (F.tells files.new) }
+) -> Result<Chosen, WalkFault>
+    ensures value { (objects : Objects) → objects_of S.contents store.old ≡ Some objects
+        → (more : Objects) → Keeps objects more
+        → IsWholeIf objects base → IsWholeIf objects head → IsWholeIf objects pushed
+        → AnswersWell objects (IsChoice more (choice (option_map (version_of more) base) (option_map (version_of more) head) (option_map (version_of more) pushed))) result }
+    ensures whole { IfOk result (λ chosen. (objects : Objects) → IsWholeIf objects base → IsWholeIf objects head → IsWholeIf objects pushed
+        → IsWholeIf objects chosen.main × IsWholeIf objects chosen.side) }
+    ensures kept { Reads S.contents S.may_give S.faults store.old store.new result }
 {
-    if same_files(files, &head, &pushed)? {
+    if same_files(alloc, store, &head, &pushed)? {
         return Ok(only(head)); // the same change on both sides
     }
-    if same_files(files, &head, &base)? {
+    if same_files(alloc, store, &head, &base)? {
         return Ok(only(pushed)); // only the pushed side changed
     }
-    if same_files(files, &pushed, &base)? {
+    if same_files(alloc, store, &pushed, &base)? {
         return Ok(only(head)); // only the head changed
     }
     Ok(both_changed(head, pushed))
@@ -49,6 +52,7 @@ pub(crate) fn choose<F: Files>(
 /// Both sides changed: a change beats a deletion, and of two changes both stay.
 fn both_changed(head: Option<FileEntry>, pushed: Option<FileEntry>) -> Chosen
     ensures value { result ≡ changed_both head pushed }
+    ensures whole { (objects : Objects) → IsWholeIf objects head → IsWholeIf objects pushed → IsWholeIf objects result.main × IsWholeIf objects result.side }
 {
     match head {
         None => only(pushed),
@@ -69,41 +73,35 @@ fn only(file: Option<FileEntry>) -> Chosen
 }
 
 /// Whether two files, or their absence, are the same: equal bytes and modes.
-fn same_files<F: Files>(
-    files: &mut F,
+fn same_files<S: Shelf>(
+    alloc: Global,
+    store: &mut Store<S>,
     left: &Option<FileEntry>,
     right: &Option<FileEntry>,
-) -> Result<bool, StoreFault>
-    requires left { IsWholeIf (F.is_whole files.old) left.now }
-    requires right { IsWholeIf (F.is_whole files.old) right.now }
-    ensures value { (objects : Objects) → F.stored files.old ≡ Some objects
-        → IfOk result (λ same. same ≡ same_file (option_map (version_of objects) left.now) (option_map (version_of objects) right.now)) }
-    ensures kept { F.stored files.new ≡ F.stored files.old }
-    ensures whole { (id : List ℕ) → F.is_whole files.old id → F.is_whole files.new id }
-    ensures faults { FailsBy F.counts (F.faults files.old) (F.faults files.new) result }
-    ensures cause { IfErr result (F.tells files.new) }
+) -> Result<bool, WalkFault>
+    ensures value { (objects : Objects) → objects_of S.contents store.old ≡ Some objects
+        → (more : Objects) → Keeps objects more → IsWholeIf objects left.now → IsWholeIf objects right.now
+        → AnswersWell objects (λ same. same ≡ same_file (option_map (version_of more) left.now) (option_map (version_of more) right.now)) result }
+    ensures kept { Reads S.contents S.may_give S.faults store.old store.new result }
 {
     match (left, right) {
-        (Some(left), Some(right)) => same_versions(files, left, right),
+        (Some(left), Some(right)) => same_versions(alloc, store, left, right),
         (None, None) => Ok(true),
         _ => Ok(false),
     }
 }
 
 /// Whether two files have equal bytes and modes. Equal ids are not looked up.
-fn same_versions<F: Files>(
-    files: &mut F,
+fn same_versions<S: Shelf>(
+    alloc: Global,
+    store: &mut Store<S>,
     left: &FileEntry,
     right: &FileEntry,
-) -> Result<bool, StoreFault>
-    requires left { F.is_whole files.old left.now.id }
-    requires right { F.is_whole files.old right.now.id }
-    ensures value { (objects : Objects) → F.stored files.old ≡ Some objects
-        → IfOk result (λ same. same ≡ same_version (version_of objects left.now) (version_of objects right.now)) }
-    ensures kept { F.stored files.new ≡ F.stored files.old }
-    ensures whole { (id : List ℕ) → F.is_whole files.old id → F.is_whole files.new id }
-    ensures faults { FailsBy F.counts (F.faults files.old) (F.faults files.new) result }
-    ensures cause { IfErr result (F.tells files.new) }
+) -> Result<bool, WalkFault>
+    ensures value { (objects : Objects) → objects_of S.contents store.old ≡ Some objects
+        → (more : Objects) → Keeps objects more → IsWhole objects left.now.id → IsWhole objects right.now.id
+        → AnswersWell objects (λ same. same ≡ same_version (version_of more left.now) (version_of more right.now)) result }
+    ensures kept { Reads S.contents S.may_give S.faults store.old store.new result }
 {
     if left.mode != right.mode {
         return Ok(false);
@@ -111,5 +109,5 @@ fn same_versions<F: Files>(
     if left.id == right.id {
         return Ok(true);
     }
-    files.same(left.id, right.id)
+    same_file(alloc, store, left.id, right.id)
 }

@@ -5,7 +5,6 @@ ghost use Rattle.std.specs.FinMap as map;
 ghost use Rattle.std.specs.Ordering.{eq_by_cmp};
 ghost use Rattle.tree_model.specs.Path.{PathV, path_cmp, parent_of};
 
-use object_store::StoreFault;
 use std::alloc::{AllocError, Global};
 use tree_model::{Path, PathTable};
 

@@ -12,7 +12,8 @@ ghost use Rattle.fs_objects.specs.Proper.{IsProper};
 ghost use Rattle.fs_objects.specs.Spelling.{as_written};
 ghost use Rattle.object_graph.specs.Objects.{AreEntriesOf};
 ghost use Rattle.object_graph.specs.Unchanged.{Keeps};
-ghost use Rattle.tree_merge.specs.TreeBuilding.{IsSound, AreNamed, HasAdded, IsDirectoryOf, IsClash, IsEntryMade, IsOwn, IsMade, Lists, HasMade, held_at, dirent_of};
+ghost use Rattle.object_graph.specs.declared.entry.Entry.TheVariants.{Dir as dir_entry};
+ghost use Rattle.tree_merge.specs.TreeBuilding.{IsSound, AreNamed, AreDirectories, HasAdded, IsDirectoryOf, IsClash, IsEntryMade, IsOwn, IsMade, IsNilOrMade, IsRefused, IsRefusedList, Lists, HasMade, held_at, dirent_of};
 
 use crate::tables::put;
 use fs_objects::{DirObject, Dirent, FsObject};
@@ -60,10 +61,11 @@ pub fn build(alloc: Global, mut entries: PathTable<Entry>) -> Result<BuiltTree, 
     ensures value { IfOk result (λ built. IsSound entries → (objects : Objects) → Keeps built.made objects → AreEntriesOf objects built.root entries) }
     ensures needed { IfOk result (λ built. IsSound entries → (id : List ℕ) → HasMade built.made id
         → (objects : Objects) → Keeps built.made objects → IsDirectoryOf objects built.root id) }
+    ensures dirs { IfOk result (λ built. IsSound entries → AreDirectories entries built.made × IsNilOrMade built.made built.root) }
     ensures kept { IfOk result (λ built. AreNamed built.made) }
 
     // The refusal. Want of memory may come in its place.
-    ensures taken { (id : List ℕ) → result ≡ Err (BuildFault.Taken id) → IsClash id }
+    ensures taken { (id : List ℕ) → result ≡ Err (BuildFault.Taken id) → IsSound entries → IsClash entries id }
 {
     drop_root(alloc, &mut entries);
     let mut held = PathTable::new(alloc);
@@ -103,7 +105,7 @@ fn add_entry(
     ensures ok { OnOk result (HasAdded path entry held.old held.new made.old made.new) }
     ensures kept { OnOk result (Keeps made.old made.new) }
     ensures named { AreNamed made.old → AreNamed made.new }
-    ensures taken { (id : List ℕ) → AreNamed made.old → result ≡ Err (BuildFault.Taken id) → IsClash id }
+    ensures taken { (id : List ℕ) → result ≡ Err (BuildFault.Taken id) → (entry ≡ dir_entry) × IsRefusedList made.old (held_at (map.get held.old path)) id }
 {
     let entries = held.remove(&path);
     let Some((dir, name)) = path.split_last() else {
@@ -156,7 +158,7 @@ fn make_dirent(
     ensures kept { OnOk result (Keeps made.old made.new) }
     ensures told { IfOk result (λ dirent. (id : List ℕ) → HasMade made.new id → (HasMade made.old id) ⊎ IsOwn entry dirent id) }
     ensures named { AreNamed made.old → AreNamed made.new }
-    ensures taken { (id : List ℕ) → AreNamed made.old → result ≡ Err (BuildFault.Taken id) → IsClash id }
+    ensures taken { (id : List ℕ) → result ≡ Err (BuildFault.Taken id) → (entry ≡ dir_entry) × IsRefusedList made.old (held_at entries) id }
 {
     match entry {
         Entry::File {
@@ -209,7 +211,7 @@ fn make_directory(
     ensures kept { OnOk result (Keeps made.old made.new) }
     ensures told { IfOk result (λ own. (id : List ℕ) → HasMade made.new id → (HasMade made.old id) ⊎ (id ≡ own)) }
     ensures named { AreNamed made.old → AreNamed made.new }
-    ensures taken { (id : List ℕ) → AreNamed made.old → result ≡ Err (BuildFault.Taken id) → IsClash id }
+    ensures taken { (id : List ℕ) → result ≡ Err (BuildFault.Taken id) → IsRefusedList made.old (held_at entries) id }
 {
     match entries {
         Some(entries) => make_listed(alloc, entries, made),
@@ -227,7 +229,7 @@ fn make_listed(
     ensures kept { OnOk result (Keeps made.old made.new) }
     ensures told { IfOk result (λ own. (id : List ℕ) → HasMade made.new id → (HasMade made.old id) ⊎ (id ≡ own)) }
     ensures named { AreNamed made.old → AreNamed made.new }
-    ensures taken { (id : List ℕ) → AreNamed made.old → result ≡ Err (BuildFault.Taken id) → IsClash id }
+    ensures taken { (id : List ℕ) → result ≡ Err (BuildFault.Taken id) → IsRefusedList made.old entries id }
 {
     match directory_text(alloc, entries) {
         Ok(bytes) => make_object(bytes, made),
@@ -250,7 +252,7 @@ fn make_object(bytes: Bytes, made: &mut KeyTable<Bytes>) -> Result<ObjId, BuildF
     ensures kept { OnOk result (Keeps made.old made.new) }
     ensures told { IfOk result (λ own. (id : List ℕ) → HasMade made.new id → (HasMade made.old id) ⊎ (id ≡ own)) }
     ensures named { AreNamed made.old → AreNamed made.new }
-    ensures taken { (id : List ℕ) → AreNamed made.old → result ≡ Err (BuildFault.Taken id) → IsClash id }
+    ensures taken { (id : List ℕ) → result ≡ Err (BuildFault.Taken id) → IsRefused made.old bytes id }
 {
     let id = ObjId::of(bytes.slice());
     if id.is_nil() {
@@ -272,13 +274,13 @@ fn make_object(bytes: Bytes, made: &mut KeyTable<Bytes>) -> Result<ObjId, BuildF
     }
 }
 
-fn are_equal(left: &[u8], right: &[u8]) -> bool
+pub(crate) fn are_equal(left: &[u8], right: &[u8]) -> bool
     ensures value { result ≡ bytes_eq left.now right.now }
 {
     left == right
 }
 
-fn keep(made: &mut KeyTable<Bytes>, key: Key, bytes: Bytes) -> Result<(), AllocError>
+pub(crate) fn keep(made: &mut KeyTable<Bytes>, key: Key, bytes: Bytes) -> Result<(), AllocError>
     ensures ok { OnOk result (made.new ≡ map.insert made.old key bytes) }
     ensures err { OnErr result (made.new ≡ made.old) }
 {

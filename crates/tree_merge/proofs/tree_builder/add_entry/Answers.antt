@@ -1,5 +1,7 @@
-use Rattle.std.proofs.Common.{subst}
-use Rattle.tree_merge.specs.TreeBuilding.{held_at, IsEntryMade}
+use Rattle.std.proofs.Common.{subst, ap, Err}
+use Rattle.tree_merge.specs.TreeBuilding.{held_at, IsEntryMade, IsRefusedList}
+use Rattle.tree_merge.specs.declared.tree_builder.BuildFault.TheVariants.{Taken}
+use Rattle.tree_merge.proofs.MadeLemmas.{fault_told}
 use Rattle.tree_merge.proofs.BuildingLemmas.{emptied_is}
 use Rattle.tree_merge.proofs.tree_builder.add_entry.Goals as goal
 
@@ -13,3 +15,8 @@ returns-in-Ok-hold-clause-ok c = record {
   told = c.in-Ok.ensures.told;
   listed = λ q. emptied_is c.args.held.now c.remove-entries.new.self c.hold.new.held c.args.path c.in-Some.dir c.in-Ok.dirent c.remove-entries.ensures.ok c.in-Ok-hold.ensures.ok q;
 }
+
+pub returns-in-Err-clause-taken : goal.returns-in-Err-clause-taken
+returns-in-Err-clause-taken c id e =
+    let refused = c.in-Err.ensures.taken id (ap Err (fault_told c.in-Err.fault (Taken id) e)) in
+    (refused.0, subst (λ es. IsRefusedList c.args.made.now (held_at es) id) c.remove-entries.ensures.value refused.1)

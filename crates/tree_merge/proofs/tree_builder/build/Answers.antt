@@ -1,4 +1,6 @@
-use Rattle.std.proofs.Common.{◌≡◌, ◌∙◌, ℕ, List, [], ap, sym, subst, arith, Option, Some, None, is_some}
+use Rattle.std.proofs.Common.{◌≡◌, ◌∙◌, ◌++◌, ◌∷◌, ℕ, List, [], ap, sym, subst, arith, Option, Some, None, is_some, Err, inl, inr, refl}
+use Rattle.tree_merge.specs.declared.tree_builder.BuildFault.TheVariants.{Taken}
+use Rattle.tree_merge.proofs.MadeLemmas.{fault_told}
 use Rattle.std.specs.FinMap as map
 use Rattle.std.specs.List.{IsDistinct}
 use Rattle.std.specs.Str.{bytes_eq}
@@ -7,11 +9,14 @@ use Rattle.tree_model.specs.Path.{PathV, path_cmp}
 use Rattle.fs_objects.specs.Directory.{names_of}
 use Rattle.fs_objects.specs.declared.dirent.Dirent.{Dirent}
 use Rattle.object_graph.specs.Objects.{entry_named}
-use Rattle.tree_merge.specs.TreeBuilding.{Lists, held_at}
+use Rattle.tree_merge.specs.TreeBuilding.{IsRefusedList, Lists, held_at}
 use Rattle.object_graph.specs.declared.entry.Entry.{Entry}
 use Rattle.tree_merge.proofs.TableLemmas.{get-popped, popped_len, above_popped, below_popped, gone_too}
 use Rattle.tree_merge.proofs.DirentLemmas.{distinct_none}
-use Rattle.tree_merge.proofs.BuildingLemmas.{built_start, built_more, built_all, needed_all, same_sound, without_root, no_root_left, distinct_more, to_do_more, entry_name}
+use Rattle.tree_merge.proofs.BuildingLemmas.{built_start, built_more, entry_name}
+use Rattle.tree_merge.proofs.BuiltLemmas.{built_all, needed_all, same_sound, without_root, no_root_left, distinct_more, to_do_more}
+use Rattle.tree_merge.proofs.DirectoryLemmas.{dirs_start, dirs_more, dirs_all, dirs_same, clash_here, clash_same}
+use Rattle.tree_merge.proofs.PathsInOrder.{before_child}
 use Rattle.tree_merge.proofs.tree_builder.build.Goals as goal
 
 nothing_held : (m : map.FinMap path_cmp (List Dirent)) → m ≡ map.empty → (d : PathV) → held_at (map.get m d) ≡ []
@@ -27,6 +32,7 @@ loop-path-init c = record {
   to_do = λ d n there. ap (entry_named n) (nothing_held c.new-held.result c.new-held.ensures.value d);
   named = λ key bytes there. absurd (no_key bytes (map.get c.new-made.result key) there (ap (λ m. map.get m key) c.new-made.ensures.value ∙ map.get-empty key_cmp key));
   built = λ sound. built_start c.drop_root.new.entries (λ d. held_at (map.get c.new-held.result d)) c.new-made.result sound (nothing_held c.new-held.result c.new-held.ensures.value) c.new-made.ensures.value;
+  dirs = λ sound. dirs_start c.drop_root.new.entries (λ d. held_at (map.get c.new-held.result d)) c.new-made.result (nothing_held c.new-held.result c.new-held.ensures.value) c.new-made.ensures.value;
 }
 
 pub add_entry-requires : goal.add_entry-requires
@@ -62,6 +68,13 @@ loop-path-preserved c =
           (above_popped c.loop-path.entries c.pop_last.new.self (c.in-Some.path, c.in-Some.entry) c.in-Some.ensures.found)
           (below_popped c.loop-path.entries c.pop_last.new.self (c.in-Some.path, c.in-Some.entry) c.in-Some.ensures.found)
           added.made c.in-Ok.ensures.kept added.told free added.listed;
+      dirs = λ sound.
+          dirs_more c.drop_root.new.entries c.loop-path.entries (λ d. held_at (map.get c.loop-path.held d)) (λ d. held_at (map.get c.add_entry.new.held d))
+          c.loop-path.made c.add_entry.new.made c.in-Some.path added.dir added.name c.in-Some.entry added.dirent
+          sound (inv.built sound) (inv.dirs sound) there
+          (above_popped c.loop-path.entries c.pop_last.new.self (c.in-Some.path, c.in-Some.entry) c.in-Some.ensures.found)
+          (before_child c.in-Some.path)
+          added.made c.in-Ok.ensures.kept (c.in-Ok.ensures.named inv.named) added.told added.listed;
     }
 
 gone_all : (m : map.FinMap path_cmp Entry) → m ≡ map.empty → (q : PathV) → map.get m q ≡ None
@@ -91,3 +104,42 @@ returns-in-Ok-make_directory-clause-needed c sound id has objects keeps =
 
 pub returns-in-Ok-make_directory-clause-kept : goal.returns-in-Ok-make_directory-clause-kept
 returns-in-Ok-make_directory-clause-kept c = c.in-Ok-make_directory.ensures.named c.loop-path.invariant.named
+
+pub returns-in-Ok-make_directory-clause-dirs : goal.returns-in-Ok-make_directory-clause-dirs
+returns-in-Ok-make_directory-clause-dirs c sound =
+    let whole = without_root c.args.entries c.drop_root.new.entries c.drop_root.ensures.ok sound.no_root in
+    let left = same_sound c.drop_root.new.entries c.args.entries whole sound in
+    let all = dirs_all c.drop_root.new.entries c.loop-path.entries (λ d. held_at (map.get c.loop-path.held d)) c.loop-path.made c.make_directory.new.made c.in-Ok-make_directory.root
+    (c.loop-path.invariant.built left) (c.loop-path.invariant.dirs left) (gone_all c.loop-path.entries c.in_default.ensures.absent) c.in-Ok-make_directory.ensures.kept
+    (c.in-Ok-make_directory.ensures.named c.loop-path.invariant.named)
+    (top_lists c.make_directory.new.made c.in-Ok-make_directory.root c.loop-path.held c.root-root.result c.remove-top.result c.root-root.ensures.value c.remove-top.ensures.value c.in-Ok-make_directory.ensures.value)
+    c.in-Ok-make_directory.ensures.told in
+    (dirs_same c.drop_root.new.entries c.args.entries whole c.make_directory.new.made all.0, all.1)
+
+pub returns-in-Err-clause-taken : goal.returns-in-Err-clause-taken
+returns-in-Err-clause-taken c id e sound =
+    let whole = without_root c.args.entries c.drop_root.new.entries c.drop_root.ensures.ok sound.no_root in
+    let left = same_sound c.drop_root.new.entries c.args.entries whole sound in
+    let refused = c.in-Err.ensures.taken id (ap Err (fault_told c.in-Err.fault (Taken id) e)) in
+    let there = c.in-Some.ensures.value in
+    let built = c.loop-path.invariant.built left in
+    clash_same c.drop_root.new.entries c.args.entries whole id
+    (clash_here c.drop_root.new.entries c.loop-path.entries (λ d. held_at (map.get c.loop-path.held d)) c.loop-path.made c.in-Some.path id
+    built (c.loop-path.invariant.dirs left) c.loop-path.invariant.named (inr (ap is_some there)) (inr (sym (built.still c.in-Some.path (ap is_some there)) ∙ there ∙ ap Some refused.0))
+    (λ name. above_popped c.loop-path.entries c.pop_last.new.self (c.in-Some.path, c.in-Some.entry) c.in-Some.ensures.found (c.in-Some.path ++ name ∷ []) (before_child c.in-Some.path name))
+    refused.1)
+
+top_refused : (made : Objects) (id : List ℕ) (held : map.FinMap path_cmp (List Dirent)) (top : PathV) (got : Option (List Dirent)) → top ≡ [] → got ≡ map.get held top
+    → IsRefusedList made (held_at got) id → IsRefusedList made (held_at (map.get held [])) id
+top_refused made id held top got is told refused = subst (λ (o : Option (List Dirent)). IsRefusedList made (held_at o) id) (told ∙ ap (map.get held) is) refused
+
+pub returns-clause-taken : goal.returns-clause-taken
+returns-clause-taken c id e sound =
+    let whole = without_root c.args.entries c.drop_root.new.entries c.drop_root.ensures.ok sound.no_root in
+    let left = same_sound c.drop_root.new.entries c.args.entries whole sound in
+    let refused = c.in-Err-make_directory.ensures.taken id (ap Err (fault_told c.in-Err-make_directory.fault (Taken id) e)) in
+    clash_same c.drop_root.new.entries c.args.entries whole id
+    (clash_here c.drop_root.new.entries c.loop-path.entries (λ d. held_at (map.get c.loop-path.held d)) c.loop-path.made [] id
+    (c.loop-path.invariant.built left) (c.loop-path.invariant.dirs left) c.loop-path.invariant.named (inl refl) (inl refl)
+    (λ name. gone_all c.loop-path.entries c.in_default.ensures.absent (name ∷ []))
+    (top_refused c.loop-path.made id c.loop-path.held c.root-root.result c.remove-top.result c.root-root.ensures.value c.remove-top.ensures.value refused))

@@ -7,6 +7,7 @@ use Rattle.fs_objects.specs.Directory.{names_of}
 use Rattle.object_graph.specs.Objects.{entry_named}
 use Rattle.tree_merge.specs.TreeBuilding.{AreNamed, IsSound, held_at}
 use Rattle.tree_merge.proofs.BuildingLemmas.{BuiltSo}
+use Rattle.tree_merge.proofs.DirectoryLemmas.{DirsSo}
 use Rattle.tree_merge.proofs.tree_builder.build.Given as goal
 
 abbrev pub invariant-loop-path : goal.invariant-loop-path
@@ -16,6 +17,7 @@ invariant-loop-path l = record {
   to_do : (d : PathV) (n : List ℕ) → IsSome (map.get l.entries (d ++ n ∷ [])) → entry_named n (held_at (map.get l.held d)) ≡ None;
   named : AreNamed l.made;
   built : IsSound l.initial.entries → BuiltSo l.initial.entries l.entries (λ d. held_at (map.get l.held d)) l.made;
+  dirs : IsSound l.initial.entries → DirsSo l.initial.entries (λ d. held_at (map.get l.held d)) l.made;
 }
 
 abbrev pub decreases-loop-path : goal.decreases-loop-path

@@ -1,11 +1,12 @@
-use Rattle.std.proofs.Common.{◌≡◌, ◌≢◌, ◌∙◌, sym, ap, refl, true≢false, false, IsTrue, Bool, List, ℕ}
+use Rattle.std.proofs.Common.{◌≡◌, ◌≢◌, ◌∙◌, sym, ap, refl, true≢false, false, IsTrue, Bool, List, ℕ, inr}
 use Rattle.std.specs.FinMap as map
 use Rattle.std.specs.Cmp.Lexicographic.{bytes_decides}
 use Rattle.std.specs.Str.{bytes_eq}
 use Rattle.sha1.specs.Sha1.{sha1}
 use Rattle.ids.specs.ObjectId.{nil}
 use Rattle.ids.specs.declared.key.Kind.TheVariants.{Fs}
-use Rattle.tree_merge.proofs.MadeLemmas.{made_kept, made_here, made_told, made_named, clash_of, taken_told}
+use Rattle.object_graph.specs.Objects.{fs_key}
+use Rattle.tree_merge.proofs.MadeLemmas.{made_kept, made_here, made_told, made_named, taken_told}
 use Rattle.tree_merge.proofs.tree_builder.make_object.Goals as goal
 
 some_id : (b : Bool) (id : List ℕ) → b ≡ false → (id ≡ nil → IsTrue b) → id ≢ nil
@@ -15,11 +16,16 @@ unlike : (a b x y : List ℕ) → x ≡ a → y ≡ b → bytes_eq x y ≡ false
 unlike a b x y same also apart is = true≢false (sym ((bytes_decides x y).1 (same ∙ is ∙ sym also)) ∙ apart)
 
 pub returns-in-Some-clause-taken : goal.returns-in-Some-clause-taken
-returns-in-Some-clause-taken c id named e =
+returns-in-Some-clause-taken c id e =
     let is : id ≡ c.of-id.result = taken_told _ c.of-id.result id refl e in
-    let own = named (record { kind = Fs; id = c.of-id.result }) c.in-Some.other.now (sym c.in-Some.ensures.value) in
-    clash_of id c.args.bytes c.in-Some.other.now (is ∙ c.of-id.ensures.value ∙ ap sha1 c.slice.ensures.value)
-    (unlike c.in-Some.other.now c.args.bytes c.slice-in-Some.result.now c.slice-in-Some-2.result.now c.slice-in-Some.ensures.value c.slice-in-Some-2.ensures.value (sym c.are_equal.ensures.value ∙ c.if-are_equal.false)) (is ∙ own.is_sha1)
+    record {
+      own = is ∙ c.of-id.ensures.value ∙ ap sha1 c.slice.ensures.value;
+      clash = inr (
+        c.in-Some.other.now,
+        unlike c.in-Some.other.now c.args.bytes c.slice-in-Some.result.now c.slice-in-Some-2.result.now c.slice-in-Some.ensures.value c.slice-in-Some-2.ensures.value (sym c.are_equal.ensures.value ∙ c.if-are_equal.false),
+        ap (λ i. map.get c.args.made.now (fs_key i)) is ∙ sym c.in-Some.ensures.value,
+      );
+    }
 
 pub returns-in-Ok-clause-value : goal.returns-in-Ok-clause-value
 returns-in-Ok-clause-value c = record {

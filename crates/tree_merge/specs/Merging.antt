@@ -1,0 +1,178 @@
+-- What a merge of stored trees gives. Our own. Read IsMerged and IsTaken, then MergesTo.
+use Rattle.std.specs.Prelude.{◌≡◌, ◌≢◌, ◌⊎◌, ◌≤◌, ◌<◌, ℕ, Bool, true, if◌then◌else◌, List, [], ◌∷◌, ◌++◌, Some, None, is_some, option_map, IsSome, Result, Ok, Err, ⊤}
+use Rattle.std.specs.FinMap as map
+use Rattle.sha1.specs.Sha1.{sha1}
+use Rattle.ids.specs.Key.{Objects}
+use Rattle.ids.specs.ObjectId.{nil}
+use Rattle.ids.specs.declared.key.Key.{Key}
+use Rattle.tree_model.specs.Path.{PathV, path_cmp}
+use Rattle.tree_model.specs.Tree.{Tree, has_dir}
+use Rattle.tree_model.specs.DirectorySurvival.{Sides}
+use Rattle.tree_model.specs.ConflictCopies.{conflicts, first_long, places_of}
+use Rattle.tree_model.specs.ThreeWayMerge.{Merge, merge, MergedTree as merged_tree, TooLong as too_long, TooMany as too_many}
+use Rattle.fs_objects.specs.FsObject.{fs_of}
+use Rattle.fs_objects.specs.declared.dirent.Dirent.{Dirent}
+use Rattle.fs_objects.specs.declared.fs_object.FsObject.TheVariants as fs
+use Rattle.conflict_names.specs.Naming.{naming}
+use Rattle.object_store.specs.declared.error.StoreFault.TheVariants.{NoMemory}
+use Rattle.object_graph.specs.Objects.{AreEntriesOf, IsTreeOf, entry_named, entry_of, fs_key, node_of}
+use Rattle.object_graph.specs.Traversal.{IsCompleteRoot, is_in, start, walk_root}
+use Rattle.object_graph.specs.Unchanged.{Keeps}
+use Rattle.tree_walk.specs.Reading.{IsDue}
+use Rattle.tree_walk.specs.declared.fault.WalkFault.{WalkFault}
+use Rattle.tree_walk.specs.declared.fault.WalkFault.TheVariants.{Store}
+use Rattle.tree_merge.specs.ConflictNaming.{IsNamedTree}
+use Rattle.tree_merge.specs.Sides.{Entries, join_of}
+use Rattle.tree_merge.specs.TreeBuilding.{AreDirectories, AreNamed, HasMade, IsClash, IsDirectoryOf, IsNilOrMade, IsSound}
+use Rattle.tree_merge.specs.declared.conflict_copies.Named.{Named}
+use Rattle.tree_merge.specs.declared.sides.Three.{Three}
+use Rattle.tree_merge.specs.declared.tree_builder.BuildFault.{BuildFault}
+use Rattle.tree_merge.specs.declared.tree_builder.BuildFault.TheVariants as build
+use Rattle.tree_merge.specs.declared.merging.MergeFault.{MergeFault}
+use Rattle.tree_merge.specs.declared.merging.MergeFault.TheVariants.{TooLong, TooMany, Taken, Walk}
+use Rattle.tree_merge.specs.declared.merging.Merged.{Merged}
+
+-- the merge of the three trees, with the names that conflict copies get here
+abbrev pub merge_of : Sides → Merge
+merge_of s = merge naming s.base s.head s.pushed
+
+-- the bytes are those of a directory of the tree: the tree has, under each name below some path, what the entry of that
+-- name stands for
+pub record IsDirectoryIn (objects : Objects) (tree : Tree) (bytes : List ℕ) : Type 0 where
+  pub path : PathV
+  pub is_dir : (path ≡ []) ⊎ (has_dir tree path ≡ true)
+  pub entries : List Dirent
+  pub reads : fs_of bytes ≡ Ok (fs.Dir entries)
+  pub nodes : (name : List ℕ) → map.get tree (path ++ name ∷ []) ≡ option_map (λ e. node_of objects (entry_of e)) (entry_named name entries)
+
+-- The merge of the three trees was made. Among all objects that have those stored and those made, the root is complete and has
+-- its tree. What was made wasn't stored, the root needs it, and it is a directory of the tree.
+pub record IsMerged (objects : Objects) (s : Sides) (merged : Merged) : Type 0 where
+  pub tree : Tree
+  pub is : merge_of s ≡ merged_tree tree
+  pub root : (more : Objects) → Keeps objects more → Keeps merged.made more → IsTreeOf more merged.root tree
+  pub complete : (more : Objects) → Keeps objects more → Keeps merged.made more → IsCompleteRoot more merged.root
+  pub conflicts : merged.conflicts ≡ places_of (conflicts naming s)
+  pub new : (key : Key) → IsSome (map.get merged.made key) → map.get objects key ≡ None
+  pub needed : (key : Key) → IsSome (map.get merged.made key) → (more : Objects) → Keeps objects more → Keeps merged.made more
+      → is_in (walk_root true more merged.root start).visits key ≡ true
+  pub dirs : (key : Key) (bytes : List ℕ) → map.get merged.made key ≡ Some bytes → IsDirectoryIn objects tree bytes
+
+-- a directory of the tree can't be stored under its id: that is forty zeros, other bytes are stored there, or another directory
+-- of the tree has it
+pub data CannotStore (objects : Objects) (tree : Tree) (id bytes : List ℕ) : Type 0 where
+  zeros : id ≡ nil → CannotStore objects tree id bytes
+  stored : (other : List ℕ) → map.get objects (fs_key id) ≡ Some other → other ≢ bytes → CannotStore objects tree id bytes
+  another : (other : List ℕ) → IsDirectoryIn objects tree other → id ≡ sha1 other → other ≢ bytes → CannotStore objects tree id bytes
+
+-- the merge isn't refused, but a directory of its tree can't be stored under its id
+pub record IsTaken (objects : Objects) (s : Sides) (id : List ℕ) : Type 0 where
+  pub tree : Tree
+  pub is : merge_of s ≡ merged_tree tree
+  pub bytes : List ℕ
+  pub own : id ≡ sha1 bytes
+  pub within : IsDirectoryIn objects tree bytes
+  pub clash : CannotStore objects tree id bytes
+
+-- what a merge answers, in each case
+abbrev pub MergesTo : Objects → Sides → Result Merged MergeFault → Type 0
+MergesTo objects s (Ok merged) = IsMerged objects s merged
+MergesTo objects s (Err (TooLong path bytes)) = merge_of s ≡ too_long path bytes
+MergesTo objects s (Err (TooMany paths)) = merge_of s ≡ too_many paths
+MergesTo objects s (Err (Taken id)) = IsTaken objects s id
+MergesTo objects s (Err (Walk fault)) = IsDue objects None fault
+
+-- the three roots are complete
+pub record AreComplete (objects : Objects) (base head pushed : List ℕ) : Type 0 where
+  pub base_whole : IsCompleteRoot objects base
+  pub head_whole : IsCompleteRoot objects head
+  pub pushed_whole : IsCompleteRoot objects pushed
+
+-- what a merge reads: a fault of the walk, or all that it wants
+abbrev pub as_read : {T : Type 0} → Result T MergeFault → Result ⊤ WalkFault
+as_read (Ok value) = Ok tt
+as_read (Err (TooLong path bytes)) = Ok tt
+as_read (Err (TooMany paths)) = Ok tt
+as_read (Err (Taken id)) = Ok tt
+as_read (Err (Walk fault)) = Err fault
+
+-- ---- for private clauses
+
+-- the three roots' entries, path by path
+pub record IsJoined (objects : Objects) (base head pushed : List ℕ) (joined : map.FinMap path_cmp Three) : Type 0 where
+  pub base_entries : Entries
+  pub head_entries : Entries
+  pub pushed_entries : Entries
+  pub of_base : AreEntriesOf objects base base_entries
+  pub of_head : AreEntriesOf objects head head_entries
+  pub of_pushed : AreEntriesOf objects pushed pushed_entries
+  pub is : (path : PathV) → map.get joined path ≡ join_of (map.get base_entries path) (map.get head_entries path) (map.get pushed_entries path)
+
+-- no more paths than three trees have, and not the root
+pub record AreFew (joined : map.FinMap path_cmp Three) : Type 0 where
+  pub no_root : map.get joined [] ≡ None
+  pub few : map.len joined ≤ 3000000
+
+-- the merged entries, or the first file whose name is too long
+abbrev pub NamesSo : (objects more : Objects) → Sides → Result Named MergeFault → Type 0
+NamesSo objects more s (Ok named) = IsNamedTree more s named
+NamesSo objects more s (Err (TooLong path bytes)) = first_long (conflicts naming s) ≡ Some (path, bytes)
+NamesSo objects more s (Err (TooMany paths)) = ⊥
+NamesSo objects more s (Err (Taken id)) = ⊥
+NamesSo objects more s (Err (Walk fault)) = IsDue objects None fault
+
+-- the objects of the merged entries
+pub record IsBuilt (named : Named) (merged : Merged) : Type 0 where
+  pub few : map.len named.nodes ≤ 1000000
+  pub value : IsSound named.nodes → (more : Objects) → Keeps merged.made more → AreEntriesOf more merged.root named.nodes
+  pub needed : IsSound named.nodes → (id : List ℕ) → HasMade merged.made id → (more : Objects) → Keeps merged.made more → IsDirectoryOf more merged.root id
+  pub dirs : IsSound named.nodes → AreDirectories named.nodes merged.made × IsNilOrMade merged.made merged.root
+  pub names : AreNamed merged.made
+  pub conflicts : merged.conflicts ≡ named.conflicts
+
+-- the fault of a build as one of a merge
+abbrev pub as_merge_fault : BuildFault → MergeFault
+as_merge_fault (build.Taken id) = Taken id
+as_merge_fault build.NoMemory = Walk (Store NoMemory)
+
+abbrev pub BuildsSo : Named → Result Merged MergeFault → Type 0
+BuildsSo named (Ok merged) = IsBuilt named merged
+BuildsSo named (Err (TooLong path bytes)) = ⊥
+BuildsSo named (Err (TooMany paths)) = (paths ≡ map.len named.nodes) × (1000000 < map.len named.nodes)
+BuildsSo named (Err (Taken id)) = (map.len named.nodes ≤ 1000000) × (IsSound named.nodes → IsClash named.nodes id)
+BuildsSo named (Err (Walk fault)) = fault ≡ Store NoMemory
+
+-- what is stored under a key is these bytes, if anything is
+abbrev pub IsSameAt : Objects → Key → List ℕ → Type 0
+IsSameAt objects key bytes = (other : List ℕ) → map.get objects key ≡ Some other → other ≡ bytes
+
+-- other bytes than these are stored there
+abbrev pub IsOtherAt : Objects → Key → List ℕ → Type 0
+IsOtherAt objects key bytes = (other : List ℕ) × (map.get objects key ≡ Some other) × (other ≢ bytes)
+
+abbrev pub FindsSo : Objects → Key → List ℕ → Result Bool MergeFault → Type 0
+FindsSo objects key bytes (Ok found) = (found ≡ is_some (map.get objects key)) × IsSameAt objects key bytes
+FindsSo objects key bytes (Err (TooLong path size)) = ⊥
+FindsSo objects key bytes (Err (TooMany paths)) = ⊥
+FindsSo objects key bytes (Err (Taken id)) = (id ≡ key.id) × IsOtherAt objects key bytes
+FindsSo objects key bytes (Err (Walk fault)) = IsDue objects None fault
+
+-- the objects without those that are stored, which have the same bytes there
+pub record AreLeft (objects made left : Objects) : Type 0 where
+  pub is : (key : Key) → map.get left key ≡ (if is_some (map.get objects key) then None else map.get made key)
+  pub same : (key : Key) (bytes : List ℕ) → map.get made key ≡ Some bytes → IsSameAt objects key bytes
+
+-- one of the objects has other bytes where it is stored
+pub record IsStoredOther (objects made : Objects) (id : List ℕ) : Type 0 where
+  pub key : Key
+  pub bytes : List ℕ
+  pub there : map.get made key ≡ Some bytes
+  pub own : id ≡ key.id
+  pub other : IsOtherAt objects key bytes
+
+abbrev pub LeavesSo : Objects → Objects → Result Objects MergeFault → Type 0
+LeavesSo objects made (Ok left) = AreLeft objects made left
+LeavesSo objects made (Err (TooLong path bytes)) = ⊥
+LeavesSo objects made (Err (TooMany paths)) = ⊥
+LeavesSo objects made (Err (Taken id)) = IsStoredOther objects made id
+LeavesSo objects made (Err (Walk fault)) = IsDue objects None fault
