@@ -1,0 +1,19 @@
+-- What is found is handed out.
+use Rattle.folder_storage.proofs.StandingLemmas.{taken-found, taken-changes, taken-out, taken-stays}
+use Rattle.folder_storage.proofs.memory_ground.MemoryGroundGround.find.Goals as goal
+
+pub returns-in-Some-take_at-clause-found : goal.returns-in-Some-take_at-clause-found
+returns-in-Some-take_at-clause-found c =
+    rw c.new.ensures.shelf (taken-found c.args.self.now.libraries.items c.args.folder.now c.args.lib c.in-Some.place c.in-Some-take_at.shelf (rw c.deref.ensures.value at c.in-Some.ensures.found) c.in-Some-take_at.ensures.value)
+
+pub returns-in-Some-take_at-clause-ok : goal.returns-in-Some-take_at-clause-ok
+returns-in-Some-take_at-clause-ok c =
+    taken-changes c.args.self.now.libraries.items c.take_at.new.libraries.items c.args.folder.now c.args.lib c.in-Some.place (rw c.deref.ensures.value at c.in-Some.ensures.found) c.in-Some-take_at.ensures.ok
+
+pub returns-in-None-take_at-clause-err : goal.returns-in-None-take_at-clause-err
+returns-in-None-take_at-clause-err c =
+    taken-stays c.args.self.now.libraries.items c.take_at.new.libraries.items c.in-Some.place c.in-None-take_at.ensures.value c.in-None-take_at.ensures.ok
+
+pub returns-in-None-take_at-clause-shelf : goal.returns-in-None-take_at-clause-shelf
+returns-in-None-take_at-clause-shelf c same =
+    taken-out c.args.self.now.libraries.items c.args.folder.now c.args.lib c.in-Some.place (rw c.deref.ensures.value at c.in-Some.ensures.found) c.in-None-take_at.ensures.value

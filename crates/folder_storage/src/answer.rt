@@ -1,0 +1,39 @@
+//! What a call on files answers, and what its failure counts for.
+ghost use Rattle.std.specs.Prelude.{⊤, Err};
+ghost use Rattle.object_store.specs.Shelf.{CountsFaults};
+
+use object_store::ShelfFailed;
+use std::io;
+use std::io::ErrorKind;
+
+/// The answer of a call that changes nothing where it fails. Want of memory is told as such, and every other failure
+/// counts as a fault.
+pub(crate) fn answer<T>(faults: &mut u64, outcome: io::Result<T>) -> Result<T, ShelfFailed>
+    ensures faults { CountsFaults faults.old faults.new result }
+{
+    match outcome {
+        Ok(value) => Ok(value),
+        Err(failure) => Err(failed(faults, failure.kind() == ErrorKind::OutOfMemory)),
+    }
+}
+
+/// The answer of a call that may have changed something where it fails, so that each failure counts as a fault.
+pub(crate) fn counted<T>(faults: &mut u64, outcome: io::Result<T>) -> Result<T, ShelfFailed>
+    ensures faults { CountsFaults faults.old faults.new result }
+{
+    match outcome {
+        Ok(value) => Ok(value),
+        Err(_) => Err(failed(faults, false)),
+    }
+}
+
+/// The failure that is answered, which is counted unless memory was wanting.
+fn failed(faults: &mut u64, is_memory: bool) -> ShelfFailed
+    ensures faults { CountsFaults {T = ⊤} faults.old faults.new (Err result) }
+{
+    if is_memory {
+        return ShelfFailed::NoMemory;
+    }
+    *faults = faults.saturating_add(1);
+    ShelfFailed::Shelf
+}

@@ -1,0 +1,87 @@
+//! A shelf over the files of one library's folder.
+ghost use Rattle.std.specs.Prelude.{◌≡◌};
+
+use crate::answer::{answer, counted};
+use crate::library_folder::LibraryFolder;
+use ids::{Bytes, Kind, ObjId};
+use object_store::{Found, Shelf, ShelfFailed, Slot};
+use std::fs::{File, Files};
+
+/// A shelf over the files of one library's folder, one file a slot. It tells nothing of what it holds, and counts the
+/// calls that failed.
+///
+/// # Layout
+///
+/// `FOLDER/LIB` holds `status`, and `commits`, `fs` and `blocks` with the files `xx/` and the other 38 digits of an
+/// object's id: our own, with Seafile's names of the kinds. A file is written as `tmp/spare` and moved to its place, so
+/// that a slot holds the old or the new whole. Folders are their owner's alone (0700), and so are files (0600).
+///
+/// A library that is made stands in `FOLDER/LIB.new` until its first state text is durable, and then takes its name:
+/// one that was not made to its end is not there, and is made anew.
+/// One process at a time has a library: its folder is locked (flock), and the system gives the lock up with the
+/// process. What a run that was killed left half-written is taken away when the library is opened.
+///
+/// # What lasts
+///
+/// Before a state text is moved to its place, every object that was put before it is made durable: its file, then
+/// each folder that was touched; then the state text, and its folder. So after a loss of power a state text that
+/// stands names only objects that stand. An object that no state text names yet may be lost then. What such a loss
+/// leaves of it, mostly an empty file, is no object to `next`, unless its name is that of no bytes, so that it can be
+/// put again.
+///
+/// That holds for what earlier runs put, too: the first state text that a run puts takes in the objects whose files, and
+/// whose `xx` folders, were changed no earlier than 10 seconds before `status`, or all of them where there is none. It
+/// rests on file times: on times that nobody else sets, and on a clock that is not set back by more than these 10
+/// seconds between a state text and what is put after it. A library that is only read costs no sync.
+#[derive(Drop)]
+pub struct FolderShelf<R> {
+    folder: LibraryFolder<R>,
+    faults: u64,
+}
+
+impl<R> FolderShelf<R> {
+    /// A shelf over this folder, with no faults.
+    pub(crate) fn new(folder: LibraryFolder<R>) -> FolderShelf<R>
+        ensures faults { result.faults ≡ 0 }
+    {
+        FolderShelf { folder, faults: 0 }
+    }
+}
+
+impl<R: Files<File = File> + AllocGlobal + Clone + Drop> Shelf for FolderShelf<R> {
+    ghost use Rattle.std.specs.Prelude.{None, ⊤};
+
+    ghost contents = { λ _. None };
+
+    ghost may_give = { λ _ _ _. ⊤ };
+
+    ghost faults = { λ s. s.faults };
+
+    fn fetch(&mut self, slot: Slot) -> Result<Option<Bytes>, ShelfFailed> {
+        answer(&mut self.faults, self.folder.read(&slot))
+    }
+
+    fn put(&mut self, slot: Slot, bytes: &[u8]) -> Result<(), ShelfFailed> {
+        let written = self.folder.write_beside(&slot, bytes);
+        let spare = answer(&mut self.faults, written)?;
+        let moved = self.folder.move_in(&slot, &spare);
+        counted(&mut self.faults, moved)
+    }
+
+    fn remove(&mut self, slot: Slot) -> Result<(), ShelfFailed> {
+        let path = answer(&mut self.faults, self.folder.path_of(&slot))?;
+        let removed = self.folder.remove(&slot, path.as_str());
+        counted(&mut self.faults, removed)
+    }
+
+    fn next(&mut self, kind: Kind, after: Option<ObjId>) -> Result<Option<Found>, ShelfFailed> {
+        let found = self.folder.next(kind, &after);
+        answer(&mut self.faults, found)
+    }
+
+    fn faults(&self) -> u64 {
+        self.faults
+    }
+
+    ghost told = { λ shelf held slot given known. Prim.cc };
+}

@@ -1,0 +1,29 @@
+//! Where libraries are kept: a folder of the file system, or memory.
+//!
+//! Shown upward: `FolderShelf`, a shelf over the files of one library's folder; the trait `Ground`, from which shelves
+//! come and to which they go back, with `FolderGround` and `MemoryGround`. Definition: specs/Ground.antt.
+//!
+//! The adapters over files tell nothing of what they hold, so what they do with it is no clause: of them it is proved
+//! that their counts of faults are right, and that they are safe and end. The layout of a library's folder and what
+//! lasts through a loss of power are told at `FolderShelf`.
+#![tactic(auto)]
+
+mod answer;
+mod counted_shelf;
+mod earlier;
+mod files;
+mod folder_ground;
+mod folder_shelf;
+mod ground;
+mod library_folder;
+mod listing;
+mod memory_ground;
+mod paths;
+#[cfg(test)]
+mod tests;
+
+pub use crate::counted_shelf::CountedShelf;
+pub use crate::folder_ground::FolderGround;
+pub use crate::folder_shelf::FolderShelf;
+pub use crate::ground::Ground;
+pub use crate::memory_ground::{KeptLibrary, MemoryGround};
