@@ -1,0 +1,217 @@
+-- A put that the store refuses, and the cause of each refusal. The key lemmas are put_refused, put_damage, stored_may and
+-- refused_may.
+use Rattle.std.proofs.Common.{◌≡◌, ◌⊎◌, inl, inr, ℕ, Bool, true, false, not, ◌||◌, if◌then◌else◌, List, [], ◌∷◌, ◌++◌, refl, sym, ap, ◌∙◌, subst, true≢false, Option, None, Some, option_map, is_some, is_none, Result, Ok, Err}
+use Rattle.std.specs.Bool.{then_some}
+use Rattle.std.specs.FinMap as map
+use Rattle.std.specs.Str.{bytes_eq}
+use Rattle.sha1.specs.Sha1.{sha1}
+use Rattle.ids.specs.Key.{Objects}
+use Rattle.ids.specs.Outcome.{RefusesAs}
+use Rattle.ids.specs.declared.key.Key.{Key}
+use Rattle.ids.specs.declared.key.Kind.{Kind}
+use Rattle.ids.specs.declared.key.Kind.TheVariants as kinds
+use Rattle.commit_objects.specs.Commit.{commit_of}
+use Rattle.commit_objects.specs.declared.commit.Commit.{Commit}
+use Rattle.commit_objects.specs.declared.fault.BadCommit.{BadCommit}
+use Rattle.fs_objects.specs.FsObject.{fs_of}
+use Rattle.fs_objects.specs.declared.fault.BadFs.{BadFs}
+use Rattle.fs_objects.specs.declared.fs_object.FsObject.{FsObject}
+use Rattle.library_rules.specs.Calls.{Due, Says, Stores, first_refusal, not_commit, not_fs, other_bytes, other_name, put_by, put_due, put_refusals, taken}
+use Rattle.library_rules.specs.Changes.{put_new}
+use Rattle.library_rules.specs.LibraryState.{State, is_stored}
+use Rattle.library_rules.proofs.Members.{same_id-itself}
+use Rattle.library_state.specs.declared.call.Act.TheVariants as act
+use Rattle.library_state.specs.declared.refusal.Refusal.{Refusal}
+use Rattle.library_state.specs.declared.refusal.Refusal.TheVariants as refusal
+use Rattle.library_state.specs.declared.reply.Reply.{Reply}
+use Rattle.library_state.specs.declared.reply.Reply.TheVariants as reply
+use Rattle.object_graph.specs.Objects.{same_id, is_nil}
+use Rattle.object_store.specs.Store.{CountsShelf, GivesOther, IsFoundSame, IsGetFault, IsPutFault, damage_at, damage_of, first_refusal as first_fault, has_other_name, is_free, is_named_by_bytes, is_want, name_refusal, put_refusal, same_bytes, stored_refusal}
+use Rattle.object_store.specs.StoreView.{with_object}
+use Rattle.object_store.specs.declared.put.Put.{Put}
+use Rattle.object_store.specs.declared.put.Put.TheVariants.{New, Same}
+use Rattle.object_store.specs.declared.error.StoreFault.{StoreFault}
+use Rattle.object_store.specs.declared.error.StoreFault.TheVariants.{Taken, Wrong, Damaged, Shelf, NoMemory}
+use Rattle.object_store.specs.declared.shelf.Slot.{Slot}
+use Rattle.depot.specs.Answering.{MayAnswer, MayGet, MayPut, store_decided}
+use Rattle.depot.specs.ObjectCalls.{Counts, DoneSo, IsFault, IsToldDamage, IsToldRefusal, own_name, store_due, store_refusal}
+use Rattle.depot.proofs.AnsweringLemmas.{damage_other}
+use Rattle.depot.proofs.WritingLemmas.{put_is_new, same_there}
+
+-- ---- what is due of a put
+
+module _ (s : State) (key : Key) (bytes : List ℕ) where
+  fault_by : (o : Option Refusal) (r : Reply) (after : Option Objects) → IsFault s.objects r → after ≡ Some s.objects → DoneSo s.objects (put_by s key bytes o) r after
+  fault_by (Some why) r after fault is = (inr fault, is)
+  fault_by None r after fault is = by (is_stored s.objects key)
+    where
+      by : (b : Bool) → DoneSo s.objects (if b then Says (reply.Stored false) else Stores (record { key = key; bytes = bytes })) r after
+      by true = (inr fault, is)
+      by false = inr (fault, is)
+
+  -- a fault in the place of what is due
+  pub put_fault : (r : Reply) (after : Option Objects) → IsFault s.objects r → after ≡ Some s.objects → DoneSo s.objects (store_due s key bytes) r after
+  put_fault r after fault is = fault_by (first_refusal (own_name key bytes ∷ taken s key bytes ∷ [])) r after fault is
+
+  -- a refusal that is due
+  pub due_refused : (o : Option Refusal) (why : Refusal) (after : Option Objects) → o ≡ Some why → after ≡ Some s.objects → DoneSo s.objects (put_by s key bytes o) (reply.Refused why) after
+  due_refused o why after due is = subst (λ d. DoneSo s.objects (put_by s key bytes d) (reply.Refused why) after) (sym due) (inl refl, is)
+
+-- ---- a put that is refused
+
+-- by its name, by what is stored, or since that is damaged
+RefusedBy : Key → Option Refusal → Option (List ℕ) → StoreFault → Type 0
+RefusedBy key due o fault = (due ≡ Some (store_refusal fault)) ⊎ (damage_of key o ≡ Some fault)
+
+refused_stored : (key : Key) (fault : StoreFault) (c d : Bool) (damaged : StoreFault) → (if c then Some damaged else if d then None else Some (Taken key.id)) ≡ Some fault
+    → (first_refusal (None ∷ then_some (not d) (refusal.Taken key.id) ∷ []) ≡ Some (store_refusal fault)) ⊎ ((if c then Some damaged else None) ≡ Some fault)
+refused_stored key fault true d damaged e = inr e
+refused_stored key fault false true damaged e = cc
+refused_stored key fault false false damaged e =
+    let is : Taken key.id ≡ fault = cc in
+    inl (ap (λ f. Some (store_refusal f)) is)
+
+refused_by : (key : Key) (bytes : List ℕ) (fault : StoreFault) (a b : Bool) (o : Option (List ℕ))
+    → first_fault (if a then Some (Wrong (sha1 bytes)) else if b then Some (Taken key.id) else None) (stored_refusal key bytes o) ≡ Some fault
+    → (first_refusal (then_some a (refusal.Wrong (sha1 bytes)) ∷ then_some (b || other_bytes o bytes) (refusal.Taken key.id) ∷ []) ≡ Some (store_refusal fault)) ⊎ (damage_of key o ≡ Some fault)
+refused_by key bytes fault true b o e =
+    let is : Wrong (sha1 bytes) ≡ fault = cc in
+    inl (ap (λ f. Some (store_refusal f)) is)
+refused_by key bytes fault false true o e =
+    let is : Taken key.id ≡ fault = cc in
+    inl (ap (λ f. Some (store_refusal f)) is)
+refused_by key bytes fault false false None e = cc
+refused_by key bytes fault false false (Some stored) e =
+    refused_stored key fault (has_other_name key stored) (same_bytes stored bytes) (Damaged key.id (Some (sha1 stored))) e
+
+damage_told : (objects : Objects) (key : Key) (o : Option (List ℕ)) (fault : StoreFault) → damage_of key o ≡ Some fault → damage_at objects key ≡ damage_of key o
+    → IsFault objects (reply.Refused (store_refusal fault))
+damage_told objects key None fault e at = cc
+damage_told objects key (Some stored) fault e at = by (has_other_name key stored) e at
+  where
+    is_damage : (f : StoreFault) → Damaged key.id (Some (sha1 stored)) ≡ f → damage_at objects key ≡ Some f → IsFault objects (reply.Refused (store_refusal f))
+    is_damage (Taken id) is there = cc
+    is_damage (Wrong id) is there = cc
+    is_damage (Damaged want got) is there = (key, there)
+    is_damage Shelf is there = tt
+    is_damage NoMemory is there = tt
+
+    by : (c : Bool) → (if c then Some (Damaged key.id (Some (sha1 stored))) else None) ≡ Some fault → damage_at objects key ≡ (if c then Some (Damaged key.id (Some (sha1 stored))) else None)
+        → IsFault objects (reply.Refused (store_refusal fault))
+    by true e at =
+        let is : Damaged key.id (Some (sha1 stored)) ≡ fault = cc in
+        is_damage fault is (at ∙ e)
+    by false e at = cc
+
+free_told : (objects : Objects) (fault : StoreFault) → is_free fault ≡ true → IsFault objects (reply.Refused (store_refusal fault))
+free_told objects (Taken id) e = absurd (true≢false (sym e))
+free_told objects (Wrong id) e = absurd (true≢false (sym e))
+free_told objects (Damaged want got) e = absurd (true≢false (sym e))
+free_told objects Shelf e = tt
+free_told objects NoMemory e = tt
+
+pub put_refused : (s : State) (key : Key) (bytes : List ℕ) (fault : StoreFault) (after : Option Objects)
+    → (put_refusal s.objects key bytes ≡ Some fault) ⊎ (is_free fault ≡ true) → after ≡ Some s.objects
+    → DoneSo s.objects (store_due s key bytes) (reply.Refused (store_refusal fault)) after
+put_refused s key bytes fault after (inr free) is = put_fault s key bytes (reply.Refused (store_refusal fault)) after (free_told s.objects fault free) is
+put_refused s key bytes fault after (inl due) is = by (refused_by key bytes fault (has_other_name key bytes) (same_bytes key.id _) (map.get s.objects key) due)
+  where
+    by : (first_refusal (own_name key bytes ∷ taken s key bytes ∷ []) ≡ Some (store_refusal fault)) ⊎ (damage_of key (map.get s.objects key) ≡ Some fault)
+        → DoneSo s.objects (store_due s key bytes) (reply.Refused (store_refusal fault)) after
+    by (inl refused) = due_refused s key bytes (first_refusal (own_name key bytes ∷ taken s key bytes ∷ [])) (store_refusal fault) after refused is
+    by (inr damage) = put_fault s key bytes (reply.Refused (store_refusal fault)) after (damage_told s.objects key (map.get s.objects key) fault damage refl) is
+
+-- ---- damage
+
+no_damage_by_name : (a b : Bool) (sha id want : List ℕ) (got : Option (List ℕ))
+    → first_refusal (then_some a (refusal.Wrong sha) ∷ then_some b (refusal.Taken id) ∷ []) ≡ Some (refusal.Damaged want got) → ⊥
+no_damage_by_name true b sha id want got e = cc
+no_damage_by_name false true sha id want got e = cc
+no_damage_by_name false false sha id want got e = cc
+
+-- damage that a put tells is that of what is stored under its key
+pub put_damage : (objects : Objects) (key : Key) (bytes : List ℕ) (fault : StoreFault) → (put_refusal objects key bytes ≡ Some fault) ⊎ (is_free fault ≡ true)
+    → IsToldDamage objects (reply.Refused (store_refusal fault))
+put_damage objects key bytes (Taken id) e = tt
+put_damage objects key bytes (Wrong id) e = tt
+put_damage objects key bytes Shelf e = tt
+put_damage objects key bytes NoMemory e = tt
+put_damage objects key bytes (Damaged want got) (inr free) = absurd (true≢false (sym free))
+put_damage objects key bytes (Damaged want got) (inl due) =
+    by (refused_by key bytes (Damaged want got) (has_other_name key bytes) (same_bytes key.id _) (map.get objects key) due)
+  where
+    by : (first_refusal (own_name key bytes ∷ then_some (is_nil key.id || other_bytes (map.get objects key) bytes) (refusal.Taken key.id) ∷ []) ≡ Some (refusal.Damaged want got))
+        ⊎ (damage_of key (map.get objects key) ≡ Some (Damaged want got)) → IsToldDamage objects (reply.Refused (refusal.Damaged want got))
+    by (inl refused) = absurd (no_damage_by_name (has_other_name key bytes) (is_nil key.id || other_bytes (map.get objects key) bytes) (sha1 bytes) key.id want got refused)
+    by (inr damage) = (key, damage)
+
+pub get_damage : (objects : Objects) (key : Key) (fault : StoreFault) → (damage_at objects key ≡ Some fault) ⊎ (is_free fault ≡ true)
+    → IsToldDamage objects (reply.Refused (store_refusal fault))
+get_damage objects key (Taken id) e = tt
+get_damage objects key (Wrong id) e = tt
+get_damage objects key Shelf e = tt
+get_damage objects key NoMemory e = tt
+get_damage objects key (Damaged want got) (inr free) = absurd (true≢false (sym free))
+get_damage objects key (Damaged want got) (inl due) = (key, due)
+
+-- ---- the cause of each refusal, over any shelf
+
+module _ (may_give : Slot → Option (List ℕ) → Type 0) (key : Key) where
+  pub get_may : (fault : StoreFault) → IsGetFault may_give key fault → MayGet may_give key (reply.Refused (store_refusal fault))
+  get_may (Taken id) cause = absurd cause
+  get_may (Wrong id) cause = absurd cause
+  get_may (Damaged want got) cause = (damage_other may_give key want got cause, key, cause)
+  get_may Shelf cause = tt
+  get_may NoMemory cause = tt
+
+  module _ (bytes : List ℕ) where
+    by_name : Bool → Bool → Option Reply
+    by_name a b = option_map reply.Refused (first_refusal (then_some a (refusal.Wrong (sha1 bytes)) ∷ then_some b (refusal.Taken key.id) ∷ []))
+
+    free_name : (a b : Bool) → (a ≡ true → ⊥) → (b ≡ true → ⊥) → (r : Reply) → MayPut may_give key bytes r → MayAnswer may_give (act.Put key bytes) (by_name a b) r
+    unfolding by_name
+    free_name true b no_a no_b r may = absurd (no_a refl)
+    free_name false true no_a no_b r may = absurd (no_b refl)
+    free_name false false no_a no_b r may = may
+
+    stored_by : (index : Option ℕ) (put : Put) → put ≡ (if is_some index then Same else New) → IsFoundSame may_give key bytes put → MayPut may_give key bytes (reply.Stored (is_none index))
+    stored_by None put told found = tt
+    stored_by (Some size) put told found = subst (IsFoundSame may_give key bytes) told found
+
+    -- what was stored
+    pub stored_may : (index : Option ℕ) (put : Put) → put ≡ (if is_some index then Same else New) → IsFoundSame may_give key bytes put
+        → (has_other_name key bytes ≡ true → ⊥) → (is_nil key.id ≡ true → ⊥) → MayAnswer may_give (act.Put key bytes) (store_decided key bytes) (reply.Stored (is_none index))
+    unfolding by_name
+    stored_may index put told found own named =
+        free_name (has_other_name key bytes) (is_nil key.id) own named (reply.Stored (is_none index)) (stored_by index put told found)
+
+    put_may : (fault : StoreFault) → (has_other_name key bytes ≡ false) → (is_nil key.id ≡ false) → IsPutFault may_give key bytes fault
+        → MayPut may_give key bytes (reply.Refused (store_refusal fault))
+    put_may (Taken id) own named (at, inl zeros) = absurd (true≢false (sym zeros ∙ named))
+    put_may (Taken id) own named (at, inr other) = (at, other)
+    put_may (Wrong id) own named (at, other) = absurd (true≢false (sym other ∙ own))
+    put_may (Damaged want got) own named cause = (damage_other may_give key want got cause, key, cause)
+    put_may Shelf own named cause = tt
+    put_may NoMemory own named cause = tt
+
+    want_may : (fault : StoreFault) (said : Reply) → (fault ≡ Wrong (sha1 bytes)) ⊎ (is_want fault ≡ true) → said ≡ reply.Refused (refusal.Wrong (sha1 bytes))
+        → MayAnswer may_give (act.Put key bytes) (Some said) (reply.Refused (store_refusal fault))
+    want_may fault said (inl wrong) is = inl (ap (λ f. reply.Refused (store_refusal f)) wrong ∙ sym is)
+    want_may NoMemory said (inr want) is = inr refl
+    want_may Shelf said (inr want) is = absurd (true≢false (sym want))
+    want_may (Taken id) said (inr want) is = absurd (true≢false (sym want))
+    want_may (Wrong id) said (inr want) is = absurd (true≢false (sym want))
+    want_may (Damaged wanted got) said (inr want) is = absurd (true≢false (sym want))
+
+    -- what was refused
+    pub refused_may : (fault : StoreFault) → IsPutFault may_give key bytes fault
+        → (has_other_name key bytes ≡ true → (fault ≡ Wrong (sha1 bytes)) ⊎ (is_want fault ≡ true))
+        → (has_other_name key bytes ≡ false → is_nil key.id ≡ true → fault ≡ Taken key.id)
+        → MayAnswer may_give (act.Put key bytes) (store_decided key bytes) (reply.Refused (store_refusal fault))
+    unfolding by_name
+    refused_may fault cause wrong taken = by (has_other_name key bytes) (is_nil key.id) refl refl
+      where
+        by : (a b : Bool) → has_other_name key bytes ≡ a → is_nil key.id ≡ b → MayAnswer may_give (act.Put key bytes) (by_name a b) (reply.Refused (store_refusal fault))
+        by true b other named = want_may fault (reply.Refused (refusal.Wrong (sha1 bytes))) (wrong other) refl
+        by false true other named = inl (ap (λ f. reply.Refused (store_refusal f)) (taken other named))
+        by false false other named = put_may fault other named cause

@@ -1,0 +1,212 @@
+-- Objects that are put one after another, and what a plan leaves behind. The key lemmas are stores_then, puttable_front,
+-- puttable_back, one_stored, may_refuse_put and free_put.
+use Rattle.std.proofs.Common.{◌≡◌, ◌≢◌, ◌⊎◌, inl, inr, ℕ, Bool, true, false, not, ◌&&◌, if◌then◌else◌, true≢false, List, [], ◌∷◌, ◌++◌, append_assoc, refl, sym, ap, ◌∙◌, subst, Option, None, Some, option_map, IsTrue, Result, Ok, Err}
+use Rattle.std.specs.Prelude.{⊤}
+use Rattle.std.specs.Bool.{MatchBool}
+use Rattle.std.specs.List.{AllByRecursion}
+use Rattle.sha1.specs.Sha1.{sha1}
+use Rattle.ids.specs.FaultCount.{Rose}
+use Rattle.ids.specs.Key.{Objects}
+use Rattle.ids.specs.ObjectId.{nil}
+use Rattle.ids.specs.Outcome.{RefusesAs}
+use Rattle.ids.specs.declared.key.Key.{Key}
+use Rattle.library_rules.specs.Changes.{put_new, with_added}
+use Rattle.library_rules.specs.declared.entry.Stored.{Stored}
+use Rattle.library_state.specs.declared.state.LibState.{LibState}
+use Rattle.object_store.specs.Store.{IsPutFault, has_other_name, is_free, is_of_shelf, name_refusal, put_refusal, same_bytes}
+use Rattle.object_store.specs.StoreView.{with_object}
+use Rattle.object_store.specs.declared.error.StoreFault.{StoreFault}
+use Rattle.object_store.specs.declared.error.StoreFault.TheVariants.{Taken, Wrong, Damaged, Shelf, NoMemory}
+use Rattle.object_store.specs.declared.shelf.Slot.{Slot as ShelfSlot}
+use Rattle.depot.specs.Answering.{MayRefuseUpdate}
+use Rattle.depot.specs.ObjectCalls.{IsToldRefusal, is_of_store, store_refusal}
+use Rattle.depot.specs.UpdateInstall.{ArePuttable, ArePuttableIn, Held, InstallsText, IsCarriedOut, IsFront, LeftBehind, StoresPart, StoresSo, unsure, with_all}
+use Rattle.depot.specs.UpdatePlan.{AreNamed}
+use Rattle.depot.specs.Writing.{LeftOpen, SettlesSo, Slot, Writes, again, leaves_open, nothing, open_next, open_present, settled, settles, written}
+use Rattle.depot.proofs.UpdateBaseLemmas.{damage_apart}
+use Rattle.depot.proofs.WritingLemmas.{stored_as_put}
+
+-- ---- lists of objects
+
+pub added_append : (o : Objects) (a b : List Stored) → with_added o (a ++ b) ≡ with_added (with_added o a) b
+added_append o [] b = refl
+added_append o (x ∷ a) b = added_append (put_new o x) a b
+
+pub all_append : (known : Option Objects) (a b : List Stored) → with_all (a ++ b) known ≡ with_all b (with_all a known)
+all_append None a b = refl
+all_append (Some o) a b = ap Some (added_append o a b)
+
+pub all_nothing : (known : Option Objects) → with_all [] known ≡ known
+all_nothing None = refl
+all_nothing (Some o) = refl
+
+pub named_front : (a b : List Stored) → AreNamed (a ++ b) → AreNamed a
+named_front [] b named = tt
+named_front (x ∷ a) b named = (named.0, named_front a b named.1)
+
+pub named_back : (a b : List Stored) → AreNamed (a ++ b) → AreNamed b
+named_back [] b named = named
+named_back (x ∷ a) b named = named_back a b named.1
+
+front_puttable : (o : Objects) (a b : List Stored) → ArePuttable o (a ++ b) → ArePuttable o a
+front_puttable o [] b are = tt
+front_puttable o (x ∷ a) b are = (are.0, front_puttable (put_new o x) a b are.1)
+
+back_puttable : (o : Objects) (a b : List Stored) → ArePuttable o (a ++ b) → ArePuttable (with_added o a) b
+back_puttable o [] b are = are
+back_puttable o (x ∷ a) b are = back_puttable (put_new o x) a b are.1
+
+pub puttable_front : (known : Option Objects) (a b : List Stored) → ArePuttableIn known (a ++ b) → ArePuttableIn known a
+puttable_front known a b are = λ o told. front_puttable o a b (are o told)
+
+pub puttable_back : (known mid : Option Objects) (a b : List Stored) → ArePuttableIn known (a ++ b) → mid ≡ with_all a known → ArePuttableIn mid b
+puttable_back None mid a b are same = λ o told. let none : None ≡ Some o = sym same ∙ told in cc
+puttable_back (Some known) mid a b are same = λ o told.
+    let is : with_added known a ≡ o = some_same (sym same ∙ told) in
+    subst (λ m. ArePuttable m b) is (back_puttable known a b (are known refl))
+  where
+    some_same : {x y : Objects} → Some x ≡ Some y → x ≡ y
+    some_same e = cc
+
+-- ---- what is stored
+
+pub stores_stops : (old : Option Objects) (a b : List Stored) (new : Option Objects) → StoresPart old a new → StoresPart old (a ++ b) new
+stores_stops old a b new part = record {
+  part = part.part;
+  front = (part.front.0 ++ b, ap (λ xs. xs ++ b) part.front.1 ∙ append_assoc part.part part.front.0 b);
+  objects = part.objects;
+}
+
+pub stores_then : (old mid new : Option Objects) (a b : List Stored) (result : Result ⊤ StoreFault) → mid ≡ with_all a old → StoresSo mid b new result → StoresSo old (a ++ b) new result
+stores_then old mid new a b (Ok done) first second = second ∙ ap (with_all b) first ∙ sym (all_append old a b)
+stores_then old mid new a b (Err fault) first second = record {
+  part = a ++ second.part;
+  front = (second.front.0, ap (λ xs. a ++ xs) second.front.1 ∙ sym (append_assoc a second.part second.front.0));
+  objects = second.objects ∙ ap (with_all second.part) first ∙ sym (all_append old a second.part);
+}
+
+-- ---- one object
+
+pub one_stored : (known : Option Objects) (key : Key) (bytes : List ℕ) → ArePuttableIn known (record { key = key; bytes = bytes } ∷ [])
+    → with_object known key bytes ≡ with_all (record { key = key; bytes = bytes } ∷ []) known
+one_stored known key bytes are = stored_as_put known key bytes (λ o told. (are o told).0)
+
+pub none_stored : (old new : Option Objects) (all : List Stored) → new ≡ old → StoresPart old all new
+none_stored old new all same = record { part = []; front = (all, refl); objects = same ∙ sym (all_nothing old) }
+
+other_not : (a b : Bool) (x y : StoreFault) → (if a then Some x else if b then Some y else None) ≡ None → a ≡ true → ⊥
+other_not true b x y e is = cc
+other_not false b x y e is = true≢false (sym is)
+
+-- why an object isn't put that no name forbids
+pub may_refuse_put : (may_give : ShelfSlot → Option (List ℕ) → Type 0) (key : Key) (bytes : List ℕ) (fault : StoreFault) → name_refusal key bytes ≡ None
+    → IsPutFault may_give key bytes fault → MayRefuseUpdate may_give (store_refusal fault)
+may_refuse_put may_give key bytes (Taken id) named cause = tt
+may_refuse_put may_give key bytes (Wrong id) named cause =
+    absurd (other_not (has_other_name key bytes) (same_bytes key.id nil) (Wrong (sha1 bytes)) (Taken key.id) named cause.1)
+may_refuse_put may_give key bytes (Damaged want got) named cause = (damage_apart may_give key want got cause, key, cause)
+may_refuse_put may_give key bytes Shelf named cause = tt
+may_refuse_put may_give key bytes NoMemory named cause = tt
+
+pub free_put : (o : Objects) (key : Key) (bytes : List ℕ) (fault : StoreFault) → put_refusal o key bytes ≡ None → (put_refusal o key bytes ≡ Some fault) ⊎ IsTrue (is_free fault)
+    → IsTrue (is_free fault)
+free_put o key bytes fault none (inl due) = let e : None ≡ Some fault = sym none ∙ due in cc
+free_put o key bytes fault none (inr free) = free
+
+-- a free fault is one of the store's that may come in any place, and refuses an update
+pub free_told : (o : Objects) (fault : StoreFault) → IsTrue (is_free fault) → IsToldRefusal o (store_refusal fault)
+free_told o (Taken id) free = absurd (true≢false (sym free))
+free_told o (Wrong id) free = absurd (true≢false (sym free))
+free_told o (Damaged want got) free = absurd (true≢false (sym free))
+free_told o Shelf free = tt
+free_told o NoMemory free = tt
+
+pub free_refuses : (may_give : ShelfSlot → Option (List ℕ) → Type 0) (fault : StoreFault) → IsTrue (is_free fault) → MayRefuseUpdate may_give (store_refusal fault)
+free_refuses may_give (Taken id) free = tt
+free_refuses may_give (Wrong id) free = absurd (true≢false (sym free))
+free_refuses may_give (Damaged want got) free = absurd (true≢false (sym free))
+free_refuses may_give Shelf free = tt
+free_refuses may_give NoMemory free = tt
+
+pub counted_same : (fault : StoreFault) → is_of_shelf fault ≡ is_of_store (store_refusal fault)
+counted_same (Taken id) = refl
+counted_same (Wrong id) = refl
+counted_same (Damaged want got) = refl
+counted_same Shelf = refl
+counted_same NoMemory = refl
+
+-- ---- the text
+
+-- a text that wasn't settled
+pub settle_left : (unsettled still : Bool) (present next : LibState) (old new : Slot) (fault : StoreFault) → still ≡ unsettled → SettlesSo unsettled present old new (Err fault)
+    → LeftOpen unsettled present next old still new
+settle_left false still present next old new fault same so = let e : Err fault ≡ Ok tt = so.1 in cc
+settle_left true still present next old new (Taken id) same so = absurd so
+settle_left true still present next old new (Wrong id) same so = absurd so
+settle_left true still present next old new (Damaged want got) same so = absurd so
+settle_left true still present next old new Shelf same (inl is) = nothing same is
+settle_left true still present next old new Shelf same (inr is) = again same refl is
+settle_left true still present next old new NoMemory same so = nothing same so
+
+-- the slot once it was settled
+pub settled_slot : (unsettled : Bool) (present : LibState) (old new : Slot) → SettlesSo unsettled present old new (Ok tt) → new ≡ settled unsettled present old
+settled_slot true present old new so = so
+settled_slot false present old new so = so.0
+
+-- a text that was written after it was settled
+pub noted : (unsettled still : Bool) (present next : LibState) (old mid new : Slot) (result : Result ⊤ StoreFault) → mid ≡ settled unsettled present old → still ≡ leaves_open result
+    → Writes next mid new result → InstallsText unsettled present next old still new result
+noted unsettled still present next old mid new (Ok done) first left so = (left, so ∙ ap (written next) first)
+noted unsettled still present next old mid new (Err (Taken id)) first left so = absurd so
+noted unsettled still present next old mid new (Err (Wrong id)) first left so = absurd so
+noted unsettled still present next old mid new (Err (Damaged want got)) first left so = absurd so
+noted unsettled still present next old mid new (Err Shelf) first left (inl is) = open_present left (is ∙ first)
+noted unsettled still present next old mid new (Err Shelf) first left (inr is) = open_next left (is ∙ ap (written next) first)
+noted unsettled still present next old mid new (Err NoMemory) first left so = settles left (so ∙ first)
+
+-- ---- objects of a table
+
+-- some of the objects were put, and the others can be
+pub record IsPutting (old : Option Objects) (all left : List Stored) (now : Option Objects) : Type 0 where
+  pub done : List Stored
+  pub split : done ++ left ≡ all
+  pub objects : now ≡ with_all done old
+  pub named : AreNamed left
+  pub ready : ArePuttableIn now left
+
+pub putting_start : (old : Option Objects) (all : List Stored) → AreNamed all → ArePuttableIn old all → IsPutting old all all old
+putting_start old all named ready = record { done = []; split = refl; objects = sym (all_nothing old); named = named; ready = ready }
+
+pub putting_next : (old now new : Option Objects) (all left : List Stored) (x : Stored) → IsPutting old all (x ∷ left) now → new ≡ with_all (x ∷ []) now → IsPutting old all left new
+putting_next old now new all left x is put = record {
+  done = is.done ++ x ∷ [];
+  split = append_assoc is.done (x ∷ []) left ∙ is.split;
+  objects = put ∙ ap (with_all (x ∷ [])) is.objects ∙ sym (all_append old is.done (x ∷ []));
+  named = is.named.1;
+  ready = puttable_back now new (x ∷ []) left is.ready put;
+}
+
+pub putting_end : (old now : Option Objects) (all : List Stored) → IsPutting old all [] now → now ≡ with_all all old
+putting_end old now all is = is.objects ∙ ap (λ done. with_all done old) (sym (append_nil is.done) ∙ is.split)
+  where
+    append_nil : (xs : List Stored) → xs ++ [] ≡ xs
+    append_nil [] = refl
+    append_nil (x ∷ xs) = ap (λ ys. x ∷ ys) (append_nil xs)
+
+pub putting_stop : (old now new : Option Objects) (all left : List Stored) → IsPutting old all left now → new ≡ now → StoresPart old all new
+putting_stop old now new all left is same = record { part = is.done; front = (left, sym is.split); objects = same ∙ is.objects }
+
+-- ---- all of it
+
+pub left_unsure : (fault : StoreFault) (unsettled still : Bool) (present mid next : LibState) (all : List Stored) (old new : Held) (slot : Slot) → IsTrue (is_free fault)
+    → new.objects ≡ with_all all old.objects → mid ≡ present → slot ≡ old.slot → LeftOpen unsettled mid next slot still new.slot → LeftBehind fault unsettled present next all old still new
+left_unsure fault unsettled still present mid next all old new slot free stored same kept left =
+    unsure free stored (subst (λ (state : LibState). LeftOpen unsettled state next old.slot still new.slot) same (subst (λ (s : Slot). LeftOpen unsettled mid next s still new.slot) kept left))
+
+pub carried_out : (unsettled still : Bool) (present mid next : LibState) (all : List Stored) (old new : Held) (slot : Slot) → new.objects ≡ with_all all old.objects → mid ≡ present → slot ≡ old.slot
+    → InstallsText unsettled mid next slot still new.slot (Ok tt) → IsCarriedOut unsettled present next all old still new
+carried_out unsettled still present mid next all old new slot stored same kept text = record {
+  objects = stored;
+  settles = text.0;
+  text = text.1 ∙ ap (λ state. written next (settled unsettled state slot)) same ∙ ap (λ s. written next (settled unsettled present s)) kept;
+}

@@ -1,0 +1,25 @@
+-- What was put is the commit's text, under a name that isn't forty zeros.
+use Rattle.std.proofs.Common.{◌≡◌, ap, sym, ◌∙◌, refl}
+use Rattle.commit_objects.specs.Commit.{commit_of}
+use Rattle.library_rules.proofs.Members.{same_id-itself}
+use Rattle.ids.specs.ObjectId.{nil}
+use Rattle.object_store.specs.Store.{same_bytes}
+use Rattle.object_store.specs.StoreView.{objects_of}
+use Rattle.object_store.specs.declared.error.StoreFault.TheVariants.{Taken}
+use Rattle.depot.proofs.OpeningLemmas.{commit_stored, commit_found}
+use Rattle.depot.proofs.Told.{ok_not_err}
+use Rattle.depot.proofs.commit_put.put_commit.Goals as goal
+
+pub returns-in-Ok-put-clause-ok : goal.returns-in-Ok-put-clause-ok
+returns-in-Ok-put-clause-ok g c =
+    commit_stored (objects_of g.S.Shelf.contents c.args.store.now) (objects_of g.S.Shelf.contents c.put.new.self) c.args.commit.now c.slice.result.now
+    (c.slice.ensures.value ∙ c.in-Ok.ensures.value) c.in-Ok-put.ensures.ok c.in-Ok-put.ensures.refused
+
+pub returns-in-Ok-put-clause-found : goal.returns-in-Ok-put-clause-found
+returns-in-Ok-put-clause-found g c = λ objects told parents.
+    let named = λ (zeros : c.args.commit.now.id ≡ nil).
+    ok_not_err c.put.result c.in-Ok-put.field-0 (Taken c.args.commit.now.id) c.in-Ok-put.is
+    (c.put.ensures.taken refl (ap (same_bytes c.args.commit.now.id) (sym zeros) ∙ same_id-itself c.args.commit.now.id)) in
+    commit_found (objects_of g.S.Shelf.contents c.args.store.now) (objects_of g.S.Shelf.contents c.put.new.self) c.args.commit.now c.slice.result.now
+    (ap commit_of c.slice.ensures.value ∙ c.in-Ok.ensures.reads_back (record { id = named; parent = parents.parent; second_parent = parents.second_parent }))
+    c.in-Ok-put.ensures.ok objects told

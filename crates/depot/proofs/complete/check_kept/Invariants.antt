@@ -1,0 +1,15 @@
+-- The commits of the head updates so far are complete.
+use Rattle.std.proofs.Common.{◌≡◌, drop, Some}
+use Rattle.ids.specs.Key.{Objects}
+use Rattle.library_rules.specs.LibraryState.{kept_commits}
+use Rattle.object_store.specs.StoreView.{Keeps, objects_of}
+use Rattle.depot.specs.Reopening.{first_incomplete}
+use Rattle.depot.proofs.complete.check_kept.Given as goal
+
+abbrev pub invariant-loop-install : goal.invariant-loop-install
+invariant-loop-install g l = record {
+  keeps : Keeps g.S.Shelf.contents l.initial.store l.store;
+  count : g.S.Shelf.faults l.store.shelf ≡ g.S.Shelf.faults l.initial.store.shelf;
+  left : (objects : Objects) → objects_of g.S.Shelf.contents l.initial.store ≡ Some objects
+      → first_incomplete objects (kept_commits l.kept) ≡ first_incomplete objects (kept_commits (drop l.install-index l.kept));
+}

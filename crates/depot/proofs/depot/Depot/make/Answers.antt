@@ -1,0 +1,13 @@
+-- A new library is good.
+use Rattle.depot.proofs.OpeningLemmas.{good_made}
+use Rattle.depot.proofs.depot.Depot.make.Goals as goal
+
+pub invariant_of-result : goal.invariant_of-result
+invariant_of-result g c =
+    good_made g.S.Shelf.contents g.S.Shelf.faults c.args.store c.create.new.store c.args.lib c.args.name.now c.args.user.now c.args.secret c.args.moment
+    c.in-Ok.state c.in-Ok.ensures.value c.requires.fits c.requires.ready.0 c.requires.ready.1
+
+pub returns-in-Ok-clause-stands : goal.returns-in-Ok-clause-stands
+returns-in-Ok-clause-stands g c =
+    good_made g.S.Shelf.contents g.S.Shelf.faults c.args.store c.create.new.store c.args.lib c.args.name.now c.args.user.now c.args.secret c.args.moment
+    c.in-Ok.state c.in-Ok.ensures.value c.requires.fits c.requires.ready.0 c.requires.ready.1

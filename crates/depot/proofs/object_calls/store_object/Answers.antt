@@ -1,0 +1,18 @@
+-- What the store refuses is due, or a fault.
+use Rattle.std.proofs.Common.{◌∙◌, sym, subst}
+use Rattle.library_state.specs.declared.refusal.Refusal.{Refusal}
+use Rattle.library_state.specs.declared.reply.Reply.TheVariants as reply
+use Rattle.object_store.specs.StoreView.{objects_of}
+use Rattle.depot.specs.ObjectCalls.{DoneSo, IsToldDamage, store_due}
+use Rattle.depot.proofs.ObjectCallLemmas.{put_damage, put_refused}
+use Rattle.depot.proofs.object_calls.store_object.Goals as goal
+
+pub returns-in-Err-clause-value : goal.returns-in-Err-clause-value
+returns-in-Err-clause-value g c = λ s told.
+    subst (λ (why : Refusal). DoneSo s.objects (store_due s c.args.key.now c.args.bytes.now) (reply.Refused why) (objects_of g.S.Shelf.contents c.put.new.self)) (sym c.store_refusal.ensures.value)
+    (put_refused s c.args.key.now c.args.bytes.now c.in-Err.fault (objects_of g.S.Shelf.contents c.put.new.self) (c.in-Err.ensures.refused s.objects told) (c.in-Err.ensures.err ∙ told))
+
+pub returns-in-Err-clause-damage : goal.returns-in-Err-clause-damage
+returns-in-Err-clause-damage g c = λ objects told.
+    subst (λ (why : Refusal). IsToldDamage objects (reply.Refused why)) (sym c.store_refusal.ensures.value)
+    (put_damage objects c.args.key.now c.args.bytes.now c.in-Err.fault (c.in-Err.ensures.refused objects told))

@@ -1,0 +1,15 @@
+-- The state that was read is proper, its commits are complete, and it can be opened once more.
+use Rattle.std.proofs.Common.{◌∙◌, sym}
+use Rattle.depot.proofs.ReopeningLemmas.{left_unopened, opened_over, same_status}
+use Rattle.depot.proofs.reopening.open.Goals as goal
+
+pub returns-in-Ok-write_text-clause-sound : goal.returns-in-Ok-write_text-clause-sound
+returns-in-Ok-write_text-clause-sound g c = λ objects count told.
+    opened_over c.in-Ok.state objects count c.in-Ok.ensures.proper c.in-Ok-check_state.ensures.ok
+    (c.in-Ok-check_state.ensures.refused objects (sym c.in-Ok-check_state.ensures.kept.objects ∙ sym c.in-Ok-write_text.ensures.kept ∙ told))
+
+pub returns-in-Err-write_text-clause-err : goal.returns-in-Err-write_text-clause-err
+returns-in-Err-write_text-clause-err g c =
+    left_unopened g.S.Shelf.contents c.args.store.now c.check_state.new.store c.write_text.new.store c.in-Ok.state c.in-Err-write_text.fault c.in-Ok.ensures.value
+    (same_status g.S.Shelf.contents c.args.store.now c.read_state.new.store c.check_state.new.store c.in-Ok.ensures.kept c.in-Ok-check_state.ensures.kept)
+    c.in-Err-write_text.ensures.value

@@ -1,0 +1,65 @@
+-- The merge of the three trees, planned or refused.
+use Rattle.std.proofs.Common.{◌∙◌, ◌≡◌, ap, sym, subst}
+use Rattle.library_rules.specs.LibraryState.{head_of}
+use Rattle.depot.specs.DepotView.{library}
+use Rattle.depot.specs.ObjectCalls.{IsToldDamageOf}
+use Rattle.depot.specs.UpdateBase.{walk_refusal}
+use Rattle.depot.specs.UpdateMerge.{AreComplete, HasRoots, merge_refusal}
+use Rattle.depot.specs.UpdatePlan.{MergeRefuses}
+use Rattle.depot.proofs.UpdateBaseLemmas.{none_due, told_damage, told_merge}
+use Rattle.depot.proofs.UpdateMergeLemmas.{at_head, merge_damage, merge_refuses, merges_so, roots_at, roots_whole}
+use Rattle.depot.proofs.update_merge.plan_merge.Goals as goal
+
+pub returns-in-Err-clause-value : goal.returns-in-Err-clause-value
+returns-in-Err-clause-value g c = λ objects count told.
+    let head : c.head_of-head.result ≡ head_of c.args.state.now.kept = c.head_of-head.ensures.value ∙ ap head_of c.slice.ensures.value in
+    subst (MergeRefuses (library c.args.state.now count objects) c.args.moment c.args.user.now c.args.base c.args.pushed) (sym c.walk_refusal.ensures.value)
+    (told_merge (library c.args.state.now count objects) c.args.moment c.args.user.now c.args.base c.args.pushed (walk_refusal c.in-Err.fault)
+    (none_due objects c.in-Err.fault (c.in-Err.ensures.value objects told
+    (at_head objects c.args.base c.head_of-head.result (head_of c.args.state.now.kept) c.args.pushed head (c.requires.complete objects told)))))
+
+pub returns-in-Err-clause-damage : goal.returns-in-Err-clause-damage
+returns-in-Err-clause-damage g c = λ objects told.
+    let head : c.head_of-head.result ≡ head_of c.args.state.now.kept = c.head_of-head.ensures.value ∙ ap head_of c.slice.ensures.value in
+    subst (IsToldDamageOf objects) (sym c.walk_refusal.ensures.value)
+    (told_damage objects (walk_refusal c.in-Err.fault)
+    (none_due objects c.in-Err.fault (c.in-Err.ensures.value objects told
+    (at_head objects c.args.base c.head_of-head.result (head_of c.args.state.now.kept) c.args.pushed head (c.requires.complete objects told)))))
+
+pub merge-requires : goal.merge-requires
+merge-requires g c = record {
+  whole = λ objects told.
+      let head : c.head_of-head.result ≡ head_of c.args.state.now.kept = c.head_of-head.ensures.value ∙ ap head_of c.slice.ensures.value in
+      let before = sym c.in-Ok.ensures.kept.kept.objects ∙ told in
+      let complete = c.requires.complete objects before in
+      roots_whole objects c.args.base (head_of c.args.state.now.kept) c.args.pushed c.in-Ok.roots complete
+      (roots_at objects c.args.base c.head_of-head.result (head_of c.args.state.now.kept) c.args.pushed c.in-Ok.roots head complete (c.in-Ok.ensures.value objects before));
+}
+
+pub returns-in-Err-merge-clause-value : goal.returns-in-Err-merge-clause-value
+returns-in-Err-merge-clause-value g c = λ objects count told.
+    let head : c.head_of-head.result ≡ head_of c.args.state.now.kept = c.head_of-head.ensures.value ∙ ap head_of c.slice.ensures.value in
+    let complete = c.requires.complete objects told in
+    subst (MergeRefuses (library c.args.state.now count objects) c.args.moment c.args.user.now c.args.base c.args.pushed) (sym c.merge_refusal.ensures.value)
+    (merge_refuses c.args.state.now count objects c.args.moment c.args.user.now c.args.base c.args.pushed c.in-Ok.roots complete
+    (roots_at objects c.args.base c.head_of-head.result (head_of c.args.state.now.kept) c.args.pushed c.in-Ok.roots head complete (c.in-Ok.ensures.value objects told))
+    c.in-Err-merge.fault (c.in-Err-merge.ensures.value objects (c.in-Ok.ensures.kept.kept.objects ∙ told)))
+
+pub returns-in-Err-merge-clause-damage : goal.returns-in-Err-merge-clause-damage
+returns-in-Err-merge-clause-damage g c = λ objects told.
+    let head : c.head_of-head.result ≡ head_of c.args.state.now.kept = c.head_of-head.ensures.value ∙ ap head_of c.slice.ensures.value in
+    let complete = c.requires.complete objects told in
+    subst (IsToldDamageOf objects) (sym c.merge_refusal.ensures.value)
+    (merge_damage c.args.state.now 0 objects c.args.moment c.args.user.now c.args.base c.args.pushed c.in-Ok.roots complete
+    (roots_at objects c.args.base c.head_of-head.result (head_of c.args.state.now.kept) c.args.pushed c.in-Ok.roots head complete (c.in-Ok.ensures.value objects told))
+    c.in-Err-merge.fault (c.in-Err-merge.ensures.value objects (c.in-Ok.ensures.kept.kept.objects ∙ told)))
+
+pub returns-clause-value : goal.returns-clause-value
+returns-clause-value g c = λ objects count told.
+    let head : c.head_of-head.result ≡ head_of c.args.state.now.kept = c.head_of-head.ensures.value ∙ ap head_of c.slice.ensures.value in
+    let complete = c.requires.complete objects told in
+    let mid = c.in-Ok.ensures.kept.kept.objects ∙ told in
+    merges_so c.args.state.now count objects c.args.moment c.args.user.now c.args.base c.args.pushed c.in-Ok.roots complete
+    (roots_at objects c.args.base c.head_of-head.result (head_of c.args.state.now.kept) c.args.pushed c.in-Ok.roots head complete (c.in-Ok.ensures.value objects told))
+    c.in-Ok-merge.merged (c.in-Ok-merge.ensures.value objects mid) c.in-Ok-merge.ensures.made c.plan_merged.result
+    (c.plan_merged.ensures.value objects count (c.in-Ok-merge.ensures.kept.kept.objects ∙ mid))

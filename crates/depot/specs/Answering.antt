@@ -1,0 +1,227 @@
+-- What a library that is kept answers, and what a call leaves of it. Our own. Read AnswersSo, then decided and MayAnswer,
+-- then state_after and SlotSo.
+use Rattle.std.specs.Prelude.{◌≡◌, ◌≢◌, ◌⊎◌, ℕ, nat_lt, Bool, true, false, if◌then◌else◌, List, [], ◌∷◌, ◌++◌, Option, None, Some, option_map, IsTrue, ⊤}
+use Rattle.std.specs.Bool.{then_some}
+use Rattle.ids.specs.Key.{Objects}
+use Rattle.ids.specs.declared.key.Key.{Key}
+use Rattle.library_rules.specs.Calls.{first_refusal, may, put_refusals, token_of}
+use Rattle.library_rules.specs.Changes.{head_in, is_refused, seen_by}
+use Rattle.library_rules.specs.History.{Permits, StepSo, lone}
+use Rattle.library_rules.specs.LibraryState.{State, head_of, is_kept, is_day_count}
+use Rattle.library_rules.specs.declared.entry.Entry.{Entry}
+use Rattle.library_rules.specs.declared.entry.Step.TheVariants.{Asked}
+use Rattle.library_rules.specs.declared.entry.Stored.{Stored}
+use Rattle.library_state.specs.declared.call.Act.{Act}
+use Rattle.library_state.specs.declared.call.Act.TheVariants as act
+use Rattle.library_state.specs.declared.call.Call.{Call}
+use Rattle.library_state.specs.declared.call.Op.TheVariants as op
+use Rattle.library_state.specs.declared.history.Install.{Install}
+use Rattle.library_state.specs.declared.refusal.Refusal.{Refusal}
+use Rattle.library_state.specs.declared.refusal.Refusal.TheVariants as refusal
+use Rattle.library_state.specs.declared.reply.Reply.{Reply}
+use Rattle.library_state.specs.declared.reply.Reply.TheVariants as reply
+use Rattle.library_state.specs.declared.state.LibState.{LibState}
+use Rattle.library_state.specs.declared.token.Token.{Token}
+use Rattle.object_graph.specs.Objects.{commit_key, is_nil}
+use Rattle.object_store.specs.Shelf.{Contents}
+use Rattle.object_store.specs.Store.{GivesOther, IsDamage, IsWhole}
+use Rattle.object_store.specs.StoreView.{objects_of, status_of}
+use Rattle.object_store.specs.declared.shelf.Slot.{Slot as ShelfSlot}
+use Rattle.object_store.specs.declared.shelf.Slot.TheVariants.{Object}
+use Rattle.depot.specs.DepotView.{DepotView, state_of}
+use Rattle.depot.specs.ObjectCalls.{Counts, IsToldDamage, own_name}
+use Rattle.depot.specs.Writing.{Slot, LeftOpen, settled, written}
+
+-- the answer is permitted, and what is left is what it leaves: the same state, or the one after an entry of the history
+pub record AnswersSo (s : State) (call : Call) (moment : ℕ) (r : Reply) (after : Option State) : Type 0 where
+  pub state : State
+  pub changes : List Entry
+  pub left : after ≡ Some state
+  pub step : StepSo s (Asked call) moment r state changes
+
+-- whether a token may do this
+abbrev pub permits : Option Token → Act → Bool
+permits None a = false
+permits (Some token) a = may token a
+
+-- ---- over any shelf: what the state alone decides
+
+-- an update of a kept commit, and one whose upload was checked before the last collection began
+abbrev pub update_decided : LibState → Token → List ℕ → Option Reply
+update_decided state token pushed =
+    if is_kept state.kept pushed then Some (reply.Updated (head_of state.kept))
+    else if nat_lt token.last state.collection then Some (reply.Refused (refusal.Stale token.last state.collection))
+    else None
+
+-- a put is refused for its bytes, or since its id has forty zeros
+abbrev pub put_decided : List ℕ → Key → List ℕ → Option Reply
+put_decided lib key bytes = option_map reply.Refused (first_refusal (put_refusals lib key.kind key bytes ++ then_some (is_nil key.id) (refusal.Taken key.id) ∷ []))
+
+-- a put of which only the name and what is stored are still to be looked at
+abbrev pub store_decided : Key → List ℕ → Option Reply
+store_decided key bytes = option_map reply.Refused (first_refusal (own_name key bytes ∷ then_some (is_nil key.id) (refusal.Taken key.id) ∷ []))
+
+-- a list of a commit that isn't kept
+abbrev pub ids_decided : List Install → List ℕ → Option Reply
+ids_decided kept server = if is_kept kept server then None else Some (reply.Refused (refusal.NoObject (commit_key server)))
+
+-- the answer to an act of one whose right is enough, or none where the objects decide
+abbrev pub act_decided : LibState → Token → Act → Option Reply
+act_decided state token (act.Check o) = Some reply.Checked
+act_decided state token act.Head = Some (reply.HeadIs (head_of state.kept))
+act_decided state token (act.Get key) = None
+act_decided state token (act.Put key bytes) = put_decided state.lib key bytes
+act_decided state token (act.Missing k ids) = None
+act_decided state token (act.Update commit) = update_decided state token commit
+act_decided state token (act.Limit days) = Some (if is_day_count days then reply.Limited else reply.Refused (refusal.BadDays days))
+act_decided state token (act.Ids server client) = ids_decided state.kept server
+
+abbrev pub token_decided : LibState → Act → Option Token → Option Reply
+token_decided state a None = Some (reply.Refused refusal.Denied)
+token_decided state a (Some token) = if may token a then act_decided state token a else Some (reply.Refused refusal.Denied)
+
+-- the answer to a call that the state alone decides
+abbrev pub decided : LibState → Call → Option Reply
+decided state call = token_decided state call.act (token_of state.tokens call.secret)
+
+-- ---- over any shelf: which answers may come, and the cause of each fault
+
+-- a failure of the shelf, and want of memory
+abbrev pub is_free_refusal : Refusal → Bool
+is_free_refusal refusal.Store = true
+is_free_refusal refusal.NoMemory = true
+is_free_refusal other = false
+
+abbrev pub is_free_reply : Reply → Bool
+is_free_reply (reply.Refused why) = is_free_refusal why
+is_free_reply other = false
+
+-- a fault in the place of an answer: damage comes only where the shelf may give such bytes, which have another name, or none
+abbrev pub MayFail : (ShelfSlot → Option (List ℕ) → Type 0) → Refusal → Type 0
+MayFail may_give refusal.Store = ⊤
+MayFail may_give refusal.NoMemory = ⊤
+MayFail may_give (refusal.Damaged want got) = (got ≢ Some want) × (key : Key) × IsDamage may_give key want got
+MayFail may_give other = ⊥
+
+-- bytes that are given are under their own name
+abbrev pub MayRefuseGet : (ShelfSlot → Option (List ℕ) → Type 0) → Key → Refusal → Type 0
+MayRefuseGet may_give key (refusal.NoObject other) = other ≡ key
+MayRefuseGet may_give key why = MayFail may_give why
+
+abbrev pub MayGet : (ShelfSlot → Option (List ℕ) → Type 0) → Key → Reply → Type 0
+MayGet may_give key (reply.Got bytes) = IsWhole may_give key (Some bytes)
+MayGet may_give key (reply.Refused why) = MayRefuseGet may_give key why
+MayGet may_give key other = ⊥
+
+-- the key is taken where the shelf may give other bytes
+abbrev pub MayRefusePut : (ShelfSlot → Option (List ℕ) → Type 0) → Key → List ℕ → Refusal → Type 0
+MayRefusePut may_give key bytes (refusal.Taken id) = (id ≡ key.id) × GivesOther may_give key bytes
+MayRefusePut may_give key bytes why = MayFail may_give why
+
+abbrev pub MayPut : (ShelfSlot → Option (List ℕ) → Type 0) → Key → List ℕ → Reply → Type 0
+MayPut may_give key bytes (reply.Stored true) = ⊤
+MayPut may_give key bytes (reply.Stored false) = may_give (Object key) (Some bytes)
+MayPut may_give key bytes (reply.Refused why) = MayRefusePut may_give key bytes why
+MayPut may_give key bytes other = ⊥
+
+abbrev pub MayTell : (ShelfSlot → Option (List ℕ) → Type 0) → Reply → Type 0
+MayTell may_give (reply.Absent ids) = ⊤
+MayTell may_give (reply.Refused why) = MayFail may_give why
+MayTell may_give other = ⊥
+
+-- the first thing that is wrong with stored objects
+abbrev pub MayRefuseTree : (ShelfSlot → Option (List ℕ) → Type 0) → Refusal → Type 0
+MayRefuseTree may_give (refusal.Incomplete key) = ⊤
+MayRefuseTree may_give (refusal.Unreadable key) = ⊤
+MayRefuseTree may_give (refusal.WrongKind id) = ⊤
+MayRefuseTree may_give (refusal.WrongSize id) = ⊤
+MayRefuseTree may_give (refusal.TooDeep path) = ⊤
+MayRefuseTree may_give (refusal.TooMany paths) = ⊤
+MayRefuseTree may_give why = MayFail may_give why
+
+abbrev pub MayList : (ShelfSlot → Option (List ℕ) → Type 0) → Reply → Type 0
+MayList may_give (reply.Listed ids) = ⊤
+MayList may_give (reply.Refused why) = MayRefuseTree may_give why
+MayList may_give other = ⊥
+
+-- the same, and what the search for the merge base and the merge refuse
+abbrev pub MayRefuseUpdate : (ShelfSlot → Option (List ℕ) → Type 0) → Refusal → Type 0
+MayRefuseUpdate may_give (refusal.Unrelated steps) = ⊤
+MayRefuseUpdate may_give (refusal.TooLong path size) = ⊤
+MayRefuseUpdate may_give (refusal.Taken id) = ⊤
+MayRefuseUpdate may_give why = MayRefuseTree may_give why
+
+abbrev pub MayUpdate : (ShelfSlot → Option (List ℕ) → Type 0) → Reply → Type 0
+MayUpdate may_give (reply.Updated id) = ⊤
+MayUpdate may_give (reply.Refused why) = MayRefuseUpdate may_give why
+MayUpdate may_give other = ⊥
+
+-- the answer to an act that the objects decide
+abbrev pub MayDo : (ShelfSlot → Option (List ℕ) → Type 0) → Act → Reply → Type 0
+MayDo may_give (act.Check o) r = ⊥
+MayDo may_give act.Head r = ⊥
+MayDo may_give (act.Get key) r = MayGet may_give key r
+MayDo may_give (act.Put key bytes) r = MayPut may_give key bytes r
+MayDo may_give (act.Missing k ids) r = MayTell may_give r
+MayDo may_give (act.Update commit) r = MayUpdate may_give r
+MayDo may_give (act.Limit days) r = ⊥
+MayDo may_give (act.Ids server client) r = MayList may_give r
+
+-- the answer is the one that the state decides, unless the shelf or memory failed; or one that the act may have
+abbrev pub MayAnswer : (ShelfSlot → Option (List ℕ) → Type 0) → Act → Option Reply → Reply → Type 0
+MayAnswer may_give a (Some said) r = (r ≡ said) ⊎ IsTrue (is_free_reply r)
+MayAnswer may_give a None r = MayDo may_give a r
+
+-- ---- the state text
+
+-- the state with one head update more
+abbrev pub with_install : (head pushed : List ℕ) → ℕ → LibState → LibState
+with_install head pushed moment state = record state { kept = state.kept ++ record { head = head; pushed = pushed; at = moment } ∷ [] }
+
+-- what an act changes that is answered so
+abbrev pub next_by : LibState → Option (List ℕ) → ℕ → Act → Reply → LibState
+next_by state secret moment (act.Check op.Upload) r = record state { tokens = seen_by secret state.collection state.tokens }
+next_by state secret moment (act.Check op.Download) r = state
+next_by state secret moment act.Head r = state
+next_by state secret moment (act.Get key) r = state
+next_by state secret moment (act.Put key bytes) r = state
+next_by state secret moment (act.Missing k ids) r = state
+next_by state secret moment (act.Update pushed) r = if is_kept state.kept pushed then state else with_install (head_in r pushed) pushed moment state
+next_by state secret moment (act.Limit days) r = record state { days = days }
+next_by state secret moment (act.Ids server client) r = state
+
+abbrev pub next_state : LibState → Call → ℕ → Reply → LibState
+next_state state call moment r = next_by state call.secret moment call.act r
+
+-- the state after an answer: a refusal leaves it as it was
+abbrev pub state_after : LibState → Call → ℕ → Reply → LibState
+state_after state call moment r = if is_refused r then state else next_state state call moment r
+
+-- a call may be answered so, with these objects more
+abbrev pub MayAnswerSo : State → Call → ℕ → Reply → Type 0
+MayAnswerSo s call moment said = (added : List Stored) × Permits s (record (lone s (Asked call) moment said) { added = added })
+
+-- what the slot holds after an answer: nothing was written; or the text of the state that is left, after the present one
+-- where that was open; or, after a failure of the shelf or want of memory, it is open whether the present text stands or
+-- that of the state that the call would have made by an answer that it could have
+pub data SlotSo (would : Reply → Type 0) (call : Call) (moment : ℕ) (r : Reply) (unsettled : Bool) (present : LibState) (old : Slot) (still : Bool) (after : LibState) (new : Slot) : Type 0 where
+  unwritten : after ≡ present → still ≡ unsettled → new ≡ old → SlotSo would call moment r unsettled present old still after new
+  rewritten : is_refused r ≡ false → still ≡ false → new ≡ written after (settled unsettled present old) → SlotSo would call moment r unsettled present old still after new
+  refused : is_free_reply r ≡ true → (said : Reply) → is_refused said ≡ false → would said → LeftOpen unsettled present (next_state present call moment said) old still new
+      → SlotSo would call moment r unsettled present old still after new
+
+-- an answer that a library which is told could give
+abbrev pub Would : {S : Type 0} → (S → Option Contents) → (S → ℕ) → DepotView S → Call → ℕ → Reply → Type 0
+Would contents faults old call moment said = (s : State) → state_of contents faults old ≡ Some s → MayAnswerSo s call moment said
+
+-- ---- all of it
+
+-- what a call answers and leaves
+pub record Serves {S : Type 0} (contents : S → Option Contents) (may_give : S → ShelfSlot → Option (List ℕ) → Type 0) (faults : S → ℕ) (old : DepotView S)
+    (call : Call) (moment : ℕ) (r : Reply) (new : DepotView S) : Type 0 where
+  pub told : (s : State) → state_of contents faults old ≡ Some s → AnswersSo s call moment r (state_of contents faults new)
+  pub may_come : MayAnswer (may_give new.store.shelf) call.act (decided old.state call) r
+  pub damage : (objects : Objects) → objects_of contents old.store ≡ Some objects → IsToldDamage objects r
+  pub count : Counts (faults old.store.shelf) (faults new.store.shelf) r
+  pub left : new.state ≡ state_after old.state call moment r
+  pub slot : SlotSo (Would contents faults old call moment) call moment r old.unsettled old.state (status_of contents old.store) new.unsettled new.state (status_of contents new.store)

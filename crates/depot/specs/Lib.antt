@@ -1,0 +1,14 @@
+pub mod DepotView
+pub mod Writing
+pub mod Opening
+pub mod Tokens
+pub mod Reopening
+pub mod ObjectCalls
+pub mod Answering
+pub mod Changing
+pub mod Missing
+pub mod UpdateBase
+pub mod UpdatePlan
+pub mod UpdateMerge
+pub mod UpdateInstall
+pub mod Update

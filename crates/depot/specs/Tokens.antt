@@ -1,0 +1,45 @@
+-- Tokens of a library that is kept: when one is refused. Our own. Read token_refusal first.
+use Rattle.std.specs.Prelude.{ℕ, Bool, true, false, nat_le, if◌then◌else◌, List, [], ◌∷◌, ◌++◌, length, Option, None, Some, option_map, Result, Ok, Err, ⊤}
+use Rattle.std.specs.List.{slice_get}
+use Rattle.library_state.specs.Tokens.{is_taken}
+use Rattle.library_state.specs.declared.right.Right.{Right}
+use Rattle.library_state.specs.declared.state.LibState.{LibState}
+use Rattle.library_state.specs.declared.token.Token.{Token}
+use Rattle.object_store.specs.Store.{is_free, is_of_shelf}
+use Rattle.object_store.specs.declared.error.StoreFault.{StoreFault}
+use Rattle.depot.specs.declared.error.TokenFault.{TokenFault}
+use Rattle.depot.specs.declared.error.TokenFault.TheVariants.{SecretTaken, Full, Store}
+
+-- the state with one token more, which saw no collection
+abbrev pub with_new_token : (user secret : List ℕ) → Right → LibState → LibState
+with_new_token user secret right state = record state { tokens = state.tokens ++ record { secret = secret; user = user; right = right; last = 0 } ∷ [] }
+
+-- why a token isn't added: another one has its secret, or there are 1,000
+abbrev pub token_refusal : List Token → List ℕ → Option TokenFault
+token_refusal tokens secret =
+    if is_taken tokens secret then Some SecretTaken
+    else if nat_le 1000 (length tokens) then Some Full
+    else None
+
+-- the faults that may come in any other's place: the store's want of memory and its counted failure
+abbrev pub is_token_free : TokenFault → Bool
+is_token_free SecretTaken = false
+is_token_free Full = false
+is_token_free (Store fault) = is_free fault
+
+-- the fault that the shelf counts
+abbrev pub is_token_counted : TokenFault → Bool
+is_token_counted SecretTaken = false
+is_token_counted Full = false
+is_token_counted (Store fault) = is_of_shelf fault
+
+-- what the store answered, if it was asked
+abbrev pub store_answer : Result ⊤ TokenFault → Option (Result ⊤ StoreFault)
+store_answer (Ok done) = Some (Ok done)
+store_answer (Err (Store fault)) = Some (Err fault)
+store_answer (Err SecretTaken) = None
+store_answer (Err Full) = None
+
+-- the secret and the right of the token at a place
+abbrev pub token_shown : List Token → ℕ → Option (List ℕ × Right)
+token_shown tokens place = option_map (λ token. (token.secret, token.right)) (slice_get tokens place)

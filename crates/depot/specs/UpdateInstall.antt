@@ -1,0 +1,76 @@
+-- How an update is carried out: its objects first, the state text last. Our own. Read StoresSo, then CarriesSo.
+use Rattle.std.specs.Prelude.{◌≡◌, ◌++◌, ℕ, Bool, true, false, List, [], ◌∷◌, Option, None, Some, option_map, Result, Ok, Err, IsTrue, ⊤}
+use Rattle.ids.specs.Key.{Objects}
+use Rattle.library_rules.specs.Changes.{put_new, with_added}
+use Rattle.library_rules.specs.declared.entry.Stored.{Stored}
+use Rattle.library_state.specs.declared.state.LibState.{LibState}
+use Rattle.object_store.specs.Shelf.{Contents}
+use Rattle.object_store.specs.Store.{is_free, put_refusal}
+use Rattle.object_store.specs.StoreView.{StoreView, objects_of, status_of}
+use Rattle.object_store.specs.declared.error.StoreFault.{StoreFault}
+use Rattle.object_store.specs.declared.shelf.Slot.{Slot as ShelfSlot}
+use Rattle.depot.specs.Answering.{MayRefuseUpdate}
+use Rattle.depot.specs.ObjectCalls.{store_refusal}
+use Rattle.depot.specs.Writing.{Slot, LeftOpen, settled, written}
+
+-- objects that are put one after another, where the objects are told
+abbrev pub with_all : List Stored → Option Objects → Option Objects
+with_all added known = option_map (λ objects. with_added objects added) known
+
+-- a list begins with these
+abbrev pub IsFront : List Stored → List Stored → Type 0
+IsFront part all = (rest : List Stored) × (all ≡ part ++ rest)
+
+-- the first ones of these were put
+pub record StoresPart (old : Option Objects) (all : List Stored) (new : Option Objects) : Type 0 where
+  pub part : List Stored
+  pub front : IsFront part all
+  pub objects : new ≡ with_all part old
+
+-- all objects are put in their order, or the first ones up to a failure
+abbrev pub StoresSo : Option Objects → List Stored → Option Objects → Result ⊤ StoreFault → Type 0
+StoresSo old all new (Ok done) = new ≡ with_all all old
+StoresSo old all new (Err fault) = StoresPart old all new
+
+-- each object can be put, once those before it are stored
+abbrev pub ArePuttable : Objects → List Stored → Type 0
+ArePuttable objects [] = ⊤
+ArePuttable objects (x ∷ others) = (put_refusal objects x.key x.bytes ≡ None) × ArePuttable (put_new objects x) others
+
+abbrev pub ArePuttableIn : Option Objects → List Stored → Type 0
+ArePuttableIn known added = (objects : Objects) → known ≡ Some objects → ArePuttable objects added
+
+-- over any shelf an update may be refused by such a fault
+abbrev pub IsWriteFault : (ShelfSlot → Option (List ℕ) → Type 0) → StoreFault → Type 0
+IsWriteFault may_give fault = MayRefuseUpdate may_give (store_refusal fault)
+
+-- a text that is written in the place of the present one, after that where it was open
+abbrev pub InstallsText : Bool → LibState → LibState → Slot → Bool → Slot → Result ⊤ StoreFault → Type 0
+InstallsText unsettled present next old still new (Ok done) = (still ≡ false) × (new ≡ written next (settled unsettled present old))
+InstallsText unsettled present next old still new (Err fault) = LeftOpen unsettled present next old still new
+
+-- the objects and the slot, where they are told
+pub record Held : Type 0 where
+  pub objects : Option Objects
+  pub slot : Slot
+
+-- the first ones of the objects were put, and nothing was written; or all of them, and it is open what was written, since
+-- the shelf failed or for want of memory
+pub data LeftBehind (fault : StoreFault) (unsettled : Bool) (present next : LibState) (all : List Stored) (old : Held) (still : Bool) (new : Held) : Type 0 where
+  stopped : StoresPart old.objects all new.objects → still ≡ unsettled → new.slot ≡ old.slot → LeftBehind fault unsettled present next all old still new
+  unsure : IsTrue (is_free fault) → new.objects ≡ with_all all old.objects → LeftOpen unsettled present next old.slot still new.slot
+      → LeftBehind fault unsettled present next all old still new
+
+-- all objects are put, and then the next state's text stands
+pub record IsCarriedOut (unsettled : Bool) (present next : LibState) (all : List Stored) (old : Held) (still : Bool) (new : Held) : Type 0 where
+  pub objects : new.objects ≡ with_all all old.objects
+  pub settles : still ≡ false
+  pub text : new.slot ≡ written next (settled unsettled present old.slot)
+
+abbrev pub CarriesSo : Bool → LibState → LibState → List Stored → Held → Bool → Held → Result ⊤ StoreFault → Type 0
+CarriesSo unsettled present next all old still new (Ok done) = IsCarriedOut unsettled present next all old still new
+CarriesSo unsettled present next all old still new (Err fault) = LeftBehind fault unsettled present next all old still new
+
+-- what a store holds
+abbrev pub held_in : {S : Type 0} → (S → Option Contents) → StoreView S → Held
+held_in contents store = record { objects = objects_of contents store; slot = status_of contents store }

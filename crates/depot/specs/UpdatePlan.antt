@@ -1,0 +1,111 @@
+-- What an update is to do, found by reading alone. Our own. Read objects_in, then PlansSo.
+use Rattle.std.specs.Prelude.{◌≡◌, ◌≢◌, ◌⊎◌, ℕ, true, false, List, [], ◌∷◌, ◌++◌, Option, None, Some, Result, Ok, Err, map as map_list}
+use Rattle.std.specs.FinMap as map
+use Rattle.std.specs.List.{AllByRecursion}
+use Rattle.ids.specs.Key.{Objects}
+use Rattle.ids.specs.declared.key.Key.{Key}
+use Rattle.library_rules.specs.Calls.{Due, Denies, Says, Stores, Installs, Merges}
+use Rattle.library_rules.specs.LibraryState.{State, IsSound, head_of, is_kept}
+use Rattle.library_rules.specs.MergeCommit.{Clashes, Makes, OfTrees, merge_of}
+use Rattle.library_rules.specs.declared.entry.Stored.{Stored}
+use Rattle.library_state.specs.declared.call.Act.TheVariants as act
+use Rattle.library_state.specs.declared.call.Call.{Call}
+use Rattle.library_state.specs.declared.refusal.Refusal.{Refusal}
+use Rattle.library_state.specs.declared.refusal.Refusal.TheVariants as refusal
+use Rattle.library_state.specs.declared.reply.Reply.TheVariants as reply
+use Rattle.library_state.specs.declared.state.LibState.{LibState}
+use Rattle.library_state.specs.declared.token.Token.{Token}
+use Rattle.object_graph.specs.Objects.{commit_key}
+use Rattle.object_store.specs.Shelf.{Contents}
+use Rattle.object_store.specs.Store.{name_refusal}
+use Rattle.object_store.specs.StoreView.{StoreView, objects_of}
+use Rattle.object_store.specs.declared.shelf.Slot.{Slot as ShelfSlot}
+use Rattle.tree_model.specs.ThreeWayMerge as merged
+use Rattle.depot.specs.Answering.{MayAnswer, decided, update_decided}
+use Rattle.depot.specs.DepotView.{library}
+use Rattle.depot.specs.ObjectCalls.{IsToldRefusal}
+use Rattle.depot.specs.declared.update_plan.Plan.{Plan}
+
+-- the objects of a table, in the order of their keys
+abbrev pub listed : List (Key × List ℕ) → List Stored
+listed entries = map_list (λ entry. record { key = entry.0; bytes = entry.1 }) entries
+
+-- the object of a commit that is made here, where its text isn't stored yet
+abbrev pub own_object : List ℕ → Option (List ℕ) → List Stored
+own_object head None = []
+own_object head (Some text) = record { key = commit_key head; bytes = text } ∷ []
+
+-- the objects that a plan stores, in this order: directories, and then the head
+abbrev pub objects_in : Plan → List Stored
+objects_in plan = listed (map.entries plan.dirs) ++ own_object plan.head plan.text
+
+-- the library of a state is sound over what the store holds
+abbrev pub IsSoundIn : {S : Type 0} → (S → Option Contents) → StoreView S → LibState → Type 0
+IsSoundIn contents store state = (objects : Objects) (count : ℕ) → objects_of contents store ≡ Some objects → IsSound (library state count objects)
+
+-- no object of a plan is forbidden by its name
+abbrev pub AreNamed : List Stored → Type 0
+AreNamed added = AllByRecursion (λ x. name_refusal x.key x.bytes ≡ None) added
+
+abbrev pub HasNames : Plan → Type 0
+HasNames plan = AreNamed (objects_in plan)
+
+-- ---- a merge
+
+-- the plan makes the merge
+abbrev pub IsMergePlan : State → ℕ → (user base pushed : List ℕ) → Plan → Type 0
+IsMergePlan s moment user base pushed plan = Makes s moment user base pushed plan.head (objects_in plan)
+
+-- why a merge is refused before anything is stored
+abbrev pub MergeRefuses : State → ℕ → (user base pushed : List ℕ) → Refusal → Type 0
+MergeRefuses s moment user base pushed (refusal.TooLong path size) = OfTrees s base pushed (λ sides. merge_of sides ≡ merged.TooLong path size)
+MergeRefuses s moment user base pushed (refusal.TooMany paths) = OfTrees s base pushed (λ sides. merge_of sides ≡ merged.TooMany paths)
+MergeRefuses s moment user base pushed (refusal.Taken id) = Clashes s moment user base pushed id
+MergeRefuses s moment user base pushed why = IsToldRefusal s.objects why
+
+abbrev pub MergesSo : State → ℕ → (user base pushed : List ℕ) → Result Plan Refusal → Type 0
+MergesSo s moment user base pushed (Ok plan) = IsMergePlan s moment user base pushed plan
+MergesSo s moment user base pushed (Err why) = MergeRefuses s moment user base pushed why
+
+-- ---- all cases
+
+-- a plan does what is due
+abbrev pub IsPlan : State → ℕ → Due → Plan → Type 0
+IsPlan s moment Denies plan = ⊥
+IsPlan s moment (Says r) plan = ⊥
+IsPlan s moment (Stores x) plan = ⊥
+IsPlan s moment (Installs pushed) plan = (plan.head ≡ pushed) × (objects_in plan ≡ [])
+IsPlan s moment (Merges user base pushed) plan = IsMergePlan s moment user base pushed plan
+
+-- a refusal that is due, or a fault of the store
+abbrev pub IsPlanFault : State → ℕ → Due → Refusal → Type 0
+IsPlanFault s moment Denies why = ⊥
+IsPlanFault s moment (Says r) why = (r ≡ reply.Refused why) ⊎ IsToldRefusal s.objects why
+IsPlanFault s moment (Stores x) why = ⊥
+IsPlanFault s moment (Installs pushed) why = IsToldRefusal s.objects why
+IsPlanFault s moment (Merges user base pushed) why = MergeRefuses s moment user base pushed why
+
+-- what is planned where the pushed commit isn't kept and the upload isn't stale
+abbrev pub PlansDue : State → ℕ → Due → Result Plan Refusal → Type 0
+PlansDue s moment due (Ok plan) = IsPlan s moment due plan
+PlansDue s moment due (Err why) = IsPlanFault s moment due why
+
+-- nothing is to do for a commit that is kept; else a plan, or a refusal
+abbrev pub PlansSo : State → ℕ → List ℕ → Due → Result (Option Plan) Refusal → Type 0
+PlansSo s moment pushed due (Ok None) = (is_kept s.kept pushed ≡ true) × (due ≡ Says (reply.Updated (head_of s.kept)))
+PlansSo s moment pushed due (Ok (Some plan)) = (is_kept s.kept pushed ≡ false) × IsPlan s moment due plan
+PlansSo s moment pushed due (Err why) = IsPlanFault s moment due why
+
+-- ---- over any shelf
+
+-- none where the state decides that the head is answered; a plan where it decides nothing; a refusal that the state decides, or one that an update may have
+abbrev pub DecidesSo : LibState → Token → List ℕ → (ShelfSlot → Option (List ℕ) → Type 0) → Result (Option Plan) Refusal → Type 0
+DecidesSo state token pushed may_give (Ok None) = (is_kept state.kept pushed ≡ true) × (update_decided state token pushed ≡ Some (reply.Updated (head_of state.kept)))
+DecidesSo state token pushed may_give (Ok (Some plan)) = (is_kept state.kept pushed ≡ false) × (update_decided state token pushed ≡ None) × HasNames plan
+DecidesSo state token pushed may_give (Err why) = MayAnswer may_give (act.Update pushed) (update_decided state token pushed) (reply.Refused why)
+
+-- the same, of a call
+abbrev pub DecidesCall : LibState → Call → List ℕ → (ShelfSlot → Option (List ℕ) → Type 0) → Result (Option Plan) Refusal → Type 0
+DecidesCall state call pushed may_give (Ok None) = (is_kept state.kept pushed ≡ true) × (decided state call ≡ Some (reply.Updated (head_of state.kept)))
+DecidesCall state call pushed may_give (Ok (Some plan)) = (is_kept state.kept pushed ≡ false) × (decided state call ≡ None) × HasNames plan
+DecidesCall state call pushed may_give (Err why) = MayAnswer may_give (act.Update pushed) (decided state call) (reply.Refused why)

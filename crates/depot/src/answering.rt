@@ -1,0 +1,95 @@
+//! What a library answers to a call.
+ghost use Rattle.std.specs.Prelude.{◌≡◌, Some, true, false, nat_le};
+ghost use Rattle.ids.specs.Key.{Objects};
+ghost use Rattle.library_rules.specs.Calls.{token_of};
+ghost use Rattle.library_rules.specs.LibraryState.{State};
+ghost use Rattle.library_state.specs.Rights.{right_number};
+ghost use Rattle.object_store.specs.StoreView.{objects_of, status_of};
+ghost use Rattle.depot.specs.Answering.{AnswersSo, MayAnswer, Serves, SlotSo, Would, decided, permits, state_after};
+ghost use Rattle.depot.specs.DepotView.{IsGood, state_of};
+ghost use Rattle.depot.specs.ObjectCalls.{Counts, IsToldDamage};
+
+use crate::depot::Depot;
+use crate::update_plan::token_of;
+use library_rules::right_needed;
+use library_state::{Act, Call, Refusal, Reply, Right, Secret, Token};
+use object_store::Shelf;
+
+impl<S: Shelf> Depot<S> {
+    /// Answers a call at a moment, in seconds since 1970-01-01 UTC, as the rules of a library say that it is due.
+    ///
+    /// A refused call leaves the library as it was, but for the count of the shelf's faults; a refused merge may have
+    /// stored some of its objects. Where the shelf failed as the text was written, the slot holds the library's text or
+    /// the one of the state that the call would have made.
+    pub fn answer(&mut self, call: &Call, moment: u64) -> Reply
+        ensures told { (s : State) → state_of S.contents S.faults self.old ≡ Some s
+            → AnswersSo s call.now moment result (state_of S.contents S.faults self.new) }
+        ensures stands { IsGood S.contents S.faults self.new }
+
+        // Of every shelf: what the state decides, and the cause of each fault.
+        ensures denied { permits (token_of self.old.state.tokens call.now.secret) call.now.act ≡ false → result ≡ Reply.Refused Refusal.Denied }
+        ensures cause { MayAnswer (S.may_give self.new.store.shelf) call.now.act (decided self.old.state call.now) result }
+        ensures damaged { (objects : Objects) → objects_of S.contents self.old.store ≡ Some objects → IsToldDamage objects result }
+        ensures faults { Counts (S.faults self.old.store.shelf) (S.faults self.new.store.shelf) result }
+
+        // What is left beside the objects, and what the slot holds.
+        ensures left { self.new.state ≡ state_after self.old.state call.now moment result }
+        ensures kept { self.new.state.lib ≡ self.old.state.lib }
+        ensures text { SlotSo (Would S.contents S.faults self.old call.now moment) call.now moment result self.old.unsettled self.old.state (status_of S.contents self.old.store)
+            self.new.unsettled self.new.state (status_of S.contents self.new.store) }
+    {
+        if is_permitted(self.state.tokens.slice(), &call.secret, &call.act) {
+            let reply = self.answer_permitted(call, moment);
+            let _ = &self.alloc;
+            reply
+        } else {
+            Reply::Refused(Refusal::Denied)
+        }
+    }
+
+    /// Answers a call of one who may ask it.
+    fn answer_permitted(&mut self, call: &Call, moment: u64) -> Reply
+        requires right { permits (token_of self.old.state.tokens call.now.secret) call.now.act ≡ true }
+        ensures value { Serves S.contents S.may_give S.faults self.old call.now moment result self.new }
+    {
+        match &call.act {
+            Act::Check(op) => self.check(call, *op, moment),
+            Act::Head => Reply::HeadIs(self.head()),
+            Act::Get(key) => self.get(call, key, moment),
+            Act::Put(key, bytes) => self.put(call, key, bytes.slice(), moment),
+            Act::Missing(kind, ids) => self.missing(call, *kind, ids.slice(), moment),
+            Act::Update(pushed) => self.update(&call.secret, *pushed, moment),
+            Act::Limit(days) => self.limit(call, *days, moment),
+            Act::Ids(server, client) => self.list(call, server, client, moment),
+        }
+    }
+}
+
+/// Whether the token of the secret gives the right to the act.
+fn is_permitted(tokens: &[Token], secret: &Option<Secret>, act: &Act) -> bool
+    ensures value { result ≡ permits (token_of tokens.now secret.now) act.now }
+{
+    match token_of(tokens, secret) {
+        Some(token) => is_enough(right_needed(act), token.right),
+        None => false,
+    }
+}
+
+/// Whether a right is enough where another is needed: each right has those before it.
+fn is_enough(needed: Right, right: Right) -> bool
+    ensures value { result ≡ nat_le (right_number needed) (right_number right) }
+{
+    match needed {
+        Right::Read => true,
+        Right::Write => match right {
+            Right::Read => false,
+            Right::Write => true,
+            Right::Owner => true,
+        },
+        Right::Owner => match right {
+            Right::Read => false,
+            Right::Write => false,
+            Right::Owner => true,
+        },
+    }
+}

@@ -1,0 +1,69 @@
+//! A library that is kept.
+ghost use Rattle.std.specs.Prelude.{◌≡◌, ◌<◌, ◌≤◌, length, Option, None, Some};
+ghost use Rattle.library_rules.specs.LibraryState.{head_of};
+
+use ids::{LibId, ObjId};
+use library_state::LibState;
+use object_store::{Shelf, Store};
+use std::alloc::Global;
+use std::marker::Model;
+
+/// A library that is kept: its objects in a store, and the rest of its state, of which the shelf's status slot holds the
+/// text. Where the shelf tells its contents, contracts see the state of a library (`state_of`), which is always sound.
+///
+/// Objects are put before the text that names them. A write of the text that fails leaves the depot unsettled: the slot
+/// holds the present state or the one that the refused call would have made, and the present one is written again before
+/// any other text.
+#[derive(Drop)]
+pub struct Depot<S: Shelf> {
+    pub(crate) alloc: Global,
+    pub(crate) store: Store<S>,
+    pub(crate) state: LibState,
+    pub(crate) unsettled: bool,
+}
+
+impl<S: Shelf> Model for Depot<S> {
+    ghost use Rattle.depot.specs.DepotView.{DepotView, IsGood, depot_code};
+
+    ghost Value = { DepotView S };
+
+    ghost coded = { depot_code S.code };
+
+    ghost view = { λ a. record { store = a.store; state = a.state; unsettled = a.unsettled } };
+
+    ghost invariant = { λ a. IsGood S.contents S.faults (record { store = a.store; state = a.state; unsettled = a.unsettled }) };
+}
+
+impl<S: Shelf> Depot<S> {
+    ghost use Rattle.depot.specs.DepotView.{IsGood};
+
+    /// The commit that the library stands at. It takes no memory.
+    pub fn head(&self) -> ObjId
+        ensures value { result ≡ head_of self.now.state.kept }
+    {
+        let kept = self.state.kept.slice();
+        kept[kept.len() - 1].head
+    }
+
+    /// How often the library was opened. It takes no memory.
+    pub fn opening(&self) -> u64
+        ensures value { result ≡ self.now.state.opening }
+    {
+        self.state.opening
+    }
+
+    /// The library's id. It takes no memory.
+    pub fn lib(&self) -> LibId
+        ensures value { result ≡ self.now.state.lib }
+    {
+        self.state.lib
+    }
+
+    /// The store, with the shelf.
+    pub fn close(self) -> Store<S>
+        ensures value { result ≡ self.store }
+        ensures kept { IsGood S.contents S.faults self }
+    {
+        self.store
+    }
+}

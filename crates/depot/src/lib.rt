@@ -1,0 +1,33 @@
+//! One library that is kept: made, opened, asked, and kept on a shelf with the text of its state.
+//!
+//! Shown upward: `Depot` and the faults of its calls. Definitions: `specs/DepotView.antt` (`state_of`, `IsGood`), then
+//! `specs/Answering.antt`, `specs/Opening.antt`, `specs/Reopening.antt`, `specs/Tokens.antt` and `specs/Writing.antt`.
+//! What a call may answer stands in library_rules. It serves no connection and starts no thread.
+#![tactic(auto)]
+
+mod answering;
+mod asking;
+mod checking;
+mod commit_put;
+mod complete;
+mod depot;
+mod error;
+mod history_limit;
+mod listing;
+mod missing;
+mod object_calls;
+mod opening;
+mod reopening;
+mod state_write;
+#[cfg(test)]
+mod tests;
+mod tokens;
+mod update;
+mod update_base;
+mod update_install;
+mod update_made;
+mod update_merge;
+mod update_plan;
+
+pub use crate::depot::Depot;
+pub use crate::error::{MakeFault, StartFault, TokenFault};

@@ -1,0 +1,71 @@
+//! Which ids name nothing that is stored.
+ghost use Rattle.std.specs.Prelude.{◌≡◌, ◌++◌, ◌∷◌, [], ℕ, IfOk, OnOk, Some};
+ghost use Rattle.std.specs.FinMap as map;
+ghost use Rattle.ids.specs.Key.{Objects};
+ghost use Rattle.library_rules.specs.Calls.{absent};
+ghost use Rattle.library_rules.specs.LibraryState.{State};
+ghost use Rattle.object_store.specs.StoreView.{objects_of};
+ghost use Rattle.depot.specs.Answering.{MayTell};
+ghost use Rattle.depot.specs.Missing.{absent_from, is_absent};
+ghost use Rattle.depot.specs.ObjectCalls.{Counts, IsToldDamage, SaysOr};
+
+use ids::{IdList, Key, KeyTable, Kind, ObjId};
+use library_state::{Refusal, Reply};
+use object_store::{Shelf, Store};
+use std::alloc::{AllocError, Global};
+
+/// Tells which ids name nothing that is stored as this kind, in the order asked, each once. Forty zeros are never told.
+pub(crate) fn missing_objects<S: Shelf>(
+    alloc: Global,
+    store: &Store<S>,
+    kind: Kind,
+    ids: &[ObjId],
+) -> Reply
+    ensures value { (s : State) → objects_of S.contents store.now ≡ Some s.objects → SaysOr s.objects (Reply.Absent (absent s kind ids.now)) result }
+    ensures cause { MayTell (S.may_give store.now.shelf) result }
+    ensures damage { (objects : Objects) → IsToldDamage objects result }
+    ensures faults { (count : ℕ) → Counts count count result }
+{
+    match absent_ids(alloc, store, kind, ids) {
+        Ok(found) => Reply::Absent(found),
+        Err(_) => Reply::Refused(Refusal::NoMemory),
+    }
+}
+
+/// The ids that name nothing.
+fn absent_ids<S: Shelf>(
+    alloc: Global,
+    store: &Store<S>,
+    kind: Kind,
+    ids: &[ObjId],
+) -> Result<IdList, AllocError>
+    ensures value { (objects : Objects) → objects_of S.contents store.now ≡ Some objects
+        → IfOk result (λ found. found ≡ absent_from objects kind map.empty ids.now) }
+{
+    let mut met = KeyTable::new(alloc);
+    let mut found = IdList::new(alloc);
+    for id in ids {
+        let key = Key { kind, id: *id };
+        if is_absent(store, &met, &key) {
+            tell(&mut met, &mut found, &key)?;
+        }
+    }
+    Ok(found)
+}
+
+/// Whether a key is told absent.
+fn is_absent<S: Shelf>(store: &Store<S>, met: &KeyTable<()>, key: &Key) -> bool
+    ensures value { (objects : Objects) → objects_of S.contents store.now ≡ Some objects → result ≡ is_absent objects met.now key.now }
+{
+    !key.id.is_nil() && store.has(*key).is_none() && !met.has(key)
+}
+
+/// Tells a key absent.
+fn tell(met: &mut KeyTable<()>, found: &mut IdList, key: &Key) -> Result<(), AllocError>
+    ensures met { OnOk result (met.new ≡ map.insert met.old key.now tt) }
+    ensures found { OnOk result (found.new ≡ found.old ++ key.now.id ∷ []) }
+{
+    met.insert(*key, ())?;
+    found.push(key.id)?;
+    Ok(())
+}

@@ -1,0 +1,153 @@
+//! The calls on objects: to get, to put, and to ask what is missing.
+ghost use Rattle.std.specs.Prelude.{◌≡◌, ◌⊎◌, ◌∷◌, [], ℕ, List, Some, Err};
+ghost use Rattle.std.specs.FinMap as map;
+ghost use Rattle.ids.specs.Key.{Objects};
+ghost use Rattle.ids.specs.declared.key.Kind.TheVariants as kinds;
+ghost use Rattle.library_rules.specs.Calls.{first_refusal, got, not_fs, other_name, put_due};
+ghost use Rattle.library_rules.specs.LibraryState.{State};
+ghost use Rattle.library_state.specs.declared.call.Act.TheVariants as act;
+ghost use Rattle.object_store.specs.StoreView.{Keeps, objects_of, status_of};
+ghost use Rattle.depot.specs.Answering.{MayAnswer, MayGet, put_decided, store_decided};
+ghost use Rattle.depot.specs.ObjectCalls.{Counts, DoneSo, IsToldDamage, SaysOr, store_due, store_refusal};
+ghost use Rattle.depot.specs.Writing.{with_stored};
+
+use commit_objects::Commit;
+use fs_objects::{BadFs, FsObject};
+use ids::{Key, Kind, LibId, ObjId};
+use json_words::ReadFault;
+use library_state::{Refusal, Reply};
+use object_store::{Shelf, Store, StoreFault};
+use std::alloc::Global;
+
+/// The refusal that a fault of the store is.
+pub(crate) fn store_refusal(fault: StoreFault) -> Refusal
+    ensures value { result ≡ store_refusal fault }
+{
+    match fault {
+        StoreFault::Taken(id) => Refusal::Taken(id),
+        StoreFault::Wrong(id) => Refusal::Wrong(id),
+        StoreFault::Damaged { want, got } => Refusal::Damaged { want, got },
+        StoreFault::Shelf => Refusal::Store,
+        StoreFault::NoMemory => Refusal::NoMemory,
+    }
+}
+
+/// What is stored under the key.
+pub(crate) fn get_object<S: Shelf>(store: &mut Store<S>, key: &Key) -> Reply
+    ensures value { (objects : Objects) → objects_of S.contents store.old ≡ Some objects → SaysOr objects (got key.now (map.get objects key.now)) result }
+    ensures kept { Keeps S.contents store.old store.new }
+    ensures cause { MayGet (S.may_give store.new.shelf) key.now result }
+    ensures damage { (objects : Objects) → objects_of S.contents store.old ≡ Some objects → IsToldDamage objects result }
+    ensures faults { Counts (S.faults store.old.shelf) (S.faults store.new.shelf) result }
+{
+    match store.get(*key) {
+        Ok(Some(bytes)) => Reply::Got(bytes),
+        Ok(None) => Reply::Refused(Refusal::NoObject(*key)),
+        Err(fault) => Reply::Refused(store_refusal(fault)),
+    }
+}
+
+/// Stores the bytes under the key, as an object of this library.
+pub(crate) fn put_object<S: Shelf>(
+    alloc: Global,
+    store: &mut Store<S>,
+    lib: &LibId,
+    key: &Key,
+    bytes: &[u8],
+) -> Reply
+    ensures value { (s : State) → objects_of S.contents store.old ≡ Some s.objects → s.lib ≡ lib.now
+        → DoneSo s.objects (put_due s key.now bytes.now) result (objects_of S.contents store.new) }
+    ensures kept { status_of S.contents store.new ≡ status_of S.contents store.old }
+    ensures stored { (objects_of S.contents store.new ≡ objects_of S.contents store.old)
+        ⊎ (objects_of S.contents store.new ≡ with_stored (record { key = key.now; bytes = bytes.now }) (objects_of S.contents store.old)) }
+    ensures cause { MayAnswer (S.may_give store.new.shelf) (act.Put key.now bytes.now) (put_decided lib.now key.now bytes.now) result }
+    ensures damage { (objects : Objects) → objects_of S.contents store.old ≡ Some objects → IsToldDamage objects result }
+    ensures faults { Counts (S.faults store.old.shelf) (S.faults store.new.shelf) result }
+{
+    match key.kind {
+        Kind::Block => store_object(store, key, bytes),
+        Kind::Fs => put_fs(alloc, store, key, bytes),
+        Kind::Commit => put_commit_text(alloc, store, lib, key, bytes),
+    }
+}
+
+/// Stores bytes of which only the name and what is stored there are still to be looked at.
+fn store_object<S: Shelf>(store: &mut Store<S>, key: &Key, bytes: &[u8]) -> Reply
+    ensures value { (s : State) → objects_of S.contents store.old ≡ Some s.objects
+        → DoneSo s.objects (store_due s key.now bytes.now) result (objects_of S.contents store.new) }
+    ensures kept { status_of S.contents store.new ≡ status_of S.contents store.old }
+    ensures stored { (objects_of S.contents store.new ≡ objects_of S.contents store.old)
+        ⊎ (objects_of S.contents store.new ≡ with_stored (record { key = key.now; bytes = bytes.now }) (objects_of S.contents store.old)) }
+    ensures cause { MayAnswer (S.may_give store.new.shelf) (act.Put key.now bytes.now) (store_decided key.now bytes.now) result }
+    ensures damage { (objects : Objects) → objects_of S.contents store.old ≡ Some objects → IsToldDamage objects result }
+    ensures faults { Counts (S.faults store.old.shelf) (S.faults store.new.shelf) result }
+{
+    let new = store.has(*key).is_none();
+    match store.put(*key, bytes) {
+        Ok(_) => Reply::Stored(new),
+        Err(fault) => Reply::Refused(store_refusal(fault)),
+    }
+}
+
+/// Stores a file or directory object.
+fn put_fs<S: Shelf>(alloc: Global, store: &mut Store<S>, key: &Key, bytes: &[u8]) -> Reply
+    requires ready { key.now.kind ≡ kinds.Fs }
+    ensures value { (s : State) → objects_of S.contents store.old ≡ Some s.objects
+        → DoneSo s.objects (put_due s key.now bytes.now) result (objects_of S.contents store.new) }
+    ensures kept { status_of S.contents store.new ≡ status_of S.contents store.old }
+    ensures stored { (objects_of S.contents store.new ≡ objects_of S.contents store.old)
+        ⊎ (objects_of S.contents store.new ≡ with_stored (record { key = key.now; bytes = bytes.now }) (objects_of S.contents store.old)) }
+    ensures cause { (lib : List ℕ) → MayAnswer (S.may_give store.new.shelf) (act.Put key.now bytes.now) (put_decided lib key.now bytes.now) result }
+    ensures damage { (objects : Objects) → objects_of S.contents store.old ≡ Some objects → IsToldDamage objects result }
+    ensures faults { Counts (S.faults store.old.shelf) (S.faults store.new.shelf) result }
+{
+    match FsObject::read(alloc, bytes) {
+        Ok(_) => store_object(store, key, bytes),
+        Err(ReadFault::Bad(bad)) => Reply::Refused(fs_refusal(key, bytes, &bad)),
+        Err(ReadFault::NoMemory) => Reply::Refused(Refusal::NoMemory),
+    }
+}
+
+/// Why bytes that are no file and no directory object are refused: for their name first.
+fn fs_refusal(key: &Key, bytes: &[u8], bad: &BadFs) -> Refusal
+    ensures value { Some result ≡ first_refusal (other_name key.now bytes.now ∷ not_fs (Err bad.now) ∷ []) }
+{
+    let name = ObjId::of(bytes);
+    if name == key.id {
+        Refusal::BadFs(bad.code())
+    } else {
+        Refusal::Wrong(name)
+    }
+}
+
+/// Stores a commit of this library.
+fn put_commit_text<S: Shelf>(
+    alloc: Global,
+    store: &mut Store<S>,
+    lib: &LibId,
+    key: &Key,
+    bytes: &[u8],
+) -> Reply
+    requires ready { key.now.kind ≡ kinds.Commit }
+    ensures value { (s : State) → objects_of S.contents store.old ≡ Some s.objects → s.lib ≡ lib.now
+        → DoneSo s.objects (put_due s key.now bytes.now) result (objects_of S.contents store.new) }
+    ensures kept { status_of S.contents store.new ≡ status_of S.contents store.old }
+    ensures stored { (objects_of S.contents store.new ≡ objects_of S.contents store.old)
+        ⊎ (objects_of S.contents store.new ≡ with_stored (record { key = key.now; bytes = bytes.now }) (objects_of S.contents store.old)) }
+    ensures cause { MayAnswer (S.may_give store.new.shelf) (act.Put key.now bytes.now) (put_decided lib.now key.now bytes.now) result }
+    ensures damage { (objects : Objects) → objects_of S.contents store.old ≡ Some objects → IsToldDamage objects result }
+    ensures faults { Counts (S.faults store.old.shelf) (S.faults store.new.shelf) result }
+{
+    let commit = match Commit::read(alloc, bytes) {
+        Ok(commit) => commit,
+        Err(ReadFault::Bad(bad)) => return Reply::Refused(Refusal::BadCommit(bad.code())),
+        Err(ReadFault::NoMemory) => return Reply::Refused(Refusal::NoMemory),
+    };
+    if commit.id != key.id {
+        return Reply::Refused(Refusal::Wrong(commit.id));
+    }
+    if commit.lib != *lib {
+        return Reply::Refused(Refusal::OtherLibrary(commit.lib));
+    }
+    store_object(store, key, bytes)
+}

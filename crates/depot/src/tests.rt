@@ -1,0 +1,101 @@
+//! Libraries on shelves in memory: each public call once with ample memory, and what a failing shelf leaves.
+mod answer_tests;
+mod update_tests;
+
+use crate::*;
+use ids::{Items, LibId, ObjId, Text};
+use library_state::{Right, Secret};
+use object_store::{MemoryShelf, Store, StoreFault};
+use std::alloc::Global;
+use std::test::Fail;
+
+const LIB: &str = "11111111-2222-4333-8444-555555555555";
+
+/// The opening commit of that library by `me` at moment 7, as another program names it.
+const OPENING: &str = "55cc6bc1017dda39888c7020ca41ea1b19f52ec4";
+
+/// The state text of that library, named `docs`.
+const STATE: &str =
+    "{\"collection\":0,\"days\":-1,\"kept\":[{\"at\":7,\"head\":\"55cc6bc1017dda39888c7020ca41ea1b19f52ec4\",\"pushed\":\"55cc6bc1017dda39888c7020ca41ea1b19f52ec4\"}],\"lib\":\"11111111-2222-4333-8444-555555555555\",\"name\":\"docs\",\"opening\":1,\"tokens\":[{\"last\":0,\"right\":\"own\",\"secret\":\"aaaaaaaaaaaaaaaaaaaaaaaaaaaaaaaaaaaaaaaa\",\"user\":\"me\"}],\"version\":1}";
+
+/// An empty store over a shelf whose calls of these numbers fail. Opening the store takes the calls 0 to 2.
+fn empty(alloc: Global, fails: &[u64]) -> Result<Store<MemoryShelf>, Fail> {
+    let shelf = MemoryShelf::new(alloc, Items::copy(alloc, fails)?);
+    match Store::start(alloc, shelf) {
+        Ok(store) => Ok(store),
+        Err(_) => Err(Fail::from("no store")),
+    }
+}
+
+/// The library of the tests on that store. Making it takes the calls 3 to 5.
+fn made(
+    alloc: Global,
+    store: Store<MemoryShelf>,
+) -> Result<Result<Depot<MemoryShelf>, (Store<MemoryShelf>, MakeFault)>, Fail> {
+    let lib = LibId::read(LIB).ok().ok_or("no id")?;
+    let name = Text::copy(alloc, "docs")?;
+    let user = Text::copy(alloc, "me")?;
+    let secret = Secret::from_bytes([170; 20]);
+    Ok(Depot::make(alloc, store, lib, &name, &user, secret, 7))
+}
+
+fn id(digits: &str) -> Result<ObjId, Fail> {
+    match ObjId::read(digits) {
+        Ok(id) => Ok(id),
+        Err(_) => Err(Fail::from("no id")),
+    }
+}
+
+#[test]
+fn a_new_library_stands_at_its_opening_commit(rt: HostRuntime) -> Result<(), Fail> {
+    let alloc = rt.alloc();
+    let depot = made(alloc, empty(alloc, &[])?)?.ok().ok_or("refused")?;
+    assert!(rt; depot.head() == id(OPENING)?);
+    assert_eq!(rt; depot.opening(), 1);
+    assert_eq!(rt; depot.lib().digits().as_slice(), LIB.as_bytes());
+    assert!(rt; depot.token_at(0) == Some((Secret::from_bytes([170; 20]), Right::Owner)));
+    assert!(rt; depot.token_at(1) == None);
+    let mut store = depot.close();
+    assert_eq!(rt; store.count(), 1);
+    let text = store.noted().ok().ok_or("no text")?.ok_or("empty")?;
+    assert!(rt; text.slice() == STATE.as_bytes());
+    Ok(())
+}
+
+#[test]
+fn a_library_is_made_once(rt: HostRuntime) -> Result<(), Fail> {
+    let alloc = rt.alloc();
+    let depot = made(alloc, empty(alloc, &[])?)?.ok().ok_or("refused")?;
+    let again = made(alloc, depot.close())?;
+    match &again {
+        Err(refused) => assert!(rt; refused.1 == MakeFault::HasState),
+        Ok(_) => return Err(Fail::from("made again")),
+    }
+    Ok(())
+}
+
+#[test]
+fn a_secret_is_given_once(rt: HostRuntime) -> Result<(), Fail> {
+    let alloc = rt.alloc();
+    let mut depot = made(alloc, empty(alloc, &[])?)?.ok().ok_or("refused")?;
+    let user = Text::copy(alloc, "bob@x.org")?;
+    let secret = Secret::from_bytes([187; 20]);
+    assert!(rt; depot.add_token(&user, secret, Right::Write).is_ok());
+    assert!(rt; depot.token_at(1) == Some((secret, Right::Write)));
+    assert!(rt; depot.add_token(&user, secret, Right::Read) == Err(TokenFault::SecretTaken));
+    Ok(())
+}
+
+#[test]
+fn a_token_that_was_not_written_is_added_again(rt: HostRuntime) -> Result<(), Fail> {
+    let alloc = rt.alloc();
+    let mut depot = made(alloc, empty(alloc, &[6])?)?.ok().ok_or("refused")?;
+    let user = Text::copy(alloc, "bob@x.org")?;
+    let secret = Secret::from_bytes([187; 20]);
+    assert!(rt;
+        depot.add_token(&user, secret, Right::Write) == Err(TokenFault::Store(StoreFault::Shelf))
+    );
+    assert!(rt; depot.token_at(1) == None);
+    assert!(rt; depot.add_token(&user, secret, Right::Write).is_ok());
+    Ok(())
+}

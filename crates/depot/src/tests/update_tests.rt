@@ -1,0 +1,112 @@
+//! Commits that are pushed to a library, one after another and two at once.
+use super::{LIB, empty, made};
+use crate::*;
+use commit_objects::Commit;
+use ids::{Key, Kind, LibId, ObjId, Text};
+use library_state::{Act, Call, Refusal, Reply, Secret};
+use object_store::MemoryShelf;
+use std::alloc::Global;
+use std::test::Fail;
+
+/// The library of the tests.
+fn library(alloc: Global) -> Result<Depot<MemoryShelf>, Fail> {
+    match made(alloc, empty(alloc, &[])?)? {
+        Ok(depot) => Ok(depot),
+        Err(_) => Err(Fail::from("refused")),
+    }
+}
+
+/// What its owner is answered at moment 9.
+fn asked(depot: &mut Depot<MemoryShelf>, act: Act) -> Reply {
+    let secret = Some(Secret::from_bytes([170; 20]));
+    depot.answer(&Call { secret, act }, 9)
+}
+
+/// A commit with this root over a parent, made at a moment and put.
+fn put_commit(
+    alloc: Global,
+    depot: &mut Depot<MemoryShelf>,
+    root: ObjId,
+    parent: Option<ObjId>,
+    moment: u64,
+) -> Result<ObjId, Fail> {
+    let lib = LibId::read(LIB).ok().ok_or("no id")?;
+    let user = Text::copy(alloc, "me")?;
+    let commit = Commit::make(alloc, lib, root, parent, None, &user, &user, moment, false)?;
+    let bytes = commit.write(alloc)?;
+    let key = Key {
+        kind: Kind::Commit,
+        id: commit.id,
+    };
+    match asked(depot, Act::Put(key, bytes)) {
+        Reply::Stored(true) => Ok(commit.id),
+        _ => Err(Fail::from("not stored")),
+    }
+}
+
+/// The head that an update answers.
+fn updated(depot: &mut Depot<MemoryShelf>, commit: ObjId) -> Result<ObjId, Fail> {
+    match asked(depot, Act::Update(commit)) {
+        Reply::Updated(head) => Ok(head),
+        _ => Err(Fail::from("not updated")),
+    }
+}
+
+/// Why an update is refused.
+fn refused(depot: &mut Depot<MemoryShelf>, commit: ObjId) -> Result<Refusal, Fail> {
+    match asked(depot, Act::Update(commit)) {
+        Reply::Refused(why) => Ok(why),
+        _ => Err(Fail::from("not refused")),
+    }
+}
+
+#[test]
+fn a_commit_that_is_pushed_over_the_head_is_the_head(rt: HostRuntime) -> Result<(), Fail> {
+    let alloc = rt.alloc();
+    let mut depot = library(alloc)?;
+    let opening = depot.head();
+    let pushed = put_commit(alloc, &mut depot, ObjId::NIL, Some(opening), 8)?;
+    assert!(rt; updated(&mut depot, pushed)? == pushed);
+    assert!(rt; depot.head() == pushed);
+    assert!(rt; updated(&mut depot, opening)? == pushed);
+    Ok(())
+}
+
+#[test]
+fn two_commits_over_one_base_are_merged(rt: HostRuntime) -> Result<(), Fail> {
+    let alloc = rt.alloc();
+    let mut depot = library(alloc)?;
+    let opening = depot.head();
+    let first = put_commit(alloc, &mut depot, ObjId::NIL, Some(opening), 8)?;
+    let second = put_commit(alloc, &mut depot, ObjId::NIL, Some(opening), 9)?;
+    assert!(rt; updated(&mut depot, first)? == first);
+    let head = updated(&mut depot, second)?;
+    assert!(rt; head != first && head != second);
+    assert!(rt; depot.head() == head);
+    assert!(rt; updated(&mut depot, second)? == head);
+    Ok(())
+}
+
+#[test]
+fn an_update_without_its_root_is_incomplete(rt: HostRuntime) -> Result<(), Fail> {
+    let alloc = rt.alloc();
+    let mut depot = library(alloc)?;
+    let opening = depot.head();
+    let pushed = put_commit(alloc, &mut depot, opening, Some(opening), 8)?;
+    let missing = Key {
+        kind: Kind::Fs,
+        id: opening,
+    };
+    assert!(rt; refused(&mut depot, pushed)? == Refusal::Incomplete(missing));
+    assert!(rt; depot.head() == opening);
+    Ok(())
+}
+
+#[test]
+fn a_commit_without_a_parent_is_unrelated(rt: HostRuntime) -> Result<(), Fail> {
+    let alloc = rt.alloc();
+    let mut depot = library(alloc)?;
+    let pushed = put_commit(alloc, &mut depot, ObjId::NIL, None, 8)?;
+    assert!(rt; refused(&mut depot, pushed)? == Refusal::Unrelated(0));
+    Ok(())
+}

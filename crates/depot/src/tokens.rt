@@ -1,0 +1,138 @@
+//! Tokens of a library that is kept.
+ghost use Rattle.std.specs.Prelude.{◌≡◌, ◌≤◌, ◌++◌, ◌∷◌, [], ℕ, List, length, None, Some, IfOk, OnOk, OnErr, IfSome, option_map};
+ghost use Rattle.ids.specs.FaultCount.{FailsBy};
+ghost use Rattle.ids.specs.Outcome.{RefusesAs};
+ghost use Rattle.library_rules.specs.Creation.{with_token};
+ghost use Rattle.library_rules.specs.LibraryState.{State};
+ghost use Rattle.library_state.specs.Tokens.{is_taken};
+ghost use Rattle.library_state.specs.declared.token.Token.{Token};
+ghost use Rattle.object_store.specs.Store.{CountsShelf};
+ghost use Rattle.object_store.specs.StoreView.{objects_of, status_of};
+ghost use Rattle.depot.specs.DepotView.{IsGood, state_of};
+ghost use Rattle.depot.specs.Tokens.{is_token_counted, is_token_free, store_answer, token_refusal, token_shown, with_new_token};
+ghost use Rattle.depot.specs.Writing.{RewritesSo};
+
+use crate::depot::Depot;
+use crate::error::TokenFault;
+use crate::state_write::{settle, write_next};
+use ids::{Items, Text};
+use library_state::{LibState, MAX_TOKENS, Right, Secret, Token};
+use object_store::{Shelf, Store, StoreFault};
+use std::alloc::{AllocError, Global};
+use std::mem;
+
+impl<S: Shelf> Depot<S> {
+    /// Adds a token, which saw no collection. The user's name has 1 to 255 bytes.
+    ///
+    /// After a refusal the library is as it was. Where the shelf failed as the text was written, the slot holds the
+    /// library's text or the one with the token.
+    pub fn add_token(&mut self, user: &Text, secret: Secret, right: Right) -> Result<(), TokenFault>
+        requires fits { (1 ≤ length user.now) × (length user.now ≤ 255) }
+        ensures ok { OnOk result (self.new.state ≡ with_new_token user.now secret right self.old.state) }
+        ensures err { OnErr result (self.new.state ≡ self.old.state) }
+        ensures told { OnOk result ((s : State) → state_of S.contents S.faults self.old ≡ Some s
+            → state_of S.contents S.faults self.new ≡ Some (with_token user.now secret right s)) }
+        ensures kept { objects_of S.contents self.new.store ≡ objects_of S.contents self.old.store }
+        ensures stands { IsGood S.contents S.faults self.new }
+
+        // What the slot holds, where the store was asked.
+        ensures text { IfSome (store_answer result) (RewritesSo self.old.unsettled self.old.state (with_new_token user.now secret right self.old.state)
+            (status_of S.contents self.old.store) self.new.unsettled (status_of S.contents self.new.store)) }
+        ensures untouched { store_answer result ≡ None → self.new ≡ self.old }
+        ensures refused { RefusesAs is_token_free result (token_refusal self.old.state.tokens secret) }
+        ensures faults { FailsBy is_token_counted (S.faults self.old.store.shelf) (S.faults self.new.store.shelf) result }
+    {
+        if has_secret(self.state.tokens.slice(), &secret) {
+            return Err(TokenFault::SecretTaken);
+        }
+        if self.state.tokens.len() >= MAX_TOKENS {
+            return Err(TokenFault::Full);
+        }
+        let token = match new_token(self.alloc, user, secret, right) {
+            Ok(token) => token,
+            Err(_) => return Err(TokenFault::Store(StoreFault::NoMemory)),
+        };
+        match write_token(
+            self.alloc,
+            &mut self.store,
+            &mut self.state,
+            &mut self.unsettled,
+            token,
+        ) {
+            Ok(()) => Ok(()),
+            Err(fault) => Err(TokenFault::Store(fault)),
+        }
+    }
+
+    /// The secret and the right of the token at a place, counted from 0 in the order in which they were added; none past
+    /// the last one. It takes no memory.
+    pub fn token_at(&self, place: u64) -> Option<(Secret, Right)>
+        ensures value { result ≡ token_shown self.now.state.tokens place }
+    {
+        match self.state.tokens.slice().get(place as usize) {
+            Some(token) => Some((token.secret, token.right)),
+            None => None,
+        }
+    }
+}
+
+/// Whether a token has the secret.
+fn has_secret(tokens: &[Token], secret: &Secret) -> bool
+    ensures value { result ≡ is_taken tokens.now secret.now }
+{
+    tokens.iter().any(|token| *secret == token.secret)
+}
+
+/// A token that saw no collection.
+fn new_token(alloc: Global, user: &Text, secret: Secret, right: Right) -> Result<Token, AllocError>
+    ensures value { IfOk result (λ token. token ≡ record { secret = secret; user = user.now; right = right; last = 0 }) }
+{
+    let user = Text::copy(alloc, user.slice())?;
+    Ok(Token {
+        secret,
+        user,
+        right,
+        last: 0,
+    })
+}
+
+/// Adds the token, and writes the text.
+fn write_token<S: Shelf>(
+    alloc: Global,
+    store: &mut Store<S>,
+    state: &mut LibState,
+    unsettled: &mut bool,
+    token: Token,
+) -> Result<(), StoreFault>
+    ensures ok { OnOk result (state.new ≡ record state.old { tokens = state.old.tokens ++ token ∷ [] }) }
+    ensures err { OnErr result (state.new ≡ state.old) }
+    ensures value { RewritesSo unsettled.old state.old (record state.old { tokens = state.old.tokens ++ token ∷ [] })
+        (status_of S.contents store.old) unsettled.new (status_of S.contents store.new) result }
+    ensures kept { objects_of S.contents store.new ≡ objects_of S.contents store.old }
+    ensures faults { CountsShelf (S.faults store.old.shelf) (S.faults store.new.shelf) result }
+{
+    match settle(alloc, store, state, unsettled) {
+        Ok(()) => {}
+        Err(fault) => return Err(fault),
+    }
+    match state.tokens.push(token) {
+        Ok(()) => {}
+        Err(_) => return Err(StoreFault::NoMemory),
+    }
+    match write_next(alloc, store, state, unsettled) {
+        Ok(()) => Ok(()),
+        Err(fault) => {
+            drop_last(alloc, &mut state.tokens);
+            Err(fault)
+        }
+    }
+}
+
+/// Lets the last token go.
+fn drop_last(alloc: Global, tokens: &mut Items<Token>)
+    ensures value { (front : List Token) → (last : Token) → tokens.old ≡ front ++ last ∷ [] → tokens.new ≡ front }
+{
+    let mut inner = mem::replace(tokens, Items::new(alloc)).into_vec();
+    let _ = inner.pop();
+    *tokens = Items::from_vec(inner);
+}

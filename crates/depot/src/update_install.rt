@@ -1,0 +1,219 @@
+//! How an update is carried out: its objects first, the state text last.
+ghost use Rattle.std.specs.Prelude.{◌≡◌, ◌++◌, ◌∷◌, [], IfErr, IfOk, IsTrue, OnErr, OnOk, Some, false};
+ghost use Rattle.std.specs.FinMap as map;
+ghost use Rattle.ids.specs.Key.{Objects};
+ghost use Rattle.library_state.specs.StateSpelling.{text_of};
+ghost use Rattle.library_state.specs.declared.history.Install.{Install};
+ghost use Rattle.library_state.specs.declared.state.LibState.{LibState};
+ghost use Rattle.object_store.specs.Store.{CountsShelf, is_free};
+ghost use Rattle.object_store.specs.StoreView.{objects_of, status_of};
+ghost use Rattle.depot.specs.Answering.{with_install};
+ghost use Rattle.depot.specs.UpdateInstall.{ArePuttableIn, CarriesSo, InstallsText, IsWriteFault, StoresSo, held_in};
+ghost use Rattle.depot.specs.UpdatePlan.{AreNamed, listed, objects_in, own_object};
+ghost use Rattle.depot.specs.Writing.{Writes, leaves_open};
+
+use crate::state_write::settle;
+use crate::update_plan::Plan;
+use ids::{Bytes, Key, KeyTable, Kind, ObjId};
+use library_state::{History, Install, LibState};
+use object_store::{Shelf, Store, StoreFault};
+use std::alloc::{AllocError, Global};
+use std::mem;
+
+/// Stores what the plan makes, and writes the text of the state in which its head is the head.
+///
+/// What the head update needs of memory is taken before the first write. After a fault the state is as it was, and the
+/// first ones of the objects may be stored. Where the shelf failed as the text was written, it is open which text stands.
+pub(crate) fn carry_out<S: Shelf>(
+    alloc: Global,
+    store: &mut Store<S>,
+    state: &mut LibState,
+    unsettled: &mut bool,
+    plan: &Plan,
+    install: Install,
+) -> Result<(), StoreFault>
+    requires named { AreNamed (objects_in plan.now) }
+    requires ready { ArePuttableIn (objects_of S.contents store.old) (objects_in plan.now) }
+    ensures ok { OnOk result (state.new ≡ with_install install.head install.pushed install.at state.old) }
+    ensures err { OnErr result (state.new ≡ state.old) }
+    ensures value { CarriesSo unsettled.old state.old (with_install install.head install.pushed install.at state.old) (objects_in plan.now)
+        (held_in S.contents store.old) unsettled.new (held_in S.contents store.new) result }
+    ensures free { (objects : Objects) → objects_of S.contents store.old ≡ Some objects → IfErr result (λ fault. IsTrue (is_free fault)) }
+    ensures cause { IfErr result (IsWriteFault (S.may_give store.new.shelf)) }
+    ensures faults { CountsShelf (S.faults store.old.shelf) (S.faults store.new.shelf) result }
+{
+    let mut kept = match with_install(alloc, state.kept.slice(), install) {
+        Ok(kept) => kept,
+        Err(_) => return Err(StoreFault::NoMemory),
+    };
+    let text = match text_with(alloc, state, &mut kept) {
+        Ok(text) => text,
+        Err(_) => return Err(StoreFault::NoMemory),
+    };
+    match put_plan(store, plan) {
+        Ok(()) => {}
+        Err(fault) => return Err(fault),
+    }
+    match write_installed(alloc, store, state, unsettled, text.slice()) {
+        Ok(()) => {}
+        Err(fault) => return Err(fault),
+    }
+    state.kept = kept;
+    Ok(())
+}
+
+/// The head updates with one more.
+fn with_install(alloc: Global, kept: &[Install], install: Install) -> Result<History, AllocError>
+    ensures value { IfOk result (λ history. history ≡ kept.now ++ install ∷ []) }
+{
+    let mut history = copied(alloc, kept)?;
+    history.push(install)?;
+    Ok(history)
+}
+
+/// The same head updates.
+fn copied(alloc: Global, kept: &[Install]) -> Result<History, AllocError>
+    ensures value { IfOk result (λ history. history ≡ kept.now) }
+{
+    let mut history = History::new(alloc);
+    for install in kept {
+        history.push(*install)?;
+    }
+    Ok(history)
+}
+
+/// The text of the state with other head updates. The state is as it was, and so are the others.
+fn text_with(alloc: Global, state: &mut LibState, kept: &mut History) -> Result<Bytes, AllocError>
+    ensures state { state.new ≡ state.old }
+    ensures kept { kept.new ≡ kept.old }
+    ensures value { IfOk result (λ text. text ≡ text_of (record state.old { kept = kept.old })) }
+{
+    mem::swap(&mut state.kept, kept);
+    let text = state.write(alloc);
+    mem::swap(&mut state.kept, kept);
+    text
+}
+
+/// Stores what a plan makes.
+fn put_plan<S: Shelf>(store: &mut Store<S>, plan: &Plan) -> Result<(), StoreFault>
+    requires named { AreNamed (objects_in plan.now) }
+    requires ready { ArePuttableIn (objects_of S.contents store.old) (objects_in plan.now) }
+    ensures value { StoresSo (objects_of S.contents store.old) (objects_in plan.now) (objects_of S.contents store.new) result }
+    ensures kept { status_of S.contents store.new ≡ status_of S.contents store.old }
+    ensures free { (objects : Objects) → objects_of S.contents store.old ≡ Some objects → IfErr result (λ fault. IsTrue (is_free fault)) }
+    ensures cause { IfErr result (IsWriteFault (S.may_give store.new.shelf)) }
+    ensures faults { CountsShelf (S.faults store.old.shelf) (S.faults store.new.shelf) result }
+{
+    match put_dirs(store, &plan.dirs) {
+        Ok(()) => {}
+        Err(fault) => return Err(fault),
+    }
+    put_text(store, &plan.head, &plan.text)
+}
+
+/// Stores the objects of a table, in the order of their keys.
+fn put_dirs<S: Shelf>(store: &mut Store<S>, dirs: &KeyTable<Bytes>) -> Result<(), StoreFault>
+    requires named { AreNamed (listed (map.entries dirs.now)) }
+    requires ready { ArePuttableIn (objects_of S.contents store.old) (listed (map.entries dirs.now)) }
+    ensures value { StoresSo (objects_of S.contents store.old) (listed (map.entries dirs.now)) (objects_of S.contents store.new) result }
+    ensures kept { status_of S.contents store.new ≡ status_of S.contents store.old }
+    ensures free { (objects : Objects) → objects_of S.contents store.old ≡ Some objects → IfErr result (λ fault. IsTrue (is_free fault)) }
+    ensures cause { IfErr result (IsWriteFault (S.may_give store.new.shelf)) }
+    ensures faults { CountsShelf (S.faults store.old.shelf) (S.faults store.new.shelf) result }
+{
+    for (key, bytes) in dirs.iter() {
+        match put_one(store, key, bytes) {
+            Ok(()) => {}
+            Err(fault) => return Err(fault),
+        }
+    }
+    Ok(())
+}
+
+/// Stores the text of a commit that is made here, if there is one.
+fn put_text<S: Shelf>(
+    store: &mut Store<S>,
+    head: &ObjId,
+    text: &Option<Bytes>,
+) -> Result<(), StoreFault>
+    requires named { AreNamed (own_object head.now text.now) }
+    requires ready { ArePuttableIn (objects_of S.contents store.old) (own_object head.now text.now) }
+    ensures value { StoresSo (objects_of S.contents store.old) (own_object head.now text.now) (objects_of S.contents store.new) result }
+    ensures kept { status_of S.contents store.new ≡ status_of S.contents store.old }
+    ensures free { (objects : Objects) → objects_of S.contents store.old ≡ Some objects → IfErr result (λ fault. IsTrue (is_free fault)) }
+    ensures cause { IfErr result (IsWriteFault (S.may_give store.new.shelf)) }
+    ensures faults { CountsShelf (S.faults store.old.shelf) (S.faults store.new.shelf) result }
+{
+    match text {
+        Some(text) => put_one(
+            store,
+            &Key {
+                kind: Kind::Commit,
+                id: *head,
+            },
+            text,
+        ),
+        None => Ok(()),
+    }
+}
+
+/// Stores an object that nothing forbids.
+fn put_one<S: Shelf>(store: &mut Store<S>, key: &Key, bytes: &Bytes) -> Result<(), StoreFault>
+    requires named { AreNamed (record { key = key.now; bytes = bytes.now } ∷ []) }
+    requires ready { ArePuttableIn (objects_of S.contents store.old) (record { key = key.now; bytes = bytes.now } ∷ []) }
+    ensures value { StoresSo (objects_of S.contents store.old) (record { key = key.now; bytes = bytes.now } ∷ []) (objects_of S.contents store.new) result }
+    ensures same { OnErr result (objects_of S.contents store.new ≡ objects_of S.contents store.old) }
+    ensures kept { status_of S.contents store.new ≡ status_of S.contents store.old }
+    ensures free { (objects : Objects) → objects_of S.contents store.old ≡ Some objects → IfErr result (λ fault. IsTrue (is_free fault)) }
+    ensures cause { IfErr result (IsWriteFault (S.may_give store.new.shelf)) }
+    ensures faults { CountsShelf (S.faults store.old.shelf) (S.faults store.new.shelf) result }
+{
+    match store.put(*key, bytes.slice()) {
+        Ok(_) => Ok(()),
+        Err(fault) => Err(fault),
+    }
+}
+
+/// Writes a text in the place of the present state's, which is written before where it is open whether it stands.
+fn write_installed<S: Shelf>(
+    alloc: Global,
+    store: &mut Store<S>,
+    state: &LibState,
+    unsettled: &mut bool,
+    text: &[u8],
+) -> Result<(), StoreFault>
+    ensures value { (next : LibState) → text.now ≡ text_of next
+        → InstallsText unsettled.old state.now next (status_of S.contents store.old) unsettled.new (status_of S.contents store.new) result }
+    ensures kept { objects_of S.contents store.new ≡ objects_of S.contents store.old }
+    ensures free { IfErr result (λ fault. IsTrue (is_free fault)) }
+    ensures faults { CountsShelf (S.faults store.old.shelf) (S.faults store.new.shelf) result }
+{
+    match settle(alloc, store, state, unsettled) {
+        Ok(()) => {}
+        Err(fault) => return Err(fault),
+    }
+    note_text(store, unsettled, text)
+}
+
+/// Writes a text in the place of one that stands. Where the shelf fails it is open which of the two stands.
+fn note_text<S: Shelf>(
+    store: &mut Store<S>,
+    unsettled: &mut bool,
+    text: &[u8],
+) -> Result<(), StoreFault>
+    requires ready { unsettled.old ≡ false }
+    ensures value { (next : LibState) → text.now ≡ text_of next → Writes next (status_of S.contents store.old) (status_of S.contents store.new) result }
+    ensures ok { unsettled.new ≡ leaves_open result }
+    ensures kept { objects_of S.contents store.new ≡ objects_of S.contents store.old }
+    ensures free { IfErr result (λ fault. IsTrue (is_free fault)) }
+    ensures faults { CountsShelf (S.faults store.old.shelf) (S.faults store.new.shelf) result }
+{
+    match store.note(text) {
+        Ok(()) => Ok(()),
+        Err(StoreFault::Shelf) => {
+            *unsettled = true;
+            Err(StoreFault::Shelf)
+        }
+        Err(fault) => Err(fault),
+    }
+}

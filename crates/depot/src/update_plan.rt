@@ -1,0 +1,169 @@
+//! What an update is to do, found by reading alone.
+ghost use Rattle.std.specs.Prelude.{◌≡◌, ◌≢◌, ℕ, [], true, IfErr, IfOk, Some, option_copied};
+ghost use Rattle.ids.specs.Key.{Objects};
+ghost use Rattle.library_rules.specs.Calls.{base_due, complete_due, due, token_of, update_due};
+ghost use Rattle.library_rules.specs.LibraryState.{is_kept};
+ghost use Rattle.library_rules.specs.MergeBase.{base_of};
+ghost use Rattle.library_state.specs.declared.call.Act.TheVariants as act;
+ghost use Rattle.library_state.specs.declared.call.Call.{Call};
+ghost use Rattle.object_graph.specs.Traversal.{walk_commit};
+ghost use Rattle.object_store.specs.StoreView.{objects_of};
+ghost use Rattle.depot.specs.Answering.{MayRefuseUpdate, permits};
+ghost use Rattle.depot.specs.DepotView.{library};
+ghost use Rattle.depot.specs.ObjectCalls.{IsToldDamageOf};
+ghost use Rattle.depot.specs.UpdateBase.{ReadsOnly};
+ghost use Rattle.depot.specs.UpdatePlan.{DecidesCall, DecidesSo, HasNames, IsSoundIn, PlansDue, PlansSo};
+
+use crate::update_base::{Found, find_base, is_head, is_kept, walk_refusal};
+use crate::update_merge::plan_merge;
+use ids::{Bytes, KeyTable, ObjId, Text};
+use library_state::{LibState, Refusal, Secret, Token};
+use object_store::{Shelf, Store};
+use std::alloc::Global;
+use tree_walk::needs;
+
+/// What an update that is not refused does.
+#[derive(Drop)]
+pub(crate) struct Plan {
+    /// The commit that becomes the head.
+    pub head: ObjId,
+    /// The directories that are stored before it.
+    pub dirs: KeyTable<Bytes>,
+    /// The head's text, where it is made here and not stored yet.
+    pub text: Option<Bytes>,
+}
+
+/// The plan of an update by the token of a secret, which may write.
+pub(crate) fn plan_of<S: Shelf>(
+    alloc: Global,
+    store: &mut Store<S>,
+    state: &LibState,
+    secret: &Option<Secret>,
+    pushed: ObjId,
+    moment: u64,
+) -> Result<Option<Plan>, Refusal>
+    requires right { permits (token_of state.now.tokens secret.now) (act.Update pushed) ≡ true }
+    requires sound { IsSoundIn S.contents store.old state.now }
+    requires some_kept { state.now.kept ≢ [] }
+    ensures value { (objects : Objects) (count : ℕ) → objects_of S.contents store.old ≡ Some objects
+        → (call : Call) → call.secret ≡ secret.now → call.act ≡ act.Update pushed
+        → PlansSo (library state.now count objects) moment pushed (due (library state.now count objects) call) result }
+    ensures any { (call : Call) → call.secret ≡ secret.now → call.act ≡ act.Update pushed → DecidesCall state.now call pushed (S.may_give store.new.shelf) result }
+    ensures damage { (objects : Objects) → objects_of S.contents store.old ≡ Some objects → IfErr result (IsToldDamageOf objects) }
+    ensures kept { ReadsOnly S.contents S.faults store.old store.new result }
+{
+    let token = match token_of(state.tokens.slice(), secret) {
+        Some(token) => token,
+        None => return Err(Refusal::Denied),
+    };
+    plan_update(alloc, store, state, token, pushed, moment)
+}
+
+/// The token of a secret.
+pub(crate) fn token_of<'a>(tokens: &'a [Token], secret: &Option<Secret>) -> Option<&'a Token>
+    ensures value { option_copied result ≡ token_of tokens.now secret.now }
+{
+    match secret {
+        Some(secret) => tokens.iter().find(|token| *secret == token.secret),
+        None => None,
+    }
+}
+
+/// The plan of an update by a token, and none where the pushed commit is kept already.
+///
+/// Refused, in this order: as stale, where a collection began since the token's last upload check; as the search for the
+/// merge base is; by the first fault of the pushed commit; as the merge is.
+fn plan_update<S: Shelf>(
+    alloc: Global,
+    store: &mut Store<S>,
+    state: &LibState,
+    token: &Token,
+    pushed: ObjId,
+    moment: u64,
+) -> Result<Option<Plan>, Refusal>
+    requires sound { IsSoundIn S.contents store.old state.now }
+    requires some_kept { state.now.kept ≢ [] }
+    ensures value { (objects : Objects) (count : ℕ) → objects_of S.contents store.old ≡ Some objects
+        → PlansSo (library state.now count objects) moment pushed (update_due (library state.now count objects) token.now pushed) result }
+    ensures any { DecidesSo state.now token.now pushed (S.may_give store.new.shelf) result }
+    ensures damage { (objects : Objects) → objects_of S.contents store.old ≡ Some objects → IfErr result (IsToldDamageOf objects) }
+    ensures kept { ReadsOnly S.contents S.faults store.old store.new result }
+{
+    if is_kept(state.kept.slice(), &pushed) {
+        return Ok(None);
+    }
+    if token.last < state.collection {
+        return Err(Refusal::Stale {
+            last: token.last,
+            now: state.collection,
+        });
+    }
+    match plan_unknown(alloc, store, state, &token.user, pushed, moment) {
+        Ok(plan) => Ok(Some(plan)),
+        Err(why) => Err(why),
+    }
+}
+
+/// The plan of an update of a commit that isn't kept.
+fn plan_unknown<S: Shelf>(
+    alloc: Global,
+    store: &mut Store<S>,
+    state: &LibState,
+    user: &Text,
+    pushed: ObjId,
+    moment: u64,
+) -> Result<Plan, Refusal>
+    requires sound { IsSoundIn S.contents store.old state.now }
+    requires some_kept { state.now.kept ≢ [] }
+    ensures value { (objects : Objects) (count : ℕ) → objects_of S.contents store.old ≡ Some objects
+        → PlansDue (library state.now count objects) moment
+        (base_due (library state.now count objects) user.now pushed (base_of (library state.now count objects) pushed)) result }
+    ensures named { IfOk result HasNames }
+    ensures cause { IfErr result (MayRefuseUpdate (S.may_give store.new.shelf)) }
+    ensures damage { (objects : Objects) → objects_of S.contents store.old ≡ Some objects → IfErr result (IsToldDamageOf objects) }
+    ensures kept { ReadsOnly S.contents S.faults store.old store.new result }
+{
+    let found = match find_base(alloc, store, state.kept.slice(), pushed) {
+        Ok(found) => found,
+        Err(fault) => return Err(walk_refusal(fault)),
+    };
+    let base = match found {
+        Found::At(base) => base,
+        Found::Unrelated(steps) => return Err(Refusal::Unrelated(steps)),
+    };
+    plan_based(alloc, store, state, user, base, pushed, moment)
+}
+
+/// The plan of an update over a merge base.
+fn plan_based<S: Shelf>(
+    alloc: Global,
+    store: &mut Store<S>,
+    state: &LibState,
+    user: &Text,
+    base: ObjId,
+    pushed: ObjId,
+    moment: u64,
+) -> Result<Plan, Refusal>
+    requires sound { IsSoundIn S.contents store.old state.now }
+    requires some_kept { state.now.kept ≢ [] }
+    requires based { (objects : Objects) → objects_of S.contents store.old ≡ Some objects → is_kept state.now.kept base ≡ true }
+    ensures value { (objects : Objects) (count : ℕ) → objects_of S.contents store.old ≡ Some objects
+        → PlansDue (library state.now count objects) moment (complete_due (library state.now count objects) user.now base pushed (walk_commit objects pushed).fault) result }
+    ensures named { IfOk result HasNames }
+    ensures cause { IfErr result (MayRefuseUpdate (S.may_give store.new.shelf)) }
+    ensures damage { (objects : Objects) → objects_of S.contents store.old ≡ Some objects → IfErr result (IsToldDamageOf objects) }
+    ensures kept { ReadsOnly S.contents S.faults store.old store.new result }
+{
+    match needs(alloc, store, pushed) {
+        Ok(_) => {}
+        Err(fault) => return Err(walk_refusal(fault)),
+    }
+    if is_head(state.kept.slice(), &base) {
+        return Ok(Plan {
+            head: pushed,
+            dirs: KeyTable::new(alloc),
+            text: None,
+        });
+    }
+    plan_merge(alloc, store, state, user, base, pushed, moment)
+}
