@@ -1,7 +1,7 @@
 -- A request names a call exactly by that call's method and path. The lemmas that callers want are named_by_path and
 -- path_names.
 use Rattle.std.proofs.Common.{◌≡◌, ℕ, ◌<◌, Bool, true, false, cond, Option, None, Some, List, [], ◌∷◌, length, get_or, codes, nat_eq, refl, sym, ◌∙◌, ap, subst, arith, lit<, inl, inr, ◌⊎◌, not, ne_eqb, All}
-use Rattle.std.proofs.lemmas.Bool.{cases_lt, eqb-true, true≢false}
+use Rattle.std.proofs.lemmas.Bool.{cases_lt, eqb-true, false_from_ne_true, true≢false}
 use Rattle.std.proofs.lemmas.List.Sums.{AllPass-from_list_all}
 use Rattle.std.specs.List.{list_all}
 use Rattle.hex.proofs.HexLemmas.{decode_of-encode_lower}
@@ -26,12 +26,12 @@ use Rattle.ids.proofs.DigitsLemmas as digits
 use Rattle.ids.proofs.LibraryText as library
 use Rattle.http_front.specs.IdText.{has_form, id_of, lib_of}
 use Rattle.http_front.specs.KindWord.{kind_word}
-use Rattle.http_front.specs.Route.{IsCall, IsLibrary, IsNamed, IsPathKind, kind_of, library_route, method_in, object_route, parts_in, path_in, path_route, repo_route, route_of, top_route, under, version_route, word_route}
+use Rattle.http_front.specs.Route.{IsCall, IsLibrary, IsNamed, IsPathKind, head_method, head_route, kind_of, library_route, method_in, named_route, object_route, pair_route, parts_in, path_in, path_route, repo_route, route_of, top_route, under, version_route, word_route}
 use Rattle.http_front.specs.Target.{parts, path_of}
 use Rattle.http_front.specs.declared.method.Method.{Method}
 use Rattle.http_front.specs.declared.method.Method.TheVariants as method
 use Rattle.http_front.specs.declared.route.Route.{Route}
-use Rattle.http_front.specs.declared.route.Route.TheVariants.{Version, Get, Put, CheckFs, CheckBlocks, PutFs, GetFs}
+use Rattle.http_front.specs.declared.route.Route.TheVariants.{Version, Check, Head, Update, Get, Put, CheckFs, CheckBlocks, PutFs, GetFs, Ids}
 use Rattle.http_front.proofs.IdLemmas.{IsOf-has_form, has_form-IsOf}
 
 -- ---- what is read is the text of what it names
@@ -97,29 +97,80 @@ object_named method.Post lib key route e = let bad : ⊥ = cc in absurd bad
 object_named method.Other lib key route e = let bad : ⊥ = cc in absurd bad
 
 -- a word that is that of a call
-word_is : (lib word own : List ℕ) (r route : Route) → method.Post ≡ method_in r → under lib (own ∷ []) ≡ parts_in r → bytes_eq word own ≡ true → r ≡ route
-    → IsPathOf method.Post (under lib (word ∷ [])) route
-word_is lib word own r route posts parts_are is same =
-    subst (λ (q : Route). IsPathOf method.Post (under lib (word ∷ [])) q) same
-    (record { method_is = posts; parts_are = ap (λ (w : List ℕ). under lib (w ∷ [])) (same_text word own (sym is)) ∙ parts_are })
+word_is : (m : Method) (lib word own : List ℕ) (r route : Route) → m ≡ method_in r → under lib (own ∷ []) ≡ parts_in r → bytes_eq word own ≡ true → r ≡ route
+    → IsPathOf m (under lib (word ∷ [])) route
+word_is m lib word own r route asks parts_are is same =
+    subst (λ (q : Route). IsPathOf m (under lib (word ∷ [])) q) same
+    (record { method_is = asks; parts_are = ap (λ (w : List ℕ). under lib (w ∷ [])) (same_text word own (sym is)) ∙ parts_are })
 
 word_named : (m : Method) (lib word : List ℕ) (route : Route) → word_route m lib word ≡ Some route → IsPathOf m (under lib (word ∷ [])) route
-word_named method.Get lib word route e = let bad : ⊥ = cc in absurd bad
 word_named method.Put lib word route e = let bad : ⊥ = cc in absurd bad
 word_named method.Other lib word route e = let bad : ⊥ = cc in absurd bad
+word_named method.Get lib word route e =
+    elim (picked (bytes_eq word (codes "permission-check")) (Check lib) _ route e) [
+      | inl is ↦ word_is method.Get lib word (codes "permission-check") (Check lib) route refl refl is.0 is.1
+      | inr e ↦ elim (picked (bytes_eq word (codes "fs-id-list")) (Ids lib) _ route e) [
+        | inl is ↦ word_is method.Get lib word (codes "fs-id-list") (Ids lib) route refl refl is.0 is.1
+        | inr e ↦ let bad : ⊥ = cc in absurd bad
+      ]
+    ]
 word_named method.Post lib word route e =
     elim (picked (bytes_eq word (codes "check-fs")) (CheckFs lib) _ route e) [
-      | inl is ↦ word_is lib word (codes "check-fs") (CheckFs lib) route refl refl is.0 is.1
+      | inl is ↦ word_is method.Post lib word (codes "check-fs") (CheckFs lib) route refl refl is.0 is.1
       | inr e ↦ elim (picked (bytes_eq word (codes "check-blocks")) (CheckBlocks lib) _ route e) [
-        | inl is ↦ word_is lib word (codes "check-blocks") (CheckBlocks lib) route refl refl is.0 is.1
+        | inl is ↦ word_is method.Post lib word (codes "check-blocks") (CheckBlocks lib) route refl refl is.0 is.1
         | inr e ↦ elim (picked (bytes_eq word (codes "recv-fs")) (PutFs lib) _ route e) [
-          | inl is ↦ word_is lib word (codes "recv-fs") (PutFs lib) route refl refl is.0 is.1
+          | inl is ↦ word_is method.Post lib word (codes "recv-fs") (PutFs lib) route refl refl is.0 is.1
           | inr e ↦ elim (picked (bytes_eq word (codes "pack-fs")) (GetFs lib) _ route e) [
-            | inl is ↦ word_is lib word (codes "pack-fs") (GetFs lib) route refl refl is.0 is.1
+            | inl is ↦ word_is method.Post lib word (codes "pack-fs") (GetFs lib) route refl refl is.0 is.1
             | inr e ↦ let bad : ⊥ = cc in absurd bad
           ]
         ]
       ]
+    ]
+
+-- ---- the head
+
+abbrev head_parts : List ℕ → List (List ℕ)
+head_parts lib = under lib (codes "commit" ∷ codes "HEAD" ∷ [])
+
+head_named : (m : Method) (lib : List ℕ) (route : Route) → head_method m lib ≡ Some route → IsPathOf m (head_parts lib) route
+head_named method.Get lib route e =
+    let same : Head lib ≡ route = cc in
+    subst (λ (r : Route). IsPathOf method.Get (head_parts lib) r) same (record { method_is = refl; parts_are = refl })
+head_named method.Put lib route e =
+    let same : Update lib ≡ route = cc in
+    subst (λ (r : Route). IsPathOf method.Put (head_parts lib) r) same (record { method_is = refl; parts_are = refl })
+head_named method.Post lib route e = let bad : ⊥ = cc in absurd bad
+head_named method.Other lib route e = let bad : ⊥ = cc in absurd bad
+
+-- a kind of object and an id
+named_is : (m : Method) (lib word text : List ℕ) (route : Route) → named_route m lib word text ≡ Some route → IsPathOf m (under lib (word ∷ text ∷ [])) route
+named_is m lib word text route e =
+    let kind = and_some (λ k. option_and_then (λ id. object_route m lib (record { kind = k; id = id })) (id_of text)) (kind_of word) route e in
+    let id = and_some (λ i. object_route m lib (record { kind = kind.0; id = i })) (id_of text) route kind.2 in
+    let own = object_named m lib (record { kind = kind.0; id = id.0 }) route id.2 in
+    record {
+      method_is = own.method_is;
+      parts_are = (λ i. under lib (kind_text word kind.0 kind.1 i ∷ id_text text id.0 id.1 i ∷ [])) ∙ own.parts_are;
+    }
+
+-- one or the other
+either : (b : Bool) (o p : Option Route) (route : Route) → cond b o p ≡ Some route → ((b ≡ true) × (o ≡ Some route)) ⊎ (p ≡ Some route)
+either true o p route e = inl (refl, e)
+either false o p route e = inr e
+
+pair_named : (m : Method) (lib word text : List ℕ) (route : Route) → pair_route m lib word text ≡ Some route → IsPathOf m (under lib (word ∷ text ∷ [])) route
+pair_named m lib word text route e =
+    elim (either (bytes_eq text (codes "HEAD")) (head_route m lib word) (named_route m lib word text) route e) [
+      | inl is ↦
+          let commit = if_some (bytes_eq word (codes "commit")) (head_method m lib) route is.1 in
+          let own = head_named m lib route commit.1 in
+          record {
+            method_is = own.method_is;
+            parts_are = (λ i. under lib (same_text word (codes "commit") (sym commit.0) i ∷ same_text text (codes "HEAD") (sym is.0) i ∷ [])) ∙ own.parts_are;
+          }
+      | inr e ↦ named_is m lib word text route e
     ]
 
 library_path : (m : Method) (name lib : List ℕ) (q : List (List ℕ)) (route : Route) → name ≡ hyphenated_text lower lib → library_route m lib q ≡ Some route
@@ -129,13 +180,7 @@ library_path m name lib (word ∷ []) route is e =
     subst (λ (n : List ℕ). IsPathOf m ([] ∷ codes "repo" ∷ n ∷ word ∷ []) route) (sym is) (word_named m lib word route e)
 library_path m name lib (word ∷ text ∷ x ∷ more) route is e = let bad : ⊥ = cc in absurd bad
 library_path m name lib (word ∷ text ∷ []) route is e =
-    let kind = and_some (λ k. option_and_then (λ id. object_route m lib (record { kind = k; id = id })) (id_of text)) (kind_of word) route e in
-    let id = and_some (λ i. object_route m lib (record { kind = kind.0; id = i })) (id_of text) route kind.2 in
-    let own = object_named m lib (record { kind = kind.0; id = id.0 }) route id.2 in
-    record {
-      method_is = own.method_is;
-      parts_are = (λ i. [] ∷ codes "repo" ∷ is i ∷ kind_text word kind.0 kind.1 i ∷ id_text text id.0 id.1 i ∷ []) ∙ own.parts_are;
-    }
+    subst (λ (n : List ℕ). IsPathOf m ([] ∷ codes "repo" ∷ n ∷ word ∷ text ∷ []) route) (sym is) (pair_named m lib word text route e)
 
 repo_path : (m : Method) (q : List (List ℕ)) (route : Route) → repo_route m q ≡ Some route → IsPathOf m ([] ∷ codes "repo" ∷ q) route
 repo_path m [] route e = let bad : ⊥ = cc in absurd bad
@@ -245,6 +290,9 @@ cut_under lib rest free = cut_again [] (codes "repo" ∷ hyphenated_text lower l
 cut_word : (lib word : List ℕ) → list_all (λ c. not (nat_eq c 47)) word ≡ true → parts (join_with_byte 47 (under lib (word ∷ []))) ≡ under lib (word ∷ [])
 cut_word lib word h = cut_under lib (word ∷ []) (free_word word h, tt)
 
+cut_head : (lib : List ℕ) → parts (join_with_byte 47 (head_parts lib)) ≡ head_parts lib
+cut_head lib = cut_under lib (codes "commit" ∷ codes "HEAD" ∷ []) (free_word (codes "commit") refl, (free_word (codes "HEAD") refl, tt))
+
 cut_object : (lib : List ℕ) (key : Key) → IsNamed lib key → parts (join_with_byte 47 (under lib (kind_word key.kind ∷ encode_lower key.id ∷ []))) ≡ under lib (kind_word key.kind ∷ encode_lower key.id ∷ [])
 cut_object lib key is = cut_under lib (kind_word key.kind ∷ encode_lower key.id ∷ []) (free_kind key.kind, (free_id key.id is.id_size is.id_bytes, tt))
 
@@ -257,15 +305,31 @@ kind_read Commit is = refl
 kind_read Fs is = absurd is
 kind_read Block is = refl
 
+-- no id is written as the head is
+no_head : (id : List ℕ) → length id ≡ 20 → All (λ byte. byte < 256) id → bytes_eq (encode_lower id) (codes "HEAD") ≡ false
+no_head id size bytes =
+    false_from_ne_true (bytes_eq (encode_lower id) (codes "HEAD"))
+    (λ is.
+    let same : encode_lower id ≡ codes "HEAD" = same_text (encode_lower id) (codes "HEAD") (sym is) in
+    let long : length (encode_lower id) ≡ 40 = (digits.IsOf-encode_lower id size bytes).whole in
+    let short : length (encode_lower id) ≡ 4 = ap length same in
+    absurd (omega (arith, long, short)))
+
 object_read : (m : Method) (lib : List ℕ) (key : Key) → IsNamed lib key → path_route m (under lib (kind_word key.kind ∷ encode_lower key.id ∷ [])) ≡ object_route m lib key
 object_read m lib key is =
     library_named m lib (kind_word key.kind ∷ encode_lower key.id ∷ []) is.lib_is
-    ∙ (rw (kind_read key.kind is.kind, id_reads key.id is.id_size is.id_bytes) refl)
+    ∙ (rw (no_head key.id is.id_size is.id_bytes, kind_read key.kind is.kind, id_reads key.id is.id_size is.id_bytes) refl)
 
 -- the own method and path of a call name it, whatever query follows
 pub path_names : (target : List ℕ) (route : Route) → IsCall route → path_of target ≡ path_in route → route_of (method_in route) target ≡ Some route
 unfolding route_of
 path_names target Version is same = ap (path_route method.Get) (ap parts same ∙ cut_again [] (codes "protocol-version" ∷ []) (free_word [] refl) (free_word (codes "protocol-version") refl, tt))
+path_names target (Check lib) is same =
+    ap (path_route method.Get) (ap parts same ∙ cut_word lib (codes "permission-check") refl) ∙ library_named method.Get lib (codes "permission-check" ∷ []) is
+path_names target (Head lib) is same =
+    ap (path_route method.Get) (ap parts same ∙ cut_head lib) ∙ library_named method.Get lib (codes "commit" ∷ codes "HEAD" ∷ []) is
+path_names target (Update lib) is same =
+    ap (path_route method.Put) (ap parts same ∙ cut_head lib) ∙ library_named method.Put lib (codes "commit" ∷ codes "HEAD" ∷ []) is
 path_names target (Get lib key) is same = ap (path_route method.Get) (ap parts same ∙ cut_object lib key is) ∙ object_read method.Get lib key is
 path_names target (Put lib key) is same = ap (path_route method.Put) (ap parts same ∙ cut_object lib key is) ∙ object_read method.Put lib key is
 path_names target (CheckFs lib) is same =
@@ -276,3 +340,5 @@ path_names target (PutFs lib) is same =
     ap (path_route method.Post) (ap parts same ∙ cut_word lib (codes "recv-fs") refl) ∙ library_named method.Post lib (codes "recv-fs" ∷ []) is
 path_names target (GetFs lib) is same =
     ap (path_route method.Post) (ap parts same ∙ cut_word lib (codes "pack-fs") refl) ∙ library_named method.Post lib (codes "pack-fs" ∷ []) is
+path_names target (Ids lib) is same =
+    ap (path_route method.Get) (ap parts same ∙ cut_word lib (codes "fs-id-list") refl) ∙ library_named method.Get lib (codes "fs-id-list" ∷ []) is

@@ -1,5 +1,6 @@
 pub mod BrokenTextLemmas
 pub mod CallLemmas
+pub mod CallQueryLemmas
 pub mod ElementLemmas
 pub mod FieldLemmas
 pub mod HeadLemmas
@@ -7,6 +8,7 @@ pub mod IdLemmas
 pub mod MemoryLinkLemmas
 pub mod NumberLemmas
 pub mod OrderLemmas
+pub mod QueryLemmas
 pub mod ReplyLemmas
 pub mod RouteLemmas
 pub mod RowLemmas

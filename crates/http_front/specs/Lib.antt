@@ -1,5 +1,6 @@
 pub mod BodyLimit
 pub mod Buffer
+pub mod CallQuery
 pub mod EntityTag
 pub mod Fields
 pub mod IdArray
@@ -11,6 +12,7 @@ pub mod NextHead
 pub mod Order
 pub mod ParsedHead
 pub mod RefusalText
+pub mod Query
 pub mod ReplyBody
 pub mod ReplyText
 pub mod RequestHead

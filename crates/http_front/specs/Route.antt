@@ -1,14 +1,19 @@
 -- The calls that a method and a path can name. Our own, after the HTTP sync calls of seafile-server:
 --
---     GET       /protocol-version        the version of the protocol is asked for
---     GET, PUT  /repo/LIB/commit/ID      an object's bytes are asked for, or are to be stored
---     GET, PUT  /repo/LIB/block/ID       the same of a block
---     POST      /repo/LIB/check-fs       of some ids those are asked for that name no file and no directory
---     POST      /repo/LIB/check-blocks   the same of blocks
---     POST      /repo/LIB/recv-fs        files and directories are to be stored
---     POST      /repo/LIB/pack-fs        files and directories are asked for
+--     GET       /protocol-version           the version of the protocol is asked for
+--     GET       /repo/LIB/permission-check  whether something may be done is asked
+--     GET       /repo/LIB/commit/HEAD       the commit that the library stands at is asked for
+--     PUT       /repo/LIB/commit/HEAD       the library is to take in a commit
+--     GET, PUT  /repo/LIB/commit/ID         an object's bytes are asked for, or are to be stored
+--     GET, PUT  /repo/LIB/block/ID          the same of a block
+--     POST      /repo/LIB/check-fs          of some ids those are asked for that name no file and no directory
+--     POST      /repo/LIB/check-blocks      the same of blocks
+--     POST      /repo/LIB/recv-fs           files and directories are to be stored
+--     POST      /repo/LIB/pack-fs           files and directories are asked for
+--     GET       /repo/LIB/fs-id-list        the files and directories are asked for that a commit needs
 --
--- LIB is the text of a library id and ID that of an object id. One slash at the end of a path and the query are dropped.
+-- LIB is the text of a library id and ID that of an object id. One slash at the end of a path and the query are dropped;
+-- what a call needs of the query stands in Query.
 -- Read route_of first; then parts_in, which says the same the other way round.
 use Rattle.std.specs.Prelude.{ℕ, ◌≡◌, ◌<◌, ◌==◌, All, if◌then◌else◌, Option, None, Some, List, [], ◌∷◌, length, codes, ⊤}
 use Rattle.std.specs.List.{join_with_byte}
@@ -25,7 +30,7 @@ use Rattle.http_front.specs.Target.{parts_of}
 use Rattle.http_front.specs.declared.method.Method.{Method}
 use Rattle.http_front.specs.declared.method.Method.TheVariants as method
 use Rattle.http_front.specs.declared.route.Route.{Route}
-use Rattle.http_front.specs.declared.route.Route.TheVariants.{Version, Get, Put, CheckFs, CheckBlocks, PutFs, GetFs}
+use Rattle.http_front.specs.declared.route.Route.TheVariants.{Version, Check, Head, Update, Get, Put, CheckFs, CheckBlocks, PutFs, GetFs, Ids}
 
 -- the kind of object that a word of a path names
 abbrev pub kind_of : List ℕ → Option Kind
@@ -41,9 +46,32 @@ object_route method.Put lib key = Some (Put lib key)
 object_route method.Post lib key = None
 object_route method.Other lib key = None
 
+-- what each method asks of the commit that is the head
+abbrev pub head_method : Method → List ℕ → Option Route
+head_method method.Get lib = Some (Head lib)
+head_method method.Put lib = Some (Update lib)
+head_method method.Post lib = None
+head_method method.Other lib = None
+
+-- the head is a commit
+abbrev pub head_route : Method → List ℕ → List ℕ → Option Route
+head_route m lib word = if bytes_eq word (codes "commit") then head_method m lib else None
+
+-- what a kind of object and an id name
+abbrev pub named_route : Method → List ℕ → List ℕ → List ℕ → Option Route
+named_route m lib word name =
+    option_and_then (λ kind. option_and_then (λ id. object_route m lib (record { kind = kind; id = id })) (id_of name)) (kind_of word)
+
+-- what follows `/repo/LIB/`, where it is two words. `HEAD` is no id
+abbrev pub pair_route : Method → List ℕ → List ℕ → List ℕ → Option Route
+pair_route m lib word name = if bytes_eq name (codes "HEAD") then head_route m lib word else named_route m lib word name
+
 -- what follows `/repo/LIB/`, where it is a word alone
 abbrev pub word_route : Method → List ℕ → List ℕ → Option Route
-word_route method.Get lib word = None
+word_route method.Get lib word =
+    if bytes_eq word (codes "permission-check") then Some (Check lib)
+    else if bytes_eq word (codes "fs-id-list") then Some (Ids lib)
+    else None
 word_route method.Put lib word = None
 word_route method.Other lib word = None
 word_route method.Post lib word =
@@ -53,12 +81,11 @@ word_route method.Post lib word =
     else if bytes_eq word (codes "pack-fs") then Some (GetFs lib)
     else None
 
--- what follows `/repo/LIB/`: a word, or a kind of object and an id
+-- what follows `/repo/LIB/`: a word or two
 abbrev pub library_route : Method → List ℕ → List (List ℕ) → Option Route
 library_route m lib [] = None
 library_route m lib (word ∷ []) = word_route m lib word
-library_route m lib (word ∷ name ∷ []) =
-    option_and_then (λ kind. option_and_then (λ id. object_route m lib (record { kind = kind; id = id })) (id_of name)) (kind_of word)
+library_route m lib (word ∷ name ∷ []) = pair_route m lib word name
 library_route m lib (word ∷ name ∷ x ∷ more) = None
 
 -- what follows `/repo/`: a library
@@ -92,12 +119,16 @@ route_of m target = path_route m (parts_of target)
 
 abbrev pub method_in : Route → Method
 method_in Version = method.Get
+method_in (Check lib) = method.Get
+method_in (Head lib) = method.Get
+method_in (Update lib) = method.Put
 method_in (Get lib key) = method.Get
 method_in (Put lib key) = method.Put
 method_in (CheckFs lib) = method.Post
 method_in (CheckBlocks lib) = method.Post
 method_in (PutFs lib) = method.Post
 method_in (GetFs lib) = method.Post
+method_in (Ids lib) = method.Get
 
 -- what follows `/repo/LIB/`
 abbrev pub under : List ℕ → List (List ℕ) → List (List ℕ)
@@ -106,12 +137,16 @@ under lib rest = [] ∷ codes "repo" ∷ hyphenated_text lower lib ∷ rest
 -- what stands between the slashes of a call's path, of which the first begins it
 abbrev pub parts_in : Route → List (List ℕ)
 parts_in Version = [] ∷ codes "protocol-version" ∷ []
+parts_in (Check lib) = under lib (codes "permission-check" ∷ [])
+parts_in (Head lib) = under lib (codes "commit" ∷ codes "HEAD" ∷ [])
+parts_in (Update lib) = under lib (codes "commit" ∷ codes "HEAD" ∷ [])
 parts_in (Get lib key) = under lib (kind_word key.kind ∷ encode_lower key.id ∷ [])
 parts_in (Put lib key) = under lib (kind_word key.kind ∷ encode_lower key.id ∷ [])
 parts_in (CheckFs lib) = under lib (codes "check-fs" ∷ [])
 parts_in (CheckBlocks lib) = under lib (codes "check-blocks" ∷ [])
 parts_in (PutFs lib) = under lib (codes "recv-fs" ∷ [])
 parts_in (GetFs lib) = under lib (codes "pack-fs" ∷ [])
+parts_in (Ids lib) = under lib (codes "fs-id-list" ∷ [])
 
 -- the path of a call: its parts with a slash between each two
 abbrev pub path_in : Route → List ℕ
@@ -137,9 +172,13 @@ pub record IsNamed (lib : List ℕ) (key : Key) : Type 0 where
 
 abbrev pub IsCall : Route → Type 0
 IsCall Version = ⊤
+IsCall (Check lib) = IsLibrary lib
+IsCall (Head lib) = IsLibrary lib
+IsCall (Update lib) = IsLibrary lib
 IsCall (Get lib key) = IsNamed lib key
 IsCall (Put lib key) = IsNamed lib key
 IsCall (CheckFs lib) = IsLibrary lib
 IsCall (CheckBlocks lib) = IsLibrary lib
 IsCall (PutFs lib) = IsLibrary lib
 IsCall (GetFs lib) = IsLibrary lib
+IsCall (Ids lib) = IsLibrary lib

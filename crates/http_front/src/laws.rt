@@ -1,12 +1,16 @@
 //! Theorems about the stream of requests and the table of calls.
-ghost use Rattle.std.specs.Prelude.{◌≡◌, ◌⊎◌, ℕ, List, Option, Result, Some};
+ghost use Rattle.std.specs.Prelude.{◌≡◌, ◌⊎◌, ℕ, List, Option, Result, Ok, Some};
+ghost use Rattle.library_state.specs.declared.call.Op.{Op};
 ghost use Rattle.library_state.specs.declared.refusal.Refusal.{Refusal};
-ghost use Rattle.http_front.specs.Order.{IsOrder};
+ghost use Rattle.http_front.specs.CallQuery.{IsClient, IsObjectId, check_query, ids_query, update_query};
+ghost use Rattle.http_front.specs.Order.{IsOrder, asked_of};
+ghost use Rattle.http_front.specs.Query.{query_of};
 ghost use Rattle.http_front.specs.RequestStream.{Extends, Reads, Request};
-ghost use Rattle.http_front.specs.Route.{IsCall, method_in, path_in, route_of};
+ghost use Rattle.http_front.specs.Route.{IsCall, IsLibrary, method_in, path_in, route_of};
 ghost use Rattle.http_front.specs.Target.{path_of};
 ghost use Rattle.http_front.specs.declared.method.Method.{Method};
 ghost use Rattle.http_front.specs.declared.order.Order.{Order};
+ghost use Rattle.http_front.specs.declared.order.What.{What};
 ghost use Rattle.http_front.specs.declared.route.Route.{Route};
 
 /// Bytes spell their requests in one way: of two readings of them one begins with the other.
@@ -32,4 +36,28 @@ pub fn a_call_is_named_by_its_own_method_and_path()
 pub fn a_request_asks_for_one_thing()
     ensures { (method : Method) (target : List ℕ) (secret : Option (List ℕ)) (body : List ℕ) (due other : Result Order Refusal)
         → IsOrder method target secret body due → IsOrder method target secret body other → due ≡ other }
+{}
+
+/// Whether something may be done is asked by that path and query, whatever body there is.
+pub fn a_check_is_asked_for_by_its_own_query()
+    ensures { (target lib : List ℕ) (op : Op) (secret : Option (List ℕ)) (body : List ℕ) (due : Result Order Refusal) → IsLibrary lib
+        → path_of target ≡ path_in (Route.Check lib) → query_of target ≡ check_query op
+        → IsOrder (method_in (Route.Check lib)) target secret body due
+        → due ≡ Ok (asked_of lib secret (What.Check op)) }
+{}
+
+/// An update is asked for by that path and query.
+pub fn an_update_is_asked_for_by_its_own_query()
+    ensures { (target lib commit : List ℕ) (secret : Option (List ℕ)) (body : List ℕ) (due : Result Order Refusal) → IsLibrary lib → IsObjectId commit
+        → path_of target ≡ path_in (Route.Update lib) → query_of target ≡ update_query commit
+        → IsOrder (method_in (Route.Update lib)) target secret body due
+        → due ≡ Ok (asked_of lib secret (What.Update commit)) }
+{}
+
+/// What one commit needs, and another that may be left out does not, is asked for by that path and query.
+pub fn a_difference_is_asked_for_by_its_own_query()
+    ensures { (target lib server : List ℕ) (client secret : Option (List ℕ)) (body : List ℕ) (due : Result Order Refusal) → IsLibrary lib → IsObjectId server
+        → IsClient client → path_of target ≡ path_in (Route.Ids lib) → query_of target ≡ ids_query server client
+        → IsOrder (method_in (Route.Ids lib)) target secret body due
+        → due ≡ Ok (asked_of lib secret (What.Ids server client)) }
 {}

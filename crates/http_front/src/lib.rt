@@ -20,6 +20,7 @@ mod memory_sink;
 mod method;
 mod order;
 mod outcome;
+mod query;
 mod refusal_text;
 mod refusal_value;
 mod reply_body;

@@ -1,16 +1,18 @@
 //! What a request asks for.
-ghost use Rattle.std.specs.Prelude.{◌≡◌, Some};
+ghost use Rattle.std.specs.Prelude.{◌≡◌, Some, codes};
 ghost use Rattle.http_front.specs.IdArray.{ids_of};
-ghost use Rattle.http_front.specs.Order.{IsOrder, IsOrderAt, OrdersAs, PutsRows, asks_objects, asks_what_is_absent, body_fault, refusal_without_call};
+ghost use Rattle.http_front.specs.Order.{IsOrder, IsOrderAt, OrdersAs, PutsRows, asked_of, asks_objects, asks_to, asks_what_differs, asks_what_is_absent, body_fault, refusal_without_call, updates};
+ghost use Rattle.http_front.specs.Query.{client_asked, id_asked, op_asked};
 
 use crate::head::Head;
 use crate::id_array::read_ids;
 use crate::method::Method;
+use crate::query::{client_asked, id_asked, op_asked, query_of};
 use crate::route::{Route, route_of};
 use crate::row::{Row, read_rows};
-use ids::{Bytes, IdList, Items, Key, Kind, LibId};
+use ids::{Bytes, IdList, Items, Key, Kind, LibId, ObjId};
 use json_words::ReadFault;
-use library_state::{Refusal, Secret};
+use library_state::{Op, Refusal, Secret};
 use std::alloc::Global;
 
 /// What a request asks for, and of which library.
@@ -28,6 +30,12 @@ pub struct Order {
 pub enum What {
     /// The version of the protocol, of no library.
     Version,
+    /// Whether the one who asks may do this.
+    Check(Op),
+    /// The commit that the library stands at.
+    Head,
+    /// That the library take in this commit.
+    Update(ObjId),
     /// The bytes of an object.
     Get(Key),
     /// That the bytes be stored under a key.
@@ -38,6 +46,8 @@ pub enum What {
     PutFs(Items<Row>),
     /// The files and directories with these ids.
     GetFs(IdList),
+    /// The files and directories that the first commit needs and the second, if there is one, does not.
+    Ids(ObjId, Option<ObjId>),
 }
 
 /// Why a request has no order.
@@ -52,7 +62,8 @@ pub enum OrderFault {
 /// What a request asks for, by its head and its body. What a body holds is copied once.
 ///
 /// The refusals, in the order in which they are looked for: `BadMethod` where the method is not GET, PUT or POST;
-/// `NoCall` where method and path stand in no row of docs/FORMATS.md, "Requests"; `BadBody` where the body is not of
+/// `NoCall` where method and path stand in no row of docs/FORMATS.md, "Requests"; `BadQuery` where a value that the row
+/// asks for is not in the query, is there twice (equal or not), or is not of its form; `BadBody` where the body is not of
 /// the form that its row asks for. Whether the library is one that is served, the one who answers the order has to say.
 pub fn order_of(alloc: Global, head: &Head, body: &[u8]) -> Result<Order, OrderFault>
     ensures value { OrdersAs result (IsOrder head.now.method head.now.target head.now.token body.now) }
@@ -72,7 +83,7 @@ fn order_in(
 {
     match route_of(method, target) {
         None => Err(OrderFault::Refused(refusal_without_call(method))),
-        Some(route) => order_at(alloc, route, secret, body),
+        Some(route) => order_at(alloc, route, secret, query_of(target), body),
     }
 }
 
@@ -90,9 +101,10 @@ fn order_at(
     alloc: Global,
     route: Route,
     secret: Option<Secret>,
+    query: &str,
     body: &[u8],
 ) -> Result<Order, OrderFault>
-    ensures { OrdersAs result (IsOrderAt (Some route) Method.Get secret body.now) }
+    ensures { OrdersAs result (IsOrderAt (Some route) Method.Get secret query.now body.now) }
 {
     match route {
         Route::Version => Ok(Order {
@@ -100,23 +112,65 @@ fn order_at(
             secret,
             what: What::Version,
         }),
-        Route::Get(lib, key) => Ok(Order {
-            lib: Some(lib),
-            secret,
-            what: What::Get(key),
-        }),
+        Route::Check(lib) => order_of_check(lib, secret, query),
+        Route::Head(lib) => Ok(asked_of(lib, secret, What::Head)),
+        Route::Update(lib) => order_of_update(lib, secret, query),
+        Route::Get(lib, key) => Ok(asked_of(lib, secret, What::Get(key))),
         Route::Put(lib, key) => match Bytes::copy(alloc, body) {
-            Ok(bytes) => Ok(Order {
-                lib: Some(lib),
-                secret,
-                what: What::Put(key, bytes),
-            }),
+            Ok(bytes) => Ok(asked_of(lib, secret, What::Put(key, bytes))),
             Err(_) => Err(OrderFault::NoMemory),
         },
         Route::CheckFs(lib) => order_of_absent(alloc, lib, secret, Kind::Fs, body),
         Route::CheckBlocks(lib) => order_of_absent(alloc, lib, secret, Kind::Block, body),
         Route::PutFs(lib) => order_of_rows(alloc, lib, secret, body),
         Route::GetFs(lib) => order_of_ids(alloc, lib, secret, body),
+        Route::Ids(lib) => order_of_difference(lib, secret, query),
+    }
+}
+
+/// What is asked of a library.
+fn asked_of(lib: LibId, secret: Option<Secret>, what: What) -> Order
+    ensures { result ≡ asked_of lib secret what }
+{
+    Order {
+        lib: Some(lib),
+        secret,
+        what,
+    }
+}
+
+/// The order whether something may be done, which the query says.
+fn order_of_check(lib: LibId, secret: Option<Secret>, query: &str) -> Result<Order, OrderFault>
+    ensures { OrdersAs result (λ due. due ≡ asks_to lib secret (op_asked query.now)) }
+{
+    match op_asked(query) {
+        Some(op) => Ok(asked_of(lib, secret, What::Check(op))),
+        None => Err(OrderFault::Refused(Refusal::BadQuery)),
+    }
+}
+
+/// The order that a library take in the commit that the query names.
+fn order_of_update(lib: LibId, secret: Option<Secret>, query: &str) -> Result<Order, OrderFault>
+    ensures { OrdersAs result (λ due. due ≡ updates lib secret (id_asked (codes "head") query.now)) }
+{
+    match id_asked("head", query) {
+        Some(commit) => Ok(asked_of(lib, secret, What::Update(commit))),
+        None => Err(OrderFault::Refused(Refusal::BadQuery)),
+    }
+}
+
+/// The order for what one commit of the query needs and another does not.
+fn order_of_difference(lib: LibId, secret: Option<Secret>, query: &str) -> Result<Order, OrderFault>
+    ensures { OrdersAs result (λ due. due
+        ≡ asks_what_differs lib secret (id_asked (codes "server-head") query.now) (client_asked query.now)) }
+{
+    let server = match id_asked("server-head", query) {
+        Some(server) => server,
+        None => return Err(OrderFault::Refused(Refusal::BadQuery)),
+    };
+    match client_asked(query) {
+        Some(client) => Ok(asked_of(lib, secret, What::Ids(server, client))),
+        None => Err(OrderFault::Refused(Refusal::BadQuery)),
     }
 }
 
@@ -131,11 +185,7 @@ fn order_of_absent(
     ensures { OrdersAs result (λ due. due ≡ asks_what_is_absent lib secret kind (ids_of body.now)) }
 {
     match read_ids(alloc, body) {
-        Ok(ids) => Ok(Order {
-            lib: Some(lib),
-            secret,
-            what: What::Missing(kind, ids),
-        }),
+        Ok(ids) => Ok(asked_of(lib, secret, What::Missing(kind, ids))),
         Err(fault) => Err(body_fault(fault)),
     }
 }
@@ -150,11 +200,7 @@ fn order_of_ids(
     ensures { OrdersAs result (λ due. due ≡ asks_objects lib secret (ids_of body.now)) }
 {
     match read_ids(alloc, body) {
-        Ok(ids) => Ok(Order {
-            lib: Some(lib),
-            secret,
-            what: What::GetFs(ids),
-        }),
+        Ok(ids) => Ok(asked_of(lib, secret, What::GetFs(ids))),
         Err(fault) => Err(body_fault(fault)),
     }
 }
@@ -169,11 +215,7 @@ fn order_of_rows(
     ensures { OrdersAs result (λ due. PutsRows lib secret body.now due) }
 {
     match read_rows(alloc, body) {
-        Ok(rows) => Ok(Order {
-            lib: Some(lib),
-            secret,
-            what: What::PutFs(rows),
-        }),
+        Ok(rows) => Ok(asked_of(lib, secret, What::PutFs(rows))),
         Err(fault) => Err(body_fault(fault)),
     }
 }

@@ -1,7 +1,7 @@
 //! The calls that a method and a path name.
-ghost use Rattle.std.specs.Prelude.{◌≡◌, ◌∷◌, []};
+ghost use Rattle.std.specs.Prelude.{◌≡◌};
 ghost use Rattle.http_front.specs.IdText.{id_of, lib_of};
-ghost use Rattle.http_front.specs.Route.{kind_of, library_route, object_route, path_route, repo_route, route_of, top_route, version_route, word_route};
+ghost use Rattle.http_front.specs.Route.{head_route, kind_of, library_route, named_route, object_route, pair_route, path_route, repo_route, route_of, top_route, version_route, word_route};
 ghost use Rattle.http_front.specs.Target.{parts};
 
 use crate::method::Method;
@@ -13,6 +13,12 @@ use ids::{Key, Kind, LibId, ObjId};
 pub enum Route {
     /// The version of the protocol is asked for.
     Version,
+    /// Whether something may be done with a library. What it is, the query says.
+    Check(LibId),
+    /// The commit that a library stands at is asked for.
+    Head(LibId),
+    /// A library is to take in the commit that the query names.
+    Update(LibId),
     /// An object of a library is asked for.
     Get(LibId, Key),
     /// The body is to be stored as an object of a library.
@@ -25,9 +31,12 @@ pub enum Route {
     PutFs(LibId),
     /// The files and directories of a library with the ids in the body are asked for, as rows.
     GetFs(LibId),
+    /// The files and directories of a library are asked for that the first commit of the query needs, and the second,
+    /// if there is one, does not.
+    Ids(LibId),
 }
 
-/// The call that a method and a target name, if they name one. A query changes nothing.
+/// The call that a method and a target name, if they name one. A query changes nothing here.
 #[tactic(auto, unfolding(crate::specs::Route::route_of))]
 pub fn route_of(method: Method, target: &str) -> Option<Route>
     ensures value { result ≡ route_of method target.now }
@@ -100,7 +109,7 @@ fn library_route(method: Method, lib: LibId, path: &str) -> Option<Route>
     match path.split_once('/') {
         Some((word, name)) => match name.split_once('/') {
             Some(_) => None,
-            None => named_route(method, lib, word, name),
+            None => pair_route(method, lib, word, name),
         },
         None => word_route(method, lib, path),
     }
@@ -111,9 +120,22 @@ fn word_route(method: Method, lib: LibId, word: &str) -> Option<Route>
     ensures { result ≡ word_route method lib word.now }
 {
     match method {
+        Method::Get => get_route(lib, word),
         Method::Post => post_route(lib, word),
-        Method::Get | Method::Put | Method::Other => None,
+        Method::Put | Method::Other => None,
     }
+}
+
+fn get_route(lib: LibId, word: &str) -> Option<Route>
+    ensures { result ≡ word_route Method.Get lib word.now }
+{
+    if word == "permission-check" {
+        return Some(Route::Check(lib));
+    }
+    if word == "fs-id-list" {
+        return Some(Route::Ids(lib));
+    }
+    None
 }
 
 fn post_route(lib: LibId, word: &str) -> Option<Route>
@@ -134,9 +156,33 @@ fn post_route(lib: LibId, word: &str) -> Option<Route>
     None
 }
 
+/// What two words name: the head, or an object.
+fn pair_route(method: Method, lib: LibId, word: &str, name: &str) -> Option<Route>
+    ensures { result ≡ pair_route method lib word.now name.now }
+{
+    if name == "HEAD" {
+        return head_route(method, lib, word);
+    }
+    named_route(method, lib, word, name)
+}
+
+/// What is asked of the head, which is a commit.
+fn head_route(method: Method, lib: LibId, word: &str) -> Option<Route>
+    ensures { result ≡ head_route method lib word.now }
+{
+    if word == "commit" {
+        return match method {
+            Method::Get => Some(Route::Head(lib)),
+            Method::Put => Some(Route::Update(lib)),
+            Method::Post | Method::Other => None,
+        };
+    }
+    None
+}
+
 /// What a kind of object and an id name.
 fn named_route(method: Method, lib: LibId, word: &str, name: &str) -> Option<Route>
-    ensures { result ≡ library_route method lib (word.now ∷ name.now ∷ []) }
+    ensures { result ≡ named_route method lib word.now name.now }
 {
     let kind = kind_of(word)?;
     let id = id_of(name)?;
@@ -165,7 +211,8 @@ fn kind_of(word: &str) -> Option<Kind>
     None
 }
 
-fn id_of(text: &str) -> Option<ObjId>
+/// The id that a text is.
+pub(crate) fn id_of(text: &str) -> Option<ObjId>
     ensures { result ≡ id_of text.now }
 {
     ObjId::read(text).ok()

@@ -83,8 +83,10 @@ fn a_path_of_another_form_names_no_call(rt: HostRuntime) -> Result<(), Fail> {
         "/repo/11111111-2222-4333-8444-555555555555/block/A9993E364706816ABA3E25717850C26C9CD0D89D",
         "/repo/11111111-2222-4333-8444-555555555555/blocks/a9993e364706816aba3e25717850c26c9cd0d89d",
         "/repo/11111111-2222-4333-8444-555555555555/fs/a9993e364706816aba3e25717850c26c9cd0d89d",
-        "/repo/11111111-2222-4333-8444-555555555555/commit/HEAD",
+        "/repo/11111111-2222-4333-8444-555555555555/commit/head",
+        "/repo/11111111-2222-4333-8444-555555555555/block/HEAD",
         "/repo/11111111-2222-4333-8444-555555555555/check-fs",
+        "/repo/11111111-2222-4333-8444-555555555555/collect",
         "/protocol-versions",
         "/protocol-version/x",
         "/Repo/11111111-2222-4333-8444-555555555555/block/a9993e364706816aba3e25717850c26c9cd0d89d",
@@ -204,5 +206,135 @@ fn the_version_is_asked_of_no_library(rt: HostRuntime) -> Result<(), Fail> {
     }
     let order = order_in(rt.alloc(), Method::Put, "/protocol-version", None, b"");
     assert!(rt; is_refused(&order, Refusal::NoCall));
+    Ok(())
+}
+
+/// What a request to the library `LIB` is read as.
+fn asked(alloc: Global, method: Method, call: &str) -> Result<Result<What, OrderFault>, Fail> {
+    let target = format!(in alloc; "/repo/{LIB}/{call}")?;
+    match order_in(alloc, method, target.as_str(), None, b"ignored") {
+        Ok(order) => Ok(Ok(order.what)),
+        Err(fault) => Ok(Err(fault)),
+    }
+}
+
+fn is_bad_query(asked: &Result<What, OrderFault>) -> bool {
+    match asked {
+        Ok(_) => false,
+        Err(fault) => *fault == OrderFault::Refused(Refusal::BadQuery),
+    }
+}
+
+#[test]
+fn a_value_of_a_query_is_there_once_and_in_its_form(rt: HostRuntime) -> Result<(), Fail> {
+    for call in [
+        "permission-check",
+        "permission-check?op",
+        "permission-check?op=",
+        "permission-check?op=Upload",
+        "permission-check?OP=upload",
+        "permission-check?op=upload=",
+        "permission-check?op=upload/",
+        "permission-check?op=%75pload",
+        "permission-check?op=upload&op=upload",
+        "fs-id-list",
+        "fs-id-list?server-head=",
+        "fs-id-list?server-head=a9993e364706816aba3e25717850c26c9cd0d89",
+        "fs-id-list?client-head=a9993e364706816aba3e25717850c26c9cd0d89d",
+        "fs-id-list?server-head=a9993e364706816aba3e25717850c26c9cd0d89d&client-head=",
+        "fs-id-list?client-head=x&server-head=a9993e364706816aba3e25717850c26c9cd0d89d",
+    ] {
+        let get = asked(rt.alloc(), Method::Get, call)?;
+        assert!(rt; is_bad_query(&get), "at {call}");
+    }
+    for call in [
+        "commit/HEAD",
+        "commit/HEAD?head=",
+        "commit/HEAD/?head=A9993E364706816ABA3E25717850C26C9CD0D89D",
+        "commit/HEAD?head=a9993e364706816aba3e25717850c26c9cd0d89d&head=a9993e364706816aba3e25717850c26c9cd0d89d",
+    ] {
+        let put = asked(rt.alloc(), Method::Put, call)?;
+        assert!(rt; is_bad_query(&put), "at {call}");
+    }
+    Ok(())
+}
+
+fn checks(asked: &Result<What, OrderFault>, wanted: Op) -> bool {
+    match asked {
+        Ok(What::Check(op)) => *op == wanted,
+        _ => false,
+    }
+}
+
+#[test]
+fn a_query_says_what_is_to_be_done(rt: HostRuntime) -> Result<(), Fail> {
+    for (call, op) in [
+        ("permission-check?op=upload", Op::Upload),
+        ("permission-check/?op=download", Op::Download),
+        ("permission-check?a=b&op=upload&&c", Op::Upload),
+        ("permission-check?op&=x&op=download", Op::Download),
+    ] {
+        let get = asked(rt.alloc(), Method::Get, call)?;
+        assert!(rt; checks(&get, op), "at {call}");
+    }
+    Ok(())
+}
+
+fn updates(asked: &Result<What, OrderFault>, wanted: ObjId) -> bool {
+    match asked {
+        Ok(What::Update(commit)) => *commit == wanted,
+        _ => false,
+    }
+}
+
+#[test]
+fn the_head_is_asked_for_and_updated(rt: HostRuntime) -> Result<(), Fail> {
+    let id = ObjId::read(ABC)?;
+    for call in ["commit/HEAD", "commit/HEAD/", "commit/HEAD?head=x"] {
+        let get = asked(rt.alloc(), Method::Get, call)?;
+        assert!(rt; matches!(get, Ok(What::Head)), "at {call}");
+    }
+    let call = format!(in rt.alloc(); "commit/HEAD?x=y&head={ABC}")?;
+    let put = asked(rt.alloc(), Method::Put, call.as_str())?;
+    assert!(rt; updates(&put, id));
+    Ok(())
+}
+
+fn differs(asked: &Result<What, OrderFault>, wanted: ObjId, client_is: Option<ObjId>) -> bool {
+    match asked {
+        Ok(What::Ids(server, client)) => *server == wanted && *client == client_is,
+        _ => false,
+    }
+}
+
+#[test]
+fn the_ids_of_a_commit_are_asked_for_beside_another(rt: HostRuntime) -> Result<(), Fail> {
+    let id = ObjId::read(ABC)?;
+    let call = format!(in rt.alloc(); "fs-id-list?server-head={ABC}&client-head")?;
+    let get = asked(rt.alloc(), Method::Get, call.as_str())?;
+    assert!(rt; differs(&get, id, None));
+    let call = format!(in rt.alloc();
+        "fs-id-list?client-head=0000000000000000000000000000000000000000&server-head={ABC}"
+    )?;
+    let get = asked(rt.alloc(), Method::Get, call.as_str())?;
+    assert!(rt; differs(&get, id, Some(ObjId::NIL)));
+    Ok(())
+}
+
+#[test]
+fn history_and_collections_are_no_calls_yet(rt: HostRuntime) -> Result<(), Fail> {
+    for (method, call) in [
+        (Method::Put, "history-limit?days=-0"),
+        (Method::Post, "collect"),
+        (Method::Post, "commit/HEAD"),
+        (Method::Put, "permission-check?op=upload"),
+    ] {
+        match asked(rt.alloc(), method, call)? {
+            Ok(_) => return Err("a call".into()),
+            Err(fault) => {
+                assert_eq!(rt; fault, OrderFault::Refused(Refusal::NoCall), "at {call}")
+            }
+        }
+    }
     Ok(())
 }

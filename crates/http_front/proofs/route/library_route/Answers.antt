@@ -10,7 +10,7 @@ returns-in-Some-split_once c =
 
 pub returns-in-None-split_once : goal.returns-in-None-split_once
 returns-in-None-split_once c =
-    rw (cut_at_slash c.args.path.now (c.in-Some.word, c.in-Some.name) c.in-Some.ensures.cases, no_slash c.in-Some.name.now c.in-None-split_once.ensures.cases) c.named_route.ensures
+    rw (cut_at_slash c.args.path.now (c.in-Some.word, c.in-Some.name) c.in-Some.ensures.cases, no_slash c.in-Some.name.now c.in-None-split_once.ensures.cases) c.pair_route.ensures
 
 pub returns-in-None : goal.returns-in-None
 returns-in-None c = rw (no_slash c.args.path.now c.in-None.ensures.cases) c.word_route.ensures
