@@ -1,6 +1,5 @@
+pub mod StandingLemmas
+pub mod DepotLemmas
+pub mod LeftLemmas
+pub mod TokenLemmas
 pub mod RunLemmas
-pub mod MissingLemmas
-pub mod ReplyLemmas
-pub mod LibraryLemmas
-pub mod SimulationLemmas
-pub mod ServedLemmas

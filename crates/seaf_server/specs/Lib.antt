@@ -1,8 +1,9 @@
-pub mod Missing
-pub mod Put
-pub mod Library
-pub mod Replies
-pub mod DepotView
-pub mod SteadyShelf
-pub mod CommandLine
+pub mod Lines
+pub mod Standing
+pub mod Making
+pub mod LibraryOpening
+pub mod Creating
+pub mod Adding
+pub mod Answering
+pub mod Connections
 pub mod Runs

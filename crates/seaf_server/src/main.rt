@@ -1,22 +1,23 @@
-//! The server program: one connection over standard input and output, answered from a library in memory.
+//! The server program: it makes libraries, adds tokens to them, and serves one connection over standard input and output.
 //!
-//! `run` is the server's top call, and `serve_link` the promise of one connection, over any shelf. Definitions:
-//! specs/Library.antt, specs/DepotView.antt, specs/CommandLine.antt, specs/Runs.antt. `main` makes the real objects and
-//! calls `run`.
+//! `run` is the server's top call, and `serve_link` the promise of one connection, over any shelf. Definitions: specs/,
+//! read Answering, then Runs and what it cites. `main` makes the real objects and calls `run`.
 #![tactic(auto)]
 
 mod adapters;
-mod command_line;
-mod depot;
-mod missing;
-mod put;
+mod adding;
+mod creating;
+mod inetd;
+mod making;
+mod not_done;
+mod opening;
 mod running;
 mod serving;
-mod steady_shelf;
 #[cfg(test)]
 mod tests;
 
-use crate::adapters::{StandardLink, StandardSink};
+use crate::adapters::{StandardLink, StandardSink, SystemClock};
+use folder_storage::{FolderGround, Ground, MemoryGround};
 use ids::{Items, Text};
 use std::alloc::{AllocError, Global};
 use std::env;
@@ -29,9 +30,40 @@ fn main(rt: HostRuntime) -> ExitCode {
         Ok(words) => words,
         Err(_) => return ExitCode::from(3u8),
     };
+    if names_memory(words.slice()) {
+        return ExitCode::from(run_on(&rt, words.slice(), &mut MemoryGround::new(rt.alloc())));
+    }
+    match rt.clone() {
+        Ok(files) => ExitCode::from(run_on(&rt, words.slice(), &mut FolderGround::new(files))),
+        Err(_) => ExitCode::from(3u8),
+    }
+}
+
+/// Whether the second word is that of the place in memory. Every command that names a place has it there.
+fn names_memory(words: &[Text]) -> bool {
+    match words {
+        [_, folder, ..] => folder.slice() == ":memory:",
+        _ => false,
+    }
+}
+
+/// Runs the command over standard input and output and the system's clock.
+fn run_on<G: Ground>(rt: &HostRuntime, words: &[Text], libraries: &mut G) -> u8 {
+    let clock = match rt.clone() {
+        Ok(rt) => SystemClock::new(rt),
+        Err(_) => return 3,
+    };
     let mut link = StandardLink::new(rt.stdin(), rt.stdout());
     let mut out = StandardSink::new(rt.stdout());
-    ExitCode::from(running::run(&rt, rt.alloc(), words.slice(), &mut link, &mut out))
+    running::run(
+        rt,
+        rt.alloc(),
+        words,
+        libraries,
+        &mut link,
+        &clock,
+        &mut out,
+    )
 }
 
 /// The words after the program's name. Words that aren't all UTF-8 are no command, like no word.

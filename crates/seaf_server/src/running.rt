@@ -1,33 +1,49 @@
 //! The server's top call.
-ghost use Rattle.std.specs.Prelude.{◌≡◌, Some};
+ghost use Rattle.std.specs.Prelude.{◌≡◌, ◌≤◌, length};
 ghost use Rattle.std.specs.Io.KnownBytes.{append_known};
-ghost use Rattle.seaf_server.specs.CommandLine.{Printed, command_of, usage_text};
-ghost use Rattle.seaf_server.specs.Runs.{LinkView, PrintsSo, RunsSo, ServesLibrary, SinkView, status_of};
+ghost use Rattle.server_words.specs.CommandLine.{NamesFit, command_of};
+ghost use Rattle.server_words.specs.Lines.{line_text};
+ghost use Rattle.server_words.specs.declared.line.Line.TheVariants as lines;
+ghost use Rattle.seaf_server.specs.Connections.{LinkView};
+ghost use Rattle.seaf_server.specs.Runs.{AddsToken, CreatesLibrary, PrintsSo, RunsSo, SinkView, added_line, created_line, help_printed, line_printed, version_printed};
+ghost use Rattle.seaf_server.specs.Standing.{GroundView};
 
-use crate::command_line::{Command, command_of, help_text, usage_text, version_text};
-use crate::depot::Depot;
-use crate::serving::serve_link;
-use crate::steady_shelf::SteadyShelf;
+use crate::adding::{NewToken, add_token};
+use crate::creating::create;
+use crate::inetd::inetd;
+use crate::making::NewLibrary;
+use crate::not_done::{NotAdded, NotMade};
+use crate::opening::folder_word;
+use folder_storage::Ground;
 use http_front::{Link, Sink};
-use ids::{LibId, Text};
-use object_store::Store;
+use ids::{LibId, ObjId, Text};
+use library_state::Clock;
+use server_words::{Command, Line, Place, help_text, read_command, version_text};
 use std::alloc::Global;
-use worker_server::Served;
 
 /// Runs the command that the words are, and gives its status.
 ///
-/// `inetd :memory: LIB` serves one connection over the link from a new library in memory, and puts nothing to `out`:
-/// the status is 0 where the connection ended well or met its limit, 1 where it was refused or failed, 3 where there was
-/// no memory. `--help` and `--version`, alone, put their texts, with status 0. Other words put the usage line, with
-/// status 2. Where the sink fails, the status is 1.
-pub fn run<L: Link, O: Sink, R>(
+/// `create FOLDER LIB NAME USER TOKEN` makes a library in `libraries`, `token FOLDER LIB USER TOKEN RIGHT` adds a token to
+/// one, and each puts its line or a fault line to `out`. `inetd FOLDER LIB` serves one connection over the link, and puts
+/// nothing. `--help` and `--version`, alone, put their texts. Other words put the usage line. Where FOLDER is `:memory:`,
+/// `token` and `inetd` first make a library that is not there, of the name `memory`, the user `me` and a secret of forty
+/// `a`. What `libraries` handed out is back.
+///
+/// The status is 0 where the command was done, for `inetd` where the connection ended well or met its limit; 1 after a
+/// fault, and where the sink failed; 2 for words that are no command; 3 for want of memory and nothing else, without a
+/// line where there was none for the words.
+pub fn run<G: Ground, L: Link, C: Clock, O: Sink, R>(
     rt: &R,
     alloc: Global,
     words: &[Text],
+    libraries: &mut G,
     link: &mut L,
+    clock: &C,
     out: &mut O,
 ) -> u8
-    ensures runs { RunsSo (command_of words.now)
+    ensures runs { RunsSo G.S.contents G.S.may_give G.S.faults (C.shows clock.now) (command_of words.now)
+        (record { stands = G.stands libraries.old; faults = G.faults libraries.old })
+        (record { stands = G.stands libraries.new; faults = G.faults libraries.new })
         (record { left = L.left link.old; given = L.given link.old; faults = L.faults link.old })
         (record { left = L.left link.new; given = L.given link.new; faults = L.faults link.new })
         (record { given = O.given out.old; faults = O.faults out.old })
@@ -35,51 +51,139 @@ pub fn run<L: Link, O: Sink, R>(
 
     // 2 comes with a written usage line alone.
     ensures usage { result ≡ 2
-        → (command_of words.now ≡ Command.Usage) × (O.given out.new ≡ append_known (O.given out.old) usage_text) }
+        → (command_of words.now ≡ Command.Usage) × (O.given out.new ≡ append_known (O.given out.old) (line_text lines.Usage)) }
 {
     let _ = rt;
-    perform(alloc, command_of(words), link, out)
+    match read_command(alloc, words) {
+        Ok(command) => perform(alloc, command, libraries, link, clock, out),
+        Err(_) => 3,
+    }
 }
 
 /// Does what a command asks for.
-fn perform<L: Link, O: Sink>(alloc: Global, command: Command, link: &mut L, out: &mut O) -> u8
-    ensures runs { RunsSo command
+fn perform<G: Ground, L: Link, C: Clock, O: Sink>(
+    alloc: Global,
+    command: Command,
+    libraries: &mut G,
+    link: &mut L,
+    clock: &C,
+    out: &mut O,
+) -> u8
+    requires fits { NamesFit command }
+    ensures runs { RunsSo G.S.contents G.S.may_give G.S.faults (C.shows clock.now) command
+        (record { stands = G.stands libraries.old; faults = G.faults libraries.old })
+        (record { stands = G.stands libraries.new; faults = G.faults libraries.new })
         (record { left = L.left link.old; given = L.given link.old; faults = L.faults link.old })
         (record { left = L.left link.new; given = L.given link.new; faults = L.faults link.new })
         (record { given = O.given out.old; faults = O.faults out.old })
         (record { given = O.given out.new; faults = O.faults out.new }) result }
 {
     match command {
-        Command::Inetd(lib) => inetd(alloc, lib, link),
+        Command::Create {
+            place,
+            lib,
+            name,
+            user,
+            secret,
+        } => {
+            let new = NewLibrary {
+                lib,
+                name,
+                user,
+                secret,
+            };
+            create_printed(alloc, libraries, &place, &new, clock, out)
+        }
+        Command::Token {
+            place,
+            lib,
+            user,
+            secret,
+            right,
+        } => {
+            let new = NewToken {
+                user,
+                secret,
+                right,
+            };
+            add_printed(alloc, libraries, &place, lib, &new, clock, out)
+        }
+        Command::Inetd { place, lib } => inetd(alloc, libraries, &place, lib, link, clock),
         Command::Help => print(out, help_text(), 0),
         Command::Version => print(out, version_text(), 0),
-        Command::Usage => print(out, usage_text(), 2),
+        Command::Usage => print_line(out, Line::Usage),
     }
 }
 
-/// Serves one connection from a new library.
-fn inetd<L: Link>(alloc: Global, lib: LibId, link: &mut L) -> u8
-    ensures serves { ServesLibrary lib
-        (record { left = L.left link.old; given = L.given link.old; faults = L.faults link.old })
-        (record { left = L.left link.new; given = L.given link.new; faults = L.faults link.new }) result }
+/// Makes a library, and puts the line that tells it.
+fn create_printed<G: Ground, C: Clock, O: Sink>(
+    alloc: Global,
+    libraries: &mut G,
+    place: &Place,
+    new: &NewLibrary,
+    clock: &C,
+    out: &mut O,
+) -> u8
+    requires fits { length new.now.name ≤ 255 }
+    requires ready { (1 ≤ length new.now.user) × (length new.now.user ≤ 255) }
+    ensures value { CreatesLibrary G.S.contents G.S.may_give (C.shows clock.now) place.now new.now
+        (record { stands = G.stands libraries.old; faults = G.faults libraries.old })
+        (record { stands = G.stands libraries.new; faults = G.faults libraries.new })
+        (record { given = O.given out.old; faults = O.faults out.old })
+        (record { given = O.given out.new; faults = O.faults out.new }) result }
 {
-    let store = match Store::start(alloc, SteadyShelf::new(alloc)) {
-        Ok(store) => store,
-        Err(_) => return status_of(Served::NoMemory),
-    };
-    let mut depot = Depot { lib, store };
-    status_of(serve_link(alloc, &mut depot, link))
+    let created = create(alloc, libraries, folder_word(place), new, clock.now());
+    print_line(out, created_line(new.lib, created))
 }
 
-/// The status of a connection's end.
-fn status_of(how: Served) -> u8
-    ensures value { result ≡ status_of how }
+/// The line that tells how the making of a library went.
+fn created_line(lib: LibId, created: Result<ObjId, NotMade>) -> Line
+    ensures value { result ≡ created_line lib created }
 {
-    match how {
-        Served::Ended | Served::Limit => 0,
-        Served::Cut(_) | Served::Refused(_) | Served::ReadFault | Served::WriteFault => 1,
-        Served::NoMemory => 3,
+    match created {
+        Ok(head) => Line::Created { lib, head },
+        Err(why) => Line::Fault(why.fault()),
     }
+}
+
+/// Adds a token, and puts the line that tells it.
+fn add_printed<G: Ground, C: Clock, O: Sink>(
+    alloc: Global,
+    libraries: &mut G,
+    place: &Place,
+    lib: LibId,
+    new: &NewToken,
+    clock: &C,
+    out: &mut O,
+) -> u8
+    requires ready { (1 ≤ length new.now.user) × (length new.now.user ≤ 255) }
+    ensures value { AddsToken G.S.contents G.S.may_give (C.shows clock.now) place.now lib new.now
+        (record { stands = G.stands libraries.old; faults = G.faults libraries.old })
+        (record { stands = G.stands libraries.new; faults = G.faults libraries.new })
+        (record { given = O.given out.old; faults = O.faults out.old })
+        (record { given = O.given out.new; faults = O.faults out.new }) result }
+{
+    let added = add_token(alloc, libraries, place, lib, new, clock);
+    print_line(out, added_line(added))
+}
+
+/// The line that tells how the adding of a token went.
+fn added_line(added: Result<(), NotAdded>) -> Line
+    ensures value { result ≡ added_line added }
+{
+    match added {
+        Ok(()) => Line::TokenAdded,
+        Err(why) => Line::Fault(why.fault()),
+    }
+}
+
+/// Puts a line, and gives its status.
+fn print_line<O: Sink>(out: &mut O, line: Line) -> u8
+    ensures prints { PrintsSo (line_printed line)
+        (record { given = O.given out.old; faults = O.faults out.old })
+        (record { given = O.given out.new; faults = O.faults out.new }) result }
+{
+    print(out, line.text().slice(), line.status())
 }
 
 /// Puts a text, and gives the status.

@@ -61,10 +61,14 @@ module _ {V Line : Type 0} (asks : V → List ℕ → Call → Answer → List L
   ServedBy-ran : (lib : List ℕ) (secret : Option (List ℕ)) (w : What) (u : V) (o : Outcome) (lines : List Line) (v : V)
       → ServedBy asks lib secret w u o lines v → (calls : List (Told Line)) × Ran asks u calls v
   ServedBy-ran lib secret what.Version u o lines v h = ([], h.2)
+  ServedBy-ran lib secret (what.Check op) u o lines v h = AskedSo-ran u lib _ o lines v h
+  ServedBy-ran lib secret what.Head u o lines v h = AskedSo-ran u lib _ o lines v h
+  ServedBy-ran lib secret (what.Update commit) u o lines v h = AskedSo-ran u lib _ o lines v h
   ServedBy-ran lib secret (what.Get key) u o lines v h = AskedSo-ran u lib _ o lines v h
   ServedBy-ran lib secret (what.Put key bytes) u o lines v h = AskedSo-ran u lib _ o lines v h
   ServedBy-ran lib secret (what.Missing kind ids) u o lines v h = AskedSo-ran u lib _ o lines v h
   ServedBy-ran lib secret (what.PutFs rows) u o lines v h = PutsEach-ran lib secret u rows o lines v h
+  ServedBy-ran lib secret (what.Ids server client) u o lines v h = AskedSo-ran u lib _ o lines v h
   ServedBy-ran lib secret (what.GetFs ids) u o lines v h = GetsEach-ran lib secret u ids [] o lines v h
 
   ServedAt-ran : (lib secret : Option (List ℕ)) (w : What) (u : V) (o : Outcome) (lines : List Line) (v : V)

@@ -1,6 +1,6 @@
 -- What an order asks of a library, and how its outcome is made of the answers. Read Serves last: it is what stands
 -- between a request and its reply. `asks` is a host's relation: from what it shows before, a library and a call to
--- an answer, the lines that the call left and what it shows after.
+-- an answer, the lines that the call left and what it shows after. Of a host with a clock it is AtAMoment.
 use Rattle.std.specs.Prelude.{ℕ, ◌≡◌, ◌⊎◌, Bool, true, false, List, [], ◌∷◌, ◌++◌, Option, None, Some, Result, Ok, Err}
 use Rattle.ids.specs.declared.key.Kind.TheVariants.{Fs}
 use Rattle.library_state.specs.declared.call.Act.{Act}
@@ -70,6 +70,11 @@ abbrev pub refusal_of : OrderFault → Refusal
 refusal_of (fault.Refused refusal) = refusal
 refusal_of fault.NoMemory = NoMemory
 
+-- the call is asked at a moment that the clock shows
+abbrev pub AtAMoment : {V Line : Type 0} → (ℕ → Type 0) → (V → List ℕ → Call → ℕ → Answer → List Line → V → Type 0)
+    → V → List ℕ → Call → Answer → List Line → V → Type 0
+AtAMoment shows asks u lib call answer lines v = (moment : ℕ) × shows moment × asks u lib call moment answer lines v
+
 -- no call was asked, and this is the outcome
 abbrev pub NotAsked : {V Line : Type 0} → V → Outcome → Outcome → List Line → V → Type 0
 NotAsked u due o lines v = (o ≡ due) × (lines ≡ []) × (v ≡ u)
@@ -107,11 +112,15 @@ module _ {V Line : Type 0} (asks : V → List ℕ → Call → Answer → List L
   -- what was asked of a library has this outcome
   abbrev pub ServedBy : List ℕ → Option (List ℕ) → What → V → Outcome → List Line → V → Type 0
   ServedBy lib secret what.Version u o lines v = NotAsked u Version o lines v
+  ServedBy lib secret (what.Check op) u o lines v = AskedSo u lib (call_of secret (act.Check op)) o lines v
+  ServedBy lib secret what.Head u o lines v = AskedSo u lib (call_of secret act.Head) o lines v
+  ServedBy lib secret (what.Update commit) u o lines v = AskedSo u lib (call_of secret (act.Update commit)) o lines v
   ServedBy lib secret (what.Get key) u o lines v = AskedSo u lib (call_of secret (act.Get key)) o lines v
   ServedBy lib secret (what.Put key bytes) u o lines v = AskedSo u lib (call_of secret (act.Put key bytes)) o lines v
   ServedBy lib secret (what.Missing kind ids) u o lines v = AskedSo u lib (call_of secret (act.Missing kind ids)) o lines v
   ServedBy lib secret (what.PutFs rows) u o lines v = PutsEach lib secret u rows o lines v
   ServedBy lib secret (what.GetFs ids) u o lines v = GetsEach lib secret u ids [] o lines v
+  ServedBy lib secret (what.Ids server client) u o lines v = AskedSo u lib (call_of secret (act.Ids server client)) o lines v
 
   abbrev pub ServedAt : Option (List ℕ) → Option (List ℕ) → What → V → Outcome → List Line → V → Type 0
   ServedAt None secret w u o lines v = NotAsked u (outcome_without_library w) o lines v

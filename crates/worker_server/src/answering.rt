@@ -2,7 +2,7 @@
 ghost use Rattle.std.specs.Prelude.{◌≡◌, List, Some, IfSome};
 ghost use Rattle.http_front.specs.Order.{IsOrder};
 ghost use Rattle.http_front.specs.ReplyText.{text};
-ghost use Rattle.worker_server.specs.Calls.{Serves, ServesOrder, outcome_without_library, refusal_of};
+ghost use Rattle.worker_server.specs.Calls.{AtAMoment, Serves, ServesOrder, outcome_without_library, refusal_of};
 
 use crate::asking::{ask_one, get_each, put_each};
 use crate::host::Host;
@@ -24,7 +24,7 @@ pub fn reply_to<H: Host>(
     requires ready { H.ready host.now pass.old }
     ensures ready { H.ready host.now pass.new }
     ensures serves { (outcome : Outcome) × (lines : List H.Line)
-        × Serves H.asks (H.view pass.old) (IsOrder head.now.method head.now.target head.now.token body.now) outcome lines (H.view pass.new)
+        × Serves (AtAMoment (H.shows host.now) H.asks) (H.view pass.old) (IsOrder head.now.method head.now.target head.now.token body.now) outcome lines (H.view pass.new)
         × IfSome result (λ bytes. bytes ≡ text outcome closes) }
 {
     let outcome = outcome_of(alloc, host, pass, head, body);
@@ -55,7 +55,7 @@ fn outcome_of<H: Host>(
     requires ready { H.ready host.now pass.old }
     ensures ready { H.ready host.now pass.new }
     ensures serves { (lines : List H.Line)
-        × Serves H.asks (H.view pass.old) (IsOrder head.now.method head.now.target head.now.token body.now) result lines (H.view pass.new) }
+        × Serves (AtAMoment (H.shows host.now) H.asks) (H.view pass.old) (IsOrder head.now.method head.now.target head.now.token body.now) result lines (H.view pass.new) }
 {
     match order_of(alloc, head, body) {
         Ok(order) => outcome_in(alloc, host, pass, order),
@@ -77,7 +77,7 @@ fn refusal_of(fault: OrderFault) -> Refusal
 fn outcome_in<H: Host>(alloc: Global, host: &H, pass: &mut H::Pass, order: Order) -> Outcome
     requires ready { H.ready host.now pass.old }
     ensures ready { H.ready host.now pass.new }
-    ensures serves { (lines : List H.Line) × ServesOrder H.asks (H.view pass.old) order result lines (H.view pass.new) }
+    ensures serves { (lines : List H.Line) × ServesOrder (AtAMoment (H.shows host.now) H.asks) (H.view pass.old) order result lines (H.view pass.new) }
 {
     let Order { lib, secret, what } = order;
     match lib {
@@ -108,10 +108,13 @@ fn outcome_by<H: Host>(
     requires ready { H.ready host.now pass.old }
     ensures ready { H.ready host.now pass.new }
     ensures serves { (lines : List H.Line)
-        × ServesOrder H.asks (H.view pass.old) (record { lib = Some lib; secret = secret; what = what }) result lines (H.view pass.new) }
+        × ServesOrder (AtAMoment (H.shows host.now) H.asks) (H.view pass.old) (record { lib = Some lib; secret = secret; what = what }) result lines (H.view pass.new) }
 {
     match what {
         What::Version => Outcome::Version,
+        What::Check(op) => ask_one(alloc, host, pass, lib, secret, Act::Check(op)),
+        What::Head => ask_one(alloc, host, pass, lib, secret, Act::Head),
+        What::Update(commit) => ask_one(alloc, host, pass, lib, secret, Act::Update(commit)),
         What::Get(key) => ask_one(alloc, host, pass, lib, secret, Act::Get(key)),
         What::Put(key, bytes) => ask_one(alloc, host, pass, lib, secret, Act::Put(key, bytes)),
         What::Missing(kind, ids) => {
@@ -119,5 +122,8 @@ fn outcome_by<H: Host>(
         }
         What::PutFs(rows) => put_each(alloc, host, pass, lib, secret, rows),
         What::GetFs(ids) => get_each(alloc, host, pass, lib, secret, ids.slice()),
+        What::Ids(server, client) => {
+            ask_one(alloc, host, pass, lib, secret, Act::Ids(server, client))
+        }
     }
 }

@@ -1,6 +1,6 @@
 //! Asking the host: one call, or one for each file and directory of a body.
 ghost use Rattle.std.specs.Prelude.{◌≡◌, ◌⊎◌, false, List, [], IfOk, IfErr, OnErr};
-ghost use Rattle.worker_server.specs.Calls.{AskedSo, GetsEach, NotAsked, PutsEach, call_of, get_of, is_got, is_stored, put_of, told_of};
+ghost use Rattle.worker_server.specs.Calls.{AskedSo, AtAMoment, GetsEach, NotAsked, PutsEach, call_of, get_of, is_got, is_stored, put_of, told_of};
 ghost use Rattle.http_front.specs.Rows.{row_with};
 
 use crate::host::{Answer, Host};
@@ -21,7 +21,7 @@ pub fn ask_one<H: Host>(
     requires ready { H.ready host.now pass.old }
     ensures ready { H.ready host.now pass.new }
     ensures asked { (lines : List H.Line)
-        × AskedSo H.asks (H.view pass.old) lib (call_of secret act) result lines (H.view pass.new) }
+        × AskedSo (AtAMoment (H.shows host.now) H.asks) (H.view pass.old) lib (call_of secret act) result lines (H.view pass.new) }
 {
     told_of(host.ask(alloc, pass, lib, Call { secret, act }))
 }
@@ -38,7 +38,7 @@ pub fn put_each<H: Host>(
     requires ready { H.ready host.now pass.old }
     ensures ready { H.ready host.now pass.new }
     ensures asked { (lines : List H.Line)
-        × PutsEach H.asks lib secret (H.view pass.old) rows result lines (H.view pass.new) }
+        × PutsEach (AtAMoment (H.shows host.now) H.asks) lib secret (H.view pass.old) rows result lines (H.view pass.new) }
 {
     let mut left = rows.into_vec();
     left.reverse();
@@ -69,7 +69,7 @@ fn put_one<H: Host>(
     requires ready { H.ready host.now pass.old }
     ensures ready { H.ready host.now pass.new }
     ensures asks { (lines : List H.Line)
-        × H.asks (H.view pass.old) lib.now (call_of secret.now (put_of row)) result lines (H.view pass.new) }
+        × (AtAMoment (H.shows host.now) H.asks) (H.view pass.old) lib.now (call_of secret.now (put_of row)) result lines (H.view pass.new) }
 {
     let Row { id, bytes } = row;
     let key = Key { kind: Kind::Fs, id };
@@ -97,7 +97,7 @@ pub fn get_each<H: Host>(
     requires ready { H.ready host.now pass.old }
     ensures ready { H.ready host.now pass.new }
     ensures asked { (lines : List H.Line)
-        × (GetsEach H.asks lib secret (H.view pass.old) ids.now [] result lines (H.view pass.new)
+        × (GetsEach (AtAMoment (H.shows host.now) H.asks) lib secret (H.view pass.old) ids.now [] result lines (H.view pass.new)
         ⊎ NotAsked (H.view pass.old) (Outcome.Refused Refusal.NoMemory) result lines (H.view pass.new)) }
 {
     let mut rows = match Vec::with_capacity(alloc, ids.len()) {
@@ -130,7 +130,7 @@ fn get_one<H: Host>(
     requires ready { H.ready host.now pass.old }
     ensures ready { H.ready host.now pass.new }
     ensures asks { (lines : List H.Line)
-        × H.asks (H.view pass.old) lib.now (call_of secret.now (get_of id)) result lines (H.view pass.new) }
+        × (AtAMoment (H.shows host.now) H.asks) (H.view pass.old) lib.now (call_of secret.now (get_of id)) result lines (H.view pass.new) }
 {
     let key = Key { kind: Kind::Fs, id };
     host.ask(

@@ -3,7 +3,7 @@ ghost use Rattle.std.specs.Prelude.{◌≡◌, ◌==◌, ◌||◌, ℕ, List, So
 ghost use Rattle.ids.specs.FaultCount.{Rose};
 ghost use Rattle.http_front.specs.Buffer.{to_read};
 ghost use Rattle.http_front.specs.ReplyText.{is_bad_status};
-ghost use Rattle.worker_server.specs.Calls.{Told, Ran};
+ghost use Rattle.worker_server.specs.Calls.{AtAMoment, Told, Ran};
 ghost use Rattle.worker_server.specs.RequestSteps.{CountsGive, CountsServed, HasPlainStatus, OneServed, RefusesSo, StopsSo};
 ghost use Rattle.worker_server.specs.ServedConnection.{CountsEnd, Session};
 
@@ -36,10 +36,10 @@ pub fn serve_session<H: Host, L: Link>(
     // Where the link tells what it has left: the bytes given are the texts of the outcomes of the requests that those
     // bytes spell.
     ensures session { (input : List ℕ) → L.left link.old ≡ Some input
-        → Session H.asks input (L.given link.old) (L.given link.new) (H.view pass.old) (H.view pass.new) result }
+        → Session (AtAMoment (H.shows host.now) H.asks) input (L.given link.old) (L.given link.new) (H.view pass.old) (H.view pass.new) result }
 
     // Of every link: the calls that were asked.
-    ensures ran { (calls : List (Told H.Line)) × Ran H.asks (H.view pass.old) calls (H.view pass.new) }
+    ensures ran { (calls : List (Told H.Line)) × Ran (AtAMoment (H.shows host.now) H.asks) (H.view pass.old) calls (H.view pass.new) }
 
     // The link's count of faults rose in the first two cases, and stayed in every other.
     ensures read_fault { result ≡ Served.ReadFault → Rose (L.faults link.old) (L.faults link.new) }
@@ -75,8 +75,8 @@ fn serve_one<H: Host, L: Link>(
     requires ready { H.ready host.now pass.old }
     ensures ready { H.ready host.now pass.new }
     ensures one { (rest : List ℕ) → to_read buffer.old (L.left link.old) ≡ Some rest
-        → OneServed H.asks number rest (to_read buffer.new (L.left link.new)) (H.view pass.old) (H.view pass.new) (L.given link.old) (L.given link.new) result }
-    ensures ran { (calls : List (Told H.Line)) × Ran H.asks (H.view pass.old) calls (H.view pass.new) }
+        → OneServed (AtAMoment (H.shows host.now) H.asks) number rest (to_read buffer.new (L.left link.new)) (H.view pass.old) (H.view pass.new) (L.given link.old) (L.given link.new) result }
+    ensures ran { (calls : List (Told H.Line)) × Ran (AtAMoment (H.shows host.now) H.asks) (H.view pass.old) calls (H.view pass.new) }
     ensures faults { CountsServed (L.faults link.old) (L.faults link.new) result }
 {
     let head = match next_request(alloc, link, buffer) {

@@ -17,11 +17,13 @@ pub struct Answer {
 /// What calls are asked of.
 ///
 /// A host is shared, and what changes as it answers is the pass that it is lent at each call: the
-/// library itself, or a participant that has seen a part of a history. Contracts see a pass by a
-/// view, and a call by a relation between the view before, the answer, the lines that it left (a
-/// record of operations, empty where none is kept) and the view after.
+/// library itself, or a participant that has seen a part of a history. A host keeps the clock, and
+/// looks at it as it is asked. Contracts see a pass by a view, and a call by a relation between the
+/// view before, the moment at which it is asked, the answer, the lines that it left (a record of
+/// operations, empty where none is kept) and the view after.
 pub trait Host {
     ghost use Rattle.std.specs.Prelude.{List, ℕ};
+    ghost use Rattle.worker_server.specs.Calls.{AtAMoment};
     ghost use Rattle.library_state.specs.declared.call.Call.{Call};
     ghost use Rattle.worker_server.specs.declared.host.Answer.{Answer};
 
@@ -38,12 +40,16 @@ pub trait Host {
     // The host takes calls through this pass.
     ghost ready: { Self → Self.Pass → Type 0 };
 
-    // A call on a library may be answered so.
-    ghost asks: { View → List ℕ → Call → Answer → List Line → View → Type 0 };
+    // The moments that the host's clock can show.
+    ghost shows: { Self → ℕ → Type 0 };
 
-    /// Asks a call of a library.
+    // A call on a library, asked at this moment, may be answered so.
+    ghost asks: { View → List ℕ → Call → ℕ → Answer → List Line → View → Type 0 };
+
+    /// Asks a call of a library, at a moment that the clock shows.
     fn ask(&self, alloc: Global, pass: &mut Self::Pass, lib: LibId, call: Call) -> Answer
         requires ready { ready self.now pass.old }
         ensures ready { ready self.now pass.new }
-        ensures asks { (lines : List Line) × asks (view pass.old) lib call result lines (view pass.new) };
+        ensures asks { (lines : List Line)
+            × AtAMoment (shows self.now) asks (view pass.old) lib call result lines (view pass.new) };
 }

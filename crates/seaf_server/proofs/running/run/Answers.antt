@@ -1,10 +1,11 @@
 -- The words are read as a command, which is done.
-use Rattle.seaf_server.proofs.RunLemmas.{RunsSo-command, RunsSo-usage}
+use Rattle.seaf_server.proofs.RunLemmas.{runs_usage}
 use Rattle.seaf_server.proofs.running.run.Goals as goal
 
-pub returns-clause-runs : goal.returns-clause-runs
-returns-clause-runs g c = RunsSo-command _ _ _ _ _ _ _ c.command_of.ensures.value c.perform.ensures.runs
+pub returns-in-Ok-clause-runs : goal.returns-in-Ok-clause-runs
+returns-in-Ok-clause-runs g c = rw c.in-Ok.ensures.value at c.perform.ensures.runs
 
-pub returns-clause-usage : goal.returns-clause-usage
-returns-clause-usage g c =
-    RunsSo-usage _ _ _ _ _ _ (RunsSo-command _ _ _ _ _ _ _ c.command_of.ensures.value c.perform.ensures.runs)
+pub returns-in-Ok-clause-usage : goal.returns-in-Ok-clause-usage
+returns-in-Ok-clause-usage g c =
+    runs_usage g.G.S.Shelf.contents g.G.S.Shelf.may_give g.G.S.Shelf.faults (g.C.Clock.shows c.args.clock.now) _ _ _ _ _ _ _ _
+    (rw c.in-Ok.ensures.value at c.perform.ensures.runs)

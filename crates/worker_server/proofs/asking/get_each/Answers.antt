@@ -5,7 +5,7 @@ use Rattle.http_front.specs.declared.outcome.Outcome.{Outcome}
 use Rattle.http_front.specs.declared.outcome.Outcome.TheVariants.{Packed}
 use Rattle.http_front.specs.declared.row.Row.{Row}
 use Rattle.http_front.specs.Rows.{row_with}
-use Rattle.worker_server.specs.Calls.{GetsEach, told_of}
+use Rattle.worker_server.specs.Calls.{AtAMoment, GetsEach, told_of}
 use Rattle.worker_server.proofs.EachLemmas.{GetsEach-refused, GetsEach-given}
 use Rattle.worker_server.proofs.asking.get_each.Goals as goal
 
@@ -16,9 +16,9 @@ returns-in-Err-row_of-clause-asked g c =
     let rest = drop (c.loop-id.id-index + 1) c.args.ids.now in
     let left : drop c.loop-id.id-index c.args.ids.now ≡ id ∷ rest = drop_more c.args.ids.now c.loop-id.id-index id c.loop-id-test.true ∙ ap (λ (x : List ℕ). x ∷ rest) (sym c.id-item.is) in
     let whole = c.loop-id.invariant.goes_on (told_of c.get_one-answer.result) asked.0 (g.H.Host.view c.get_one-answer.new.pass)
-    (subst (λ (ids : List (List ℕ)). GetsEach g.H.Host.asks c.args.lib c.args.secret (g.H.Host.view c.loop-id.pass) ids c.loop-id.rows.items (told_of c.get_one-answer.result) asked.0 (g.H.Host.view c.get_one-answer.new.pass)) (sym left)
-    (GetsEach-refused g.H.Host.asks c.args.lib c.args.secret _ _ id rest c.loop-id.rows.items c.get_one-answer.result asked.0 asked.1 c.in-Err-row_of.ensures.not_got)) in
-    (whole.0, inl (subst (λ (o : Outcome). GetsEach g.H.Host.asks c.args.lib c.args.secret (g.H.Host.view c.args.pass.now) c.args.ids.now [] o whole.0 (g.H.Host.view c.get_one-answer.new.pass)) (sym c.in-Err-row_of.ensures.refused) whole.1))
+    (subst (λ (ids : List (List ℕ)). GetsEach (AtAMoment (g.H.Host.shows c.args.host.now) g.H.Host.asks) c.args.lib c.args.secret (g.H.Host.view c.loop-id.pass) ids c.loop-id.rows.items (told_of c.get_one-answer.result) asked.0 (g.H.Host.view c.get_one-answer.new.pass)) (sym left)
+    (GetsEach-refused (AtAMoment (g.H.Host.shows c.args.host.now) g.H.Host.asks) c.args.lib c.args.secret _ _ id rest c.loop-id.rows.items c.get_one-answer.result asked.0 asked.1 c.in-Err-row_of.ensures.not_got)) in
+    (whole.0, inl (subst (λ (o : Outcome). GetsEach (AtAMoment (g.H.Host.shows c.args.host.now) g.H.Host.asks) c.args.lib c.args.secret (g.H.Host.view c.args.pass.now) c.args.ids.now [] o whole.0 (g.H.Host.view c.get_one-answer.new.pass)) (sym c.in-Err-row_of.ensures.refused) whole.1))
 
 pub loop-id-preserved : goal.loop-id-preserved
 loop-id-preserved g c = record {
@@ -30,10 +30,10 @@ loop-id-preserved g c = record {
       let rest = drop (c.loop-id.id-index + 1) c.args.ids.now in
       let left : drop c.loop-id.id-index c.args.ids.now ≡ id ∷ rest = drop_more c.args.ids.now c.loop-id.id-index id c.loop-id-test.true ∙ ap (λ (x : List ℕ). x ∷ rest) (sym c.id-item.is) in
       let pushed : c.push.new.self.items ≡ c.loop-id.rows.items ++ row_with id bytes ∷ [] = c.in-Ok-push.ensures.items ∙ ap (λ (r : Row). c.loop-id.rows.items ++ r ∷ []) c.in-Ok-row_of.ensures.named in
-      let next = subst (λ (rows : List Row). GetsEach g.H.Host.asks c.args.lib c.args.secret (g.H.Host.view c.get_one-answer.new.pass) rest rows o more v) pushed later in
+      let next = subst (λ (rows : List Row). GetsEach (AtAMoment (g.H.Host.shows c.args.host.now) g.H.Host.asks) c.args.lib c.args.secret (g.H.Host.view c.get_one-answer.new.pass) rest rows o more v) pushed later in
       c.loop-id.invariant.goes_on o (asked.0 ++ more) v
-      (subst (λ (ids : List (List ℕ)). GetsEach g.H.Host.asks c.args.lib c.args.secret (g.H.Host.view c.loop-id.pass) ids c.loop-id.rows.items o (asked.0 ++ more) v) (sym left)
-      (GetsEach-given g.H.Host.asks c.args.lib c.args.secret _ _ v id rest c.loop-id.rows.items c.get_one-answer.result asked.0 more o bytes asked.1 c.in-Ok-row_of.ensures.got next));
+      (subst (λ (ids : List (List ℕ)). GetsEach (AtAMoment (g.H.Host.shows c.args.host.now) g.H.Host.asks) c.args.lib c.args.secret (g.H.Host.view c.loop-id.pass) ids c.loop-id.rows.items o (asked.0 ++ more) v) (sym left)
+      (GetsEach-given (AtAMoment (g.H.Host.shows c.args.host.now) g.H.Host.asks) c.args.lib c.args.secret _ _ v id rest c.loop-id.rows.items c.get_one-answer.result asked.0 more o bytes asked.1 c.in-Ok-row_of.ensures.got next));
   room = let grown = c.in-Ok-push.ensures.capacity in omega (arith, grown, c.loop-id.invariant.room);
   count = let one = c.in-Ok-push.ensures.len in omega (arith, one, c.loop-id.invariant.count);
 }
@@ -42,5 +42,5 @@ pub returns-clause-asked : goal.returns-clause-asked
 returns-clause-asked g c =
     let none : drop c.loop-id.id-index c.args.ids.now ≡ [] = drop_all c.loop-id.id-index c.args.ids.now c.loop-id-test.false in
     let whole = c.loop-id.invariant.goes_on (Packed c.loop-id.rows.items) [] (g.H.Host.view c.loop-id.pass)
-    (subst (λ (ids : List (List ℕ)). GetsEach g.H.Host.asks c.args.lib c.args.secret (g.H.Host.view c.loop-id.pass) ids c.loop-id.rows.items (Packed c.loop-id.rows.items) [] (g.H.Host.view c.loop-id.pass)) (sym none) (refl, refl, refl)) in
-    (whole.0, inl (subst (λ (rows : List Row). GetsEach g.H.Host.asks c.args.lib c.args.secret (g.H.Host.view c.args.pass.now) c.args.ids.now [] (Packed rows) whole.0 (g.H.Host.view c.loop-id.pass)) (sym c.from_vec.ensures.value) whole.1))
+    (subst (λ (ids : List (List ℕ)). GetsEach (AtAMoment (g.H.Host.shows c.args.host.now) g.H.Host.asks) c.args.lib c.args.secret (g.H.Host.view c.loop-id.pass) ids c.loop-id.rows.items (Packed c.loop-id.rows.items) [] (g.H.Host.view c.loop-id.pass)) (sym none) (refl, refl, refl)) in
+    (whole.0, inl (subst (λ (rows : List Row). GetsEach (AtAMoment (g.H.Host.shows c.args.host.now) g.H.Host.asks) c.args.lib c.args.secret (g.H.Host.view c.args.pass.now) c.args.ids.now [] (Packed rows) whole.0 (g.H.Host.view c.loop-id.pass)) (sym c.from_vec.ensures.value) whole.1))

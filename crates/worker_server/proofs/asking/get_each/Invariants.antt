@@ -1,14 +1,14 @@
 -- What was given so far, and then what is left, make the whole; there is room for each row.
 use Rattle.std.proofs.Common.{◌≡◌, ◌≤◌, List, [], drop, length, vec_len, vec_capacity}
 use Rattle.http_front.specs.declared.outcome.Outcome.{Outcome}
-use Rattle.worker_server.specs.Calls.{GetsEach}
+use Rattle.worker_server.specs.Calls.{AtAMoment, GetsEach}
 use Rattle.worker_server.proofs.asking.get_each.Given as goal
 
 abbrev pub invariant-loop-id : goal.invariant-loop-id
 invariant-loop-id g l = record {
   is_ready : g.H.Host.ready l.host l.pass;
-  goes_on : (o : Outcome) (more : List g.H.Host.Line) (v : g.H.Host.View) → GetsEach g.H.Host.asks l.lib l.secret (g.H.Host.view l.pass) (drop l.id-index l.ids) l.rows.items o more v
-      → (lines : List g.H.Host.Line) × GetsEach g.H.Host.asks l.fn.lib l.fn.secret (g.H.Host.view l.fn.pass) l.ids [] o lines v;
+  goes_on : (o : Outcome) (more : List g.H.Host.Line) (v : g.H.Host.View) → GetsEach (AtAMoment (g.H.Host.shows l.host) g.H.Host.asks) l.lib l.secret (g.H.Host.view l.pass) (drop l.id-index l.ids) l.rows.items o more v
+      → (lines : List g.H.Host.Line) × GetsEach (AtAMoment (g.H.Host.shows l.host) g.H.Host.asks) l.fn.lib l.fn.secret (g.H.Host.view l.fn.pass) l.ids [] o lines v;
   room : length l.ids ≤ vec_capacity l.rows;
   count : vec_len l.rows ≡ l.id-index;
 }

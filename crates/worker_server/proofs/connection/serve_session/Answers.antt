@@ -2,6 +2,7 @@
 use Rattle.std.proofs.Common.{◌≡◌, ◌<◌, refl, ◌∙◌, arith}
 use Rattle.worker_server.proofs.CallLemmas.{Ran-append}
 use Rattle.worker_server.proofs.SessionLemmas.{SoFar-counted, SoFar-more, Session-closed, Session-limit, Session-stopped}
+use Rattle.worker_server.specs.Calls.{AtAMoment}
 use Rattle.worker_server.proofs.connection.serve_session.Goals as goal
 
 pub returns-in-Ok-true-clause-session : goal.returns-in-Ok-true-clause-session
@@ -9,22 +10,22 @@ returns-in-Ok-true-clause-session g c = λ input e.
     let s = c.loop-number.invariant.so_far input e in
     let more = c.in-Ok-true.ensures.one s.rest s.ahead_is in
     let before : c.loop-number.number < 9999 = omega (arith, c.loop-number-test.true) in
-    Session-closed g.H.Host.asks _ input _ _ _ _ _ s _ _ _ _ more c.in-Ok-true.field-0-test before
+    Session-closed (AtAMoment (g.H.Host.shows c.args.host.now) g.H.Host.asks) _ input _ _ _ _ _ s _ _ _ _ more c.in-Ok-true.field-0-test before
 
 pub returns-in-Ok-true-clause-ran : goal.returns-in-Ok-true-clause-ran
 returns-in-Ok-true-clause-ran g c =
-    Ran-append g.H.Host.asks _ _ _ c.loop-number.invariant.ran.0 _ c.loop-number.invariant.ran.1 c.in-Ok-true.ensures.ran.1
+    Ran-append (AtAMoment (g.H.Host.shows c.args.host.now) g.H.Host.asks) _ _ _ c.loop-number.invariant.ran.0 _ c.loop-number.invariant.ran.1 c.in-Ok-true.ensures.ran.1
 
 pub returns-in-Err-serve_one-clause-session : goal.returns-in-Err-serve_one-clause-session
 returns-in-Err-serve_one-clause-session g c = λ input e.
     let s = c.loop-number.invariant.so_far input e in
     let stops = c.in-Err-serve_one.ensures.one s.rest s.ahead_is in
     let few : c.loop-number.number < 10000 = omega (arith, c.loop-number-test.true) in
-    Session-stopped g.H.Host.asks c.in-Err-serve_one.how _ input _ _ _ _ _ s few _ _ stops
+    Session-stopped (AtAMoment (g.H.Host.shows c.args.host.now) g.H.Host.asks) c.in-Err-serve_one.how _ input _ _ _ _ _ s few _ _ stops
 
 pub returns-in-Err-serve_one-clause-ran : goal.returns-in-Err-serve_one-clause-ran
 returns-in-Err-serve_one-clause-ran g c =
-    Ran-append g.H.Host.asks _ _ _ c.loop-number.invariant.ran.0 _ c.loop-number.invariant.ran.1 c.in-Err-serve_one.ensures.ran.1
+    Ran-append (AtAMoment (g.H.Host.shows c.args.host.now) g.H.Host.asks) _ _ _ c.loop-number.invariant.ran.0 _ c.loop-number.invariant.ran.1 c.in-Err-serve_one.ensures.ran.1
 
 pub loop-number-preserved : goal.loop-number-preserved
 loop-number-preserved g c = record {
@@ -32,30 +33,30 @@ loop-number-preserved g c = record {
   so_far = λ input e.
       let s = c.loop-number.invariant.so_far input e in
       let more = c.in-Ok-false.ensures.one s.rest s.ahead_is in
-      SoFar-more g.H.Host.asks _ input _ _ _ _ _ s _ _ _ _ more c.in-Ok-false.field-0-test;
-  ran = Ran-append g.H.Host.asks _ _ _ c.loop-number.invariant.ran.0 _ c.loop-number.invariant.ran.1 c.in-Ok-false.ensures.ran.1;
+      SoFar-more (AtAMoment (g.H.Host.shows c.args.host.now) g.H.Host.asks) _ input _ _ _ _ _ s _ _ _ _ more c.in-Ok-false.field-0-test;
+  ran = Ran-append (AtAMoment (g.H.Host.shows c.args.host.now) g.H.Host.asks) _ _ _ c.loop-number.invariant.ran.0 _ c.loop-number.invariant.ran.1 c.in-Ok-false.ensures.ran.1;
   faults = c.in-Ok-false.ensures.faults ∙ c.loop-number.invariant.faults;
 }
 
 pub returns-in-Ok-serve_one-clause-session : goal.returns-in-Ok-serve_one-clause-session
 returns-in-Ok-serve_one-clause-session g c = λ input e.
     let last : c.loop-number.number ≡ 9999 = omega (arith, c.loop-number-test.false, c.loop-number.auto.number-end) in
-    let s = SoFar-counted g.H.Host.asks _ 9999 input _ _ _ _ _ last (c.loop-number.invariant.so_far input e) in
+    let s = SoFar-counted (AtAMoment (g.H.Host.shows c.args.host.now) g.H.Host.asks) _ 9999 input _ _ _ _ _ last (c.loop-number.invariant.so_far input e) in
     let more = c.in-Ok-serve_one.ensures.one s.rest s.ahead_is in
-    Session-limit g.H.Host.asks 9999 input _ _ _ _ _ s _ _ _ _ more refl
+    Session-limit (AtAMoment (g.H.Host.shows c.args.host.now) g.H.Host.asks) 9999 input _ _ _ _ _ s _ _ _ _ more refl
 
 pub returns-in-Ok-serve_one-clause-ran : goal.returns-in-Ok-serve_one-clause-ran
 returns-in-Ok-serve_one-clause-ran g c =
-    Ran-append g.H.Host.asks _ _ _ c.loop-number.invariant.ran.0 _ c.loop-number.invariant.ran.1 c.in-Ok-serve_one.ensures.ran.1
+    Ran-append (AtAMoment (g.H.Host.shows c.args.host.now) g.H.Host.asks) _ _ _ c.loop-number.invariant.ran.0 _ c.loop-number.invariant.ran.1 c.in-Ok-serve_one.ensures.ran.1
 
 pub returns-clause-session : goal.returns-clause-session
 returns-clause-session g c = λ input e.
     let last : c.loop-number.number ≡ 9999 = omega (arith, c.loop-number-test.false, c.loop-number.auto.number-end) in
-    let s = SoFar-counted g.H.Host.asks _ 9999 input _ _ _ _ _ last (c.loop-number.invariant.so_far input e) in
+    let s = SoFar-counted (AtAMoment (g.H.Host.shows c.args.host.now) g.H.Host.asks) _ 9999 input _ _ _ _ _ last (c.loop-number.invariant.so_far input e) in
     let stops = c.in-Err-serve_one-2.ensures.one s.rest s.ahead_is in
     let few : 9999 < 10000 = omega arith in
-    Session-stopped g.H.Host.asks c.in-Err-serve_one-2.how 9999 input _ _ _ _ _ s few _ _ stops
+    Session-stopped (AtAMoment (g.H.Host.shows c.args.host.now) g.H.Host.asks) c.in-Err-serve_one-2.how 9999 input _ _ _ _ _ s few _ _ stops
 
 pub returns-clause-ran : goal.returns-clause-ran
 returns-clause-ran g c =
-    Ran-append g.H.Host.asks _ _ _ c.loop-number.invariant.ran.0 _ c.loop-number.invariant.ran.1 c.in-Err-serve_one-2.ensures.ran.1
+    Ran-append (AtAMoment (g.H.Host.shows c.args.host.now) g.H.Host.asks) _ _ _ c.loop-number.invariant.ran.0 _ c.loop-number.invariant.ran.1 c.in-Err-serve_one-2.ensures.ran.1

@@ -1,0 +1,30 @@
+-- What the library that is served alone answers to a call. Our own. Read AnswersOn first.
+use Rattle.std.specs.Prelude.{◌≡◌, ◌≢◌, ℕ, false, List, [], Option, ⊤}
+use Rattle.depot.specs.Answering.{Serves, permits}
+use Rattle.depot.specs.DepotView.{DepotView, IsGood}
+use Rattle.library_rules.specs.Calls.{token_of}
+use Rattle.library_state.specs.declared.call.Call.{Call}
+use Rattle.library_state.specs.declared.refusal.Refusal.TheVariants as refusal
+use Rattle.library_state.specs.declared.reply.Reply.{Reply}
+use Rattle.library_state.specs.declared.reply.Reply.TheVariants as reply
+use Rattle.object_store.specs.Shelf.{Contents}
+use Rattle.object_store.specs.declared.shelf.Slot.{Slot}
+use Rattle.worker_server.specs.declared.host.Answer.{Answer}
+
+-- the library answered: by the rules where its shelf tells what it holds, and over every shelf with its cause; one who may
+-- not ask is denied whatever the shelf does; and what is left can be opened again
+pub record IsAnswered {S : Type 0} (contents : S → Option Contents) (may_give : S → Slot → Option (List ℕ) → Type 0) (faults : S → ℕ)
+    (old : DepotView S) (call : Call) (moment : ℕ) (r : Reply) (new : DepotView S) : Type 0 where
+  pub serves : Serves contents may_give faults old call moment r new
+  pub denied : permits (token_of old.state.tokens call.secret) call.act ≡ false → r ≡ reply.Refused refusal.Denied
+  pub good : IsGood contents faults new
+
+-- a call on a library, asked at a moment: the library that is served answers it, and there is no other. It keeps no record
+-- of operations and no count of changes
+pub record AnswersOn {S : Type 0} (contents : S → Option Contents) (may_give : S → Slot → Option (List ℕ) → Type 0) (faults : S → ℕ)
+    (old : DepotView S) (lib : List ℕ) (call : Call) (moment : ℕ) (answer : Answer) (lines : List ⊤) (new : DepotView S) : Type 0 where
+  pub here : lib ≡ old.state.lib → IsAnswered contents may_give faults old call moment answer.reply new
+  pub elsewhere : lib ≢ old.state.lib → (answer.reply ≡ reply.Refused refusal.NoLibrary) × (new ≡ old)
+  pub no_lines : lines ≡ []
+  pub opening : answer.opening ≡ 0
+  pub place : answer.place ≡ 0
