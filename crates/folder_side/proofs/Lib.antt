@@ -1,5 +1,6 @@
 pub mod FileReadLemmas
 pub mod FindingsLemmas
+pub mod ScanSteps
 pub mod FolderLemmas
 pub mod ListingLemmas
 pub mod SortedEntries

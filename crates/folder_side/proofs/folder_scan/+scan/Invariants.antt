@@ -2,7 +2,7 @@ use Rattle.std.proofs.Common.{◌≡◌, ◌≤◌, ◌*◌, ◌-◌, Some, leng
 use Rattle.std.specs.FinMap as map
 use Rattle.folder_side.specs.Folder.{Contents, IsFolder, items_in}
 use Rattle.folder_side.specs.Findings.{AreOf}
-use Rattle.folder_side.proofs.FindingsLemmas.{Goes}
+use Rattle.folder_side.proofs.ScanSteps.{Goes}
 use Rattle.folder_side.proofs.folder_scan.+scan.Given as goal
 
 abbrev pub decreases-scan_dir : goal.decreases-scan_dir
