@@ -15,7 +15,8 @@ list_of-items_of (d ∷ ds) = ap (λ rest. d ∷ rest) (list_of-items_of ds)
 pub list_of-items_view : (values : List Value) → list_of (items_view values) ≡ map view values
 list_of-items_view values = list_of-items_of (map view values)
 
-any_named : (key : List ℕ) (names : List (Bor (List ℕ))) → list_any (bytes_eq key) (map (λ name. name.now) names) ≡ list_any (λ name. bytes_eq key name.now) names
+-- whether a name is among some
+pub any_named : (key : List ℕ) (names : List (Bor (List ℕ))) → list_any (bytes_eq key) (map (λ name. name.now) names) ≡ list_any (λ name. bytes_eq key name.now) names
 any_named key [] = refl
 any_named key (name ∷ names) = ap (λ rest. bytes_eq key name.now || rest) (any_named key names)
 

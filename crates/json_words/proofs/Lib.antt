@@ -4,3 +4,6 @@ pub mod FieldLemmas
 pub mod JsonLemmas
 pub mod IdLemmas
 pub mod FoundLemmas
+pub mod ConvertedLemmas
+pub mod FrontLemmas
+pub mod KeptLemmas

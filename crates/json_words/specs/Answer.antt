@@ -12,3 +12,9 @@ AnswersAs meaning (Err NoMemory) wanted = ⊤
 -- the same of values that stand for themselves
 abbrev pub Answers : {A E : Type 0} → Result A (ReadFault E) → Result A E → Type 0
 Answers result wanted = AnswersAs (λ a. a) result wanted
+
+-- what holds where a bad text is told
+abbrev pub OnBad : {A E : Type 0} → Result A (ReadFault E) → Type 0 → Type 0
+OnBad (Ok a) P = ⊤
+OnBad (Err (Bad fault)) P = P
+OnBad (Err NoMemory) P = ⊤

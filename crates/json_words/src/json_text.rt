@@ -10,7 +10,10 @@ use ids::Bytes;
 use serde_json::Value;
 use std::alloc::{AllocError, Global};
 
-/// The value of a JSON text, or none where the bytes are no JSON text. It takes about ten times their memory.
+/// The value of a JSON text, or none where the bytes are no JSON text.
+///
+/// For texts of our own storage: a value takes 32 bytes and an object about 600, so that a text of many small ones takes
+/// up to eighteen times its memory. What clients send is read by `parse_kept`, or by `kept_value` and `pass_value`.
 pub fn parse(alloc: Global, bytes: &[u8]) -> Result<Option<Value>, AllocError>
     ensures value { IfOk result (λ answer. option_map view answer ≡ json_of bytes.now) }
 {

@@ -1,9 +1,9 @@
 //! What no clause says: which texts are JSON, and that each call answers with ample memory.
 use crate::{
     FieldFault, ReadFault, array_field, field, has_only, integer_field, number_between,
-    number_field, optional_field, optional_text, parse, text_field, write,
+    number_field, optional_field, optional_text, parse, parse_kept, text_field, write,
 };
-use std::alloc::AllocError;
+use std::alloc::{AllocError, Global};
 use std::test::Fail;
 
 // The texts are after RFC 8259 and the choices of docs/FORMATS.md, "JSON texts".
@@ -91,4 +91,54 @@ fn a_value_is_written_compact_with_sorted_keys(rt: HostRuntime) -> Result<(), Fa
 #[test]
 fn want_of_memory_is_a_fault_of_its_own(rt: HostRuntime) {
     assert_eq!(rt; ReadFault::<u8>::from(AllocError), ReadFault::NoMemory);
+}
+
+// What is kept under the name "a", as it is written; an empty text where nothing is read.
+const KEPT: [(&str, &str); 10] = [
+    ("{\"b\":1,\"a\":2,\"c\":[{}]}", "{\"a\":2}"),
+    ("{\"a\":1,\"a\":[2,[3]]}", "{\"a\":[]}"),
+    ("{\"\\u0061\":{\"a\":1},\"b\":null}", "{\"a\":{}}"),
+    ("{\"a\":\"x\"} ", "{\"a\":\"x\"}"),
+    ("[{\"a\":1},2]", "[]"),
+    (" -2.5e0", "-2.5"),
+    ("{\"b\":[1e400]}", ""),
+    ("{\"b\":[1,]}", ""),
+    ("{\"a\":1}{}", ""),
+    ("{\"a\":1", ""),
+];
+
+#[test]
+fn of_an_object_the_known_members_are_kept(rt: HostRuntime) -> Result<(), Fail> {
+    for (text, wanted) in KEPT {
+        assert!(rt; is_kept_as(rt.alloc(), text, wanted)?, "{text}");
+    }
+    assert!(rt; parse_kept(rt.alloc(), b"\"\xff\"", &[])?.is_none());
+    Ok(())
+}
+
+fn is_kept_as(alloc: Global, text: &str, wanted: &str) -> Result<bool, AllocError> {
+    match parse_kept(alloc, text.as_bytes(), &["a"])? {
+        Some(value) => Ok(write(alloc, &value)?.slice() == wanted.as_bytes()),
+        None => Ok(wanted.is_empty()),
+    }
+}
+
+#[test]
+fn a_text_nests_127_levels(rt: HostRuntime) -> Result<(), Fail> {
+    for (levels, is_json) in [(127, true), (128, false)] {
+        let text = nested(rt.alloc(), levels)?;
+        assert_eq!(rt; parse(rt.alloc(), text.as_slice())?.is_some(), is_json);
+        assert_eq!(rt;
+            parse_kept(rt.alloc(), text.as_slice(), &[])?.is_some(),
+            is_json
+        );
+    }
+    Ok(())
+}
+
+fn nested(alloc: Global, levels: usize) -> Result<Vec<u8>, AllocError> {
+    let mut text = Vec::new(alloc);
+    text.resize(levels, b'[')?;
+    text.resize(2 * levels, b']')?;
+    Ok(text)
 }
