@@ -1,6 +1,11 @@
 pub mod DirectoryLemmas
+pub mod EntryLemmas
+pub mod NameSetLemmas
+pub mod RestLemmas
 pub mod PlacingLemmas
 pub mod OrderLemmas
 pub mod TextLemmas
 pub mod FileReadBack
 pub mod DirectoryReadBack
+pub mod ObjectReadingLemmas
+pub mod PartsLemmas

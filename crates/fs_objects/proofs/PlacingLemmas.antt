@@ -7,10 +7,12 @@ use Rattle.std.specs.Map.{values_of}
 use Rattle.std.specs.Ordering.{match_ordering}
 use Rattle.serde_json.specs.View.{view}
 use Rattle.serde_json.specs.declared.value.Value.{Value}
-use Rattle.fs_objects.proofs.DirectoryLemmas.{text_cmp}
 use Rattle.fs_objects.specs.Placing.{shown, seen}
 use Rattle.fs_objects.specs.Spelling.{entry_data, placed, in_written_order}
 use Rattle.fs_objects.specs.declared.dirent.Dirent.{Dirent}
+
+abbrev text_cmp : Bor (List ℕ) → Bor (List ℕ) → Ordering
+text_cmp a b = slice_cmp nat_cmp a.now b.now
 
 -- one more entry is put in under its name
 pub placed-push : (before : List (List ℕ × Dirent)) (entries : List Dirent) (entry : Dirent) → placed before (entries ++ entry ∷ []) ≡ insert_entry (slice_cmp nat_cmp) (placed before entries) entry.name entry

@@ -8,3 +8,5 @@ pub mod Reading
 pub mod Proper
 pub mod Spelling
 pub mod Typed
+pub mod Parts
+pub mod ObjectReading

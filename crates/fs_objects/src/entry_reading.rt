@@ -1,23 +1,21 @@
-//! Reading of directory objects: entries one after another, each in full.
-ghost use Rattle.std.specs.Prelude.{◌≡◌, ◌||◌, false, [], map, All, IfOk, IsTrue};
+//! Reading of one entry of a directory, of which the value is there.
+ghost use Rattle.std.specs.Prelude.{◌≡◌, ◌||◌, false, [], IfOk, IsTrue};
 ghost use Rattle.serde_json.specs.View.{view};
 ghost use Rattle.tree_model.specs.Name.{name_fault};
 ghost use Rattle.json_words.specs.Answer.{Answers};
 ghost use Rattle.json_words.specs.Check.{result_map};
-ghost use Rattle.fs_objects.specs.Directory.{head_of, details_of, entry_from, entries_after, directory_of};
+ghost use Rattle.fs_objects.specs.Directory.{head_of, details_of, entry_from};
 ghost use Rattle.fs_objects.specs.Mode.{is_file_mode, is_directory_mode};
 ghost use Rattle.fs_objects.specs.Proper.{IsProperEntry};
 ghost use Rattle.fs_objects.specs.Reading.{head_seen, details_seen};
 
-use crate::dir_object::DirObject;
 use crate::dirent::Dirent;
 use crate::fault::{BadFs, FsFault, FsKey};
-use crate::fields::{array_at, id_at, integer_at, is_file_mode, mode_in, number_at, text_at};
-use ids::{Items, ObjId, Text};
+use crate::fields::{id_at, integer_at, is_file_mode, mode_in, number_at, text_at};
+use ids::{ObjId, Text};
 use json_words::ReadFault;
 use serde_json::Value;
 use std::alloc::Global;
-use std::collections::BTreeSet;
 use tree_model::{Name, NameFault};
 
 /// What is read of an entry up to its name.
@@ -36,51 +34,9 @@ pub struct Details<'a> {
     pub size: u64,
 }
 
-/// The directory that a value of type 3 is.
-#[tactic(auto, unfolding(crate::specs::Directory::directory_of))]
-pub fn read_directory(alloc: Global, value: &Value) -> Result<DirObject, FsFault>
-    ensures value { Answers result (directory_of (view value.now)) }
-    ensures proper { IfOk result (All IsProperEntry) }
-{
-    let items = array_at(value, FsKey::KDirents)?;
-    read_entries(alloc, items)
-}
-
-/// The entries that the items of an array are.
-fn read_entries(alloc: Global, items: &[Value]) -> Result<DirObject, FsFault>
-    ensures value { Answers result (entries_after [] (map view items.now)) }
-    ensures proper { IfOk result (All IsProperEntry) }
-{
-    let mut entries = Items::new(alloc);
-    let mut names = BTreeSet::new(alloc);
-    for item in items {
-        let place = entries.len() as u64;
-        let head = match head_of(item, place) {
-            Ok(head) => head,
-            Err(bad) => return Err(ReadFault::Bad(bad)),
-        };
-        let is_new = match names.insert(head.name) {
-            Ok(is_new) => is_new,
-            Err(_) => return Err(ReadFault::NoMemory),
-        };
-        if !is_new {
-            return Err(ReadFault::Bad(BadFs::Twice(place)));
-        }
-        let entry = match entry_from(alloc, head, item) {
-            Ok(entry) => entry,
-            Err(fault) => return Err(fault),
-        };
-        match entries.push(entry) {
-            Ok(()) => {}
-            Err(_) => return Err(ReadFault::NoMemory),
-        }
-    }
-    Ok(DirObject { entries })
-}
-
 /// The whole entry, of which the head was read.
 #[tactic(auto, unfolding(crate::specs::Directory::entry_from))]
-fn entry_from(alloc: Global, head: Head<'_>, item: &Value) -> Result<Dirent, FsFault>
+pub(crate) fn entry_from(alloc: Global, head: Head<'_>, item: &Value) -> Result<Dirent, FsFault>
     requires good { name_fault head.name.now ≡ None }
     requires known { IsTrue (is_file_mode head.mode || is_directory_mode head.mode) }
     ensures value { Answers result (entry_from (head_seen head.entry) (view item.now)) }
@@ -105,7 +61,7 @@ fn entry_from(alloc: Global, head: Head<'_>, item: &Value) -> Result<Dirent, FsF
 
 /// An entry up to its name, at its place from 0.
 #[tactic(auto, unfolding(crate::specs::Directory::head_of))]
-fn head_of<'a>(item: &'a Value, place: u64) -> Result<Head<'a>, BadFs>
+pub(crate) fn head_of<'a>(item: &'a Value, place: u64) -> Result<Head<'a>, BadFs>
     ensures value { result_map head_seen result ≡ head_of place (view item.now) }
     ensures good { IfOk result (λ head. name_fault head.name.now ≡ None) }
     ensures known { IfOk result

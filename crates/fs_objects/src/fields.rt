@@ -1,8 +1,8 @@
 //! Fields of objects and entries, with their faults told at their keys.
-ghost use Rattle.std.specs.Prelude.{◌≡◌, ◌<◌, ◌^◌, ◌||◌, map, IfOk, IsTrue};
+ghost use Rattle.std.specs.Prelude.{◌≡◌, ◌<◌, ◌^◌, ◌||◌, IfOk, IsTrue};
 ghost use Rattle.serde_json.specs.View.{view};
 ghost use Rattle.json_words.specs.Check.{result_map};
-ghost use Rattle.json_words.specs.Fields.{number_field, integer_field, text_field, array_field};
+ghost use Rattle.json_words.specs.Fields.{number_field, integer_field, text_field};
 ghost use Rattle.json_words.specs.IdText.{id_field};
 ghost use Rattle.fs_objects.specs.Directory.{known_mode, mode_of};
 ghost use Rattle.fs_objects.specs.FsKey.{at_key, fault_at, key_text};
@@ -20,7 +20,7 @@ const FILE: u32 = 0o100000;
 const DIRECTORY: u32 = 0o040000;
 
 /// A field's fault at its key.
-fn fault_at(key: FsKey, fault: FieldFault) -> BadFs
+pub fn fault_at(key: FsKey, fault: FieldFault) -> BadFs
     ensures value { result ≡ fault_at key fault }
 {
     match fault {
@@ -56,17 +56,6 @@ pub fn text_at<'a>(value: &'a Value, key: FsKey) -> Result<&'a str, BadFs>
 {
     match json_words::text_field(value, key.text()) {
         Ok(text) => Ok(text),
-        Err(fault) => Err(fault_at(key, fault)),
-    }
-}
-
-/// An array: its items in order.
-pub fn array_at<'a>(value: &'a Value, key: FsKey) -> Result<&'a [Value], BadFs>
-    ensures value { result_map (λ items. map view items.now) result
-        ≡ at_key key (array_field (key_text key) (view value.now)) }
-{
-    match json_words::array_field(value, key.text()) {
-        Ok(items) => Ok(items),
         Err(fault) => Err(fault_at(key, fault)),
     }
 }

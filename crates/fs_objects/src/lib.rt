@@ -5,6 +5,7 @@
 #![tactic(auto)]
 
 mod dir_object;
+mod directory_reading;
 mod dirent;
 mod entry_reading;
 mod fault;
@@ -12,6 +13,8 @@ mod fields;
 mod file_object;
 mod file_reading;
 mod fs_object;
+mod object_reading;
+mod parts;
 #[cfg(test)]
 mod tests;
 mod writing;
