@@ -1,2 +1,3 @@
+pub mod KeptCommit
 pub mod ReadBack
 pub mod TextLemmas

@@ -1,9 +1,9 @@
 //! Commits, read, made and written.
 use crate::fault::{BadCommit, CommitFault};
-use crate::reading::{commit_from, parts_of};
+use crate::reading::{commit_from, kept_value, parts_of};
 use crate::writing::commit_value;
 use ids::{Bytes, LibId, ObjId, Text};
-use json_words::{ReadFault, parse};
+use json_words::ReadFault;
 use std::alloc::{AllocError, Global};
 
 /// A commit: the state of a library at a moment, over one or two parents.
@@ -37,12 +37,11 @@ impl Commit {
     /// Reads the bytes of a commit. Of several failing checks the first is answered.
     ///
     /// Whether the id is that of the text is not asked: a commit's name is the one that it bears.
-    #[tactic(auto, unfolding(crate::specs::Commit::commit_of))]
     pub fn read(alloc: Global, bytes: &[u8]) -> Result<Commit, CommitFault>
         ensures value { Answers result (commit_of bytes.now) }
         ensures proper { IfOk result IsProper }
     {
-        let value = match parse(alloc, bytes)? {
+        let value = match kept_value(alloc, bytes)? {
             Some(value) => value,
             None => return Err(ReadFault::Bad(BadCommit::NotJson)),
         };

@@ -1,10 +1,10 @@
 //! Reading of commits.
-ghost use Rattle.std.specs.Prelude.{◌≡◌, IfOk};
+ghost use Rattle.std.specs.Prelude.{◌≡◌, option_map, IfOk};
 ghost use Rattle.serde_json.specs.View.{view};
 ghost use Rattle.json_words.specs.Check.{result_map};
-ghost use Rattle.commit_objects.specs.Commit.{commit_in};
+ghost use Rattle.commit_objects.specs.Commit.{commit_in, commit_of};
 ghost use Rattle.commit_objects.specs.Proper.{IsProper};
-ghost use Rattle.commit_objects.specs.Reading.{parts_seen};
+ghost use Rattle.commit_objects.specs.Reading.{parts_seen, value_seen};
 
 use crate::commit::Commit;
 use crate::fault::{BadCommit, CommitKey};
@@ -12,6 +12,7 @@ use crate::fields::{
     conflict_at, id_at, library_id_at, number_at, parent_at, stored_id_at, text_at,
 };
 use ids::{LibId, ObjId, Text};
+use json_words::parse_kept;
 use serde_json::Value;
 use std::alloc::{AllocError, Global};
 
@@ -28,6 +29,30 @@ pub struct Parts<'a> {
     pub description: &'a str,
     pub ctime: u64,
     pub conflict: bool,
+}
+
+/// What the text of a commit has at a commit's keys, or none where the bytes are no JSON text.
+///
+/// Nothing else of the text is held, whatever it is.
+pub fn kept_value(alloc: Global, bytes: &[u8]) -> Result<Option<Value>, AllocError>
+    ensures value { IfOk result (λ value. value_seen (option_map view value) ≡ commit_of bytes.now) }
+{
+    parse_kept(
+        alloc,
+        bytes,
+        &[
+            "commit_id",
+            "root_id",
+            "repo_id",
+            "ctime",
+            "parent_id",
+            "second_parent_id",
+            "creator",
+            "creator_name",
+            "description",
+            "conflict",
+        ],
+    )
 }
 
 /// The commit that a JSON object is.
