@@ -5,6 +5,7 @@ pub mod ElementLemmas
 pub mod FieldLemmas
 pub mod HeadLemmas
 pub mod IdLemmas
+pub mod IdTokenLemmas
 pub mod MemoryLinkLemmas
 pub mod NumberLemmas
 pub mod OrderLemmas

@@ -5,6 +5,7 @@ pub mod EntityTag
 pub mod Fields
 pub mod IdArray
 pub mod IdText
+pub mod IdTokens
 pub mod KindWord
 pub mod Link
 pub mod MemoryLink
