@@ -1,19 +1,18 @@
 -- Files: what is wrong with them, their sizes and their bytes. The key lemmas are file_walk, sizes_end, joins_end and
 -- blocks_of_file.
-use Rattle.std.proofs.Common.{◌≡◌, ◌≢◌, ◌≤◌, ◌<◌, ◌+◌, ◌^◌, ◌==◌, ◌&&◌, ℕ, zero, suc, Bool, true, false, nat_eq, nat_lt, if◌then◌else◌, is_some, List, [], ◌∷◌, ◌++◌, length, refl, sym, ap, ap₂, ◌∙◌, subst, Option, None, Some, Result, Ok, Err, option_map, unwrap_or, arith, length-append, append_assoc, append-nil, eqb-true, eq-eqb, ne_eqb, ltb-true, ltb-false, le-ltb, lt-ltb, take, drop, min, take-append-drop, length-take, length-drop, drop-drop, add_comm, subst₂}
-use Rattle.std.specs.Prelude.{⊤}
+use Rattle.std.proofs.Common.{◌≡◌, ◌≢◌, ◌≤◌, ◌<◌, ◌+◌, ◌^◌, ◌==◌, ◌&&◌, ℕ, Bool, true, false, nat_eq, nat_lt, if◌then◌else◌, is_some, List, [], ◌∷◌, ◌++◌, length, refl, sym, ap, ap₂, ◌∙◌, subst, Option, None, Some, Result, Ok, Err, option_map, unwrap_or, arith, length-append, append_assoc, append-nil, eqb-true, eq-eqb, ne_eqb, ltb-false, le-ltb, lt-ltb, take, drop, min, take-append-drop, length-take, length-drop, drop-drop, subst₂}
 use Rattle.std.specs.FinMap as map
-use Rattle.std.specs.Cmp.Lexicographic.{pointwise, bytes_decides}
+use Rattle.std.specs.Cmp.Lexicographic.{bytes_decides}
 use Rattle.ids.specs.Key.{Objects}
 use Rattle.ids.specs.declared.key.Key.{Key}
 use Rattle.fs_objects.specs.declared.file_object.FileObject.{FileObject}
 use Rattle.fs_objects.specs.declared.fs_object.FsObject.{FsObject}
 use Rattle.fs_objects.specs.declared.fs_object.FsObject.TheVariants as fs
 use Rattle.object_graph.specs.Objects.{block_bytes, block_key, blocks_at, blocks_of, contents_of, fs_at, fs_key, is_nil, joined, same_id}
-use Rattle.object_graph.specs.Traversal.{Walk, start, visited, failed, next_by, then_walk, then_read, walk_block, walk_blocks, walk_below, walk_file, walk_file_at, walk_found, sized}
+use Rattle.object_graph.specs.Traversal.{Walk, start, visited, failed, then_walk, then_read, walk_blocks, walk_below, walk_file, walk_file_at, walk_found, sized}
 use Rattle.object_graph.specs.declared.fault.TreeFault.{TreeFault}
 use Rattle.object_graph.specs.declared.fault.TreeFault.TheVariants.{Incomplete, WrongSize}
-use Rattle.object_graph.proofs.Schemes.{Step, goes_on, stands_still}
+use Rattle.object_graph.proofs.Schemes.{goes_on, stands_still}
 use Rattle.tree_walk.specs.Files.{added, added_all, as_file, blocks_due, file_at, file_due, files_due, first_due, fitting, size_due, rest_of, AreReady, Fronts, GoesOn}
 use Rattle.tree_walk.specs.Reading.{Answers, AnswersRead, IsDue, stored_at, stored_in}
 use Rattle.tree_walk.specs.declared.fault.WalkFault.{WalkFault}

@@ -1,16 +1,16 @@
 -- Ids of keys that aren't known. The key lemmas are with_ids_push, with_ids_are and firsts_are.
-use Rattle.std.proofs.Common.{◌≡◌, ◌&&◌, ◌||◌, not, ℕ, Bool, true, false, cond, if◌then◌else◌, is_some, List, [], ◌∷◌, ◌++◌, length, refl, sym, ap, ap₂, ◌∙◌, subst, Option, None, Some, Ordering, Equal, arith, ◌<◌, ◌+◌, get_or, take, take-suc, add-one}
+use Rattle.std.proofs.Common.{◌≡◌, ◌&&◌, ◌||◌, not, ℕ, Bool, true, false, cond, if◌then◌else◌, is_some, List, [], ◌∷◌, ◌++◌, length, refl, sym, ap, ap₂, ◌∙◌, Option, None, Some, arith, ◌<◌, ◌+◌, get_or, take, take-suc, add-one}
 use Rattle.std.specs.Prelude.{⊤, map as list_map}
-use Rattle.std.specs.Cmp.{Equal-is, tied_itself}
+use Rattle.std.specs.Cmp.{Equal-is}
 use Rattle.std.specs.FinMap as map
-use Rattle.std.specs.Ordering.{eq_by_cmp, is_eq}
+use Rattle.std.specs.Ordering.{eq_by_cmp}
 use Rattle.ids.specs.Key.{key_cmp}
 use Rattle.ids.specs.ObjectId.{id_cmp}
 use Rattle.ids.specs.declared.key.Key.{Key}
 use Rattle.ids.specs.declared.key.Kind.{Kind}
 use Rattle.ids.specs.declared.key.Kind.TheVariants.{Commit, Fs, Block}
 use Rattle.ids.proofs.KeyOrder.{id_cmp_total, id_cmp_exact, key_cmp_total}
-use Rattle.object_graph.specs.FsIds.{fs_ids_among, fs_ids_of, is_fs}
+use Rattle.object_graph.specs.FsIds.{fs_ids_among, is_fs}
 use Rattle.object_graph.specs.Objects.{fs_key}
 use Rattle.object_graph.specs.Traversal.{is_in}
 use Rattle.object_graph.proofs.Keys.{same_key, in_append}

@@ -14,10 +14,10 @@ use Rattle.fs_objects.specs.declared.fs_object.FsObject.{FsObject}
 use Rattle.fs_objects.specs.declared.fs_object.FsObject.TheVariants as fs
 use Rattle.object_graph.specs.Listing.{Listed, prefixed, listed_entry, listed_in, listed}
 use Rattle.object_graph.specs.Objects.{fs_key, fs_at, is_nil, entries_of, entry_of, in_name_order, dirents_at, AreEntriesOf}
-use Rattle.object_graph.specs.Traversal.{Walk, visited, failed, counted, next_by, then_walk, then_read, walk_found, walk_entries, walk_object, walk_below, walk_root, start}
+use Rattle.object_graph.specs.Traversal.{Walk, visited, failed, counted, then_walk, then_read, walk_found, walk_object, walk_below, walk_root, start}
 use Rattle.object_graph.specs.declared.entry.Entry.{Entry}
 use Rattle.object_graph.specs.declared.fault.TreeFault.{TreeFault}
-use Rattle.object_graph.specs.declared.fault.TreeFault.TheVariants.{TooDeep, TooMany, WrongKind}
+use Rattle.object_graph.specs.declared.fault.TreeFault.TheVariants.{TooDeep, TooMany}
 use Rattle.object_graph.proofs.Alike.{Alike, Pushes, entries_alike}
 use Rattle.object_graph.proofs.Counting.{counts_from, entry_counts, length-prefixed, nothing_listed}
 use Rattle.object_graph.proofs.Listing.{table_entries}
@@ -25,7 +25,7 @@ use Rattle.object_graph.proofs.Limits.{counted_fits, counted_none, counted_over}
 use Rattle.object_graph.proofs.Schemes.{Step, none_before, goes_on, stands_still}
 use Rattle.tree_walk.specs.Files.{file_at, as_file}
 use Rattle.tree_walk.specs.Listings.{counts, rooted, listed_one, listed_from, entry_step, entries_step, directory_step, Lists}
-use Rattle.tree_walk.specs.Reading.{Answers, AnswersRead, IsDue}
+use Rattle.tree_walk.specs.Reading.{AnswersRead, IsDue}
 use Rattle.tree_walk.specs.declared.fault.WalkFault.{WalkFault}
 use Rattle.tree_walk.specs.declared.fault.WalkFault.TheVariants as walk
 

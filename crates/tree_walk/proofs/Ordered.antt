@@ -1,5 +1,5 @@
 -- Entries put into a table from the last to the first. The key lemmas are onto_push and values_entries.
-use Rattle.std.proofs.Common.{◌≡◌, ℕ, List, [], ◌∷◌, ◌++◌, length, refl, sym, ap, ◌∙◌, arith}
+use Rattle.std.proofs.Common.{◌≡◌, ℕ, List, [], ◌∷◌, ◌++◌, length, refl, ap, arith}
 use Rattle.std.specs.FinMap as map
 use Rattle.std.specs.Prelude.{map as list_map}
 use Rattle.fs_objects.specs.declared.dirent.Dirent.{Dirent}

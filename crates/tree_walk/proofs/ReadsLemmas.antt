@@ -1,5 +1,5 @@
 -- Calls on a store, one after another. The key lemmas are reads_then, reads_err, told_after and read_ok.
-use Rattle.std.proofs.Common.{◌≡◌, ◌≤◌, ◌↔◌, ◌⊎◌, inl, inr, [], length, drop, drop_of_length-le, ℕ, Bool, true, false, IsTrue, List, refl, sym, ap, ◌∙◌, subst, Option, None, Some, Result, Ok, Err}
+use Rattle.std.proofs.Common.{◌≡◌, ◌≤◌, ◌↔◌, ◌⊎◌, inl, inr, [], length, drop, drop_of_length-le, ℕ, Bool, true, false, IsTrue, List, refl, sym, ap, ◌∙◌, subst, Option, Some, Result, Ok, Err}
 use Rattle.std.specs.Prelude.{⊤}
 use Rattle.std.specs.Cmp.Lexicographic.{bytes_decides}
 use Rattle.ids.specs.FaultCount.{FailsBy}
@@ -15,7 +15,7 @@ use Rattle.object_store.specs.StoreView.{Index, StoreView, Keeps, objects_of}
 use Rattle.object_store.specs.declared.shelf.Slot.{Slot}
 use Rattle.object_graph.specs.Objects.{is_nil}
 use Rattle.object_graph.specs.declared.fault.TreeFault.{TreeFault}
-use Rattle.tree_walk.specs.Reading.{AnswersRead, IsReadFault, IsStoreDue, Reads, is_counted}
+use Rattle.tree_walk.specs.Reading.{AnswersRead, IsDamageOf, IsReadFault, IsStoreDue, Reads, is_counted}
 use Rattle.tree_walk.specs.declared.fault.WalkFault.{WalkFault}
 use Rattle.tree_walk.specs.declared.fault.WalkFault.TheVariants as walk
 
@@ -85,3 +85,11 @@ store_cause index key may_give (store.Wrong id) there cause = cause
 store_cause index key may_give (store.Damaged want got) there cause = record { key = key; there = there; damage = cause }
 store_cause index key may_give store.Shelf there cause = tt
 store_cause index key may_give store.NoMemory there cause = tt
+
+-- of the key that was asked for
+pub store_of : (key : Key) (may_give : Slot → Option (List ℕ) → Type 0) (fault : StoreFault) → IsGetFault may_give key fault → IsDamageOf key.id fault
+store_of key may_give (store.Taken id) cause = tt
+store_of key may_give (store.Wrong id) cause = tt
+store_of key may_give (store.Damaged want got) cause = cause.named
+store_of key may_give store.Shelf cause = tt
+store_of key may_give store.NoMemory cause = tt

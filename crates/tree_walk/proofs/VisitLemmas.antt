@@ -15,11 +15,11 @@ use Rattle.fs_objects.specs.declared.fs_object.FsObject.{FsObject}
 use Rattle.fs_objects.specs.declared.fs_object.FsObject.TheVariants as fs
 use Rattle.commit_objects.specs.declared.commit.Commit.{Commit}
 use Rattle.object_graph.specs.Objects.{block_key, commit_at, commit_key, fs_at, fs_key, is_nil, in_name_order, joined}
-use Rattle.object_graph.specs.Traversal.{Walk, start, needs, walk_commit, walk_root, visited, failed, counted, next_by, then_walk, then_read, walk_block, walk_blocks, walk_file, walk_file_at, walk_found, walk_entries, walk_object, walk_below, sized, is_in, distinct_from}
+use Rattle.object_graph.specs.Traversal.{Walk, start, needs, walk_commit, walk_root, visited, failed, counted, then_walk, then_read, walk_block, walk_blocks, walk_file_at, walk_found, walk_object, walk_below, sized, is_in, distinct_from}
 use Rattle.object_graph.specs.declared.fault.TreeFault.{TreeFault}
 use Rattle.object_graph.specs.declared.fault.TreeFault.TheVariants.{Incomplete, TooDeep, TooMany, WrongKind, WrongSize}
-use Rattle.object_graph.proofs.Alike.{Alike, alike_then, below_alike, entries_alike, object_alike}
-use Rattle.object_graph.proofs.Keys.{same_key, same_key-true, in_append, distinct_push, Once, once_push, once_append}
+use Rattle.object_graph.proofs.Alike.{Alike, alike_then, entries_alike}
+use Rattle.object_graph.proofs.Keys.{same_key, in_append, distinct_push, Once, once_push, once_append}
 use Rattle.object_graph.proofs.Limits.{blocks_paths, counted_fits, counted_over}
 use Rattle.object_graph.proofs.Schemes.{Step, none_before, goes_on, stands_still}
 use Rattle.tree_walk.specs.Files.{as_file, file_at, file_due}

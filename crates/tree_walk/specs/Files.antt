@@ -5,7 +5,7 @@ use Rattle.ids.specs.Key.{Objects}
 use Rattle.fs_objects.specs.declared.file_object.FileObject.{FileObject}
 use Rattle.fs_objects.specs.declared.fs_object.FsObject.{FsObject}
 use Rattle.fs_objects.specs.declared.fs_object.FsObject.TheVariants as fs
-use Rattle.object_graph.specs.Objects.{block_bytes, block_key, contents_of, fs_at, is_nil, joined, same_id}
+use Rattle.object_graph.specs.Objects.{block_bytes, block_key, fs_at, is_nil, joined, same_id}
 use Rattle.object_graph.specs.Traversal.{start, then_walk, walk_file_at}
 use Rattle.object_graph.specs.declared.fault.TreeFault.{TreeFault}
 use Rattle.object_graph.specs.declared.fault.TreeFault.TheVariants.{Incomplete, WrongKind, WrongSize}

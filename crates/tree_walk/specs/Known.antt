@@ -1,5 +1,5 @@
 -- For private clauses: which keys a table knows, and ids that are put into a map. Read Knows first.
-use Rattle.std.specs.Prelude.{◌≡◌, ◌&&◌, Bool, not, if◌then◌else◌, is_some, ℕ, List, [], ◌∷◌, ⊤}
+use Rattle.std.specs.Prelude.{◌≡◌, ◌&&◌, Bool, not, if◌then◌else◌, is_some, List, [], ◌∷◌, ⊤}
 use Rattle.std.specs.FinMap as map
 use Rattle.ids.specs.Key.{key_cmp}
 use Rattle.ids.specs.ObjectId.{id_cmp}

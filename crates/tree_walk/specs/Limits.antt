@@ -1,5 +1,5 @@
 -- The limits of what is listed of a tree. Our own. Read IsEntryPath, then IsWithinLimits.
-use Rattle.std.specs.Prelude.{◌≡◌, ◌≢◌, ℕ, ◌≤◌, List, [], length, IsSome}
+use Rattle.std.specs.Prelude.{◌≢◌, ◌≤◌, [], length, IsSome}
 use Rattle.std.specs.Coded.{Coded, coded×, coded_list, coded_ℕ}
 use Rattle.std.specs.FinMap as map
 use Rattle.std.specs.List.{AllByRecursion}

@@ -81,6 +81,24 @@ abbrev pub CausedBy : {T : Type 0} → Index → (Slot → Option (List ℕ) →
 CausedBy index may_give (Ok value) = ⊤
 CausedBy index may_give (Err fault) = IsCause index may_give fault
 
+-- over any shelf, damage is told of this id alone
+abbrev pub IsDamageOf : List ℕ → StoreFault → Type 0
+IsDamageOf id (Taken other) = ⊤
+IsDamageOf id (Wrong other) = ⊤
+IsDamageOf id (Damaged want got) = want ≡ id
+IsDamageOf id Shelf = ⊤
+IsDamageOf id NoMemory = ⊤
+
+-- over any shelf, the fault is one of reading the object under this key
+abbrev pub IsFaultAt : Key → WalkFault → Type 0
+IsFaultAt key (Store fault) = IsDamageOf key.id fault
+IsFaultAt key (Incomplete other) = other ≡ key
+IsFaultAt key (Unreadable other) = other ≡ key
+IsFaultAt key (WrongKind id) = ⊥
+IsFaultAt key (WrongSize id) = ⊥
+IsFaultAt key (TooDeep path) = ⊥
+IsFaultAt key (TooMany paths) = ⊥
+
 -- the failure that the shelf counts
 abbrev pub is_counted : WalkFault → Bool
 is_counted (Store fault) = is_of_shelf fault

@@ -1,5 +1,5 @@
 -- Where a traversal stands. Our own.
-use Rattle.std.specs.Prelude.{ℕ, List, [], ◌∷◌, ◌++◌}
+use Rattle.std.specs.Prelude.{[], ◌∷◌, ◌++◌}
 use Rattle.tree_model.specs.Path.{PathV}
 use Rattle.tree_walk.specs.declared.trail.Trail.{Trail, Root, Below'}
 

@@ -1,10 +1,10 @@
 //! The contents of files.
-ghost use Rattle.std.specs.Prelude.{◌≡◌, ◌↔◌, ◌<◌, ◌+◌, ◌≤◌, IfOk, IfSome, IsTrue, None, Some, length, take, min, drop};
+ghost use Rattle.std.specs.Prelude.{◌≡◌, ◌↔◌, ◌<◌, ◌+◌, IfOk, IsTrue, None, Some, length, min};
 ghost use Rattle.ids.specs.Key.{Objects};
 ghost use Rattle.object_graph.specs.Objects.{contents_of, joined, same_id};
 ghost use Rattle.object_graph.specs.Traversal.{start, walk_file_at};
 ghost use Rattle.object_store.specs.StoreView.{objects_of};
-ghost use Rattle.tree_walk.specs.Files.{AreReady, Fronts, Lighter, StepsSo, blocks_due, files_due, rest_of};
+ghost use Rattle.tree_walk.specs.Files.{AreReady, Fronts, Lighter, StepsSo, blocks_due, files_due};
 ghost use Rattle.tree_walk.specs.Reading.{Answers, Reads};
 
 use crate::fault::WalkFault;

@@ -3,7 +3,7 @@ ghost use Rattle.std.specs.Prelude.{◌≡◌, Some, Ok, ⊤, length};
 ghost use Rattle.ids.specs.Key.{Objects};
 ghost use Rattle.object_store.specs.StoreView.{objects_of};
 ghost use Rattle.tree_walk.specs.Reading.{Answers, AnswersRead, Reads};
-ghost use Rattle.object_graph.specs.Objects.{blocks_at, joined};
+ghost use Rattle.object_graph.specs.Objects.{joined};
 ghost use Rattle.object_graph.specs.Traversal.{start, walk_file_at};
 ghost use Rattle.tree_walk.specs.Files.{file_at, file_due, blocks_due, added, fitting};
 

@@ -26,7 +26,7 @@ impl Model for Found {
 }
 
 impl Found {
-    ghost use Rattle.std.specs.Prelude.{◌≡◌, ◌<◌, ◌≤◌, ◌++◌, ◌∷◌, [], OnOk, length};
+    ghost use Rattle.std.specs.Prelude.{◌≡◌, ◌<◌, ◌≤◌, ◌++◌, ◌∷◌, [], OnErr, OnOk, length};
     ghost use Rattle.object_graph.specs.Objects.{entry_of};
     ghost use Rattle.tree_walk.specs.Limits.{AreFound};
 
@@ -52,6 +52,7 @@ impl Found {
         requires few { length self.old < 1000000 }
         requires fits { length above.now < 100 }
         ensures ok { OnOk result (self.new ≡ self.old ++ (above.now ++ entry.now.name ∷ [], entry_of entry.now) ∷ []) }
+        ensures err { OnErr result (self.new ≡ self.old) }
     {
         let path = above.child(alloc, &entry.name)?;
         let _names = path.names();

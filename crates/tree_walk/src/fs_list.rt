@@ -1,5 +1,5 @@
 //! The file and directory objects that one commit needs and another doesn't.
-ghost use Rattle.std.specs.Prelude.{◌≡◌, IfOk, OnOk, Some, [], if◌then◌else◌};
+ghost use Rattle.std.specs.Prelude.{◌≡◌, IfOk, OnErr, OnOk, Some, if◌then◌else◌};
 ghost use Rattle.std.specs.BTreeMap.{IsOrdered};
 ghost use Rattle.std.specs.FinMap as map;
 ghost use Rattle.ids.specs.Key.{Objects};
@@ -88,6 +88,7 @@ fn ids_of(
 fn add(ids: &mut BTreeMap<ObjId, ()>, known: &KeyTable<()>, key: &Key) -> Result<(), AllocError>
     requires ordered { IsOrdered id_cmp ids.old }
     ensures ok { OnOk result (map_of id_cmp ids.new ≡ (if is_wanted known.now key.now then map.insert (map_of id_cmp ids.old) key.now.id tt else map_of id_cmp ids.old)) }
+    ensures err { OnErr result (map_of id_cmp ids.new ≡ map_of id_cmp ids.old) }
     ensures ordered { IsOrdered id_cmp ids.new }
 {
     if is_wanted(known, key) {
@@ -107,6 +108,7 @@ fn is_wanted(known: &KeyTable<()>, key: &Key) -> bool
 /// Puts an id into the map. After an error the map is as it was.
 fn insert(ids: &mut BTreeMap<ObjId, ()>, id: &ObjId) -> Result<(), AllocError>
     ensures ok { OnOk result (map_of id_cmp ids.new ≡ map.insert (map_of id_cmp ids.old) id.now tt) }
+    ensures err { OnErr result (map_of id_cmp ids.new ≡ map_of id_cmp ids.old) }
     ensures ordered { IsOrdered id_cmp ids.new }
 {
     match ids.insert(*id, ()) {

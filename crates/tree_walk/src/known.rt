@@ -1,5 +1,5 @@
 //! Tables of keys that are known.
-ghost use Rattle.std.specs.Prelude.{◌≡◌, IfOk, OnOk, is_some};
+ghost use Rattle.std.specs.Prelude.{◌≡◌, IfOk, OnErr, OnOk};
 ghost use Rattle.std.specs.FinMap as map;
 ghost use Rattle.tree_walk.specs.Known.{Knows};
 
@@ -9,6 +9,7 @@ use std::alloc::{AllocError, Global};
 /// Puts a key into the table. After an error the table is as it was.
 pub fn insert(known: &mut KeyTable<()>, key: &Key) -> Result<(), AllocError>
     ensures ok { OnOk result (known.new ≡ map.insert known.old key.now tt) }
+    ensures err { OnErr result (known.new ≡ known.old) }
 {
     match known.insert(*key, ()) {
         Ok(_) => Ok(()),

@@ -1,5 +1,5 @@
 //! The entries of a directory in the order of their names.
-ghost use Rattle.std.specs.Prelude.{◌≡◌, IfOk, OnOk};
+ghost use Rattle.std.specs.Prelude.{◌≡◌, IfOk, OnErr, OnOk};
 ghost use Rattle.std.specs.BTreeMap.{IsOrdered};
 ghost use Rattle.std.specs.FinMap as map;
 ghost use Rattle.ids.specs.MapView.{map_of};
@@ -36,6 +36,7 @@ fn by_name(alloc: Global, entries: Vec<Dirent>) -> Result<BTreeMap<Name, Dirent>
 /// Puts an entry into the table. After an error the table is as it was.
 fn insert(table: &mut BTreeMap<Name, Dirent>, name: Name, entry: Dirent) -> Result<(), AllocError>
     ensures ok { OnOk result (map_of name_cmp table.new ≡ map.insert (map_of name_cmp table.old) name entry) }
+    ensures err { OnErr result (map_of name_cmp table.new ≡ map_of name_cmp table.old) }
     ensures ordered { IsOrdered name_cmp table.new }
 {
     match table.insert(name, entry) {

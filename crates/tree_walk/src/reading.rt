@@ -1,9 +1,9 @@
 //! Single objects, read from a store.
-ghost use Rattle.std.specs.Prelude.{◌≡◌, IfOk, Some};
+ghost use Rattle.std.specs.Prelude.{◌≡◌, IfErr, IfOk, Some};
 ghost use Rattle.ids.specs.Key.{Objects};
 ghost use Rattle.object_graph.specs.Objects.{fs_at, commit_at, block_key, fs_key, commit_key};
 ghost use Rattle.object_store.specs.StoreView.{objects_of};
-ghost use Rattle.tree_walk.specs.Reading.{AnswersRead, Reads, stored_at};
+ghost use Rattle.tree_walk.specs.Reading.{AnswersRead, IsFaultAt, Reads, stored_at};
 
 use crate::fault::WalkFault;
 use commit_objects::Commit;
@@ -23,6 +23,8 @@ pub fn commit_at<S: Shelf>(
     id: ObjId,
 ) -> Result<Commit, WalkFault>
     ensures value { (objects : Objects) → objects_of S.contents store.old ≡ Some objects → AnswersRead objects (commit_at objects id) result }
+    ensures named { IfOk result (λ commit. commit.id ≡ id) }
+    ensures of_key { IfErr result (IsFaultAt (commit_key id)) }
     ensures kept { Reads S.contents S.may_give S.faults store.old store.new result }
 {
     let id = &id;
@@ -62,6 +64,7 @@ pub fn fs_at<S: Shelf>(
 /// The bytes that are stored under the key.
 pub fn bytes_at<S: Shelf>(store: &mut Store<S>, key: &Key) -> Result<Bytes, WalkFault>
     ensures value { (objects : Objects) → objects_of S.contents store.old ≡ Some objects → AnswersRead objects (stored_at objects key.now) result }
+    ensures of_key { IfErr result (IsFaultAt key.now) }
     ensures kept { Reads S.contents S.may_give S.faults store.old store.new result }
 {
     match store.get(*key) {

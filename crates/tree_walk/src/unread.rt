@@ -1,8 +1,8 @@
 //! What is left of a file that is read block by block.
-ghost use Rattle.std.specs.Prelude.{◌≡◌, ◌<◌, ◌≤◌, ◌+◌, [], IfOk, true, false, None, Some, length, drop};
+ghost use Rattle.std.specs.Prelude.{◌≡◌, ◌<◌, ◌≤◌, [], IfOk, true, false, None, Some, length, drop};
 ghost use Rattle.ids.specs.Key.{Objects};
 ghost use Rattle.object_store.specs.StoreView.{objects_of};
-ghost use Rattle.tree_walk.specs.Files.{LoadsSo, blocks_due, weight, Loaded};
+ghost use Rattle.tree_walk.specs.Files.{LoadsSo, blocks_due, Loaded};
 ghost use Rattle.tree_walk.specs.Reading.{Reads};
 
 use crate::fault::WalkFault;

@@ -1,5 +1,5 @@
 -- The blocks of a whole file, joined.
-use Rattle.std.proofs.Common.{◌≡◌, ℕ, List, subst}
+use Rattle.std.proofs.Common.{◌≡◌, subst}
 use Rattle.object_graph.specs.Objects.{joined}
 use Rattle.tree_walk.specs.Files.{blocks_due}
 use Rattle.tree_walk.specs.Reading.{Answers}

@@ -1,5 +1,5 @@
 -- Both files are whole; then their sizes, and their blocks.
-use Rattle.tree_walk.proofs.FileLemmas.{IsWhole, compared, one_file, second_stops, two_sizes}
+use Rattle.tree_walk.proofs.FileLemmas.{compared, one_file, second_stops, two_sizes}
 use Rattle.tree_walk.proofs.ReadsLemmas.{told_after}
 use Rattle.tree_walk.proofs.contents.same_file.Goals as goal
 

@@ -1,6 +1,5 @@
-use Rattle.std.proofs.Common.{List, ap, sym, ◌∙◌, subst}
+use Rattle.std.proofs.Common.{ap, ◌∙◌, subst}
 use Rattle.std.specs.FinMap as map
-use Rattle.ids.specs.declared.key.Key.{Key}
 use Rattle.tree_walk.specs.Known.{Knows, with_ids}
 use Rattle.tree_walk.proofs.KnownLemmas.{with_ids_are}
 use Rattle.tree_walk.proofs.fs_list.list.Goals as goal

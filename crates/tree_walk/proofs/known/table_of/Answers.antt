@@ -1,4 +1,4 @@
-use Rattle.std.proofs.Common.{◌+◌, sym, subst₂, take, List, arith}
+use Rattle.std.proofs.Common.{sym, subst₂, take, List, arith}
 use Rattle.std.specs.Prelude.{⊤}
 use Rattle.std.specs.FinMap as map
 use Rattle.ids.specs.Key.{key_cmp}

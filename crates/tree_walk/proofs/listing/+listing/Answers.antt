@@ -1,6 +1,5 @@
 -- Each step gives what the traversal gives.
-use Rattle.std.proofs.Common.{◌≡◌, ◌≤◌, ◌<◌, ◌+◌, ◌-◌, suc, length, refl, sym, ap, ◌∙◌, subst, arith, drop, Some, Ok, vec_len}
-use Rattle.std.specs.Prelude.{⊤}
+use Rattle.std.proofs.Common.{◌≡◌, ◌<◌, ◌+◌, ◌-◌, suc, length, sym, ap, ◌∙◌, subst, arith, drop, Some, Ok}
 use Rattle.object_graph.specs.declared.fault.TreeFault.TheVariants.{TooDeep}
 use Rattle.tree_walk.specs.Listings.{counts, entry_step, entries_step, listed_from, Lists}
 use Rattle.tree_walk.proofs.ListingLemmas.{nil_directory, directory_unread, directory_entries, entry_directory, entry_file, entry_bad_file, entry_too_deep, goes_next, next_entry, GoesOn}

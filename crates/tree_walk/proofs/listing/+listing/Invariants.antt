@@ -1,5 +1,5 @@
 -- The room falls from a directory to those in it. What was found so far, with what is left to go over, is all.
-use Rattle.std.proofs.Common.{◌≡◌, ◌+◌, ◌*◌, drop, Some, Ok, Option}
+use Rattle.std.proofs.Common.{◌≡◌, ◌+◌, ◌*◌, drop, Some, Ok}
 use Rattle.std.specs.Prelude.{⊤}
 use Rattle.ids.specs.Key.{Objects}
 use Rattle.object_store.specs.StoreView.{objects_of}

@@ -1,11 +1,7 @@
 -- As the table is empty, all was taken.
 use Rattle.std.proofs.Common.{◌≡◌, ◌++◌, ap, sym, ◌∙◌, btree_map_len, append-nil}
-use Rattle.std.specs.FinMap as map
 use Rattle.std.specs.Prelude.{map as list_map}
-use Rattle.ids.specs.MapView.{map_of}
 use Rattle.ids.proofs.MapLemmas.{entries-map_of, no_number}
-use Rattle.fs_objects.specs.declared.dirent.Dirent.{Dirent}
-use Rattle.object_graph.specs.Objects.{name_cmp}
 use Rattle.object_graph.proofs.Entries.{names_total}
 use Rattle.tree_walk.proofs.Ordered.{seconds, values_are, no_pairs}
 use Rattle.tree_walk.proofs.name_order.values_of.Goals as goal

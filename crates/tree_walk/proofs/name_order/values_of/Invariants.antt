@@ -1,7 +1,5 @@
 -- What was taken, with what is left, is all.
 use Rattle.std.proofs.Common.{◌≡◌, ◌++◌, btree_map_len}
-use Rattle.std.specs.BTreeMap.{IsOrdered}
-use Rattle.object_graph.specs.Objects.{name_cmp}
 use Rattle.tree_walk.proofs.Ordered.{seconds}
 use Rattle.tree_walk.proofs.name_order.values_of.Given as goal
 

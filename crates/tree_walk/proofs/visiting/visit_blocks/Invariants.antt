@@ -1,6 +1,6 @@
 -- The rest, met after what was met so far, is all.
 use Rattle.std.proofs.Common.{◌≡◌, drop}
-use Rattle.tree_walk.specs.Visits.{MetView, with_blocks}
+use Rattle.tree_walk.specs.Visits.{with_blocks}
 use Rattle.tree_walk.proofs.visiting.visit_blocks.Given as goal
 
 abbrev pub invariant-loop-block : goal.invariant-loop-block
