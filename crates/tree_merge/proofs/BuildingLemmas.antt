@@ -16,34 +16,12 @@ use Rattle.object_graph.specs.Unchanged.{Keeps}
 use Rattle.object_graph.specs.declared.entry.Entry.{Entry}
 use Rattle.object_graph.specs.declared.entry.Entry.TheVariants.{Dir, File}
 use Rattle.tree_merge.specs.Sides.{Entries}
-use Rattle.tree_merge.specs.TreeBuilding.{IsSound, HasMade, directory_id_in, Held, held_at, emptied, IsEntryMade, IsOwn}
-use Rattle.tree_merge.proofs.TableLemmas.{get-put, apart_by}
+use Rattle.tree_merge.specs.TreeBuilding.{IsSound, HasMade, directory_id_in, IsEntryMade, IsOwn}
+use Rattle.tree_merge.proofs.TableLemmas.{apart_by}
 use Rattle.tree_merge.proofs.PathsInOrder.{before_child}
 use Rattle.tree_merge.proofs.DirentLemmas.{named_push, named_push_other}
 use Rattle.tree_merge.proofs.MadeLemmas.{kept_then, kept_itself}
-
--- ---- what directories hold
-
-held_cond : (b : Bool) (o : Option (List Dirent)) → held_at (cond b None o) ≡ (if b then [] else held_at o)
-held_cond true o = refl
-held_cond false o = refl
-
-pub held_more : (old new : Held) (dir : PathV) (dirent : Dirent) (more : List Dirent) → more ≡ held_at (map.get old dir) ++ dirent ∷ [] → new ≡ map.insert (map.remove old dir) dir more
-    → (q : PathV) → held_at (map.get new q) ≡ (if same_path q dir then held_at (map.get old q) ++ dirent ∷ [] else held_at (map.get old q))
-held_more old new dir dirent more is put q =
-    ap held_at (ap (λ (m : Held). map.get m q) put ∙ get-put (map.remove old dir) dir more q ∙ ap (cond (same_path q dir) (Some more)) (map.get-remove paths_total old dir q))
-    ∙ by (same_path q dir) refl
-  where
-    by : (b : Bool) → same_path q dir ≡ b → held_at (cond b (Some more) (cond b None (map.get old q))) ≡ (if b then held_at (map.get old q) ++ dirent ∷ [] else held_at (map.get old q))
-    by true tie = is ∙ ap (λ (p : PathV). held_at (map.get old p) ++ dirent ∷ []) (sym (same_path-true q dir tie))
-    by false apart = refl
-
-pub emptied_is : (old removed new : Held) (path dir : PathV) (dirent : Dirent) → removed ≡ map.remove old path
-    → ((q : PathV) → held_at (map.get new q) ≡ (if same_path q dir then held_at (map.get removed q) ++ dirent ∷ [] else held_at (map.get removed q)))
-    → (q : PathV) → held_at (map.get new q) ≡ (if same_path q dir then emptied path old q ++ dirent ∷ [] else emptied path old q)
-emptied_is old removed new path dir dirent is listed q =
-    listed q ∙ ap (λ (es : List Dirent). if same_path q dir then es ++ dirent ∷ [] else es)
-    (ap held_at (ap (λ (m : Held). map.get m q) is ∙ map.get-remove paths_total old path q) ∙ held_cond (same_path q path) (map.get old q))
+use Rattle.tree_merge.proofs.SameEntries.{entries_same, ids_same, entry_same, id_same, nothing_named, id_named}
 
 -- ---- entries of a sound table
 
@@ -65,39 +43,6 @@ nothing_below W sound p m q other no_dir = by (map.get W (p ++ m ∷ q)) refl
     by : (o : Option Entry) → map.get W (p ++ m ∷ q) ≡ o → map.get W (p ++ m ∷ q) ≡ None
     by None e = e
     by (Some x) e = absurd (no_dir (above W sound p m q other (ap is_some e)))
-
--- ---- directories with the same entries
-
-module _ (objects : Objects) (es fs : List Dirent) (same : (n : List ℕ) → entry_named n es ≡ entry_named n fs) where
-  pub entries_same : (q : PathV) → entry_in objects es q ≡ entry_in objects fs q
-  entries_same [] = refl
-  entries_same (n ∷ []) = ap (option_map entry_of) (same n)
-  entries_same (n ∷ m ∷ q) = ap (λ (o : Option Dirent). option_and_then (λ id. entry_in objects (dirents_at objects id) (m ∷ q)) (directory_in o)) (same n)
-
-  pub ids_same : (q : PathV) → directory_id_in objects es q ≡ directory_id_in objects fs q
-  ids_same [] = refl
-  ids_same (n ∷ []) = ap directory_in (same n)
-  ids_same (n ∷ m ∷ q) = ap (λ (o : Option Dirent). option_and_then (λ id. directory_id_in objects (dirents_at objects id) (m ∷ q)) (directory_in o)) (same n)
-
--- what an entry's name leads to depends on that entry alone
-module _ (objects : Objects) (es fs : List Dirent) (n : List ℕ) (same : entry_named n es ≡ entry_named n fs) where
-  entry_same : (q : PathV) → entry_in objects es (n ∷ q) ≡ entry_in objects fs (n ∷ q)
-  entry_same [] = ap (option_map entry_of) same
-  entry_same (m ∷ q) = ap (λ (o : Option Dirent). option_and_then (λ id. entry_in objects (dirents_at objects id) (m ∷ q)) (directory_in o)) same
-
-  id_same : (q : PathV) → directory_id_in objects es (n ∷ q) ≡ directory_id_in objects fs (n ∷ q)
-  id_same [] = ap directory_in same
-  id_same (m ∷ q) = ap (λ (o : Option Dirent). option_and_then (λ id. directory_id_in objects (dirents_at objects id) (m ∷ q)) (directory_in o)) same
-
-nothing_named : (objects : Objects) (n : List ℕ) (q : PathV) → entry_in objects [] (n ∷ q) ≡ None
-nothing_named objects n [] = refl
-nothing_named objects n (m ∷ q) = refl
-
--- an entry whose name leads somewhere is listed
-id_named : (objects : Objects) (es : List Dirent) (n : List ℕ) (q : PathV) (id : List ℕ) → directory_id_in objects es (n ∷ q) ≡ Some id → entry_named n es ≡ None → ⊥
-id_named objects es n [] id there none = let both : None ≡ Some id = sym (ap directory_in none) ∙ there in cc
-id_named objects es n (m ∷ q) id there none =
-    let both : None ≡ Some id = sym (ap (λ (o : Option Dirent). option_and_then (λ i. directory_id_in objects (dirents_at objects i) (m ∷ q)) (directory_in o)) none) ∙ there in cc
 
 -- ---- the invariant
 

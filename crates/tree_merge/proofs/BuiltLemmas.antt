@@ -15,7 +15,8 @@ use Rattle.tree_merge.specs.Sides.{Entries}
 use Rattle.tree_merge.specs.TreeBuilding.{IsSound, HasMade, IsDirectoryOf, directory_id_in, Lists}
 use Rattle.tree_merge.proofs.DirentLemmas.{named_push_other, distinct_push, distinct_none}
 use Rattle.tree_merge.proofs.MadeLemmas.{kept_then}
-use Rattle.tree_merge.proofs.BuildingLemmas.{BuiltSo, Reach, entries_same, ids_same}
+use Rattle.tree_merge.proofs.BuildingLemmas.{BuiltSo, Reach}
+use Rattle.tree_merge.proofs.SameEntries.{entries_same, ids_same}
 
 -- ---- names of what directories hold
 

@@ -1,5 +1,7 @@
 pub mod ChoiceLemmas
 pub mod BuildingLemmas
+pub mod HeldLemmas
+pub mod SameEntries
 pub mod ConflictLemmas
 pub mod DecisionLemmas
 pub mod DirentLemmas

@@ -18,8 +18,8 @@ use Rattle.fs_objects.specs.declared.fs_object.FsObject.TheVariants as fs
 use Rattle.object_graph.specs.Objects.{fs_key, fs_in, as_read, is_nil, entries_of, entry_named}
 use Rattle.object_graph.specs.Unchanged.{Keeps}
 use Rattle.tree_merge.specs.declared.tree_builder.BuildFault.{BuildFault}
-use Rattle.tree_merge.specs.declared.tree_builder.BuildFault.TheVariants.{Taken}
-use Rattle.tree_merge.specs.TreeBuilding.{AreNamed, IsOwnName, HasMade, IsMade, IsRefused, IsRefusedList, Lists}
+use Rattle.tree_merge.specs.declared.tree_builder.BuildFault.TheVariants.{Taken, NoMemory}
+use Rattle.tree_merge.specs.TreeBuilding.{AreNamed, IsCausedInBuild, IsCollision, IsOwnName, HasMade, IsMade, IsRefused, IsRefusedList, Lists}
 use Rattle.object_graph.proofs.Keys.{same_key-true, same_key-itself}
 use Rattle.tree_merge.proofs.DirentLemmas.{written_listing, distinct_none}
 
@@ -106,3 +106,15 @@ taken_told r p q e f = cc
 -- the fault of a refusal
 pub fault_told : {T : Type 0} (f g : BuildFault) → (let r : Result T BuildFault = Err f in r) ≡ Err g → f ≡ g
 fault_told f g e = cc
+
+-- a refusal as taken is for two things of one name
+pub collides : (made : Objects) (bytes id : List ℕ) → AreNamed made → IsRefused made bytes id → IsCollision id
+collides made bytes id named refused = record {
+  bytes = bytes;
+  own = refused.own;
+  clash = elim refused.clash [ inl none ↦ inl none | inr other ↦ inr (other.0, other.1, (named (fs_key id) other.0 other.2).is_sha1) ];
+}
+
+pub build_caused : (made : Objects) (entries : List Dirent) → AreNamed made → (fault : BuildFault) → ((id : List ℕ) → fault ≡ Taken id → IsRefusedList made entries id) → IsCausedInBuild fault
+build_caused made entries named (Taken id) refused = let list = refused id refl in collides made list.bytes id named list.refused
+build_caused made entries named NoMemory refused = tt

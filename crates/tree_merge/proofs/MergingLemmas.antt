@@ -14,11 +14,14 @@ use Rattle.tree_merge.specs.ConflictNaming.{IsNamedTree}
 use Rattle.tree_merge.specs.FileChoice.{IsWholeAt}
 use Rattle.tree_merge.specs.Sides.{AreSeen, AreTrees}
 use Rattle.tree_merge.specs.declared.sides.Three.{Three}
-use Rattle.tree_merge.specs.Merging.{AreComplete, BuildsSo, IsBuilt, IsJoined, LeavesSo, MergesTo, NamesSo}
+use Rattle.tree_merge.specs.Merging.{AreComplete, BuildsSo, IsBuilt, IsCaused, IsJoined, LeavesSo, MergesTo, NamesSo, as_merge_fault}
+use Rattle.tree_merge.specs.TreeBuilding.{IsCausedInBuild}
 use Rattle.tree_merge.specs.declared.conflict_copies.Named.{Named}
 use Rattle.tree_merge.specs.declared.merging.Merged.{Merged}
 use Rattle.tree_merge.specs.declared.merging.MergeFault.{MergeFault}
 use Rattle.tree_merge.specs.declared.merging.MergeFault.TheVariants.{Taken, TooLong, TooMany, Walk}
+use Rattle.tree_merge.specs.declared.tree_builder.BuildFault.{BuildFault}
+use Rattle.tree_merge.specs.declared.tree_builder.BuildFault.TheVariants as build
 use Rattle.tree_merge.proofs.JoinedSides.{AreTreesOf, joined_seen, joined_whole, sides_are_trees}
 use Rattle.tree_merge.proofs.MergedEntries.{over, sound}
 use Rattle.tree_merge.proofs.MergedRoot.{taken_built, taken_stored}
@@ -42,6 +45,11 @@ ready objects base head pushed complete s of_base of_head of_pushed joined is =
       whole = joined_whole objects base head pushed complete s are joined is;
       seen = joined_seen objects base head pushed complete s are joined is;
     }
+
+-- of a build's refusal, as a merge tells it
+pub caused_as : (fault : BuildFault) → IsCausedInBuild fault → IsCaused (as_merge_fault fault)
+caused_as (build.Taken id) caused = caused
+caused_as build.NoMemory caused = tt
 
 pub names_refused : (objects : Objects) (s : Sides) (fault : MergeFault) → NamesSo objects objects s (Err fault) → MergesTo objects s (Err fault)
 names_refused objects s (TooLong path bytes) is = ap (λ o. merge_by o (merged naming s)) is

@@ -1,15 +1,17 @@
 -- Made objects, looked up one by one. The key lemmas are drops_start, drops_more, drops_other and drops_end.
-use Rattle.std.proofs.Common.{◌≡◌, ◌≤◌, ◌<◌, ◌-◌, ℕ, zero, suc, arith, Err, Bool, true, false, cond, if◌then◌else◌, is_some, IsSome, List, refl, sym, ap, ◌∙◌, subst, Option, None, Some, true≢false}
+use Rattle.std.proofs.Common.{◌≡◌, ◌≤◌, ◌<◌, ◌-◌, ◌&&◌, not, inr, ℕ, zero, suc, arith, Err, Bool, true, false, cond, if◌then◌else◌, is_some, IsSome, List, refl, sym, ap, ◌∙◌, subst, Option, None, Some, true≢false}
 use Rattle.std.specs.FinMap as map
 use Rattle.std.specs.Cmp.Lexicographic.{bytes_decides}
 use Rattle.std.specs.Str.{bytes_eq}
 use Rattle.std.specs.Ordering.{eq_by_cmp}
+use Rattle.sha1.specs.Sha1.{sha1}
 use Rattle.ids.specs.Key.{Objects, key_cmp}
 use Rattle.ids.specs.declared.key.Key.{Key}
+use Rattle.object_store.specs.Store.{has_other_name, is_named_by_bytes, same_bytes}
 use Rattle.ids.proofs.KeyOrder.{key_cmp_total}
 use Rattle.object_graph.proofs.Keys.{same_key-true}
 use Rattle.tree_merge.specs.Merging.{AreLeft, FindsSo, IsOtherAt, IsSameAt, IsStoredOther, LeavesSo}
-use Rattle.tree_merge.specs.TreeBuilding.{AreNamed, IsOwnName}
+use Rattle.tree_merge.specs.TreeBuilding.{AreNamed, IsCollision, IsOwnName}
 use Rattle.tree_merge.specs.declared.merging.MergeFault.{MergeFault}
 use Rattle.tree_merge.specs.declared.merging.MergeFault.TheVariants.{Taken, TooLong, TooMany, Walk}
 
@@ -131,6 +133,23 @@ module _ (objects : Objects) (key : Key) (bytes : List ℕ) where
 
   pub finds_other : (stored : List ℕ) → Some stored ≡ map.get objects key → bytes_eq stored bytes ≡ false → IsOtherAt objects key bytes
   finds_other stored is apart = (stored, sym is, λ same. true≢false (sym ((bytes_decides stored bytes).1 same) ∙ apart))
+
+-- over any shelf: what lies there under its own name has the name of these bytes too
+pub other_collides : (key : Key) (bytes stored : List ℕ) → IsOwnName key bytes → has_other_name key stored ≡ false → bytes_eq stored bytes ≡ false → IsCollision key.id
+other_collides key bytes stored own whole apart = record {
+  bytes = bytes;
+  own = own.is_sha1;
+  clash = inr (
+    stored,
+    λ same. true≢false (sym ((bytes_decides stored bytes).1 same) ∙ apart),
+    sym ((bytes_decides (sha1 stored) key.id).0 (named (is_named_by_bytes key.kind) (same_bytes (sha1 stored) key.id) (ap is_named_by_bytes own.is_fs) whole)),
+  );
+}
+  where
+    named : (a b : Bool) → a ≡ true → (a && not b) ≡ false → b ≡ true
+    named true true is off = refl
+    named true false is off = absurd (true≢false off)
+    named false b is off = absurd (true≢false (sym is))
 
 -- ---- the loop's other parts
 

@@ -23,7 +23,7 @@ use Rattle.tree_walk.specs.declared.fault.WalkFault.{WalkFault}
 use Rattle.tree_walk.specs.declared.fault.WalkFault.TheVariants.{Store}
 use Rattle.tree_merge.specs.ConflictNaming.{IsNamedTree}
 use Rattle.tree_merge.specs.Sides.{Entries, join_of}
-use Rattle.tree_merge.specs.TreeBuilding.{AreDirectories, AreNamed, HasMade, IsClash, IsDirectoryOf, IsNilOrMade, IsSound}
+use Rattle.tree_merge.specs.TreeBuilding.{AreDirectories, AreNamed, HasMade, IsClash, IsCollision, IsDirectoryOf, IsNilOrMade, IsSound}
 use Rattle.tree_merge.specs.declared.conflict_copies.Named.{Named}
 use Rattle.tree_merge.specs.declared.sides.Three.{Three}
 use Rattle.tree_merge.specs.declared.tree_builder.BuildFault.{BuildFault}
@@ -81,6 +81,13 @@ MergesTo objects s (Err (TooLong path bytes)) = merge_of s ≡ too_long path byt
 MergesTo objects s (Err (TooMany paths)) = merge_of s ≡ too_many paths
 MergesTo objects s (Err (Taken id)) = IsTaken objects s id
 MergesTo objects s (Err (Walk fault)) = IsDue objects None fault
+
+-- over any shelf, a refusal as taken is for two things of one name
+abbrev pub IsCaused : MergeFault → Type 0
+IsCaused (TooLong path bytes) = ⊤
+IsCaused (TooMany paths) = ⊤
+IsCaused (Taken id) = IsCollision id
+IsCaused (Walk fault) = ⊤
 
 -- the three roots are complete
 pub record AreComplete (objects : Objects) (base head pushed : List ℕ) : Type 0 where

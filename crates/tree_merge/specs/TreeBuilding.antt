@@ -1,5 +1,5 @@
 -- The objects of a tree that is given by its entries. Our own. Read IsSound, then IsDirectoryOf, IsDirectoryText and IsClash.
-use Rattle.std.specs.Prelude.{◌≡◌, ◌≢◌, ◌⊎◌, ℕ, true, List, [], ◌∷◌, ◌++◌, Option, Some, None, IsSome, All, option_map, option_and_then, pos, if◌then◌else◌, Ok}
+use Rattle.std.specs.Prelude.{◌≡◌, ◌≢◌, ◌⊎◌, ℕ, true, List, [], ◌∷◌, ◌++◌, Option, Some, None, IsSome, All, option_map, option_and_then, pos, if◌then◌else◌, Ok, ⊤}
 use Rattle.std.specs.List.{IsDistinct}
 use Rattle.std.specs.Str.{bytes_eq}
 use Rattle.std.specs.FinMap as map
@@ -24,6 +24,8 @@ use Rattle.object_graph.specs.declared.entry.Entry.TheVariants as entry
 use Rattle.tree_merge.specs.FileEntry.{as_entry}
 use Rattle.tree_merge.specs.Sides.{Entries}
 use Rattle.tree_merge.specs.declared.file_entry.FileEntry.{FileEntry}
+use Rattle.tree_merge.specs.declared.tree_builder.BuildFault.{BuildFault}
+use Rattle.tree_merge.specs.declared.tree_builder.BuildFault.TheVariants.{Taken, NoMemory}
 
 -- each entry stands in a directory, and each file has a file's mode
 pub record IsSound (entries : Entries) : Type 0 where
@@ -80,6 +82,17 @@ pub record IsClash (entries : Entries) (id : List ℕ) : Type 0 where
   pub own : id ≡ sha1 bytes
   pub text : IsDirectoryText entries bytes
   pub clash : (id ≡ nil) ⊎ ((other : List ℕ) × (other ≢ bytes) × (id ≡ sha1 other) × IsDirectoryText entries other)
+
+-- two things have one name: some bytes have this SHA-1, which is forty zeros, or that of other bytes too
+pub record IsCollision (id : List ℕ) : Type 0 where
+  pub bytes : List ℕ
+  pub own : id ≡ sha1 bytes
+  pub clash : (id ≡ nil) ⊎ ((other : List ℕ) × (other ≢ bytes) × (id ≡ sha1 other))
+
+-- of any entries, a refusal as taken is for such an id
+abbrev pub IsCausedInBuild : BuildFault → Type 0
+IsCausedInBuild (Taken id) = IsCollision id
+IsCausedInBuild NoMemory = ⊤
 
 -- ---- for private clauses
 

@@ -1,12 +1,12 @@
 //! Which directories survive a merge, which files keep their names, and which leave them.
-ghost use Rattle.std.specs.Prelude.{◌≡◌, ◌≤◌, ◌||◌, ◌&&◌, not, Some, OnOk, IfOk, IfErr, List, [], ℕ, None, is_some, option_map};
+ghost use Rattle.std.specs.Prelude.{◌≡◌, ◌≤◌, ◌||◌, Some, OnOk, IfOk, IfErr, [], None, is_some, option_map};
 ghost use Rattle.std.specs.Option.{option_or};
 ghost use Rattle.std.specs.FinMap as map;
 ghost use Rattle.ids.specs.Key.{Objects};
 ghost use Rattle.object_graph.specs.Unchanged.{Keeps};
 ghost use Rattle.object_store.specs.StoreView.{objects_of};
 ghost use Rattle.tree_model.specs.Path.{PathV};
-ghost use Rattle.tree_model.specs.FileMerge.{choice, Choice};
+ghost use Rattle.tree_model.specs.FileMerge.{Choice};
 ghost use Rattle.tree_model.specs.DirectorySurvival.{Sides};
 ghost use Rattle.tree_walk.specs.Reading.{Reads};
 ghost use Rattle.tree_merge.specs.FileEntry.{as_entry};

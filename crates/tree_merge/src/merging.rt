@@ -1,5 +1,5 @@
 //! The three-way merge of stored trees.
-ghost use Rattle.std.specs.Prelude.{◌≡◌, IfOk, Some};
+ghost use Rattle.std.specs.Prelude.{◌≡◌, IfErr, IfOk, Some};
 ghost use Rattle.std.specs.FinMap as map;
 ghost use Rattle.ids.specs.Key.{Objects};
 ghost use Rattle.tree_model.specs.Path.{PathV};
@@ -12,7 +12,7 @@ ghost use Rattle.tree_walk.specs.Limits.{IsWithinLimits};
 ghost use Rattle.tree_walk.specs.Reading.{Reads};
 ghost use Rattle.tree_merge.specs.Decision.{AreWholeIn};
 ghost use Rattle.tree_merge.specs.FileChoice.{IsWholeAt};
-ghost use Rattle.tree_merge.specs.Merging.{AreComplete, AreFew, BuildsSo, IsJoined, MergesTo, NamesSo, as_merge_fault, as_read};
+ghost use Rattle.tree_merge.specs.Merging.{AreComplete, AreFew, BuildsSo, IsCaused, IsJoined, MergesTo, NamesSo, as_merge_fault, as_read};
 ghost use Rattle.tree_merge.specs.Sides.{AreSeen, AreTrees};
 ghost use Rattle.tree_merge.specs.Telling.{AnswersWell};
 ghost use Rattle.tree_merge.specs.TreeBuilding.{AreNamed};
@@ -69,6 +69,7 @@ pub fn merge<S: Shelf>(
     ensures value { (objects : Objects) → objects_of S.contents store.old ≡ Some objects → (s : Sides)
         → IsTreeOf objects base s.base → IsTreeOf objects head s.head → IsTreeOf objects pushed s.pushed → MergesTo objects s result }
     ensures made { IfOk result (λ merged. AreNamed merged.made) }
+    ensures caused { IfErr result IsCaused }
     ensures kept { Reads S.contents S.may_give S.faults store.old store.new (as_read result) }
 {
     let joined = match read_sides(alloc, store, base, head, pushed) {
@@ -152,6 +153,7 @@ fn merge_sides<S: Shelf>(
         → ((path : PathV) → IsWholeAt objects (map.get joined path))
         → (s : Sides) → AreTrees s → AreSeen more joined s → NamesSo objects more s result }
     ensures whole { IfOk result (λ named. (objects : Objects) → ((path : PathV) → IsWholeAt objects (map.get joined path)) → AreWholeIn objects named.nodes) }
+    ensures caused { IfErr result IsCaused }
     ensures kept { Reads S.contents S.may_give S.faults store.old store.new (as_read result) }
 {
     let decided = match decide(alloc, store, joined) {
@@ -168,6 +170,7 @@ fn merge_sides<S: Shelf>(
 /// The objects of the merged tree, those that are stored already among them.
 fn build_named(alloc: Global, named: Named) -> Result<Merged, MergeFault>
     ensures value { BuildsSo named result }
+    ensures caused { IfErr result IsCaused }
 {
     let Named { nodes, conflicts } = named;
     if nodes.len() > MAX_PATHS {

@@ -1,5 +1,5 @@
 //! The directory objects of a tree, made of its entries by path.
-ghost use Rattle.std.specs.Prelude.{◌≡◌, ◌++◌, ◌∷◌, [], ℕ, List, IfOk, OnOk, OnErr, Ok, Err, ◌⊎◌, ◌≢◌, if◌then◌else◌};
+ghost use Rattle.std.specs.Prelude.{◌≡◌, ◌++◌, ◌∷◌, [], ℕ, List, IfErr, IfOk, OnOk, OnErr, Ok, Err, ◌⊎◌, ◌≢◌, if◌then◌else◌};
 ghost use Rattle.std.specs.FinMap as map;
 ghost use Rattle.std.specs.List.{IsDistinct};
 ghost use Rattle.std.specs.Ordering.{eq_by_cmp};
@@ -13,7 +13,7 @@ ghost use Rattle.fs_objects.specs.Spelling.{as_written};
 ghost use Rattle.object_graph.specs.Objects.{AreEntriesOf};
 ghost use Rattle.object_graph.specs.Unchanged.{Keeps};
 ghost use Rattle.object_graph.specs.declared.entry.Entry.TheVariants.{Dir as dir_entry};
-ghost use Rattle.tree_merge.specs.TreeBuilding.{IsSound, AreNamed, AreDirectories, HasAdded, IsDirectoryOf, IsClash, IsEntryMade, IsOwn, IsMade, IsNilOrMade, IsRefused, IsRefusedList, Lists, HasMade, held_at, dirent_of};
+ghost use Rattle.tree_merge.specs.TreeBuilding.{IsSound, AreNamed, AreDirectories, HasAdded, IsCausedInBuild, IsDirectoryOf, IsClash, IsEntryMade, IsOwn, IsMade, IsNilOrMade, IsRefused, IsRefusedList, Lists, HasMade, held_at, dirent_of};
 
 use crate::tables::put;
 use fs_objects::{DirObject, Dirent, FsObject};
@@ -66,6 +66,7 @@ pub fn build(alloc: Global, mut entries: PathTable<Entry>) -> Result<BuiltTree, 
 
     // The refusal. Want of memory may come in its place.
     ensures taken { (id : List ℕ) → result ≡ Err (BuildFault.Taken id) → IsSound entries → IsClash entries id }
+    ensures caused { IfErr result IsCausedInBuild }
 {
     drop_root(alloc, &mut entries);
     let mut held = PathTable::new(alloc);

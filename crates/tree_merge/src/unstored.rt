@@ -1,10 +1,9 @@
 //! Objects that were made, without those that are stored already.
-ghost use Rattle.std.specs.Prelude.{◌≡◌, OnOk, OnErr, Some, IfOk};
-ghost use Rattle.std.specs.FinMap as map;
+ghost use Rattle.std.specs.Prelude.{◌≡◌, Some, IfErr, IfOk};
 ghost use Rattle.ids.specs.Key.{Objects};
 ghost use Rattle.object_store.specs.StoreView.{objects_of};
 ghost use Rattle.tree_walk.specs.Reading.{Reads};
-ghost use Rattle.tree_merge.specs.Merging.{FindsSo, LeavesSo, as_read};
+ghost use Rattle.tree_merge.specs.Merging.{FindsSo, IsCaused, LeavesSo, as_read};
 ghost use Rattle.tree_merge.specs.TreeBuilding.{AreNamed, IsOwnName};
 
 use crate::merging::MergeFault;
@@ -23,6 +22,7 @@ pub(crate) fn drop_stored<S: Shelf>(
     requires names { AreNamed made }
     ensures value { (objects : Objects) → objects_of S.contents store.old ≡ Some objects → LeavesSo objects made result }
     ensures names { IfOk result AreNamed }
+    ensures caused { IfErr result IsCaused }
     ensures kept { Reads S.contents S.may_give S.faults store.old store.new (as_read result) }
 {
     let mut left = KeyTable::new(alloc);
@@ -46,6 +46,7 @@ pub(crate) fn drop_stored<S: Shelf>(
 fn is_stored<S: Shelf>(store: &mut Store<S>, key: &Key, bytes: &Bytes) -> Result<bool, MergeFault>
     requires own { IsOwnName key.now bytes.now }
     ensures value { (objects : Objects) → objects_of S.contents store.old ≡ Some objects → FindsSo objects key.now bytes.now result }
+    ensures caused { IfErr result IsCaused }
     ensures kept { Reads S.contents S.may_give S.faults store.old store.new (as_read result) }
 {
     match store.get(*key) {

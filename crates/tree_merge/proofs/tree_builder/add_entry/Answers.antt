@@ -2,7 +2,7 @@ use Rattle.std.proofs.Common.{subst, ap, Err}
 use Rattle.tree_merge.specs.TreeBuilding.{held_at, IsEntryMade, IsRefusedList}
 use Rattle.tree_merge.specs.declared.tree_builder.BuildFault.TheVariants.{Taken}
 use Rattle.tree_merge.proofs.MadeLemmas.{fault_told}
-use Rattle.tree_merge.proofs.BuildingLemmas.{emptied_is}
+use Rattle.tree_merge.proofs.HeldLemmas.{emptied_is}
 use Rattle.tree_merge.proofs.tree_builder.add_entry.Goals as goal
 
 pub returns-in-Ok-hold-clause-ok : goal.returns-in-Ok-hold-clause-ok

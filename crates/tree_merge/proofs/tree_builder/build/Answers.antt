@@ -1,6 +1,6 @@
 use Rattle.std.proofs.Common.{◌≡◌, ◌∙◌, ◌++◌, ◌∷◌, ℕ, List, [], ap, sym, subst, arith, Option, Some, None, is_some, Err, inl, inr, refl}
 use Rattle.tree_merge.specs.declared.tree_builder.BuildFault.TheVariants.{Taken}
-use Rattle.tree_merge.proofs.MadeLemmas.{fault_told}
+use Rattle.tree_merge.proofs.MadeLemmas.{build_caused, fault_told}
 use Rattle.std.specs.FinMap as map
 use Rattle.std.specs.List.{IsDistinct}
 use Rattle.std.specs.Str.{bytes_eq}
@@ -129,6 +129,11 @@ returns-in-Err-clause-taken c id e sound =
     (λ name. above_popped c.loop-path.entries c.pop_last.new.self (c.in-Some.path, c.in-Some.entry) c.in-Some.ensures.found (c.in-Some.path ++ name ∷ []) (before_child c.in-Some.path name))
     refused.1)
 
+pub returns-in-Err-clause-caused : goal.returns-in-Err-clause-caused
+returns-in-Err-clause-caused c =
+    build_caused c.loop-path.made (held_at (map.get c.loop-path.held c.in-Some.path)) c.loop-path.invariant.named c.in-Err.fault
+    (λ id e. (c.in-Err.ensures.taken id (ap Err e)).1)
+
 top_refused : (made : Objects) (id : List ℕ) (held : map.FinMap path_cmp (List Dirent)) (top : PathV) (got : Option (List Dirent)) → top ≡ [] → got ≡ map.get held top
     → IsRefusedList made (held_at got) id → IsRefusedList made (held_at (map.get held [])) id
 top_refused made id held top got is told refused = subst (λ (o : Option (List Dirent)). IsRefusedList made (held_at o) id) (told ∙ ap (map.get held) is) refused
@@ -143,3 +148,8 @@ returns-clause-taken c id e sound =
     (c.loop-path.invariant.built left) (c.loop-path.invariant.dirs left) c.loop-path.invariant.named (inl refl) (inl refl)
     (λ name. gone_all c.loop-path.entries c.in_default.ensures.absent (name ∷ []))
     (top_refused c.loop-path.made id c.loop-path.held c.root-root.result c.remove-top.result c.root-root.ensures.value c.remove-top.ensures.value refused))
+
+pub returns-clause-caused : goal.returns-clause-caused
+returns-clause-caused c =
+    build_caused c.loop-path.made (held_at c.remove-top.result) c.loop-path.invariant.named c.in-Err-make_directory.fault
+    (λ id e. c.in-Err-make_directory.ensures.taken id (ap Err e))

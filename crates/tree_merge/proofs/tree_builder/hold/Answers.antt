@@ -2,7 +2,7 @@ use Rattle.std.proofs.Common.{◌∙◌, ◌++◌, ◌∷◌, [], ap}
 use Rattle.std.specs.FinMap as map
 use Rattle.tree_merge.specs.TreeBuilding.{held_at}
 use Rattle.tree_merge.proofs.TableLemmas.{on_ok_more}
-use Rattle.tree_merge.proofs.BuildingLemmas.{held_more}
+use Rattle.tree_merge.proofs.HeldLemmas.{held_more}
 use Rattle.tree_merge.proofs.tree_builder.hold.Goals as goal
 
 pub returns : goal.returns
