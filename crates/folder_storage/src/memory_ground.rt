@@ -19,7 +19,8 @@ pub struct KeptLibrary {
 }
 
 /// Libraries in memory. It tells how each stands, and has a library once it was made, with or without a state text. It
-/// answers `Shelf` only where a library is looked for that was handed out, and never where one is made.
+/// answers `Shelf` only where a library is looked for that was handed out, and never where one is made. Looking for one
+/// takes no memory, and gives no other fault.
 #[derive(Drop)]
 pub struct MemoryGround {
     alloc: Global,
@@ -59,7 +60,7 @@ impl Ground for MemoryGround {
             → IfOk result (FindsLibrary (λ counted. Some counted.shelf.contents) standing) }
         ensures ok { IfOk result (HandsOut (standings self.old.libraries.items) (standings self.new.libraries.items) folder.now lib) }
         ensures err { OnErr result (StandAsBefore (standings self.old.libraries.items) (standings self.new.libraries.items)) }
-        ensures shelf { IfErr result (λ failed. failed ≡ ShelfFailed.Shelf → standing_in self.old.libraries.items folder.now lib ≡ HandedOut) }
+        ensures shelf { IfErr result (λ failed. (failed ≡ ShelfFailed.Shelf) × (standing_in self.old.libraries.items folder.now lib ≡ HandedOut)) }
         ensures faults { CountsFaults self.old.faults self.new.faults result }
         ensures fresh { IfOk result (HasNoFaults (λ counted. counted.faults)) }
     {

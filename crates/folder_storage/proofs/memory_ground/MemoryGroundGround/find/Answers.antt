@@ -1,4 +1,5 @@
 -- What is found is handed out.
+use Rattle.std.proofs.Common.{refl}
 use Rattle.folder_storage.proofs.StandingLemmas.{taken-found, taken-changes, taken-out, taken-stays}
 use Rattle.folder_storage.proofs.memory_ground.MemoryGroundGround.find.Goals as goal
 
@@ -15,5 +16,7 @@ returns-in-None-take_at-clause-err c =
     taken-stays c.args.self.now.libraries.items c.take_at.new.libraries.items c.in-Some.place c.in-None-take_at.ensures.value c.in-None-take_at.ensures.ok
 
 pub returns-in-None-take_at-clause-shelf : goal.returns-in-None-take_at-clause-shelf
-returns-in-None-take_at-clause-shelf c same =
-    taken-out c.args.self.now.libraries.items c.args.folder.now c.args.lib c.in-Some.place (rw c.deref.ensures.value at c.in-Some.ensures.found) c.in-None-take_at.ensures.value
+returns-in-None-take_at-clause-shelf c = (
+  refl,
+  taken-out c.args.self.now.libraries.items c.args.folder.now c.args.lib c.in-Some.place (rw c.deref.ensures.value at c.in-Some.ensures.found) c.in-None-take_at.ensures.value,
+)
