@@ -1,12 +1,12 @@
 -- What each act answers and leaves. The key lemmas are get_serves, put_serves, missing_serves, list_serves, head_serves,
 -- download_serves, upload_serves, limit_serves and days_serve.
-use Rattle.std.proofs.Common.{◌≡◌, ◌≢◌, ◌⊎◌, inl, inr, ℕ, Bool, true, false, if◌then◌else◌, List, [], ◌∷◌, refl, sym, ap, ◌∙◌, subst, true≢false, Option, None, Some, option_map, Result, Ok, Err}
+use Rattle.std.proofs.Common.{◌≡◌, inl, ℕ, Bool, true, false, if◌then◌else◌, List, refl, sym, ap, ◌∙◌, subst, Option, None, Some, option_map, Result}
 use Rattle.std.specs.Prelude.{ℤ, ⊤, OnOk, OnErr}
 use Rattle.std.specs.FinMap as map
 use Rattle.ids.specs.Key.{Objects}
 use Rattle.ids.specs.declared.key.Key.{Key}
 use Rattle.ids.specs.declared.key.Kind.{Kind}
-use Rattle.library_rules.specs.Calls.{Due, Denies, Says, absent, act_due, due, got, listed, may, put_due, token_of}
+use Rattle.library_rules.specs.Calls.{Due, Says, absent, act_due, due, got, listed, put_due, token_of}
 use Rattle.library_rules.specs.Changes.{act_changes, seen_by}
 use Rattle.library_rules.specs.LibraryState.{State, IsSound, head_of, is_day_count}
 use Rattle.library_rules.proofs.Sound.{numbers_limited, sound_checked}
@@ -51,9 +51,10 @@ module _ {S : Type 0} (contents : S → Option Contents) (may_give : S → Shelf
   due_by : (a : Act) → call.act ≡ a → (objects : Objects) (d : Due) → ((token : Token) → act_due (given objects) token a ≡ d) → due (given objects) call ≡ d
   due_by a is objects d each = due_as (given objects) call right d (λ token. ap (act_due (given objects) token) is ∙ each token)
 
-  may_by : (a : Act) → call.act ≡ a → (o : Option Reply) → decided old.state call ≡ o → (give : ShelfSlot → Option (List ℕ) → Type 0) (r : Reply) → MayAnswer give a o r
-      → MayAnswer give call.act (decided old.state call) r
-  may_by a is o decides give r may_come = subst (λ b. MayAnswer give b (decided old.state call) r) (sym is) (subst (λ p. MayAnswer give a p r) (sym decides) may_come)
+  may_by : (a : Act) → call.act ≡ a → (o : Option Reply) → decided old.state call ≡ o → (give : ShelfSlot → Option (List ℕ) → Type 0) (r : Reply)
+      → MayAnswer old.store.index give a o r → MayAnswer old.store.index give call.act (decided old.state call) r
+  may_by a is o decides give r may_come =
+      subst (λ b. MayAnswer old.store.index give b (decided old.state call) r) (sym is) (subst (λ p. MayAnswer old.store.index give a p r) (sym decides) may_come)
 
   quiet_by : (a : Act) → call.act ≡ a → is_quiet a ≡ true → is_quiet call.act ≡ true
   quiet_by a is quiet = subst (λ b. is_quiet b ≡ true) (sym is) quiet
@@ -61,7 +62,7 @@ module _ {S : Type 0} (contents : S → Option Contents) (may_give : S → Shelf
   -- ---- objects
 
   pub get_serves : (key : Key) → call.act ≡ act.Get key → (store : StoreView S) (r : Reply) → Keeps contents old.store store
-      → Told (λ objects. SaysOr objects (got key (map.get objects key)) r) → MayGet (may_give store.shelf) key r → Told (λ objects. IsToldDamage objects r)
+      → Told (λ objects. SaysOr objects (got key (map.get objects key)) r) → MayGet old.store.index (may_give store.shelf) key r → Told (λ objects. IsToldDamage objects r)
       → Counts (faults old.store.shelf) (faults store.shelf) r → Left r store
   get_serves key is store r keeps says may_come damage count =
       serves_said contents may_give faults old call moment (quiet_by (act.Get key) is refl) store r (kept_status contents old.store store keeps)
@@ -70,7 +71,7 @@ module _ {S : Type 0} (contents : S → Option Contents) (may_give : S → Shelf
 
   pub put_serves : (key : Key) (bytes : List ℕ) → call.act ≡ act.Put key bytes → (store : StoreView S) (r : Reply) → status_of contents store ≡ status_of contents old.store
       → Told (λ objects. DoneSo objects (put_due (given objects) key bytes) r (objects_of contents store))
-      → MayAnswer (may_give store.shelf) (act.Put key bytes) (put_decided old.state.lib key bytes) r → Told (λ objects. IsToldDamage objects r)
+      → MayAnswer old.store.index (may_give store.shelf) (act.Put key bytes) (put_decided old.state.lib key bytes) r → Told (λ objects. IsToldDamage objects r)
       → Counts (faults old.store.shelf) (faults store.shelf) r → Left r store
   put_serves key bytes is store r text_kept done may_come damage count =
       serves_put contents may_give faults old call moment (quiet_by (act.Put key bytes) is refl) store r text_kept
@@ -79,7 +80,7 @@ module _ {S : Type 0} (contents : S → Option Contents) (may_give : S → Shelf
       (λ objects told. (due_by (act.Put key bytes) is objects (put_due (given objects) key bytes) (λ token. refl), done objects told))
 
   pub missing_serves : (k : Kind) (ids : List (List ℕ)) → call.act ≡ act.Missing k ids → (r : Reply)
-      → Told (λ objects. SaysOr objects (reply.Absent (absent (given objects) k ids)) r) → MayTell (may_give old.store.shelf) r → Told (λ objects. IsToldDamage objects r)
+      → Told (λ objects. SaysOr objects (reply.Absent (absent (given objects) k ids)) r) → MayTell old.store.index k ids r → Told (λ objects. IsToldDamage objects r)
       → Counts (faults old.store.shelf) (faults old.store.shelf) r → Left r old.store
   missing_serves k ids is r says may_come damage count =
       serves_said contents may_give faults old call moment (quiet_by (act.Missing k ids) is refl) old.store r refl
@@ -87,11 +88,12 @@ module _ {S : Type 0} (contents : S → Option Contents) (may_give : S → Shelf
       (λ objects told. (reply.Absent (absent (given objects) k ids), due_by (act.Missing k ids) is objects (Says (reply.Absent (absent (given objects) k ids))) (λ token. refl), says objects told))
 
   pub list_serves : (server : List ℕ) (client : Option (List ℕ)) → call.act ≡ act.Ids server client → (store : StoreView S) (r : Reply) → Keeps contents old.store store
-      → Told (λ objects. SaysOr objects (listed (given objects) server client) r) → MayAnswer (may_give store.shelf) (act.Ids server client) (ids_decided old.state.kept server) r
+      → Told (λ objects. SaysOr objects (listed (given objects) server client) r) → MayAnswer store.index (may_give store.shelf) (act.Ids server client) (ids_decided old.state.kept server) r
       → Told (λ objects. IsToldDamage objects r) → Counts (faults old.store.shelf) (faults store.shelf) r → Left r store
   list_serves server client is store r keeps says may_come damage count =
       serves_said contents may_give faults old call moment (quiet_by (act.Ids server client) is refl) store r (kept_status contents old.store store keeps)
-      (may_by (act.Ids server client) is (ids_decided old.state.kept server) (decided_by (act.Ids server client) is (ids_decided old.state.kept server) (λ token. refl)) (may_give store.shelf) r may_come)
+      (may_by (act.Ids server client) is (ids_decided old.state.kept server) (decided_by (act.Ids server client) is (ids_decided old.state.kept server) (λ token. refl)) (may_give store.shelf) r
+      (subst (λ index. MayAnswer index (may_give store.shelf) (act.Ids server client) (ids_decided old.state.kept server) r) keeps.index may_come))
       damage count keeps.objects
       (λ objects told. (listed (given objects) server client, due_by (act.Ids server client) is objects (Says (listed (given objects) server client)) (λ token. refl), says objects told))
 

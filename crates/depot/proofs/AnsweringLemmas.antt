@@ -1,17 +1,17 @@
 -- What a call leaves, by what it is due. The key lemmas are due_is, denied_answers, says_answers, fault_answers and
 -- stores_answers.
 use borrow.Author.Tests.{eqb-true}
-use Rattle.std.proofs.Common.{◌≡◌, ◌≢◌, ◌⊎◌, inl, inr, ℕ, ◌≤◌, Bool, true, false, not, ◌&&◌, if◌then◌else◌, nat_eq, eq-eqb, List, [], ◌∷◌, refl, sym, ap, ◌∙◌, subst, true≢false, Option, None, Some, option_map}
+use Rattle.std.proofs.Common.{◌≡◌, ◌≢◌, inl, inr, ℕ, ◌≤◌, Bool, true, false, not, ◌&&◌, if◌then◌else◌, nat_eq, eq-eqb, List, [], ◌∷◌, refl, sym, ap, ◌∙◌, subst, true≢false, Option, None, Some, option_map}
 use Rattle.std.specs.Bool.{MatchBool}
 use Rattle.std.specs.FinMap as map
 use Rattle.sha1.specs.Sha1.{sha1}
 use Rattle.ids.specs.FaultCount.{Rose}
 use Rattle.ids.specs.Key.{Objects}
 use Rattle.ids.specs.declared.key.Key.{Key}
-use Rattle.library_rules.specs.Answered.{Fails, IsFault as IsFaultOf, Plain}
-use Rattle.library_rules.specs.Calls.{Due, Denies, Says, Stores, Installs, Merges, act_due, due, keys_of, may, put_by, put_due, token_due, token_of}
+use Rattle.library_rules.specs.Answered.{Fails, IsFault as IsFaultOf}
+use Rattle.library_rules.specs.Calls.{Due, Denies, Says, Stores, Installs, Merges, act_due, due, keys_of, may, put_by, token_due, token_of}
 use Rattle.library_rules.specs.Changes.{act_changes, apply, counted, fresher, is_refused, moved, put_new, step_changes, stored_keys, told_by}
-use Rattle.library_rules.specs.History.{Permits, StepSo, lone}
+use Rattle.library_rules.specs.History.{Permits, lone}
 use Rattle.library_rules.specs.LibraryState.{State, is_stored}
 use Rattle.library_rules.specs.Permitted.{DuePermits, MergeFails}
 use Rattle.library_rules.specs.declared.entry.Entry.{Entry}
@@ -33,10 +33,9 @@ use Rattle.library_state.specs.declared.token.Token.{Token}
 use Rattle.object_store.specs.Store.{IsDamage, IsOther, damage_at, damage_of, has_other_name, is_named_by_bytes, same_bytes}
 use Rattle.object_store.specs.declared.shelf.Slot.{Slot}
 use Rattle.object_store.specs.declared.error.StoreFault.TheVariants as store
-use Rattle.object_graph.specs.Traversal.{is_in}
 use Rattle.object_graph.proofs.Keys.{same_key, same_key-itself}
 use Rattle.depot.specs.Answering.{AnswersSo, permits}
-use Rattle.depot.specs.ObjectCalls.{Counts, DoneSo, IsFault, IsToldRefusal, SaysOr, is_counted, is_of_store}
+use Rattle.depot.specs.ObjectCalls.{Counts, IsFault, IsToldRefusal, SaysOr, is_counted, is_of_store}
 
 -- ---- what a call is due
 

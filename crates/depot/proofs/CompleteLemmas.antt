@@ -1,7 +1,5 @@
 -- The fault of a traversal as that of a check. The key lemma is checked_fault.
-use Rattle.std.proofs.Common.{◌≡◌, ℕ, List, refl, sym, ap, ◌∙◌, Option, None, Some, Result, Ok, Err}
-use Rattle.std.specs.Prelude.{⊤}
-use Rattle.ids.specs.FaultCount.{FailsBy}
+use Rattle.std.proofs.Common.{◌≡◌, ℕ, List, refl, Option, Err}
 use Rattle.ids.specs.Key.{Objects}
 use Rattle.object_graph.specs.declared.fault.TreeFault.{TreeFault}
 use Rattle.object_store.specs.StoreView.{Index}

@@ -1,6 +1,6 @@
 -- A depot stays good as a call writes the text of another state. The key lemmas are sound_at, good_rewritten and
 -- good_with_token.
-use Rattle.std.proofs.Common.{◌≡◌, ◌≢◌, ℕ, ◌≤◌, ◌<◌, Bool, true, false, List, [], ◌∷◌, ◌++◌, length, refl, sym, ap, ◌∙◌, subst, Option, None, Some, option_map, Result, Ok, Err}
+use Rattle.std.proofs.Common.{◌≡◌, ◌≢◌, ℕ, ◌≤◌, ◌<◌, Bool, false, List, [], ◌∷◌, ◌++◌, length, sym, ap, ◌∙◌, subst, Option, Some, option_map, Result, Ok, Err}
 use Rattle.std.specs.Prelude.{⊤, OnOk, OnErr}
 use Rattle.ids.specs.Key.{Objects}
 use Rattle.library_rules.specs.LibraryState.{State, IsSound}

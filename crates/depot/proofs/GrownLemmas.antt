@@ -1,14 +1,14 @@
 -- A depot stays good as objects come, and where a call writes nothing. The key lemmas are good_kept and good_put.
-use Rattle.std.proofs.Common.{◌≡◌, ◌⊎◌, inl, inr, ℕ, Bool, true, false, List, [], ◌∷◌, refl, sym, ap, ◌∙◌, subst, true≢false, Option, None, Some, option_map}
+use Rattle.std.proofs.Common.{◌≡◌, ◌⊎◌, inl, inr, ℕ, Bool, true, false, List, [], ◌∷◌, refl, sym, ap, ◌∙◌, subst, true≢false, Option, option_map}
 use Rattle.ids.specs.Key.{Objects}
 use Rattle.library_rules.specs.Changes.{put_new}
-use Rattle.library_rules.specs.LibraryState.{State, IsSound}
+use Rattle.library_rules.specs.LibraryState.{IsSound}
 use Rattle.library_rules.specs.declared.entry.Stored.{Stored}
 use Rattle.library_rules.proofs.Sound.{sound_moved}
 use Rattle.library_state.specs.declared.state.LibState.{LibState}
 use Rattle.object_store.specs.Shelf.{Contents}
 use Rattle.object_store.specs.StoreView.{Keeps, StoreView, objects_of, status_of}
-use Rattle.depot.specs.DepotView.{DepotView, library, state_of, Holds, HoldsOther, IsGood}
+use Rattle.depot.specs.DepotView.{DepotView, library, Holds, IsGood}
 use Rattle.depot.specs.Writing.{with_stored}
 use Rattle.depot.proofs.GoodLemmas.{sound_at, sound_told}
 use Rattle.depot.proofs.Told.{mapped_at}

@@ -1,35 +1,22 @@
 -- Lists of what kept commits need. The key lemmas are none_due, listed_fault and listed_cause.
-use Rattle.std.proofs.Common.{◌≡◌, ◌≢◌, ◌||◌, ◌⊎◌, inl, inr, ℕ, Bool, true, false, if◌then◌else◌, List, [], ◌∷◌, refl, sym, ap, ◌∙◌, subst, true≢false, Option, None, Some, Result, Ok, Err}
-use Rattle.std.specs.Prelude.{⊤}
-use Rattle.std.specs.List.{list_any}
-use Rattle.std.specs.Bool.{MatchBool}
-use Rattle.ids.specs.FaultCount.{FailsBy}
+use Rattle.std.proofs.Common.{◌≡◌, ℕ, Bool, true, false, if◌then◌else◌, List, refl, ap, ◌∙◌, Option, None, Some, is_some}
 use Rattle.ids.specs.Key.{Objects}
-use Rattle.ids.specs.declared.key.Key.{Key}
-use Rattle.library_rules.specs.Calls.{kept_alone, listed}
-use Rattle.library_rules.specs.LibraryState.{State, IsSound, is_kept, kept_commits}
-use Rattle.library_state.specs.declared.history.Install.{Install}
-use Rattle.library_state.specs.declared.refusal.Refusal.{Refusal}
-use Rattle.library_state.specs.declared.refusal.Refusal.TheVariants as refusal
-use Rattle.library_state.specs.declared.reply.Reply.{Reply}
+use Rattle.library_rules.specs.Calls.{kept_alone}
+use Rattle.library_rules.specs.LibraryState.{State, IsSound, is_kept}
 use Rattle.library_state.specs.declared.reply.Reply.TheVariants as reply
-use Rattle.object_graph.specs.FsIds.{fs_ids}
-use Rattle.object_graph.specs.Objects.{commit_key, same_id}
-use Rattle.object_graph.specs.Traversal.{IsComplete, walk_commit}
 use Rattle.object_graph.specs.declared.fault.TreeFault.{TreeFault}
-use Rattle.object_store.specs.Store.{IsDamage}
 use Rattle.object_store.specs.StoreView.{Index}
 use Rattle.object_store.specs.declared.error.StoreFault.{StoreFault}
 use Rattle.object_store.specs.declared.error.StoreFault.TheVariants.{Taken, Wrong, Damaged, Shelf, NoMemory}
 use Rattle.object_store.specs.declared.shelf.Slot.{Slot}
 use Rattle.tree_walk.specs.Files.{first_due}
-use Rattle.tree_walk.specs.Reading.{Answers, IsCause, IsDue, IsReadFault, IsStoreDue, is_counted as is_walk_counted}
+use Rattle.tree_walk.specs.Reading.{IsCause, IsDue, IsReadFault, IsStoreDue, is_counted as is_walk_counted}
 use Rattle.tree_walk.specs.Visits.{commit_due, commits_due}
 use Rattle.tree_walk.specs.declared.fault.WalkFault.{WalkFault}
 use Rattle.tree_walk.specs.declared.fault.WalkFault.TheVariants as walk
 use Rattle.depot.specs.Answering.{MayRefuseTree}
 use Rattle.depot.specs.UpdateBase.{walk_refusal}
-use Rattle.depot.specs.ObjectCalls.{Counts, IsFault, IsToldDamage, IsToldRefusal, SaysOr, is_counted}
+use Rattle.depot.specs.ObjectCalls.{IsFault, IsToldDamage, is_counted}
 use Rattle.depot.proofs.AnsweringLemmas.{damage_other}
 
 -- the commits that are asked about are complete, so no traversal has a fault
@@ -80,15 +67,15 @@ walked_damage objects due (walk.TooDeep path) is = tt
 walked_damage objects due (walk.TooMany paths) is = tt
 walked_damage objects due (walk.Store fault) is = store_damage objects fault is
 
-store_cause : (index : Index) (may_give : Slot → Option (List ℕ) → Type 0) (fault : StoreFault) → IsReadFault index may_give fault → MayRefuseTree may_give (walk_refusal (walk.Store fault))
+store_cause : (index : Index) (may_give : Slot → Option (List ℕ) → Type 0) (fault : StoreFault) → IsReadFault index may_give fault → MayRefuseTree index may_give (walk_refusal (walk.Store fault))
 store_cause index may_give (Taken id) is = absurd is
 store_cause index may_give (Wrong id) is = absurd is
 store_cause index may_give (Damaged want got) is = (damage_other may_give is.key want got is.damage, is.key, is.damage)
 store_cause index may_give Shelf is = tt
 store_cause index may_give NoMemory is = tt
 
-pub walked_cause : (index : Index) (may_give : Slot → Option (List ℕ) → Type 0) (fault : WalkFault) → IsCause index may_give fault → MayRefuseTree may_give (walk_refusal fault)
-walked_cause index may_give (walk.Incomplete key) is = tt
+pub walked_cause : (index : Index) (may_give : Slot → Option (List ℕ) → Type 0) (fault : WalkFault) → IsCause index may_give fault → MayRefuseTree index may_give (walk_refusal fault)
+walked_cause index may_give (walk.Incomplete key) is = ap is_some is
 walked_cause index may_give (walk.Unreadable key) is = tt
 walked_cause index may_give (walk.WrongKind id) is = tt
 walked_cause index may_give (walk.WrongSize id) is = tt

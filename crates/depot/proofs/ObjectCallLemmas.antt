@@ -1,42 +1,29 @@
 -- A put that the store refuses, and the cause of each refusal. The key lemmas are put_refused, put_damage, stored_may and
 -- refused_may.
-use Rattle.std.proofs.Common.{◌≡◌, ◌⊎◌, inl, inr, ℕ, Bool, true, false, not, ◌||◌, if◌then◌else◌, List, [], ◌∷◌, ◌++◌, refl, sym, ap, ◌∙◌, subst, true≢false, Option, None, Some, option_map, is_some, is_none, Result, Ok, Err}
+use Rattle.std.proofs.Common.{◌≡◌, ◌⊎◌, inl, inr, ℕ, Bool, true, false, not, ◌||◌, if◌then◌else◌, List, [], ◌∷◌, refl, sym, ap, ◌∙◌, subst, true≢false, Option, None, Some, option_map, is_some, is_none}
 use Rattle.std.specs.Bool.{then_some}
 use Rattle.std.specs.FinMap as map
-use Rattle.std.specs.Str.{bytes_eq}
 use Rattle.sha1.specs.Sha1.{sha1}
 use Rattle.ids.specs.Key.{Objects}
-use Rattle.ids.specs.Outcome.{RefusesAs}
 use Rattle.ids.specs.declared.key.Key.{Key}
-use Rattle.ids.specs.declared.key.Kind.{Kind}
-use Rattle.ids.specs.declared.key.Kind.TheVariants as kinds
-use Rattle.commit_objects.specs.Commit.{commit_of}
-use Rattle.commit_objects.specs.declared.commit.Commit.{Commit}
-use Rattle.commit_objects.specs.declared.fault.BadCommit.{BadCommit}
-use Rattle.fs_objects.specs.FsObject.{fs_of}
-use Rattle.fs_objects.specs.declared.fault.BadFs.{BadFs}
-use Rattle.fs_objects.specs.declared.fs_object.FsObject.{FsObject}
-use Rattle.library_rules.specs.Calls.{Due, Says, Stores, first_refusal, not_commit, not_fs, other_bytes, other_name, put_by, put_due, put_refusals, taken}
-use Rattle.library_rules.specs.Changes.{put_new}
+use Rattle.library_rules.specs.Calls.{Says, Stores, first_refusal, other_bytes, put_by, taken}
 use Rattle.library_rules.specs.LibraryState.{State, is_stored}
-use Rattle.library_rules.proofs.Members.{same_id-itself}
 use Rattle.library_state.specs.declared.call.Act.TheVariants as act
 use Rattle.library_state.specs.declared.refusal.Refusal.{Refusal}
 use Rattle.library_state.specs.declared.refusal.Refusal.TheVariants as refusal
 use Rattle.library_state.specs.declared.reply.Reply.{Reply}
 use Rattle.library_state.specs.declared.reply.Reply.TheVariants as reply
-use Rattle.object_graph.specs.Objects.{same_id, is_nil}
-use Rattle.object_store.specs.Store.{CountsShelf, GivesOther, IsFoundSame, IsGetFault, IsPutFault, damage_at, damage_of, first_refusal as first_fault, has_other_name, is_free, is_named_by_bytes, is_want, name_refusal, put_refusal, same_bytes, stored_refusal}
-use Rattle.object_store.specs.StoreView.{with_object}
+use Rattle.object_graph.specs.Objects.{is_nil}
+use Rattle.object_store.specs.Store.{IsFoundSame, IsGetFault, IsOfStored, IsPutFault, damage_at, damage_of, first_refusal as first_fault, has_other_name, is_free, is_want, put_refusal, same_bytes, stored_refusal}
+use Rattle.object_store.specs.StoreView.{Index}
 use Rattle.object_store.specs.declared.put.Put.{Put}
 use Rattle.object_store.specs.declared.put.Put.TheVariants.{New, Same}
 use Rattle.object_store.specs.declared.error.StoreFault.{StoreFault}
 use Rattle.object_store.specs.declared.error.StoreFault.TheVariants.{Taken, Wrong, Damaged, Shelf, NoMemory}
 use Rattle.object_store.specs.declared.shelf.Slot.{Slot}
 use Rattle.depot.specs.Answering.{MayAnswer, MayGet, MayPut, store_decided}
-use Rattle.depot.specs.ObjectCalls.{Counts, DoneSo, IsFault, IsToldDamage, IsToldRefusal, own_name, store_due, store_refusal}
+use Rattle.depot.specs.ObjectCalls.{DoneSo, IsFault, IsToldDamage, own_name, store_due, store_refusal}
 use Rattle.depot.proofs.AnsweringLemmas.{damage_other}
-use Rattle.depot.proofs.WritingLemmas.{put_is_new, same_there}
 
 -- ---- what is due of a put
 
@@ -156,46 +143,53 @@ get_damage objects key (Damaged want got) (inl due) = (key, due)
 
 -- ---- the cause of each refusal, over any shelf
 
-module _ (may_give : Slot → Option (List ℕ) → Type 0) (key : Key) where
-  pub get_may : (fault : StoreFault) → IsGetFault may_give key fault → MayGet may_give key (reply.Refused (store_refusal fault))
-  get_may (Taken id) cause = absurd cause
-  get_may (Wrong id) cause = absurd cause
-  get_may (Damaged want got) cause = (damage_other may_give key want got cause, key, cause)
-  get_may Shelf cause = tt
-  get_may NoMemory cause = tt
+module _ (index : Index) (may_give : Slot → Option (List ℕ) → Type 0) (key : Key) where
+  pub get_may : (fault : StoreFault) → IsGetFault may_give key fault → IsOfStored (map.get index key) key fault → MayGet index may_give key (reply.Refused (store_refusal fault))
+  get_may (Taken id) cause known = absurd cause
+  get_may (Wrong id) cause known = absurd cause
+  get_may (Damaged want got) cause known = (damage_other may_give key want got cause, known, cause)
+  get_may Shelf cause known = tt
+  get_may NoMemory cause known = tt
 
   module _ (bytes : List ℕ) where
     by_name : Bool → Bool → Option Reply
     by_name a b = option_map reply.Refused (first_refusal (then_some a (refusal.Wrong (sha1 bytes)) ∷ then_some b (refusal.Taken key.id) ∷ []))
 
-    free_name : (a b : Bool) → (a ≡ true → ⊥) → (b ≡ true → ⊥) → (r : Reply) → MayPut may_give key bytes r → MayAnswer may_give (act.Put key bytes) (by_name a b) r
+    free_name : (a b : Bool) → (a ≡ true → ⊥) → (b ≡ true → ⊥) → (r : Reply) → MayPut index may_give key bytes r → MayAnswer index may_give (act.Put key bytes) (by_name a b) r
     unfolding by_name
     free_name true b no_a no_b r may = absurd (no_a refl)
     free_name false true no_a no_b r may = absurd (no_b refl)
     free_name false false no_a no_b r may = may
 
-    stored_by : (index : Option ℕ) (put : Put) → put ≡ (if is_some index then Same else New) → IsFoundSame may_give key bytes put → MayPut may_give key bytes (reply.Stored (is_none index))
-    stored_by None put told found = tt
-    stored_by (Some size) put told found = subst (IsFoundSame may_give key bytes) told found
+    stored_by : (size : Option ℕ) (put : Put) → map.get index key ≡ size → put ≡ (if is_some size then Same else New) → IsFoundSame may_give key bytes put
+        → MayPut index may_give key bytes (reply.Stored (is_none size))
+    stored_by None put known told found = ap is_some known
+    stored_by (Some size) put known told found = (ap is_some known, subst (IsFoundSame may_give key bytes) told found)
 
     -- what was stored
-    pub stored_may : (index : Option ℕ) (put : Put) → put ≡ (if is_some index then Same else New) → IsFoundSame may_give key bytes put
-        → (has_other_name key bytes ≡ true → ⊥) → (is_nil key.id ≡ true → ⊥) → MayAnswer may_give (act.Put key bytes) (store_decided key bytes) (reply.Stored (is_none index))
+    pub stored_may : (put : Put) → put ≡ (if is_some (map.get index key) then Same else New) → IsFoundSame may_give key bytes put
+        → (has_other_name key bytes ≡ true → ⊥) → (is_nil key.id ≡ true → ⊥)
+        → MayAnswer index may_give (act.Put key bytes) (store_decided key bytes) (reply.Stored (is_none (map.get index key)))
     unfolding by_name
-    stored_may index put told found own named =
-        free_name (has_other_name key bytes) (is_nil key.id) own named (reply.Stored (is_none index)) (stored_by index put told found)
+    stored_may put told found own named =
+        free_name (has_other_name key bytes) (is_nil key.id) own named (reply.Stored (is_none (map.get index key))) (stored_by (map.get index key) put refl told found)
 
-    put_may : (fault : StoreFault) → (has_other_name key bytes ≡ false) → (is_nil key.id ≡ false) → IsPutFault may_give key bytes fault
-        → MayPut may_give key bytes (reply.Refused (store_refusal fault))
-    put_may (Taken id) own named (at, inl zeros) = absurd (true≢false (sym zeros ∙ named))
-    put_may (Taken id) own named (at, inr other) = (at, other)
-    put_may (Wrong id) own named (at, other) = absurd (true≢false (sym other ∙ own))
-    put_may (Damaged want got) own named cause = (damage_other may_give key want got cause, key, cause)
-    put_may Shelf own named cause = tt
-    put_may NoMemory own named cause = tt
+    taken_may : (id : List ℕ) → (is_nil key.id ≡ false) → IsPutFault may_give key bytes (Taken id) → IsOfStored (map.get index key) key (Taken id)
+        → MayPut index may_give key bytes (reply.Refused (refusal.Taken id))
+    taken_may id named (at, inl zeros) known = absurd (true≢false (sym zeros ∙ named))
+    taken_may id named (at, inr other) (inl zeros) = absurd (true≢false (sym zeros ∙ named))
+    taken_may id named (at, inr other) (inr known) = (at, known, other)
+
+    put_may : (fault : StoreFault) → (has_other_name key bytes ≡ false) → (is_nil key.id ≡ false) → IsPutFault may_give key bytes fault → IsOfStored (map.get index key) key fault
+        → MayPut index may_give key bytes (reply.Refused (store_refusal fault))
+    put_may (Taken id) own named cause known = taken_may id named cause known
+    put_may (Wrong id) own named (at, other) known = absurd (true≢false (sym other ∙ own))
+    put_may (Damaged want got) own named cause known = (damage_other may_give key want got cause, known, cause)
+    put_may Shelf own named cause known = tt
+    put_may NoMemory own named cause known = tt
 
     want_may : (fault : StoreFault) (said : Reply) → (fault ≡ Wrong (sha1 bytes)) ⊎ (is_want fault ≡ true) → said ≡ reply.Refused (refusal.Wrong (sha1 bytes))
-        → MayAnswer may_give (act.Put key bytes) (Some said) (reply.Refused (store_refusal fault))
+        → MayAnswer index may_give (act.Put key bytes) (Some said) (reply.Refused (store_refusal fault))
     want_may fault said (inl wrong) is = inl (ap (λ f. reply.Refused (store_refusal f)) wrong ∙ sym is)
     want_may NoMemory said (inr want) is = inr refl
     want_may Shelf said (inr want) is = absurd (true≢false (sym want))
@@ -204,14 +198,14 @@ module _ (may_give : Slot → Option (List ℕ) → Type 0) (key : Key) where
     want_may (Damaged wanted got) said (inr want) is = absurd (true≢false (sym want))
 
     -- what was refused
-    pub refused_may : (fault : StoreFault) → IsPutFault may_give key bytes fault
+    pub refused_may : (fault : StoreFault) → IsPutFault may_give key bytes fault → IsOfStored (map.get index key) key fault
         → (has_other_name key bytes ≡ true → (fault ≡ Wrong (sha1 bytes)) ⊎ (is_want fault ≡ true))
         → (has_other_name key bytes ≡ false → is_nil key.id ≡ true → fault ≡ Taken key.id)
-        → MayAnswer may_give (act.Put key bytes) (store_decided key bytes) (reply.Refused (store_refusal fault))
+        → MayAnswer index may_give (act.Put key bytes) (store_decided key bytes) (reply.Refused (store_refusal fault))
     unfolding by_name
-    refused_may fault cause wrong taken = by (has_other_name key bytes) (is_nil key.id) refl refl
+    refused_may fault cause known wrong taken = by (has_other_name key bytes) (is_nil key.id) refl refl
       where
-        by : (a b : Bool) → has_other_name key bytes ≡ a → is_nil key.id ≡ b → MayAnswer may_give (act.Put key bytes) (by_name a b) (reply.Refused (store_refusal fault))
+        by : (a b : Bool) → has_other_name key bytes ≡ a → is_nil key.id ≡ b → MayAnswer index may_give (act.Put key bytes) (by_name a b) (reply.Refused (store_refusal fault))
         by true b other named = want_may fault (reply.Refused (refusal.Wrong (sha1 bytes))) (wrong other) refl
         by false true other named = inl (ap (λ f. reply.Refused (store_refusal f)) (taken other named))
-        by false false other named = put_may fault other named cause
+        by false false other named = put_may fault other named cause known

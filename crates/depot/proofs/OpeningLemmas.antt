@@ -1,5 +1,5 @@
 -- A new library, and a commit that was stored. The key lemmas are commit_stored, commit_found and good_made.
-use Rattle.std.proofs.Common.{◌≡◌, ◌≢◌, ℕ, ◌≤◌, Bool, true, false, cond, if◌then◌else◌, List, [], ◌∷◌, length, refl, sym, ap, ◌∙◌, subst, Option, None, Some, option_map, Result, Ok, Err}
+use Rattle.std.proofs.Common.{◌≡◌, ◌≢◌, ℕ, ◌≤◌, false, cond, if◌then◌else◌, List, [], length, sym, ap, ◌∙◌, subst, Option, None, Some, Ok, Err}
 use Rattle.std.specs.FinMap as map
 use Rattle.ids.specs.Key.{Objects}
 use Rattle.ids.specs.declared.key.Key.{Key}
@@ -10,15 +10,14 @@ use Rattle.commit_objects.specs.declared.commit.Commit.{Commit}
 use Rattle.library_rules.specs.Changes.{put_new}
 use Rattle.library_rules.specs.Creation.{opening_commit, opening_object}
 use Rattle.library_rules.specs.LibraryState.{IsSound}
-use Rattle.library_rules.specs.declared.entry.Stored.{Stored}
 use Rattle.library_rules.proofs.Created.{sound_created}
 use Rattle.library_rules.proofs.KeptHistory.{cons_some}
 use Rattle.library_rules.proofs.Members.{same_id-itself}
 use Rattle.library_state.specs.StateSpelling.{text_of}
 use Rattle.library_state.specs.declared.state.LibState.{LibState}
-use Rattle.object_graph.specs.Objects.{commit_at, commit_in, commit_key, of_name, same_id}
+use Rattle.object_graph.specs.Objects.{commit_at, commit_in, commit_key, of_name}
 use Rattle.object_graph.specs.declared.fault.TreeFault.TheVariants.{Unreadable}
-use Rattle.object_graph.proofs.Keys.{same_key, same_key-itself}
+use Rattle.object_graph.proofs.Keys.{same_key-itself}
 use Rattle.object_store.specs.Shelf.{Contents}
 use Rattle.object_store.specs.Store.{put_refusal}
 use Rattle.object_store.specs.StoreView.{StoreView, with_object, objects_of, status_of}

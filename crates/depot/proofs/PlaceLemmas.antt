@@ -1,6 +1,6 @@
 -- The first token of a secret, by its place. The key lemmas are place_token, place_marked, place_absent and marked_moves.
-use Rattle.std.proofs.Common.{◌≡◌, ◌≢◌, ℕ, zero, suc, ◌<◌, Bool, true, false, cond, if◌then◌else◌, List, [], ◌∷◌, length, refl, sym, ap, ◌∙◌, subst, true≢false, arith, Option, None, Some}
-use Rattle.std.specs.Prelude.{IfSome, slice_index_or, slice_set}
+use Rattle.std.proofs.Common.{◌≡◌, ◌≢◌, ℕ, zero, suc, ◌<◌, false, cond, if◌then◌else◌, List, [], ◌∷◌, length, refl, sym, ap, ◌∙◌, subst, arith, Option, None, Some}
+use Rattle.std.specs.Prelude.{IfSome, slice_index_or}
 use Rattle.std.specs.Str.{bytes_eq}
 use Rattle.library_rules.specs.Calls.{token_of}
 use Rattle.library_rules.specs.Changes.{seen_by, with_last}

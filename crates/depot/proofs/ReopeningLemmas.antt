@@ -1,30 +1,25 @@
 -- A library that is opened again is sound. The key lemmas are opened_over, good_opened and left_unopened.
-use Rattle.std.proofs.Common.{◌≡◌, ◌≢◌, ◌||◌, ◌⊎◌, inl, inr, ℕ, suc, ◌+◌, ◌≤◌, ◌==◌, Bool, true, false, if◌then◌else◌, List, [], ◌∷◌, length, refl, sym, ap, ◌∙◌, subst, true≢false, arith, Option, None, Some, option_map, Result, Ok, Err}
+use Rattle.std.proofs.Common.{◌≡◌, ◌≢◌, ◌⊎◌, inl, inr, ℕ, ◌+◌, ◌≤◌, ◌==◌, Bool, true, false, if◌then◌else◌, List, [], ◌∷◌, length, refl, sym, ap, ◌∙◌, subst, true≢false, arith, Option, None, Some, option_map, Err}
 use Rattle.std.proofs.lemmas.List.Elements.{recursion_from_All}
 use Rattle.std.specs.List.{list_any, AllByRecursion}
-use Rattle.std.specs.Prelude.{⊤}
 use Rattle.ids.specs.Key.{Objects}
-use Rattle.library_rules.specs.LibraryState.{IsSound, is_kept, kept_commits, last_number, users_of}
+use Rattle.library_rules.specs.LibraryState.{IsSound, kept_commits, last_number, users_of}
 use Rattle.library_rules.proofs.Members.{or_cases, same_id-true}
 use Rattle.library_state.specs.ProperState.{IsProper, IsProperToken}
-use Rattle.library_state.specs.StateText.{state_of as read_state}
 use Rattle.library_state.specs.declared.history.Install.{Install}
 use Rattle.library_state.specs.declared.state.LibState.{LibState}
-use Rattle.library_state.specs.declared.state_fault.StateKey.{StateKey}
 use Rattle.library_state.specs.declared.token.Token.{Token}
 use Rattle.object_graph.specs.Objects.{same_id}
 use Rattle.object_graph.specs.Traversal.{IsComplete, walk_commit}
 use Rattle.object_graph.specs.declared.fault.TreeFault.{TreeFault}
 use Rattle.object_store.specs.Shelf.{Contents}
-use Rattle.object_store.specs.StoreView.{Keeps, StoreView, objects_of, status_of}
+use Rattle.object_store.specs.StoreView.{Keeps, StoreView, status_of}
 use Rattle.object_store.specs.declared.error.StoreFault.{StoreFault}
 use Rattle.object_store.specs.declared.shelf.Slot.{Slot}
 use Rattle.object_store.specs.declared.error.StoreFault.TheVariants.{Taken, Wrong, Damaged, Shelf, NoMemory}
-use Rattle.depot.specs.DepotView.{library, IsGood}
-use Rattle.depot.specs.Reopening.{IsFound, IsOpened, IsSoundOver, LeftUnopened, LeftUnopenedBy, IsGiven, IsReadFault, IsStartFault, IsStateFault, first_incomplete, first_of, next_opening, raised, state_refusal, untouched}
+use Rattle.depot.specs.DepotView.{library, IsGood, IsSoundIn}
+use Rattle.depot.specs.Reopening.{IsFound, IsOpened, LeftUnopenedBy, IsGiven, IsStartFault, IsStateFault, first_incomplete, first_of, next_opening, raised, state_refusal, untouched}
 use Rattle.depot.specs.Writing.{Writes, written}
-use Rattle.depot.specs.declared.complete.CheckFault.{CheckFault}
-use Rattle.depot.specs.declared.complete.CheckFault.TheVariants as check
 use Rattle.depot.specs.declared.error.StartFault.{StartFault}
 use Rattle.depot.specs.declared.error.StartFault.TheVariants as start
 use Rattle.depot.proofs.GoodLemmas.{sound_told}
@@ -112,7 +107,7 @@ opened_over found objects count proper other free =
 -- ---- a library that was opened
 
 pub good_opened : {S : Type 0} (contents : S → Option Contents) (faults : S → ℕ) (given store : StoreView S) (state : LibState)
-    → IsOpened contents faults given store state → state.kept ≢ [] → IsSoundOver contents store state → IsGood contents faults (record { store = store; state = state; unsettled = false })
+    → IsOpened contents faults given store state → state.kept ≢ [] → IsSoundIn contents store state → IsGood contents faults (record { store = store; state = state; unsettled = false })
 good_opened contents faults given store state opened some sound = record {
   head = some;
   sound = sound_told contents faults (record { store = store; state = state; unsettled = false }) (λ objects told. sound objects (faults store.shelf) told);
@@ -121,13 +116,14 @@ good_opened contents faults given store state opened some sound = record {
 
 -- the store after the text with the next opening number wasn't written
 pub left_unopened : {S : Type 0} (contents : S → Option Contents) (given mid store : StoreView S) (found : LibState) (fault : StoreFault) → IsFound contents given found
-    → status_of contents mid ≡ status_of contents given → Writes (next_opening found) (status_of contents mid) (status_of contents store) (Err fault) → LeftUnopened contents given store
+    → status_of contents mid ≡ status_of contents given → Writes (next_opening found) (status_of contents mid) (status_of contents store) (Err fault)
+    → LeftUnopenedBy contents given store (start.Store fault)
 left_unopened contents given mid store found (Taken id) is same writes = absurd writes
 left_unopened contents given mid store found (Wrong id) is same writes = absurd writes
 left_unopened contents given mid store found (Damaged want got) is same writes = absurd writes
-left_unopened contents given mid store found Shelf is same (inl old) = untouched (old ∙ same)
-left_unopened contents given mid store found Shelf is same (inr new) = raised found is (new ∙ ap (written (next_opening found)) same)
-left_unopened contents given mid store found NoMemory is same writes = untouched (writes ∙ same)
+left_unopened contents given mid store found Shelf is same (inl old) = (untouched (old ∙ same), λ e. absurd (true≢false e))
+left_unopened contents given mid store found Shelf is same (inr new) = (raised found is (new ∙ ap (written (next_opening found)) same), λ e. absurd (true≢false e))
+left_unopened contents given mid store found NoMemory is same writes = (untouched (writes ∙ same), λ e. writes ∙ same)
 
 -- two calls that change nothing keep the text
 pub same_status : {S : Type 0} (contents : S → Option Contents) (given mid last : StoreView S) → Keeps contents given mid → Keeps contents mid last → status_of contents last ≡ status_of contents given
@@ -135,7 +131,7 @@ same_status contents given mid last first second = ap (option_map (λ (held : Co
 
 -- before the text was written
 pub left_by : {S : Type 0} (contents : S → Option Contents) (given store : StoreView S) (fault : StartFault) → status_of contents store ≡ status_of contents given → LeftUnopenedBy contents given store fault
-left_by contents given store (start.Store fault) kept = untouched kept
+left_by contents given store (start.Store fault) kept = (untouched kept, λ e. kept)
 left_by contents given store start.NoState kept = kept
 left_by contents given store (start.BadState key) kept = kept
 left_by contents given store start.Worn kept = kept

@@ -1,10 +1,9 @@
 -- What a call that writes no text answers and leaves. The key lemmas are permitted_by, serves_said and serves_put.
-use Rattle.std.proofs.Common.{◌≡◌, ◌⊎◌, inl, inr, ℕ, Bool, true, false, if◌then◌else◌, List, [], ◌∷◌, ◌++◌, refl, sym, ap, ◌∙◌, subst, true≢false, Option, None, Some, option_map}
-use Rattle.std.specs.Bool.{MatchBool}
+use Rattle.std.proofs.Common.{◌≡◌, inl, inr, ℕ, Bool, true, false, if◌then◌else◌, List, [], ◌∷◌, ◌++◌, refl, sym, ap, ◌∙◌, subst, true≢false, Option, None, Some, option_map}
 use Rattle.ids.specs.Key.{Objects}
 use Rattle.ids.specs.declared.key.Key.{Key}
 use Rattle.library_rules.specs.Calls.{Due, Denies, Says, Stores, Installs, Merges, act_due, due, first_refusal, may, put_by, put_due, put_refusals, taken, token_of}
-use Rattle.library_rules.specs.Changes.{counted, is_refused, put_new}
+use Rattle.library_rules.specs.Changes.{is_refused, put_new}
 use Rattle.library_rules.specs.LibraryState.{State}
 use Rattle.library_rules.specs.declared.entry.Stored.{Stored}
 use Rattle.library_state.specs.declared.call.Act.{Act}
@@ -20,7 +19,7 @@ use Rattle.library_state.specs.declared.token.Token.{Token}
 use Rattle.object_store.specs.Shelf.{Contents}
 use Rattle.object_store.specs.StoreView.{StoreView, objects_of, status_of}
 use Rattle.object_store.specs.declared.shelf.Slot.{Slot as ShelfSlot}
-use Rattle.depot.specs.Answering.{AnswersSo, MayAnswer, Serves, SlotSo, act_decided, decided, next_by, next_state, permits, state_after, token_decided, unwritten}
+use Rattle.depot.specs.Answering.{AnswersSo, MayAnswer, Serves, act_decided, decided, next_by, next_state, permits, state_after, token_decided, unwritten}
 use Rattle.depot.specs.DepotView.{DepotView, library, state_of}
 use Rattle.depot.specs.ObjectCalls.{Counts, DoneSo, IsToldDamage, SaysOr}
 use Rattle.depot.proofs.AnsweringLemmas.{denied_answers, due_denies, due_is, fault_answers, is_quiet, quiet_step, said_answers, stores_answers, stores_new}
@@ -122,7 +121,7 @@ module _ {S : Type 0} (contents : S → Option Contents) (may_give : S → Shelf
       subst P at.gives (each at.value at.is)
 
   module _ (quiet : is_quiet call.act ≡ true) (store : StoreView S) (r : Reply) (text_kept : status_of contents store ≡ status_of contents old.store)
-      (may_come : MayAnswer (may_give store.shelf) call.act (decided old.state call) r)
+      (may_come : MayAnswer old.store.index (may_give store.shelf) call.act (decided old.state call) r)
       (damage : (objects : Objects) → objects_of contents old.store ≡ Some objects → IsToldDamage objects r)
       (count : Counts (faults old.store.shelf) (faults store.shelf) r) where
     serves_by : ((s : State) → state_of contents faults old ≡ Some s → AnswersSo s call moment r (state_of contents faults (record { store = store; state = old.state; unsettled = old.unsettled })))

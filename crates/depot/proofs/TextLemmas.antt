@@ -1,11 +1,11 @@
 -- What a call answers and leaves that writes the state text. The key lemmas are serves_changed and good_changed.
-use Rattle.std.proofs.Common.{◌≡◌, ◌≢◌, ◌⊎◌, inl, inr, ℕ, ◌≤◌, Bool, true, false, if◌then◌else◌, List, [], ◌∷◌, refl, sym, ap, ◌∙◌, subst, true≢false, Option, None, Some, option_map, Result, Ok, Err}
+use Rattle.std.proofs.Common.{◌≡◌, ◌≢◌, inl, inr, ℕ, ◌≤◌, Bool, true, false, if◌then◌else◌, List, [], ◌∷◌, refl, sym, ap, ◌∙◌, subst, true≢false, Option, Some, option_map, Result, Ok, Err}
 use Rattle.std.specs.Bool.{MatchBool}
 use Rattle.std.specs.Prelude.{⊤, OnOk, OnErr}
-use Rattle.ids.specs.FaultCount.{FailsBy, Rose}
+use Rattle.ids.specs.FaultCount.{Rose}
 use Rattle.ids.specs.Key.{Objects}
-use Rattle.library_rules.specs.Calls.{Due, Denies, Says, due}
-use Rattle.library_rules.specs.Changes.{act_changes, apply, counted, is_refused, step_changes}
+use Rattle.library_rules.specs.Calls.{Denies, Says, due}
+use Rattle.library_rules.specs.Changes.{is_refused, step_changes}
 use Rattle.library_rules.specs.History.{lone}
 use Rattle.library_rules.specs.LibraryState.{State, IsSound}
 use Rattle.library_rules.specs.Permitted.{DuePermits}
@@ -23,11 +23,11 @@ use Rattle.object_store.specs.StoreView.{StoreView, objects_of, status_of}
 use Rattle.object_store.specs.declared.error.StoreFault.{StoreFault}
 use Rattle.object_store.specs.declared.error.StoreFault.TheVariants.{Taken, Wrong, Damaged, Shelf, NoMemory}
 use Rattle.object_store.specs.declared.shelf.Slot.{Slot as ShelfSlot}
-use Rattle.depot.specs.Answering.{AnswersSo, MayAnswer, MayAnswerSo, Serves, SlotSo, Would, decided, next_state, refused, rewritten, unwritten}
+use Rattle.depot.specs.Answering.{AnswersSo, MayAnswer, MayAnswerSo, Serves, Would, decided, next_state, refused, rewritten, unwritten}
 use Rattle.depot.specs.Changing.{TextSo, answer_of, same, changed}
 use Rattle.depot.specs.DepotView.{DepotView, library, state_of, IsGood}
 use Rattle.depot.specs.ObjectCalls.{Counts, IsFault, IsToldDamage, is_counted}
-use Rattle.depot.specs.Writing.{LeftOpen, RewritesSo, settled, written}
+use Rattle.depot.specs.Writing.{LeftBy, settled, written}
 use Rattle.depot.proofs.AnsweringLemmas.{fault_answers, says_answers}
 use Rattle.depot.proofs.GoodLemmas.{good_rewritten}
 use Rattle.depot.proofs.GrownLemmas.{good_kept}
@@ -144,7 +144,7 @@ module _ {S : Type 0} (contents : S → Option Contents) (may_give : S → Shelf
       → Serves contents may_give faults old call moment (answer_of said result) (record { store = store; state = state; unsettled = still })
   serves_changed (Ok done) ok err (same is settles text good) count = record {
     told = read_by is count ok;
-    may_come = subst (λ o. MayAnswer (may_give store.shelf) call.act o said) (sym is_decided) (inl refl);
+    may_come = subst (λ o. MayAnswer old.store.index (may_give store.shelf) call.act o said) (sym is_decided) (inl refl);
     damage = λ objects told. told_no_damage objects said plain;
     count = ok_counts count;
     left = ok_left ok;
@@ -152,7 +152,7 @@ module _ {S : Type 0} (contents : S → Option Contents) (may_give : S → Shelf
   }
   serves_changed (Ok done) ok err (changed apart writes) count = record {
     told = entered_by apart count ok;
-    may_come = subst (λ o. MayAnswer (may_give store.shelf) call.act o said) (sym is_decided) (inl refl);
+    may_come = subst (λ o. MayAnswer old.store.index (may_give store.shelf) call.act o said) (sym is_decided) (inl refl);
     damage = λ objects told. told_no_damage objects said plain;
     count = ok_counts count;
     left = ok_left ok;
@@ -165,19 +165,19 @@ module _ {S : Type 0} (contents : S → Option Contents) (may_give : S → Shelf
   serves_changed (Err (Damaged want got)) ok err (same is settles text good) count = cc
   serves_changed (Err Shelf) ok err (changed apart writes) count = record {
     told = refused_by Shelf (λ objects. tt) count err;
-    may_come = subst (λ o. MayAnswer (may_give store.shelf) call.act o (reply.Refused refusal.Store)) (sym is_decided) (inr refl);
+    may_come = subst (λ o. MayAnswer old.store.index (may_give store.shelf) call.act o (reply.Refused refusal.Store)) (sym is_decided) (inr refl);
     damage = λ objects told. tt;
     count = count;
     left = err;
-    slot = refused refl said plain would (subst (λ st. LeftOpen old.unsettled old.state st (status_of contents old.store) still (status_of contents store)) (sym is_next) writes);
+    slot = refused Shelf refl said plain would (subst (λ st. LeftBy Shelf old.unsettled old.state st (status_of contents old.store) still (status_of contents store)) (sym is_next) writes);
   }
   serves_changed (Err NoMemory) ok err (changed apart writes) count = record {
     told = refused_by NoMemory (λ objects. tt) count err;
-    may_come = subst (λ o. MayAnswer (may_give store.shelf) call.act o (reply.Refused refusal.NoMemory)) (sym is_decided) (inr refl);
+    may_come = subst (λ o. MayAnswer old.store.index (may_give store.shelf) call.act o (reply.Refused refusal.NoMemory)) (sym is_decided) (inr refl);
     damage = λ objects told. tt;
     count = count;
     left = err;
-    slot = refused refl said plain would (subst (λ st. LeftOpen old.unsettled old.state st (status_of contents old.store) still (status_of contents store)) (sym is_next) writes);
+    slot = refused NoMemory refl said plain would (subst (λ st. LeftBy NoMemory old.unsettled old.state st (status_of contents old.store) still (status_of contents store)) (sym is_next) writes);
   }
   serves_changed (Err (Taken id)) ok err (changed apart writes) count = absurd writes
   serves_changed (Err (Wrong id)) ok err (changed apart writes) count = absurd writes

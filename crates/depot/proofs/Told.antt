@@ -1,5 +1,5 @@
 -- What is told through an Option, and heads of histories. The key lemmas are mapped_at, written_at and head_at.
-use Rattle.std.proofs.Common.{◌≡◌, ◌≢◌, ℕ, suc, ◌-◌, ◌+◌, Bool, true, false, List, [], ◌∷◌, ◌++◌, length, get_or, refl, sym, ap, ◌∙◌, arith, Option, None, Some, option_map, Result, Ok, Err}
+use Rattle.std.proofs.Common.{◌≡◌, ◌≢◌, ℕ, suc, ◌-◌, List, [], ◌∷◌, length, get_or, refl, sym, ap, ◌∙◌, arith, Option, None, Some, option_map, Result, Ok, Err}
 use Rattle.library_rules.specs.LibraryState.{head_of}
 use Rattle.library_state.specs.declared.history.Install.{Install}
 

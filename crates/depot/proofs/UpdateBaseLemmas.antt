@@ -1,6 +1,6 @@
 -- The search for a merge base, commit by commit, and faults of a reading as refusals. The key lemmas are base_here,
 -- base_on, base_ends, finds_fault, complete_refused and reads_only_then.
-use Rattle.std.proofs.Common.{◌≡◌, ◌≢◌, ◌⊎◌, inl, inr, ℕ, zero, suc, ◌+◌, ◌-◌, ◌<◌, ◌≤◌, Bool, true, false, not, ◌&&◌, ◌||◌, true≢false, cond, List, [], ◌∷◌, Option, None, Some, option_map, Result, Ok, Err, refl, sym, ap, ◌∙◌, subst, arith}
+use Rattle.std.proofs.Common.{◌≡◌, ◌≢◌, ◌⊎◌, inl, inr, ℕ, zero, suc, ◌+◌, ◌-◌, ◌<◌, ◌≤◌, Bool, true, false, not, ◌&&◌, ◌||◌, true≢false, cond, List, [], ◌∷◌, Option, None, Some, is_some, Result, Ok, Err, refl, sym, ap, ◌∙◌, subst, arith}
 use Rattle.std.specs.Bool.{MatchBool}
 use Rattle.std.specs.Prelude.{⊤}
 use Rattle.std.specs.List.{list_any}
@@ -9,7 +9,7 @@ use Rattle.ids.specs.FaultCount.{FailsBy, Rose}
 use Rattle.ids.specs.Key.{Objects}
 use Rattle.ids.specs.declared.key.Key.{Key}
 use Rattle.commit_objects.specs.declared.commit.Commit.{Commit}
-use Rattle.library_rules.specs.Calls.{Due, Denies, Says, Stores, Installs, Merges, base_due, complete_due}
+use Rattle.library_rules.specs.Calls.{Installs, Merges, complete_due}
 use Rattle.library_rules.specs.LibraryState.{State, head_of, is_kept, kept_commits}
 use Rattle.library_rules.specs.MergeBase.{Based, Base, NoBase, base_from, base_of, by_commit, by_parent, refusal_of}
 use Rattle.library_rules.proofs.Members.{same_id-itself}
@@ -21,7 +21,7 @@ use Rattle.object_graph.specs.Objects.{commit_at, same_id}
 use Rattle.object_graph.specs.declared.fault.TreeFault.{TreeFault}
 use Rattle.object_graph.specs.declared.fault.TreeFault.TheVariants as tree
 use Rattle.object_store.specs.Shelf.{Contents}
-use Rattle.object_store.specs.Store.{IsDamage, IsOther, has_other_name, is_named_by_bytes, same_bytes}
+use Rattle.object_store.specs.Store.{IsDamage, IsOther, is_named_by_bytes, same_bytes}
 use Rattle.object_store.specs.StoreView.{Index, Keeps, StoreView}
 use Rattle.object_store.specs.declared.error.StoreFault.{StoreFault}
 use Rattle.object_store.specs.declared.error.StoreFault.TheVariants as store
@@ -243,8 +243,8 @@ damage_apart may_give key want got is same = by is.given is.other
         and_false (is_named_by_bytes key.kind) (same_bytes (sha1 bytes) key.id) (ap (same_bytes (sha1 bytes)) (sym name) ∙ same_id-itself (sha1 bytes)) other.0
 
 -- a fault of a reading may refuse an update
-pub may_refuse : (index : Index) (may_give : Slot → Option (List ℕ) → Type 0) (fault : WalkFault) → IsCause index may_give fault → MayRefuseUpdate may_give (walk_refusal fault)
-may_refuse index may_give (walk.Incomplete key) cause = tt
+pub may_refuse : (index : Index) (may_give : Slot → Option (List ℕ) → Type 0) (fault : WalkFault) → IsCause index may_give fault → MayRefuseUpdate index may_give (walk_refusal fault)
+may_refuse index may_give (walk.Incomplete key) cause = ap is_some cause
 may_refuse index may_give (walk.Unreadable key) cause = tt
 may_refuse index may_give (walk.WrongKind id) cause = tt
 may_refuse index may_give (walk.WrongSize id) cause = tt
@@ -252,7 +252,7 @@ may_refuse index may_give (walk.TooDeep path) cause = tt
 may_refuse index may_give (walk.TooMany paths) cause = tt
 may_refuse index may_give (walk.Store fault) cause = by fault cause
   where
-    by : (f : StoreFault) → IsReadFault index may_give f → MayRefuseUpdate may_give (store_refusal f)
+    by : (f : StoreFault) → IsReadFault index may_give f → MayRefuseUpdate index may_give (store_refusal f)
     by (store.Taken id) is = absurd is
     by (store.Wrong id) is = absurd is
     by (store.Damaged want got) is = (damage_apart may_give is.key want got is.damage, is.key, is.damage)

@@ -1,15 +1,13 @@
 -- What an update leaves of a library that is kept, and that it stays good. The key lemmas are serves_refused, serves_kept,
 -- serves_done and serves_failed, and good_done and good_failed.
-use Rattle.std.proofs.Common.{◌≡◌, ◌≢◌, ◌⊎◌, inl, inr, ℕ, ◌≤◌, Bool, true, false, if◌then◌else◌, List, [], ◌∷◌, ◌++◌, refl, sym, ap, ◌∙◌, subst, true≢false, Option, None, Some, option_map, IsTrue, Result, Ok, Err}
+use Rattle.std.proofs.Common.{◌≡◌, ◌≢◌, inl, inr, ℕ, ◌≤◌, Bool, true, false, if◌then◌else◌, List, [], ◌∷◌, ◌++◌, refl, sym, ap, ◌∙◌, subst, true≢false, Option, None, Some, option_map, IsTrue, Err}
 use Rattle.std.specs.Bool.{MatchBool}
 use Rattle.std.specs.Prelude.{⊤}
-use Rattle.ids.specs.FaultCount.{FailsBy, Rose}
+use Rattle.ids.specs.FaultCount.{Rose}
 use Rattle.ids.specs.Key.{Objects}
 use Rattle.library_rules.specs.Calls.{Says, due}
-use Rattle.library_rules.specs.Changes.{is_refused, put_new, with_added}
-use Rattle.library_rules.specs.History.{StepSo}
+use Rattle.library_rules.specs.Changes.{put_new, with_added}
 use Rattle.library_rules.specs.LibraryState.{State, IsSound, head_of, is_kept}
-use Rattle.library_rules.specs.declared.entry.Entry.{Entry}
 use Rattle.library_rules.specs.declared.entry.Step.TheVariants as step
 use Rattle.library_rules.specs.declared.entry.Stored.{Stored}
 use Rattle.library_rules.proofs.Joined.{sound_stands, step_stands}
@@ -23,22 +21,21 @@ use Rattle.library_state.specs.declared.reply.Reply.{Reply}
 use Rattle.library_state.specs.declared.reply.Reply.TheVariants as reply
 use Rattle.library_state.specs.declared.state.LibState.{LibState}
 use Rattle.object_store.specs.Shelf.{Contents}
-use Rattle.object_store.specs.Store.{CountsShelf, is_free, is_of_shelf}
+use Rattle.object_store.specs.Store.{CountsShelf, is_free}
 use Rattle.object_store.specs.StoreView.{Keeps, StoreView, objects_of, status_of}
 use Rattle.object_store.specs.declared.error.StoreFault.{StoreFault}
 use Rattle.object_store.specs.declared.error.StoreFault.TheVariants.{Taken, Wrong, Damaged, Shelf, NoMemory}
 use Rattle.object_store.specs.declared.shelf.Slot.{Slot as ShelfSlot}
-use Rattle.depot.specs.Answering.{AnswersSo, MayAnswer, MayAnswerSo, MayRefuseUpdate, Serves, SlotSo, Would, decided, is_free_reply, next_by, next_state, refused, rewritten, state_after, unwritten, with_install}
+use Rattle.depot.specs.Answering.{AnswersSo, MayAnswer, MayAnswerSo, Serves, SlotSo, Would, decided, next_by, next_state, refused, rewritten, unwritten, with_install}
 use Rattle.depot.specs.DepotView.{DepotView, library, state_of, Holds, IsGood}
-use Rattle.depot.specs.ObjectCalls.{Counts, IsToldDamage, IsToldDamageOf, IsToldRefusal, is_of_store, store_refusal}
-use Rattle.depot.specs.UpdateBase.{ReadsOnly}
-use Rattle.depot.specs.UpdateInstall.{CarriesSo, Held, IsCarriedOut, IsFront, LeftBehind, StoresPart, held_in, stopped, unsure, with_all}
+use Rattle.depot.specs.ObjectCalls.{Counts, IsToldDamageOf, store_refusal}
+use Rattle.depot.specs.UpdateInstall.{IsCarriedOut, IsWriteFault, LeftBehind, StoresPart, held_in, stopped, unsure, with_all}
 use Rattle.depot.specs.UpdatePlan.{IsPlan, IsPlanFault, objects_in}
-use Rattle.depot.specs.Writing.{LeftOpen, Slot, settled, written}
+use Rattle.depot.specs.Writing.{LeftBy, settled, written}
 use Rattle.depot.specs.declared.update_plan.Plan.{Plan}
 use Rattle.depot.proofs.GoodLemmas.{sound_at, sound_told}
 use Rattle.depot.proofs.GrownLemmas.{kept_status, sound_grown}
-use Rattle.depot.proofs.Told.{MappedAt, mapped_at}
+use Rattle.depot.proofs.Told.{mapped_at}
 use Rattle.depot.proofs.UpdateInstallLemmas.{counted_same, free_told}
 use Rattle.depot.proofs.UpdateLemmas.{done_answers, done_may, kept_answers, refused_answers, stopped_answers}
 use Rattle.depot.proofs.WritingLemmas.{holds_after, written_at}
@@ -76,13 +73,6 @@ free_not_damage objects (Wrong id) free = tt
 free_not_damage objects (Damaged want got) free = absurd (true≢false (sym free))
 free_not_damage objects Shelf free = tt
 free_not_damage objects NoMemory free = tt
-
-free_reply : (fault : StoreFault) → IsTrue (is_free fault) → is_free_reply (reply.Refused (store_refusal fault)) ≡ true
-free_reply (Taken id) free = absurd (true≢false (sym free))
-free_reply (Wrong id) free = absurd (true≢false (sym free))
-free_reply (Damaged want got) free = absurd (true≢false (sym free))
-free_reply Shelf free = refl
-free_reply NoMemory free = refl
 
 pub fault_counts : (before now : ℕ) (fault : StoreFault) → CountsShelf {T = ⊤} before now (Err fault) → Counts before now (reply.Refused (store_refusal fault))
 fault_counts before now fault counts = subst (λ b. MatchBool b ((before ≤ now) × Rose before now) (now ≡ before)) (counted_same fault) counts
@@ -136,13 +126,14 @@ module _ {S : Type 0} (contents : S → Option Contents) (may_give : S → Shelf
         by (Some o) = refl
 
     pub serves_refused : (why : Refusal) → ((objects : Objects) → objects_of contents old.store ≡ Some objects → IsPlanFault (at objects) moment (due (at objects) call) why)
-        → Counts (faults old.store.shelf) (faults store.shelf) (reply.Refused why) → MayAnswer (may_give store.shelf) (act.Update pushed) (decided old.state call) (reply.Refused why)
+        → Counts (faults old.store.shelf) (faults store.shelf) (reply.Refused why) → MayAnswer store.index (may_give store.shelf) (act.Update pushed) (decided old.state call) (reply.Refused why)
         → ((objects : Objects) → objects_of contents old.store ≡ Some objects → IsToldDamageOf objects why)
         → Serves contents may_give faults old call moment (reply.Refused why) unmoved
     serves_refused why plans count may damage = record {
       told = told_by (reply.Refused why) unmoved (λ objects told. left_as (reply.Refused why) unmoved [] old.state (faults store.shelf) objects refl refl nothing_stored told
           (refused_answers old.state (faults old.store.shelf) objects call moment pushed updates why (faults store.shelf) (plans objects told) count));
-      may_come = subst (λ a. MayAnswer (may_give store.shelf) a (decided old.state call) (reply.Refused why)) (sym updates) may;
+      may_come = subst (λ index. MayAnswer index (may_give store.shelf) call.act (decided old.state call) (reply.Refused why)) keeps.index
+          (subst (λ a. MayAnswer store.index (may_give store.shelf) a (decided old.state call) (reply.Refused why)) (sym updates) may);
       damage = damage;
       count = count;
       left = refl;
@@ -156,7 +147,7 @@ module _ {S : Type 0} (contents : S → Option Contents) (may_give : S → Shelf
       told = told_by (reply.Updated (head_of old.state.kept)) unmoved (λ objects told.
           left_as (reply.Updated (head_of old.state.kept)) unmoved [] old.state (faults old.store.shelf) objects refl count nothing_stored told
           (kept_answers old.state (faults old.store.shelf) objects call moment pushed updates kept (says objects told)));
-      may_come = subst (λ o. MayAnswer (may_give store.shelf) call.act o (reply.Updated (head_of old.state.kept))) (sym is) (inl refl);
+      may_come = subst (λ o. MayAnswer old.store.index (may_give store.shelf) call.act o (reply.Updated (head_of old.state.kept))) (sym is) (inl refl);
       damage = λ objects told. tt;
       count = count;
       left = sym (next_same old.state call moment pushed (head_of old.state.kept) updates kept);
@@ -184,8 +175,8 @@ module _ {S : Type 0} (contents : S → Option Contents) (may_give : S → Shelf
         serves_done count = record {
           told = told_by (reply.Updated plan.head) new (λ objects told.
               left_as (reply.Updated plan.head) new (objects_in plan) next (faults old.store.shelf) objects same count done.objects told (done_told objects told));
-          may_come = subst (λ o. MayAnswer (may_give store.shelf) call.act o (reply.Updated plan.head)) (sym undecided)
-              (subst (λ a. MayAnswer (may_give store.shelf) a None (reply.Updated plan.head)) (sym updates) tt);
+          may_come = subst (λ o. MayAnswer old.store.index (may_give store.shelf) call.act o (reply.Updated plan.head)) (sym undecided)
+              (subst (λ a. MayAnswer old.store.index (may_give store.shelf) a None (reply.Updated plan.head)) (sym updates) tt);
           damage = λ objects told. tt;
           count = count;
           left = same ∙ sym (next_is old.state call moment pushed plan.head updates new_commit);
@@ -229,12 +220,12 @@ module _ {S : Type 0} (contents : S → Option Contents) (may_give : S → Shelf
               stopped_answers old.state (faults old.store.shelf) objects call moment pushed updates plan part.part (store_refusal fault) (faults store.shelf) (planned objects told) part.front
               (free_told objects fault (free objects told)) (fault_counts (faults old.store.shelf) (faults store.shelf) fault count)
 
-          pub serves_failed : MayRefuseUpdate (may_give store.shelf) (store_refusal fault) → Serves contents may_give faults old call moment (reply.Refused (store_refusal fault)) new
+          pub serves_failed : IsWriteFault (may_give store.shelf) fault → Serves contents may_give faults old call moment (reply.Refused (store_refusal fault)) new
           serves_failed cause = record {
             told = told_by (reply.Refused (store_refusal fault)) new (λ objects told.
                 left_as (reply.Refused (store_refusal fault)) new part.part old.state (faults store.shelf) objects same refl part.objects told (failed_told objects told));
-            may_come = subst (λ o. MayAnswer (may_give store.shelf) call.act o (reply.Refused (store_refusal fault))) (sym undecided)
-                (subst (λ a. MayAnswer (may_give store.shelf) a None (reply.Refused (store_refusal fault))) (sym updates) cause);
+            may_come = subst (λ o. MayAnswer old.store.index (may_give store.shelf) call.act o (reply.Refused (store_refusal fault))) (sym undecided)
+                (subst (λ a. MayAnswer old.store.index (may_give store.shelf) a None (reply.Refused (store_refusal fault))) (sym updates) (cause old.store.index));
             damage = λ objects told. free_not_damage objects fault (free objects told);
             count = fault_counts (faults old.store.shelf) (faults store.shelf) fault count;
             left = same;
@@ -245,12 +236,12 @@ module _ {S : Type 0} (contents : S → Option Contents) (may_give : S → Shelf
                   → SlotSo (Would contents faults old call moment) call moment (reply.Refused (store_refusal fault)) old.unsettled old.state (status_of contents old.store) still state (status_of contents store)
               by (stopped stays unsettled kept) = unwritten same unsettled kept
               by (unsure is stored left) =
-                  refused (free_reply fault is) (reply.Updated plan.head) refl
+                  refused fault refl (reply.Updated plan.head) refl
                   (λ s known.
                   let found = mapped_at (library old.state (faults old.store.shelf)) (objects_of contents old.store) s known in
                   subst (λ t. MayAnswerSo t call moment (reply.Updated plan.head)) found.gives
                   (done_may old.state (faults old.store.shelf) found.value call moment pushed updates plan (planned found.value found.is)))
-                  (subst (λ st. LeftOpen old.unsettled old.state st (status_of contents old.store) still (status_of contents store))
+                  (subst (λ st. LeftBy fault old.unsettled old.state st (status_of contents old.store) still (status_of contents store))
                   (sym (next_is old.state call moment pushed plan.head updates new_commit)) left)
 
           sound_next : IsGood contents faults old → (objects : Objects) → objects_of contents old.store ≡ Some objects → (n : ℕ) → IsSound (library next n (with_added objects (objects_in plan)))
@@ -271,7 +262,7 @@ module _ {S : Type 0} (contents : S → Option Contents) (may_give : S → Shelf
               subst (λ o. Holds still old.state o status) before.gives
               (holds_after old.unsettled old.state next (with_added before.value (objects_in plan)) (status_of contents old.store)
               (λ given was. holds_added old.unsettled old.state before.value (objects_in plan) given (good.text before.value given before.is was))
-              (sound_next good before.value before.is) still (status_of contents store) status Shelf left holds)
+              (sound_next good before.value before.is) still (status_of contents store) status fault left holds)
 
           pub good_failed : IsGood contents faults old → IsGood contents faults new
           good_failed good = record {

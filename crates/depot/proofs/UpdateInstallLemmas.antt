@@ -1,28 +1,25 @@
 -- Objects that are put one after another, and what a plan leaves behind. The key lemmas are stores_then, puttable_front,
 -- puttable_back, one_stored, may_refuse_put and free_put.
-use Rattle.std.proofs.Common.{◌≡◌, ◌≢◌, ◌⊎◌, inl, inr, ℕ, Bool, true, false, not, ◌&&◌, if◌then◌else◌, true≢false, List, [], ◌∷◌, ◌++◌, append_assoc, refl, sym, ap, ◌∙◌, subst, Option, None, Some, option_map, IsTrue, Result, Ok, Err}
+use Rattle.std.proofs.Common.{◌≡◌, ◌≢◌, ◌⊎◌, inl, inr, ℕ, Bool, true, false, if◌then◌else◌, true≢false, List, [], ◌∷◌, ◌++◌, append_assoc, refl, sym, ap, ◌∙◌, subst, Option, None, Some, IsTrue, Result, Ok, Err}
 use Rattle.std.specs.Prelude.{⊤}
-use Rattle.std.specs.Bool.{MatchBool}
-use Rattle.std.specs.List.{AllByRecursion}
 use Rattle.sha1.specs.Sha1.{sha1}
-use Rattle.ids.specs.FaultCount.{Rose}
 use Rattle.ids.specs.Key.{Objects}
 use Rattle.ids.specs.ObjectId.{nil}
-use Rattle.ids.specs.Outcome.{RefusesAs}
 use Rattle.ids.specs.declared.key.Key.{Key}
 use Rattle.library_rules.specs.Changes.{put_new, with_added}
 use Rattle.library_rules.specs.declared.entry.Stored.{Stored}
 use Rattle.library_state.specs.declared.state.LibState.{LibState}
+use Rattle.object_graph.specs.Objects.{is_nil}
 use Rattle.object_store.specs.Store.{IsPutFault, has_other_name, is_free, is_of_shelf, name_refusal, put_refusal, same_bytes}
-use Rattle.object_store.specs.StoreView.{with_object}
+use Rattle.object_store.specs.StoreView.{Index, with_object}
 use Rattle.object_store.specs.declared.error.StoreFault.{StoreFault}
 use Rattle.object_store.specs.declared.error.StoreFault.TheVariants.{Taken, Wrong, Damaged, Shelf, NoMemory}
 use Rattle.object_store.specs.declared.shelf.Slot.{Slot as ShelfSlot}
 use Rattle.depot.specs.Answering.{MayRefuseUpdate}
 use Rattle.depot.specs.ObjectCalls.{IsToldRefusal, is_of_store, store_refusal}
-use Rattle.depot.specs.UpdateInstall.{ArePuttable, ArePuttableIn, Held, InstallsText, IsCarriedOut, IsFront, LeftBehind, StoresPart, StoresSo, unsure, with_all}
+use Rattle.depot.specs.UpdateInstall.{ArePuttable, ArePuttableIn, Held, InstallsText, IsCarriedOut, LeftBehind, StoresPart, StoresSo, unsure, with_all}
 use Rattle.depot.specs.UpdatePlan.{AreNamed}
-use Rattle.depot.specs.Writing.{LeftOpen, SettlesSo, Slot, Writes, again, leaves_open, nothing, open_next, open_present, settled, settles, written}
+use Rattle.depot.specs.Writing.{LeftBy, SettlesSo, Slot, Writes, again, leaves_open, nothing, open_next, open_present, settled, written}
 use Rattle.depot.proofs.UpdateBaseLemmas.{damage_apart}
 use Rattle.depot.proofs.WritingLemmas.{stored_as_put}
 
@@ -99,14 +96,15 @@ other_not true b x y e is = cc
 other_not false b x y e is = true≢false (sym is)
 
 -- why an object isn't put that no name forbids
-pub may_refuse_put : (may_give : ShelfSlot → Option (List ℕ) → Type 0) (key : Key) (bytes : List ℕ) (fault : StoreFault) → name_refusal key bytes ≡ None
-    → IsPutFault may_give key bytes fault → MayRefuseUpdate may_give (store_refusal fault)
-may_refuse_put may_give key bytes (Taken id) named cause = tt
-may_refuse_put may_give key bytes (Wrong id) named cause =
+pub may_refuse_put : (index : Index) (may_give : ShelfSlot → Option (List ℕ) → Type 0) (key : Key) (bytes : List ℕ) (fault : StoreFault) → name_refusal key bytes ≡ None
+    → IsPutFault may_give key bytes fault → MayRefuseUpdate index may_give (store_refusal fault)
+may_refuse_put index may_give key bytes (Taken id) named (at, inl zeros) = inl (ap is_nil at ∙ zeros)
+may_refuse_put index may_give key bytes (Taken id) named (at, inr other) = inr (inr (record { key = key; named = at; bytes = bytes; other = other }))
+may_refuse_put index may_give key bytes (Wrong id) named cause =
     absurd (other_not (has_other_name key bytes) (same_bytes key.id nil) (Wrong (sha1 bytes)) (Taken key.id) named cause.1)
-may_refuse_put may_give key bytes (Damaged want got) named cause = (damage_apart may_give key want got cause, key, cause)
-may_refuse_put may_give key bytes Shelf named cause = tt
-may_refuse_put may_give key bytes NoMemory named cause = tt
+may_refuse_put index may_give key bytes (Damaged want got) named cause = (damage_apart may_give key want got cause, key, cause)
+may_refuse_put index may_give key bytes Shelf named cause = tt
+may_refuse_put index may_give key bytes NoMemory named cause = tt
 
 pub free_put : (o : Objects) (key : Key) (bytes : List ℕ) (fault : StoreFault) → put_refusal o key bytes ≡ None → (put_refusal o key bytes ≡ Some fault) ⊎ IsTrue (is_free fault)
     → IsTrue (is_free fault)
@@ -121,12 +119,12 @@ free_told o (Damaged want got) free = absurd (true≢false (sym free))
 free_told o Shelf free = tt
 free_told o NoMemory free = tt
 
-pub free_refuses : (may_give : ShelfSlot → Option (List ℕ) → Type 0) (fault : StoreFault) → IsTrue (is_free fault) → MayRefuseUpdate may_give (store_refusal fault)
-free_refuses may_give (Taken id) free = tt
-free_refuses may_give (Wrong id) free = absurd (true≢false (sym free))
-free_refuses may_give (Damaged want got) free = absurd (true≢false (sym free))
-free_refuses may_give Shelf free = tt
-free_refuses may_give NoMemory free = tt
+pub free_refuses : (index : Index) (may_give : ShelfSlot → Option (List ℕ) → Type 0) (fault : StoreFault) → IsTrue (is_free fault) → MayRefuseUpdate index may_give (store_refusal fault)
+free_refuses index may_give (Taken id) free = absurd (true≢false (sym free))
+free_refuses index may_give (Wrong id) free = absurd (true≢false (sym free))
+free_refuses index may_give (Damaged want got) free = absurd (true≢false (sym free))
+free_refuses index may_give Shelf free = tt
+free_refuses index may_give NoMemory free = tt
 
 pub counted_same : (fault : StoreFault) → is_of_shelf fault ≡ is_of_store (store_refusal fault)
 counted_same (Taken id) = refl
@@ -139,14 +137,14 @@ counted_same NoMemory = refl
 
 -- a text that wasn't settled
 pub settle_left : (unsettled still : Bool) (present next : LibState) (old new : Slot) (fault : StoreFault) → still ≡ unsettled → SettlesSo unsettled present old new (Err fault)
-    → LeftOpen unsettled present next old still new
+    → LeftBy fault unsettled present next old still new
 settle_left false still present next old new fault same so = let e : Err fault ≡ Ok tt = so.1 in cc
 settle_left true still present next old new (Taken id) same so = absurd so
 settle_left true still present next old new (Wrong id) same so = absurd so
 settle_left true still present next old new (Damaged want got) same so = absurd so
 settle_left true still present next old new Shelf same (inl is) = nothing same is
 settle_left true still present next old new Shelf same (inr is) = again same refl is
-settle_left true still present next old new NoMemory same so = nothing same so
+settle_left true still present next old new NoMemory same so = inl (same, so)
 
 -- the slot once it was settled
 pub settled_slot : (unsettled : Bool) (present : LibState) (old new : Slot) → SettlesSo unsettled present old new (Ok tt) → new ≡ settled unsettled present old
@@ -162,7 +160,7 @@ noted unsettled still present next old mid new (Err (Wrong id)) first left so = 
 noted unsettled still present next old mid new (Err (Damaged want got)) first left so = absurd so
 noted unsettled still present next old mid new (Err Shelf) first left (inl is) = open_present left (is ∙ first)
 noted unsettled still present next old mid new (Err Shelf) first left (inr is) = open_next left (is ∙ ap (written next) first)
-noted unsettled still present next old mid new (Err NoMemory) first left so = settles left (so ∙ first)
+noted unsettled still present next old mid new (Err NoMemory) first left so = inr (left, so ∙ first)
 
 -- ---- objects of a table
 
@@ -199,9 +197,9 @@ putting_stop old now new all left is same = record { part = is.done; front = (le
 -- ---- all of it
 
 pub left_unsure : (fault : StoreFault) (unsettled still : Bool) (present mid next : LibState) (all : List Stored) (old new : Held) (slot : Slot) → IsTrue (is_free fault)
-    → new.objects ≡ with_all all old.objects → mid ≡ present → slot ≡ old.slot → LeftOpen unsettled mid next slot still new.slot → LeftBehind fault unsettled present next all old still new
+    → new.objects ≡ with_all all old.objects → mid ≡ present → slot ≡ old.slot → LeftBy fault unsettled mid next slot still new.slot → LeftBehind fault unsettled present next all old still new
 left_unsure fault unsettled still present mid next all old new slot free stored same kept left =
-    unsure free stored (subst (λ (state : LibState). LeftOpen unsettled state next old.slot still new.slot) same (subst (λ (s : Slot). LeftOpen unsettled mid next s still new.slot) kept left))
+    unsure free stored (subst (λ (state : LibState). LeftBy fault unsettled state next old.slot still new.slot) same (subst (λ (s : Slot). LeftBy fault unsettled mid next s still new.slot) kept left))
 
 pub carried_out : (unsettled still : Bool) (present mid next : LibState) (all : List Stored) (old new : Held) (slot : Slot) → new.objects ≡ with_all all old.objects → mid ≡ present → slot ≡ old.slot
     → InstallsText unsettled mid next slot still new.slot (Ok tt) → IsCarriedOut unsettled present next all old still new

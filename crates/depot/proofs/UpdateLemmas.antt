@@ -1,16 +1,13 @@
 -- What an update leaves, by what was planned and what was stored. The key lemmas are kept_answers, refused_answers,
 -- done_answers and stopped_answers.
-use Rattle.std.proofs.Common.{◌≡◌, ◌≢◌, ◌⊎◌, inl, inr, ℕ, suc, ◌<◌, ◌≤◌, ◌+◌, Bool, true, false, if◌then◌else◌, List, [], ◌∷◌, ◌++◌, length, get_or, refl, sym, ap, ◌∙◌, subst, arith, true≢false, Option, None, Some, Result, Ok, Err}
-use Rattle.std.specs.Bool.{MatchBool}
+use Rattle.std.proofs.Common.{◌≡◌, ◌≢◌, inl, inr, ℕ, suc, ◌+◌, true, false, if◌then◌else◌, List, [], ◌∷◌, ◌++◌, refl, sym, ap, ◌∙◌, subst, arith, Some}
 use Rattle.std.specs.List.{AllByRecursion, Contains, IsDistinct}
 use Rattle.std.specs.Ordering.{eq_by_cmp}
-use Rattle.ids.specs.FaultCount.{Rose}
 use Rattle.ids.specs.Key.{Objects, key_cmp}
 use Rattle.ids.specs.declared.key.Key.{Key}
-use Rattle.library_rules.specs.Answered.{Fails, IsFault, Plain}
 use Rattle.library_rules.specs.Calls.{Due, Denies, Says, Stores, Installs, Merges, due}
-use Rattle.library_rules.specs.Changes.{act_changes, apply, counted, installed, is_refused, keys_added, moved, step_changes, with_added}
-use Rattle.library_rules.specs.History.{Permits, StepSo, lone}
+use Rattle.library_rules.specs.Changes.{act_changes, apply, counted, installed, keys_added, moved, with_added}
+use Rattle.library_rules.specs.History.{lone}
 use Rattle.library_rules.specs.LibraryState.{State, head_of, is_kept, is_stored}
 use Rattle.library_rules.specs.MergeCommit.{Makes, Partly}
 use Rattle.library_rules.specs.Permitted.{DuePermits, MergeFails}
@@ -30,7 +27,7 @@ use Rattle.object_graph.specs.Traversal.{is_in}
 use Rattle.object_graph.proofs.Keys.{same_key, same_key-itself}
 use Rattle.depot.specs.Answering.{AnswersSo, MayAnswerSo, with_install}
 use Rattle.depot.specs.DepotView.{library}
-use Rattle.depot.specs.ObjectCalls.{Counts, IsToldRefusal, is_of_store}
+use Rattle.depot.specs.ObjectCalls.{Counts, IsToldRefusal}
 use Rattle.depot.specs.UpdateInstall.{IsFront}
 use Rattle.depot.specs.UpdatePlan.{IsPlan, IsPlanFault, MergeRefuses, objects_in}
 use Rattle.depot.specs.declared.update_plan.Plan.{Plan}

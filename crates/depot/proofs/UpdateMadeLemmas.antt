@@ -1,7 +1,7 @@
 -- The made commit: whether it is stored, its name, and what its traversal meets. The key lemmas are get_refused, plan_named,
 -- commit_complete, root_needed and commit_reads.
 use borrow.Author.Tests.{eqb-true}
-use Rattle.std.proofs.Common.{if◌then◌else◌, arith, ◌≡◌, ◌≢◌, ◌⊎◌, ℕ, ◌==◌, Bool, true, false, not, ◌&&◌, ◌||◌, List, [], ◌∷◌, ◌++◌, length, refl, sym, ap, ◌∙◌, true≢false, Option, None, Some, IsTrue, Result, Ok, Err}
+use Rattle.std.proofs.Common.{if◌then◌else◌, arith, ◌≡◌, ◌≢◌, ◌⊎◌, inr, ℕ, ◌==◌, Bool, true, false, not, ◌&&◌, ◌||◌, List, [], ◌∷◌, ◌++◌, length, refl, sym, ap, ◌∙◌, true≢false, Option, None, Some, IsTrue, Result, Ok, Err}
 use Rattle.std.specs.FinMap as map
 use Rattle.sha1.specs.Sha1.{sha1}
 use Rattle.ids.specs.Key.{Objects}
@@ -10,7 +10,7 @@ use Rattle.ids.specs.declared.key.Key.{Key}
 use Rattle.commit_objects.specs.Commit.{commit_of}
 use Rattle.commit_objects.specs.Spelling.{text_of}
 use Rattle.commit_objects.specs.declared.commit.Commit.{Commit}
-use Rattle.library_rules.specs.MergeCommit.{some_in, stored}
+use Rattle.library_rules.specs.MergeCommit.{some_in}
 use Rattle.library_rules.specs.declared.entry.Stored.{Stored}
 use Rattle.library_rules.proofs.Members.{same_id-itself, same_id-true}
 use Rattle.object_graph.specs.Objects.{commit_at, commit_in, commit_key, is_nil, of_name}
@@ -19,15 +19,16 @@ use Rattle.object_graph.specs.declared.fault.TreeFault.{TreeFault}
 use Rattle.object_graph.specs.declared.fault.TreeFault.TheVariants.{Unreadable}
 use Rattle.object_graph.proofs.Alike.{Alike, object_alike}
 use Rattle.object_graph.proofs.Keys.{in_append, in_distinct}
-use Rattle.object_store.specs.Store.{IsGetFault, damage_at, has_other_name, is_free, is_named_by_bytes, name_refusal, same_bytes}
+use Rattle.object_store.specs.Store.{IsGetFault, IsWhole, damage_at, has_other_name, is_free, is_named_by_bytes, name_refusal, same_bytes}
 use Rattle.object_store.specs.declared.error.StoreFault.{StoreFault}
 use Rattle.object_store.specs.declared.error.StoreFault.TheVariants as store
 use Rattle.object_store.specs.declared.shelf.Slot.{Slot as ShelfSlot}
 use Rattle.tree_merge.specs.TreeBuilding.{AreNamed as AreOwn, IsOwnName}
-use Rattle.tree_model.specs.ConflictCopies.{conflicts, places_of}
+use Rattle.tree_model.specs.ConflictCopies.{places_of}
 use Rattle.tree_model.specs.Path.{PathV}
 use Rattle.tree_model.specs.declared.node.FileVersion.{FileVersion}
 use Rattle.tree_walk.proofs.ReadsLemmas.{store_due}
+use Rattle.depot.specs.Answering.{IsTakenBy}
 use Rattle.depot.specs.ObjectCalls.{IsToldDamageOf, store_refusal}
 use Rattle.depot.specs.UpdateMerge.{StoredSo}
 use Rattle.depot.specs.UpdatePlan.{AreNamed, HasNames, listed}
@@ -43,6 +44,12 @@ get_refused objects id text may_give (store.Wrong wrong) cause refused = absurd 
 get_refused objects id text may_give (store.Damaged want got) cause refused = store_due objects (commit_key id) may_give (store.Damaged want got) cause refused
 get_refused objects id text may_give store.Shelf cause refused = tt
 get_refused objects id text may_give store.NoMemory cause refused = tt
+
+-- other bytes are stored where the made commit belongs
+pub other_stored : (may_give : ShelfSlot → Option (List ℕ) → Type 0) (id text stored : List ℕ) → IsWhole may_give (commit_key id) (Some stored) → same_bytes stored text ≡ false
+    → IsTakenBy may_give id
+other_stored may_give id text stored whole other =
+    inr (inr (record { key = commit_key id; named = refl; bytes = text; other = record { given = stored; gives = whole.0; whole = whole.1; other = other } }))
 
 pub get_damage : (objects : Objects) (id : List ℕ) (may_give : ShelfSlot → Option (List ℕ) → Type 0) (fault : StoreFault) → IsGetFault may_give (commit_key id) fault
     → (damage_at objects (commit_key id) ≡ Some fault) ⊎ IsTrue (is_free fault) → IsToldDamageOf objects (store_refusal fault)

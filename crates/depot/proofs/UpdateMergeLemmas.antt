@@ -1,6 +1,7 @@
 -- A merge that is planned or refused. The key lemmas are root_fault, roots_whole, merge_refuses, merge_damage and merges_so.
 use Rattle.std.proofs.Common.{◌≡◌, ◌≢◌, ◌⊎◌, inl, inr, ℕ, ◌==◌, Bool, true, false, not, List, [], ◌∷◌, ◌++◌, length, refl, sym, ap, ◌∙◌, subst, true≢false, Option, None, Some, is_some, Result, Ok, Err}
 use Rattle.std.specs.FinMap as map
+use Rattle.std.specs.Prelude.{⊤}
 use Rattle.std.specs.List.{AllByRecursion, IsDistinct}
 use Rattle.std.specs.Ordering.{eq_by_cmp}
 use Rattle.std.specs.Str.{bytes_eq}
@@ -34,6 +35,8 @@ use Rattle.object_graph.specs.declared.fault.TreeFault.{TreeFault}
 use Rattle.object_graph.proofs.Commits.{commit_root}
 use Rattle.object_graph.proofs.Fitting.{root_fits}
 use Rattle.object_graph.proofs.Keys.{same_key, same_key-true}
+use Rattle.object_store.specs.StoreView.{Index}
+use Rattle.object_store.specs.declared.shelf.Slot.{Slot as ShelfSlot}
 use Rattle.tree_merge.specs.Merging.{IsDirectoryIn, IsMerged, IsTaken, MergesTo, CannotStore, AreComplete as AreWhole}
 use Rattle.tree_merge.specs.Merging as merging
 use Rattle.tree_merge.specs.TreeBuilding.{AreNamed as AreOwn, IsOwnName}
@@ -44,8 +47,9 @@ use Rattle.tree_model.specs.ConflictCopies.{conflicts}
 use Rattle.tree_model.specs.DirectorySurvival.{Sides}
 use Rattle.tree_model.specs.ThreeWayMerge as merged
 use Rattle.tree_model.specs.Tree.{Tree}
-use Rattle.tree_walk.specs.Reading.{AnswersRead, IsDue}
+use Rattle.tree_walk.specs.Reading.{AnswersRead, CausedBy, IsDue}
 use Rattle.tree_walk.specs.declared.fault.WalkFault.{WalkFault}
+use Rattle.depot.specs.Answering.{MayRefuseUpdate}
 use Rattle.depot.specs.DepotView.{library}
 use Rattle.depot.specs.ObjectCalls.{IsToldDamageOf}
 use Rattle.depot.specs.UpdateBase.{walk_refusal}
@@ -53,9 +57,17 @@ use Rattle.depot.specs.UpdateMerge.{AreComplete, HasRoot, HasRoots, IsPlanOf, Pl
 use Rattle.depot.specs.UpdatePlan.{MergeRefuses, MergesSo, listed, objects_in, own_object}
 use Rattle.depot.specs.declared.update_merge.Roots.{Roots}
 use Rattle.depot.specs.declared.update_plan.Plan.{Plan}
-use Rattle.depot.proofs.UpdateBaseLemmas.{none_due, told_merge, walk_not_damaged}
+use Rattle.depot.proofs.UpdateBaseLemmas.{may_refuse, none_due, told_merge, walk_not_damaged}
 use Rattle.depot.proofs.UpdateListedLemmas.{all_join, found_added, found_in, found_last, found_listed, listed_all, listed_once, once_pushed}
 use Rattle.depot.proofs.UpdateMadeLemmas.{commit_complete, commit_reads, copies_is, root_needed}
+
+-- why a merge is refused, over any shelf
+pub merge_may : (index : Index) (may_give : ShelfSlot → Option (List ℕ) → Type 0) (fault : MergeFault) → merging.IsCaused fault
+    → CausedBy {T = ⊤} index may_give (merging.as_read {T = Merged} (Err fault)) → MayRefuseUpdate index may_give (merge_refusal fault)
+merge_may index may_give (merge.TooLong path size) caused cause = tt
+merge_may index may_give (merge.TooMany paths) caused cause = tt
+merge_may index may_give (merge.Taken id) caused cause = inr (inl caused)
+merge_may index may_give (merge.Walk fault) caused cause = may_refuse index may_give fault cause
 
 -- ---- roots
 

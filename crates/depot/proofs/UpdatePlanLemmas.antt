@@ -17,7 +17,6 @@ use Rattle.library_state.specs.declared.call.Act.TheVariants as act
 use Rattle.library_state.specs.declared.call.Call.{Call}
 use Rattle.library_state.specs.declared.refusal.Refusal.{Refusal}
 use Rattle.library_state.specs.declared.refusal.Refusal.TheVariants as refusal
-use Rattle.library_state.specs.declared.reply.Reply.{Reply}
 use Rattle.library_state.specs.declared.reply.Reply.TheVariants as reply
 use Rattle.library_state.specs.declared.state.LibState.{LibState}
 use Rattle.library_state.specs.declared.token.Token.{Token}
@@ -26,6 +25,7 @@ use Rattle.object_graph.specs.Traversal.{IsComplete, walk_commit}
 use Rattle.object_graph.specs.declared.fault.TreeFault.{TreeFault}
 use Rattle.object_graph.proofs.Keys.{same_key, same_key-itself, same_key-true}
 use Rattle.object_store.specs.Store.{first_refusal, name_refusal, put_refusal, stored_refusal}
+use Rattle.object_store.specs.StoreView.{Index}
 use Rattle.object_store.specs.declared.shelf.Slot.{Slot as ShelfSlot}
 use Rattle.depot.specs.Answering.{act_decided, decided, permits, token_decided, update_decided}
 use Rattle.depot.specs.DepotView.{library}
@@ -163,9 +163,9 @@ found_at objects based seen at is finds = subst (λ f. FindsSo objects based (Ok
 pub plans_at : (s : State) (moment : ℕ) (pushed : List ℕ) (d : Due) (seen at : Option Plan) → seen ≡ at → PlansSo s moment pushed d (Ok seen) → PlansSo s moment pushed d (Ok at)
 plans_at s moment pushed d seen at is plans = subst (λ p. PlansSo s moment pushed d (Ok p)) is plans
 
-pub decides_at : (state : LibState) (call : Call) (pushed : List ℕ) (may_give : ShelfSlot → Option (List ℕ) → Type 0) (seen at : Option Plan) → seen ≡ at
-    → DecidesCall state call pushed may_give (Ok seen) → DecidesCall state call pushed may_give (Ok at)
-decides_at state call pushed may_give seen at is decides = subst (λ p. DecidesCall state call pushed may_give (Ok p)) is decides
+pub decides_at : (state : LibState) (call : Call) (pushed : List ℕ) (index : Index) (may_give : ShelfSlot → Option (List ℕ) → Type 0) (seen at : Option Plan) → seen ≡ at
+    → DecidesCall state call pushed index may_give (Ok seen) → DecidesCall state call pushed index may_give (Ok at)
+decides_at state call pushed index may_give seen at is decides = subst (λ p. DecidesCall state call pushed index may_give (Ok p)) is decides
 
 -- ---- each object of a plan can be put
 

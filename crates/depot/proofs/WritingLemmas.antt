@@ -1,27 +1,22 @@
 -- What the slot holds after a write of the state text, and what is stored after a put. The key lemmas are holds_after,
 -- holds_next and stored_as_put.
-use Rattle.std.proofs.Common.{◌≡◌, ◌≢◌, ◌⊎◌, inl, inr, ℕ, Bool, true, false, if◌then◌else◌, List, refl, sym, ap, ◌∙◌, subst, true≢false, Option, None, Some, option_map, is_some, Result, Ok, Err}
-use Rattle.std.specs.Prelude.{⊤}
+use Rattle.std.proofs.Common.{◌≡◌, ◌≢◌, inl, inr, ℕ, Bool, true, false, if◌then◌else◌, List, refl, sym, ap, ◌∙◌, subst, true≢false, Option, None, Some, is_some, Ok, Err}
 use Rattle.std.specs.FinMap as map
 use Rattle.std.specs.Cmp.Lexicographic.{same_text}
-use Rattle.ids.specs.FaultCount.{FailsBy}
 use Rattle.ids.specs.Key.{Objects}
 use Rattle.ids.specs.declared.key.Key.{Key}
 use Rattle.ids.proofs.KeyOrder.{key_cmp_total, key_cmp_exact}
 use Rattle.ids.proofs.MapLemmas.{insert-same}
 use Rattle.library_rules.specs.Changes.{put_new}
 use Rattle.library_rules.specs.LibraryState.{IsSound}
-use Rattle.library_rules.specs.declared.entry.Stored.{Stored}
 use Rattle.library_state.specs.StateSpelling.{text_of}
 use Rattle.library_state.specs.declared.state.LibState.{LibState}
-use Rattle.object_store.specs.Shelf.{Contents, put_known}
-use Rattle.object_store.specs.Store.{CountsShelf, has_other_name, name_refusal, put_refusal, same_bytes, first_refusal, stored_refusal}
-use Rattle.object_store.specs.StoreView.{StoreView, NoteChanges, with_object, status_of}
+use Rattle.object_store.specs.Store.{has_other_name, name_refusal, put_refusal, same_bytes, first_refusal, stored_refusal}
+use Rattle.object_store.specs.StoreView.{with_object}
 use Rattle.object_store.specs.declared.error.StoreFault.{StoreFault}
 use Rattle.object_store.specs.declared.error.StoreFault.TheVariants.{Taken, Wrong, Damaged, Shelf, NoMemory}
-use Rattle.object_store.specs.declared.shelf.Slot.TheVariants.{Status}
-use Rattle.depot.specs.DepotView.{library, Holds, HoldsOther}
-use Rattle.depot.specs.Writing.{Slot, written, Writes, SettlesSo, settled, leaves_open, LeftOpen, nothing, again, settles, open_present, open_next, RewritesSo, with_stored}
+use Rattle.depot.specs.DepotView.{library, Holds}
+use Rattle.depot.specs.Writing.{Slot, written, settled, LeftOpen, nothing, again, settles, open_present, open_next, RewritesSo, with_stored}
 
 -- the text that was written is there
 pub written_at : (state : LibState) (old new : Slot) (status : Option (List ℕ)) → new ≡ written state old → new ≡ Some status → status ≡ Some (text_of state)
@@ -85,7 +80,8 @@ module _ (unsettled : Bool) (present next : LibState) (objects : Objects) (old :
   pub holds_after : (still : Bool) (new : Slot) (status : Option (List ℕ)) (fault : StoreFault) → RewritesSo unsettled present next old still new (Err fault) → new ≡ Some status
       → Holds still present objects status
   holds_after still new status Shelf so at = holds_left still new status so at
-  holds_after still new status NoMemory so at = holds_left still new status so at
+  holds_after still new status NoMemory (inl (same, e)) at = holds_left still new status (nothing same e) at
+  holds_after still new status NoMemory (inr (same, e)) at = holds_left still new status (settles same e) at
   holds_after still new status (Taken id) so at = absurd so
   holds_after still new status (Wrong id) so at = absurd so
   holds_after still new status (Damaged want got) so at = absurd so

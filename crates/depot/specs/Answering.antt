@@ -1,10 +1,12 @@
 -- What a library that is kept answers, and what a call leaves of it. Our own. Read AnswersSo, then decided and MayAnswer,
 -- then state_after and SlotSo.
-use Rattle.std.specs.Prelude.{◌≡◌, ◌≢◌, ◌⊎◌, ℕ, nat_lt, Bool, true, false, if◌then◌else◌, List, [], ◌∷◌, ◌++◌, Option, None, Some, option_map, IsTrue, ⊤}
+use Rattle.std.specs.Prelude.{◌≡◌, ◌≢◌, ◌⊎◌, ℕ, nat_lt, Bool, true, false, if◌then◌else◌, List, [], ◌∷◌, ◌++◌, Option, None, Some, is_some, option_map, filter, not, IsSome, IsNone, IsTrue, ⊤}
 use Rattle.std.specs.Bool.{then_some}
+use Rattle.std.specs.FinMap as map
 use Rattle.ids.specs.Key.{Objects}
 use Rattle.ids.specs.declared.key.Key.{Key}
-use Rattle.library_rules.specs.Calls.{first_refusal, may, put_refusals, token_of}
+use Rattle.ids.specs.declared.key.Kind.{Kind}
+use Rattle.library_rules.specs.Calls.{first_refusal, ids_of, keys_of, may, put_refusals, token_of}
 use Rattle.library_rules.specs.Changes.{head_in, is_refused, seen_by}
 use Rattle.library_rules.specs.History.{Permits, StepSo, lone}
 use Rattle.library_rules.specs.LibraryState.{State, head_of, is_kept, is_day_count}
@@ -23,14 +25,17 @@ use Rattle.library_state.specs.declared.reply.Reply.TheVariants as reply
 use Rattle.library_state.specs.declared.state.LibState.{LibState}
 use Rattle.library_state.specs.declared.token.Token.{Token}
 use Rattle.object_graph.specs.Objects.{commit_key, is_nil}
+use Rattle.object_graph.specs.Traversal.{distinct_from}
 use Rattle.object_store.specs.Shelf.{Contents}
 use Rattle.object_store.specs.Store.{GivesOther, IsDamage, IsWhole}
-use Rattle.object_store.specs.StoreView.{objects_of, status_of}
+use Rattle.object_store.specs.StoreView.{Index, objects_of, status_of}
+use Rattle.object_store.specs.declared.error.StoreFault.{StoreFault}
 use Rattle.object_store.specs.declared.shelf.Slot.{Slot as ShelfSlot}
 use Rattle.object_store.specs.declared.shelf.Slot.TheVariants.{Object}
+use Rattle.tree_merge.specs.TreeBuilding.{IsCollision}
 use Rattle.depot.specs.DepotView.{DepotView, state_of}
-use Rattle.depot.specs.ObjectCalls.{Counts, IsToldDamage, own_name}
-use Rattle.depot.specs.Writing.{Slot, LeftOpen, settled, written}
+use Rattle.depot.specs.ObjectCalls.{Counts, IsToldDamage, own_name, store_refusal}
+use Rattle.depot.specs.Writing.{Slot, LeftBy, settled, written}
 
 -- the answer is permitted, and what is left is what it leaves: the same state, or the one after an entry of the history
 pub record AnswersSo (s : State) (call : Call) (moment : ℕ) (r : Reply) (after : Option State) : Type 0 where
@@ -103,74 +108,105 @@ MayFail may_give refusal.NoMemory = ⊤
 MayFail may_give (refusal.Damaged want got) = (got ≢ Some want) × (key : Key) × IsDamage may_give key want got
 MayFail may_give other = ⊥
 
--- bytes that are given are under their own name
-abbrev pub MayRefuseGet : (ShelfSlot → Option (List ℕ) → Type 0) → Key → Refusal → Type 0
-MayRefuseGet may_give key (refusal.NoObject other) = other ≡ key
-MayRefuseGet may_give key why = MayFail may_give why
+-- the shelf may give other bytes for a key of this id
+pub record IsGivenOther (may_give : ShelfSlot → Option (List ℕ) → Type 0) (id : List ℕ) : Type 0 where
+  pub key : Key
+  pub named : id ≡ key.id
+  pub bytes : List ℕ
+  pub other : GivesOther may_give key bytes
 
-abbrev pub MayGet : (ShelfSlot → Option (List ℕ) → Type 0) → Key → Reply → Type 0
-MayGet may_give key (reply.Got bytes) = IsWhole may_give key (Some bytes)
-MayGet may_give key (reply.Refused why) = MayRefuseGet may_give key why
-MayGet may_give key other = ⊥
+-- an object that a merge makes can't be stored under this id: it has forty zeros, or two things have it
+abbrev pub IsTakenBy : (ShelfSlot → Option (List ℕ) → Type 0) → List ℕ → Type 0
+IsTakenBy may_give id = (is_nil id ≡ true) ⊎ (IsCollision id ⊎ IsGivenOther may_give id)
 
--- the key is taken where the shelf may give other bytes
-abbrev pub MayRefusePut : (ShelfSlot → Option (List ℕ) → Type 0) → Key → List ℕ → Refusal → Type 0
-MayRefusePut may_give key bytes (refusal.Taken id) = (id ≡ key.id) × GivesOther may_give key bytes
-MayRefusePut may_give key bytes why = MayFail may_give why
+module _ (index : Index) where
+  -- ---- objects, of which the index knows each that is stored
 
-abbrev pub MayPut : (ShelfSlot → Option (List ℕ) → Type 0) → Key → List ℕ → Reply → Type 0
-MayPut may_give key bytes (reply.Stored true) = ⊤
-MayPut may_give key bytes (reply.Stored false) = may_give (Object key) (Some bytes)
-MayPut may_give key bytes (reply.Refused why) = MayRefusePut may_give key bytes why
-MayPut may_give key bytes other = ⊥
+  -- a fault of a call that reads this key alone
+  abbrev pub MayFailAt : (ShelfSlot → Option (List ℕ) → Type 0) → Key → Refusal → Type 0
+  MayFailAt may_give key refusal.Store = ⊤
+  MayFailAt may_give key refusal.NoMemory = ⊤
+  MayFailAt may_give key (refusal.Damaged want got) = (got ≢ Some want) × IsSome (map.get index key) × IsDamage may_give key want got
+  MayFailAt may_give key other = ⊥
 
-abbrev pub MayTell : (ShelfSlot → Option (List ℕ) → Type 0) → Reply → Type 0
-MayTell may_give (reply.Absent ids) = ⊤
-MayTell may_give (reply.Refused why) = MayFail may_give why
-MayTell may_give other = ⊥
+  -- an object isn't there exactly where the index lacks its key, and bytes that are given are under their own name
+  abbrev pub MayRefuseGet : (ShelfSlot → Option (List ℕ) → Type 0) → Key → Refusal → Type 0
+  MayRefuseGet may_give key (refusal.NoObject other) = (other ≡ key) × IsNone (map.get index key)
+  MayRefuseGet may_give key why = MayFailAt may_give key why
 
--- the first thing that is wrong with stored objects
-abbrev pub MayRefuseTree : (ShelfSlot → Option (List ℕ) → Type 0) → Refusal → Type 0
-MayRefuseTree may_give (refusal.Incomplete key) = ⊤
-MayRefuseTree may_give (refusal.Unreadable key) = ⊤
-MayRefuseTree may_give (refusal.WrongKind id) = ⊤
-MayRefuseTree may_give (refusal.WrongSize id) = ⊤
-MayRefuseTree may_give (refusal.TooDeep path) = ⊤
-MayRefuseTree may_give (refusal.TooMany paths) = ⊤
-MayRefuseTree may_give why = MayFail may_give why
+  abbrev pub MayGet : (ShelfSlot → Option (List ℕ) → Type 0) → Key → Reply → Type 0
+  MayGet may_give key (reply.Got bytes) = IsSome (map.get index key) × IsWhole may_give key (Some bytes)
+  MayGet may_give key (reply.Refused why) = MayRefuseGet may_give key why
+  MayGet may_give key other = ⊥
 
-abbrev pub MayList : (ShelfSlot → Option (List ℕ) → Type 0) → Reply → Type 0
-MayList may_give (reply.Listed ids) = ⊤
-MayList may_give (reply.Refused why) = MayRefuseTree may_give why
-MayList may_give other = ⊥
+  -- the key is taken where the shelf may give other bytes
+  abbrev pub MayRefusePut : (ShelfSlot → Option (List ℕ) → Type 0) → Key → List ℕ → Refusal → Type 0
+  MayRefusePut may_give key bytes (refusal.Taken id) = (id ≡ key.id) × IsSome (map.get index key) × GivesOther may_give key bytes
+  MayRefusePut may_give key bytes why = MayFailAt may_give key why
 
--- the same, and what the search for the merge base and the merge refuse
-abbrev pub MayRefuseUpdate : (ShelfSlot → Option (List ℕ) → Type 0) → Refusal → Type 0
-MayRefuseUpdate may_give (refusal.Unrelated steps) = ⊤
-MayRefuseUpdate may_give (refusal.TooLong path size) = ⊤
-MayRefuseUpdate may_give (refusal.Taken id) = ⊤
-MayRefuseUpdate may_give why = MayRefuseTree may_give why
+  -- an object is new exactly where the index lacked its key
+  abbrev pub MayPut : (ShelfSlot → Option (List ℕ) → Type 0) → Key → List ℕ → Reply → Type 0
+  MayPut may_give key bytes (reply.Stored true) = IsNone (map.get index key)
+  MayPut may_give key bytes (reply.Stored false) = IsSome (map.get index key) × may_give (Object key) (Some bytes)
+  MayPut may_give key bytes (reply.Refused why) = MayRefusePut may_give key bytes why
+  MayPut may_give key bytes other = ⊥
 
-abbrev pub MayUpdate : (ShelfSlot → Option (List ℕ) → Type 0) → Reply → Type 0
-MayUpdate may_give (reply.Updated id) = ⊤
-MayUpdate may_give (reply.Refused why) = MayRefuseUpdate may_give why
-MayUpdate may_give other = ⊥
+  -- the ids of which the index lacks the keys, in the order asked, each once; forty zeros are never among them
+  abbrev pub unknown : Kind → List (List ℕ) → List (List ℕ)
+  unknown k ids = ids_of (distinct_from [] (filter (λ key. not (is_some (map.get index key))) (keys_of k ids)))
 
--- the answer to an act that the objects decide
-abbrev pub MayDo : (ShelfSlot → Option (List ℕ) → Type 0) → Act → Reply → Type 0
-MayDo may_give (act.Check o) r = ⊥
-MayDo may_give act.Head r = ⊥
-MayDo may_give (act.Get key) r = MayGet may_give key r
-MayDo may_give (act.Put key bytes) r = MayPut may_give key bytes r
-MayDo may_give (act.Missing k ids) r = MayTell may_give r
-MayDo may_give (act.Update commit) r = MayUpdate may_give r
-MayDo may_give (act.Limit days) r = ⊥
-MayDo may_give (act.Ids server client) r = MayList may_give r
+  -- just these are told, or memory is wanted
+  abbrev pub MayTell : Kind → List (List ℕ) → Reply → Type 0
+  MayTell k ids (reply.Absent found) = found ≡ unknown k ids
+  MayTell k ids (reply.Refused why) = why ≡ refusal.NoMemory
+  MayTell k ids other = ⊥
 
--- the answer is the one that the state decides, unless the shelf or memory failed; or one that the act may have
-abbrev pub MayAnswer : (ShelfSlot → Option (List ℕ) → Type 0) → Act → Option Reply → Reply → Type 0
-MayAnswer may_give a (Some said) r = (r ≡ said) ⊎ IsTrue (is_free_reply r)
-MayAnswer may_give a None r = MayDo may_give a r
+  -- ---- trees
+
+  -- the first thing that is wrong with stored objects; a key is told as incomplete only where the index lacks it
+  abbrev pub MayRefuseTree : (ShelfSlot → Option (List ℕ) → Type 0) → Refusal → Type 0
+  MayRefuseTree may_give (refusal.Incomplete key) = IsNone (map.get index key)
+  MayRefuseTree may_give (refusal.Unreadable key) = ⊤
+  MayRefuseTree may_give (refusal.WrongKind id) = ⊤
+  MayRefuseTree may_give (refusal.WrongSize id) = ⊤
+  MayRefuseTree may_give (refusal.TooDeep path) = ⊤
+  MayRefuseTree may_give (refusal.TooMany paths) = ⊤
+  MayRefuseTree may_give why = MayFail may_give why
+
+  abbrev pub MayList : (ShelfSlot → Option (List ℕ) → Type 0) → Reply → Type 0
+  MayList may_give (reply.Listed ids) = ⊤
+  MayList may_give (reply.Refused why) = MayRefuseTree may_give why
+  MayList may_give other = ⊥
+
+  -- the same, and what the search for the merge base and the merge refuse
+  abbrev pub MayRefuseUpdate : (ShelfSlot → Option (List ℕ) → Type 0) → Refusal → Type 0
+  MayRefuseUpdate may_give (refusal.Unrelated steps) = ⊤
+  MayRefuseUpdate may_give (refusal.TooLong path size) = ⊤
+  MayRefuseUpdate may_give (refusal.Taken id) = IsTakenBy may_give id
+  MayRefuseUpdate may_give why = MayRefuseTree may_give why
+
+  abbrev pub MayUpdate : (ShelfSlot → Option (List ℕ) → Type 0) → Reply → Type 0
+  MayUpdate may_give (reply.Updated id) = ⊤
+  MayUpdate may_give (reply.Refused why) = MayRefuseUpdate may_give why
+  MayUpdate may_give other = ⊥
+
+  -- ---- all acts
+
+  -- the answer to an act that the objects decide
+  abbrev pub MayDo : (ShelfSlot → Option (List ℕ) → Type 0) → Act → Reply → Type 0
+  MayDo may_give (act.Check o) r = ⊥
+  MayDo may_give act.Head r = ⊥
+  MayDo may_give (act.Get key) r = MayGet may_give key r
+  MayDo may_give (act.Put key bytes) r = MayPut may_give key bytes r
+  MayDo may_give (act.Missing k ids) r = MayTell k ids r
+  MayDo may_give (act.Update commit) r = MayUpdate may_give r
+  MayDo may_give (act.Limit days) r = ⊥
+  MayDo may_give (act.Ids server client) r = MayList may_give r
+
+  -- the answer is the one that the state decides, unless the shelf or memory failed; or one that the act may have
+  abbrev pub MayAnswer : (ShelfSlot → Option (List ℕ) → Type 0) → Act → Option Reply → Reply → Type 0
+  MayAnswer may_give a (Some said) r = (r ≡ said) ⊎ IsTrue (is_free_reply r)
+  MayAnswer may_give a None r = MayDo may_give a r
 
 -- ---- the state text
 
@@ -202,12 +238,13 @@ abbrev pub MayAnswerSo : State → Call → ℕ → Reply → Type 0
 MayAnswerSo s call moment said = (added : List Stored) × Permits s (record (lone s (Asked call) moment said) { added = added })
 
 -- what the slot holds after an answer: nothing was written; or the text of the state that is left, after the present one
--- where that was open; or, after a failure of the shelf or want of memory, it is open whether the present text stands or
--- that of the state that the call would have made by an answer that it could have
+-- where that was open; or, after a failure of the shelf, it is open whether the present text stands or that of the state
+-- that the call would have made by an answer that it could have; and after want of memory the present one alone
 pub data SlotSo (would : Reply → Type 0) (call : Call) (moment : ℕ) (r : Reply) (unsettled : Bool) (present : LibState) (old : Slot) (still : Bool) (after : LibState) (new : Slot) : Type 0 where
   unwritten : after ≡ present → still ≡ unsettled → new ≡ old → SlotSo would call moment r unsettled present old still after new
   rewritten : is_refused r ≡ false → still ≡ false → new ≡ written after (settled unsettled present old) → SlotSo would call moment r unsettled present old still after new
-  refused : is_free_reply r ≡ true → (said : Reply) → is_refused said ≡ false → would said → LeftOpen unsettled present (next_state present call moment said) old still new
+  refused : (fault : StoreFault) → r ≡ reply.Refused (store_refusal fault) → (said : Reply) → is_refused said ≡ false → would said
+      → LeftBy fault unsettled present (next_state present call moment said) old still new
       → SlotSo would call moment r unsettled present old still after new
 
 -- an answer that a library which is told could give
@@ -220,7 +257,7 @@ Would contents faults old call moment said = (s : State) → state_of contents f
 pub record Serves {S : Type 0} (contents : S → Option Contents) (may_give : S → ShelfSlot → Option (List ℕ) → Type 0) (faults : S → ℕ) (old : DepotView S)
     (call : Call) (moment : ℕ) (r : Reply) (new : DepotView S) : Type 0 where
   pub told : (s : State) → state_of contents faults old ≡ Some s → AnswersSo s call moment r (state_of contents faults new)
-  pub may_come : MayAnswer (may_give new.store.shelf) call.act (decided old.state call) r
+  pub may_come : MayAnswer old.store.index (may_give new.store.shelf) call.act (decided old.state call) r
   pub damage : (objects : Objects) → objects_of contents old.store ≡ Some objects → IsToldDamage objects r
   pub count : Counts (faults old.store.shelf) (faults new.store.shelf) r
   pub left : new.state ≡ state_after old.state call moment r

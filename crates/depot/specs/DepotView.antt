@@ -41,6 +41,10 @@ library state faults objects = record {
 abbrev pub library_of : {S : Type 0} → (S → Option Contents) → (S → ℕ) → StoreView S → LibState → Option State
 library_of contents faults store state = option_map (library state (faults store.shelf)) (objects_of contents store)
 
+-- the library of a state text is sound over what a store holds
+abbrev pub IsSoundIn : {S : Type 0} → (S → Option Contents) → StoreView S → LibState → Type 0
+IsSoundIn contents store state = (objects : Objects) (count : ℕ) → objects_of contents store ≡ Some objects → IsSound (library state count objects)
+
 -- the library that a depot is
 abbrev pub state_of : {S : Type 0} → (S → Option Contents) → (S → ℕ) → DepotView S → Option State
 state_of contents faults depot = library_of contents faults depot.store depot.state

@@ -1,5 +1,5 @@
 -- What the calls on objects answer and leave. Our own. Read SaysOr and DoneSo first.
-use Rattle.std.specs.Prelude.{◌≡◌, ◌⊎◌, ℕ, ◌≤◌, Bool, true, false, List, [], ◌∷◌, ◌++◌, Option, Some, ⊤}
+use Rattle.std.specs.Prelude.{◌≡◌, ◌⊎◌, ℕ, ◌≤◌, Bool, true, false, List, [], ◌∷◌, Option, Some, ⊤}
 use Rattle.std.specs.Bool.{MatchBool, then_some}
 use Rattle.sha1.specs.Sha1.{sha1}
 use Rattle.ids.specs.FaultCount.{Rose}

@@ -1,28 +1,20 @@
 -- How a library is made. Our own. Read first_state and make_refusal, then IsMade and LeftUnmade.
-use Rattle.std.specs.Prelude.{◌≡◌, ◌≢◌, ◌⊎◌, ℕ, ◌+◌, ◌==◌, negsuc, Bool, true, false, if◌then◌else◌, List, [], ◌∷◌, Option, None, Some, option_map, Result, Ok, Err, IsTrue, ⊤}
-use Rattle.ids.specs.FaultCount.{FailsBy}
+use Rattle.std.specs.Prelude.{◌≡◌, ◌⊎◌, ℕ, negsuc, Bool, false, List, [], ◌∷◌, Option, None, Some, option_map, Result, Ok, Err, IsTrue}
 use Rattle.ids.specs.Key.{Objects}
-use Rattle.ids.specs.declared.key.Key.{Key}
-use Rattle.library_rules.specs.Changes.{put_new}
-use Rattle.library_rules.specs.Creation.{opening_commit, opening_object, created}
-use Rattle.library_rules.specs.LibraryState.{State, kept_commits, last_number}
+use Rattle.library_rules.specs.Creation.{opening_object}
 use Rattle.library_rules.specs.declared.entry.Stored.{Stored}
-use Rattle.library_state.specs.StateText.{state_of as read_state}
 use Rattle.library_state.specs.declared.right.Right.TheVariants.{Owner}
 use Rattle.library_state.specs.declared.state.LibState.{LibState}
-use Rattle.library_state.specs.declared.state_fault.StateKey.{StateKey}
 use Rattle.commit_objects.specs.declared.commit.Commit.{Commit}
 use Rattle.object_graph.specs.Objects.{commit_at}
-use Rattle.object_graph.specs.Traversal.{walk_commit}
-use Rattle.object_graph.specs.declared.fault.TreeFault.{TreeFault}
 use Rattle.object_store.specs.Shelf.{Contents}
-use Rattle.object_store.specs.Store.{IsDamage, IsPutFault, is_free, is_of_shelf, put_refusal}
+use Rattle.object_store.specs.Store.{IsPutFault, is_free, is_of_shelf}
 use Rattle.object_store.specs.StoreView.{StoreView, objects_of, status_of}
 use Rattle.object_store.specs.declared.error.StoreFault.{StoreFault}
 use Rattle.object_store.specs.declared.error.StoreFault.TheVariants as store
 use Rattle.object_store.specs.declared.shelf.Slot.{Slot}
 use Rattle.object_store.specs.declared.shelf.Slot.TheVariants.{Status}
-use Rattle.depot.specs.DepotView.{DepotView, IsGood, state_of}
+use Rattle.depot.specs.DepotView.{DepotView}
 use Rattle.depot.specs.Writing.{with_stored, written}
 use Rattle.depot.specs.declared.error.MakeFault.{MakeFault}
 use Rattle.depot.specs.declared.error.MakeFault.TheVariants as make

@@ -1,8 +1,8 @@
 -- How a library is opened again. Our own. Read start_refusal, then IsOpened and LeftUnopened.
-use Rattle.std.specs.Prelude.{◌≡◌, ◌⊎◌, ℕ, ◌+◌, ◌==◌, Bool, true, false, if◌then◌else◌, List, [], ◌∷◌, Option, None, Some, option_map, Result, Ok, Err, ⊤}
+use Rattle.std.specs.Prelude.{◌≡◌, ◌⊎◌, ℕ, ◌+◌, ◌==◌, Bool, false, if◌then◌else◌, List, [], ◌∷◌, Option, None, Some, option_map, Result, Ok, Err, ⊤}
 use Rattle.ids.specs.Key.{Objects}
 use Rattle.ids.specs.declared.key.Key.{Key}
-use Rattle.library_rules.specs.LibraryState.{IsSound, kept_commits, last_number}
+use Rattle.library_rules.specs.LibraryState.{kept_commits, last_number}
 use Rattle.library_rules.specs.Recovery.{opened}
 use Rattle.library_state.specs.StateText.{state_of as read_state}
 use Rattle.library_state.specs.declared.state.LibState.{LibState}
@@ -169,10 +169,6 @@ pub record IsFound {S : Type 0} (contents : S → Option Contents) (given : Stor
   pub reads : read_state text ≡ Ok found
   pub told : (status : Option (List ℕ)) → status_of contents given ≡ Some status → status ≡ Some text
 
--- the library of a state is sound over what the store holds
-abbrev pub IsSoundOver : {S : Type 0} → (S → Option Contents) → StoreView S → LibState → Type 0
-IsSoundOver contents store state = (objects : Objects) (count : ℕ) → objects_of contents store ≡ Some objects → IsSound (library state count objects)
-
 -- the library was opened: its objects are those that lie there, its opening number is the next one, and the slot holds
 -- its text
 pub record IsOpened {S : Type 0} (contents : S → Option Contents) (faults : S → ℕ) (given : StoreView S) (store : StoreView S) (state : LibState) : Type 0 where
@@ -201,9 +197,9 @@ pub data LeftUnopened {S : Type 0} (contents : S → Option Contents) (given sto
   raised : (found : LibState) → IsFound contents given found → status_of contents store ≡ written (next_opening found) (status_of contents given)
       → LeftUnopened contents given store
 
--- only a write of the text that failed may leave the next one
+-- only a failure of the shelf may leave the next text
 abbrev pub LeftUnopenedBy : {S : Type 0} → (S → Option Contents) → (given store : StoreView S) → StartFault → Type 0
-LeftUnopenedBy contents given store (start.Store fault) = LeftUnopened contents given store
+LeftUnopenedBy contents given store (start.Store fault) = LeftUnopened contents given store × (is_of_shelf fault ≡ false → status_of contents store ≡ status_of contents given)
 LeftUnopenedBy contents given store start.NoState = status_of contents store ≡ status_of contents given
 LeftUnopenedBy contents given store (start.BadState key) = status_of contents store ≡ status_of contents given
 LeftUnopenedBy contents given store start.Worn = status_of contents store ≡ status_of contents given

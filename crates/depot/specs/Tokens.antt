@@ -1,5 +1,5 @@
 -- Tokens of a library that is kept: when one is refused. Our own. Read token_refusal first.
-use Rattle.std.specs.Prelude.{ℕ, Bool, true, false, nat_le, if◌then◌else◌, List, [], ◌∷◌, ◌++◌, length, Option, None, Some, option_map, Result, Ok, Err, ⊤}
+use Rattle.std.specs.Prelude.{ℕ, Bool, false, nat_le, if◌then◌else◌, List, [], ◌∷◌, ◌++◌, length, Option, None, Some, option_map, Result, Ok, Err, ⊤}
 use Rattle.std.specs.List.{slice_get}
 use Rattle.library_state.specs.Tokens.{is_taken}
 use Rattle.library_state.specs.declared.right.Right.{Right}

@@ -1,17 +1,17 @@
 -- How an update is carried out: its objects first, the state text last. Our own. Read StoresSo, then CarriesSo.
-use Rattle.std.specs.Prelude.{◌≡◌, ◌++◌, ℕ, Bool, true, false, List, [], ◌∷◌, Option, None, Some, option_map, Result, Ok, Err, IsTrue, ⊤}
+use Rattle.std.specs.Prelude.{◌≡◌, ◌++◌, ℕ, Bool, false, List, [], ◌∷◌, Option, None, Some, option_map, Result, Ok, Err, IsTrue, ⊤}
 use Rattle.ids.specs.Key.{Objects}
 use Rattle.library_rules.specs.Changes.{put_new, with_added}
 use Rattle.library_rules.specs.declared.entry.Stored.{Stored}
 use Rattle.library_state.specs.declared.state.LibState.{LibState}
 use Rattle.object_store.specs.Shelf.{Contents}
 use Rattle.object_store.specs.Store.{is_free, put_refusal}
-use Rattle.object_store.specs.StoreView.{StoreView, objects_of, status_of}
+use Rattle.object_store.specs.StoreView.{Index, StoreView, objects_of, status_of}
 use Rattle.object_store.specs.declared.error.StoreFault.{StoreFault}
 use Rattle.object_store.specs.declared.shelf.Slot.{Slot as ShelfSlot}
 use Rattle.depot.specs.Answering.{MayRefuseUpdate}
 use Rattle.depot.specs.ObjectCalls.{store_refusal}
-use Rattle.depot.specs.Writing.{Slot, LeftOpen, settled, written}
+use Rattle.depot.specs.Writing.{Slot, LeftBy, settled, written}
 
 -- objects that are put one after another, where the objects are told
 abbrev pub with_all : List Stored → Option Objects → Option Objects
@@ -40,25 +40,25 @@ ArePuttable objects (x ∷ others) = (put_refusal objects x.key x.bytes ≡ None
 abbrev pub ArePuttableIn : Option Objects → List Stored → Type 0
 ArePuttableIn known added = (objects : Objects) → known ≡ Some objects → ArePuttable objects added
 
--- over any shelf an update may be refused by such a fault
+-- over any shelf an update may be refused by such a fault, whatever the index knows
 abbrev pub IsWriteFault : (ShelfSlot → Option (List ℕ) → Type 0) → StoreFault → Type 0
-IsWriteFault may_give fault = MayRefuseUpdate may_give (store_refusal fault)
+IsWriteFault may_give fault = (index : Index) → MayRefuseUpdate index may_give (store_refusal fault)
 
 -- a text that is written in the place of the present one, after that where it was open
 abbrev pub InstallsText : Bool → LibState → LibState → Slot → Bool → Slot → Result ⊤ StoreFault → Type 0
 InstallsText unsettled present next old still new (Ok done) = (still ≡ false) × (new ≡ written next (settled unsettled present old))
-InstallsText unsettled present next old still new (Err fault) = LeftOpen unsettled present next old still new
+InstallsText unsettled present next old still new (Err fault) = LeftBy fault unsettled present next old still new
 
 -- the objects and the slot, where they are told
 pub record Held : Type 0 where
   pub objects : Option Objects
   pub slot : Slot
 
--- the first ones of the objects were put, and nothing was written; or all of them, and it is open what was written, since
--- the shelf failed or for want of memory
+-- the first ones of the objects were put, and nothing was written; or all of them, and then the text was written as far as
+-- a failure of the shelf or want of memory let it
 pub data LeftBehind (fault : StoreFault) (unsettled : Bool) (present next : LibState) (all : List Stored) (old : Held) (still : Bool) (new : Held) : Type 0 where
   stopped : StoresPart old.objects all new.objects → still ≡ unsettled → new.slot ≡ old.slot → LeftBehind fault unsettled present next all old still new
-  unsure : IsTrue (is_free fault) → new.objects ≡ with_all all old.objects → LeftOpen unsettled present next old.slot still new.slot
+  unsure : IsTrue (is_free fault) → new.objects ≡ with_all all old.objects → LeftBy fault unsettled present next old.slot still new.slot
       → LeftBehind fault unsettled present next all old still new
 
 -- all objects are put, and then the next state's text stands

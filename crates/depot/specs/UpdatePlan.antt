@@ -1,11 +1,10 @@
 -- What an update is to do, found by reading alone. Our own. Read objects_in, then PlansSo.
-use Rattle.std.specs.Prelude.{◌≡◌, ◌≢◌, ◌⊎◌, ℕ, true, false, List, [], ◌∷◌, ◌++◌, Option, None, Some, Result, Ok, Err, map as map_list}
+use Rattle.std.specs.Prelude.{◌≡◌, ◌⊎◌, ℕ, true, false, List, [], ◌∷◌, ◌++◌, Option, None, Some, Result, Ok, Err, map as map_list}
 use Rattle.std.specs.FinMap as map
 use Rattle.std.specs.List.{AllByRecursion}
-use Rattle.ids.specs.Key.{Objects}
 use Rattle.ids.specs.declared.key.Key.{Key}
 use Rattle.library_rules.specs.Calls.{Due, Denies, Says, Stores, Installs, Merges}
-use Rattle.library_rules.specs.LibraryState.{State, IsSound, head_of, is_kept}
+use Rattle.library_rules.specs.LibraryState.{State, head_of, is_kept}
 use Rattle.library_rules.specs.MergeCommit.{Clashes, Makes, OfTrees, merge_of}
 use Rattle.library_rules.specs.declared.entry.Stored.{Stored}
 use Rattle.library_state.specs.declared.call.Act.TheVariants as act
@@ -16,13 +15,11 @@ use Rattle.library_state.specs.declared.reply.Reply.TheVariants as reply
 use Rattle.library_state.specs.declared.state.LibState.{LibState}
 use Rattle.library_state.specs.declared.token.Token.{Token}
 use Rattle.object_graph.specs.Objects.{commit_key}
-use Rattle.object_store.specs.Shelf.{Contents}
 use Rattle.object_store.specs.Store.{name_refusal}
-use Rattle.object_store.specs.StoreView.{StoreView, objects_of}
+use Rattle.object_store.specs.StoreView.{Index}
 use Rattle.object_store.specs.declared.shelf.Slot.{Slot as ShelfSlot}
 use Rattle.tree_model.specs.ThreeWayMerge as merged
 use Rattle.depot.specs.Answering.{MayAnswer, decided, update_decided}
-use Rattle.depot.specs.DepotView.{library}
 use Rattle.depot.specs.ObjectCalls.{IsToldRefusal}
 use Rattle.depot.specs.declared.update_plan.Plan.{Plan}
 
@@ -38,10 +35,6 @@ own_object head (Some text) = record { key = commit_key head; bytes = text } ∷
 -- the objects that a plan stores, in this order: directories, and then the head
 abbrev pub objects_in : Plan → List Stored
 objects_in plan = listed (map.entries plan.dirs) ++ own_object plan.head plan.text
-
--- the library of a state is sound over what the store holds
-abbrev pub IsSoundIn : {S : Type 0} → (S → Option Contents) → StoreView S → LibState → Type 0
-IsSoundIn contents store state = (objects : Objects) (count : ℕ) → objects_of contents store ≡ Some objects → IsSound (library state count objects)
 
 -- no object of a plan is forbidden by its name
 abbrev pub AreNamed : List Stored → Type 0
@@ -99,13 +92,13 @@ PlansSo s moment pushed due (Err why) = IsPlanFault s moment due why
 -- ---- over any shelf
 
 -- none where the state decides that the head is answered; a plan where it decides nothing; a refusal that the state decides, or one that an update may have
-abbrev pub DecidesSo : LibState → Token → List ℕ → (ShelfSlot → Option (List ℕ) → Type 0) → Result (Option Plan) Refusal → Type 0
-DecidesSo state token pushed may_give (Ok None) = (is_kept state.kept pushed ≡ true) × (update_decided state token pushed ≡ Some (reply.Updated (head_of state.kept)))
-DecidesSo state token pushed may_give (Ok (Some plan)) = (is_kept state.kept pushed ≡ false) × (update_decided state token pushed ≡ None) × HasNames plan
-DecidesSo state token pushed may_give (Err why) = MayAnswer may_give (act.Update pushed) (update_decided state token pushed) (reply.Refused why)
+abbrev pub DecidesSo : LibState → Token → List ℕ → Index → (ShelfSlot → Option (List ℕ) → Type 0) → Result (Option Plan) Refusal → Type 0
+DecidesSo state token pushed index may_give (Ok None) = (is_kept state.kept pushed ≡ true) × (update_decided state token pushed ≡ Some (reply.Updated (head_of state.kept)))
+DecidesSo state token pushed index may_give (Ok (Some plan)) = (is_kept state.kept pushed ≡ false) × (update_decided state token pushed ≡ None) × HasNames plan
+DecidesSo state token pushed index may_give (Err why) = MayAnswer index may_give (act.Update pushed) (update_decided state token pushed) (reply.Refused why)
 
 -- the same, of a call
-abbrev pub DecidesCall : LibState → Call → List ℕ → (ShelfSlot → Option (List ℕ) → Type 0) → Result (Option Plan) Refusal → Type 0
-DecidesCall state call pushed may_give (Ok None) = (is_kept state.kept pushed ≡ true) × (decided state call ≡ Some (reply.Updated (head_of state.kept)))
-DecidesCall state call pushed may_give (Ok (Some plan)) = (is_kept state.kept pushed ≡ false) × (decided state call ≡ None) × HasNames plan
-DecidesCall state call pushed may_give (Err why) = MayAnswer may_give (act.Update pushed) (decided state call) (reply.Refused why)
+abbrev pub DecidesCall : LibState → Call → List ℕ → Index → (ShelfSlot → Option (List ℕ) → Type 0) → Result (Option Plan) Refusal → Type 0
+DecidesCall state call pushed index may_give (Ok None) = (is_kept state.kept pushed ≡ true) × (decided state call ≡ Some (reply.Updated (head_of state.kept)))
+DecidesCall state call pushed index may_give (Ok (Some plan)) = (is_kept state.kept pushed ≡ false) × (decided state call ≡ None) × HasNames plan
+DecidesCall state call pushed index may_give (Err why) = MayAnswer index may_give (act.Update pushed) (decided state call) (reply.Refused why)

@@ -46,8 +46,8 @@ SettlesSo false state old new result = (new ≡ old) × (result ≡ Ok tt)
 abbrev pub settled : Bool → LibState → Slot → Slot
 settled unsettled state slot = if unsettled then written state slot else slot
 
--- where a call that changes the state was refused: nothing was written; or the present text was, again; or it is open
--- whether the present text was written, or the next one's
+-- where a call that changes the state was refused by a failure of the shelf: nothing was written; or the present text was,
+-- again; or it is open whether the present text was written, or the next one's
 pub data LeftOpen (unsettled : Bool) (present next : LibState) (old : Slot) (still : Bool) (new : Slot) : Type 0 where
   nothing : still ≡ unsettled → new ≡ old → LeftOpen unsettled present next old still new
   again : still ≡ unsettled → unsettled ≡ true → new ≡ written present old → LeftOpen unsettled present next old still new
@@ -55,15 +55,23 @@ pub data LeftOpen (unsettled : Bool) (present next : LibState) (old : Slot) (sti
   open_present : still ≡ true → new ≡ settled unsettled present old → LeftOpen unsettled present next old still new
   open_next : still ≡ true → new ≡ written next (settled unsettled present old) → LeftOpen unsettled present next old still new
 
+-- after want of memory nothing was written; or the present text was, again, and stands
+abbrev pub LeftWanting : Bool → LibState → Slot → Bool → Slot → Type 0
+LeftWanting unsettled present old still new = ((still ≡ unsettled) × (new ≡ old)) ⊎ ((still ≡ false) × (new ≡ settled unsettled present old))
+
+-- what is left after a fault: only a failure of the shelf may leave the next text
+abbrev pub LeftBy : StoreFault → Bool → LibState → LibState → Slot → Bool → Slot → Type 0
+LeftBy Shelf unsettled present next old still new = LeftOpen unsettled present next old still new
+LeftBy NoMemory unsettled present next old still new = LeftWanting unsettled present old still new
+LeftBy (Taken id) unsettled present next old still new = ⊥
+LeftBy (Wrong id) unsettled present next old still new = ⊥
+LeftBy (Damaged want got) unsettled present next old still new = ⊥
+
 -- a call that changes the state from the present to the next one writes its text, after the present one where that was
 -- open; and it fails as the shelf does, or for want of memory
 abbrev pub RewritesSo : Bool → LibState → LibState → Slot → Bool → Slot → Result ⊤ StoreFault → Type 0
 RewritesSo unsettled present next old still new (Ok done) = (still ≡ false) × (new ≡ written next (settled unsettled present old))
-RewritesSo unsettled present next old still new (Err Shelf) = LeftOpen unsettled present next old still new
-RewritesSo unsettled present next old still new (Err NoMemory) = LeftOpen unsettled present next old still new
-RewritesSo unsettled present next old still new (Err (Taken id)) = ⊥
-RewritesSo unsettled present next old still new (Err (Wrong id)) = ⊥
-RewritesSo unsettled present next old still new (Err (Damaged want got)) = ⊥
+RewritesSo unsettled present next old still new (Err fault) = LeftBy fault unsettled present next old still new
 
 -- one object more, where the objects are told
 abbrev pub with_stored : Stored → Option Objects → Option Objects

@@ -28,7 +28,7 @@ impl<S: Shelf> Depot<S> {
 
         // Of every shelf: what the state decides, and the cause of each fault.
         ensures denied { permits (token_of self.old.state.tokens call.now.secret) call.now.act ≡ false → result ≡ Reply.Refused Refusal.Denied }
-        ensures cause { MayAnswer (S.may_give self.new.store.shelf) call.now.act (decided self.old.state call.now) result }
+        ensures cause { MayAnswer self.old.store.index (S.may_give self.new.store.shelf) call.now.act (decided self.old.state call.now) result }
         ensures damaged { (objects : Objects) → objects_of S.contents self.old.store ≡ Some objects → IsToldDamage objects result }
         ensures faults { Counts (S.faults self.old.store.shelf) (S.faults self.new.store.shelf) result }
 

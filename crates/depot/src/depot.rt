@@ -1,5 +1,5 @@
 //! A library that is kept.
-ghost use Rattle.std.specs.Prelude.{◌≡◌, ◌<◌, ◌≤◌, length, Option, None, Some};
+ghost use Rattle.std.specs.Prelude.{◌≡◌, ◌<◌};
 ghost use Rattle.library_rules.specs.LibraryState.{head_of};
 
 use ids::{LibId, ObjId};

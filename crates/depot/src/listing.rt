@@ -26,7 +26,7 @@ pub(crate) fn list_ids<S: Shelf>(
 ) -> Reply
     ensures value { (s : State) → objects_of S.contents store.old ≡ Some s.objects → s.kept ≡ kept.now → IsSound s → SaysOr s.objects (listed s server.now client.now) result }
     ensures kept { Keeps S.contents store.old store.new }
-    ensures cause { MayAnswer (S.may_give store.new.shelf) (act.Ids server.now client.now) (ids_decided kept.now server.now) result }
+    ensures cause { MayAnswer store.new.index (S.may_give store.new.shelf) (act.Ids server.now client.now) (ids_decided kept.now server.now) result }
     ensures damage { (objects : Objects) → objects_of S.contents store.old ≡ Some objects → IsToldDamage objects result }
     ensures faults { Counts (S.faults store.old.shelf) (S.faults store.new.shelf) result }
 {

@@ -3,10 +3,10 @@ ghost use Rattle.std.specs.Prelude.{◌≡◌, ◌++◌, ◌∷◌, [], ℕ, IfO
 ghost use Rattle.std.specs.FinMap as map;
 ghost use Rattle.ids.specs.Key.{Objects};
 ghost use Rattle.library_rules.specs.Calls.{absent};
-ghost use Rattle.library_rules.specs.LibraryState.{State};
+ghost use Rattle.library_rules.specs.LibraryState.{State, is_stored};
 ghost use Rattle.object_store.specs.StoreView.{objects_of};
 ghost use Rattle.depot.specs.Answering.{MayTell};
-ghost use Rattle.depot.specs.Missing.{absent_from, is_absent};
+ghost use Rattle.depot.specs.Missing.{absent_from, is_absent, is_known};
 ghost use Rattle.depot.specs.ObjectCalls.{Counts, IsToldDamage, SaysOr};
 
 use ids::{IdList, Key, KeyTable, Kind, ObjId};
@@ -22,7 +22,7 @@ pub(crate) fn missing_objects<S: Shelf>(
     ids: &[ObjId],
 ) -> Reply
     ensures value { (s : State) → objects_of S.contents store.now ≡ Some s.objects → SaysOr s.objects (Reply.Absent (absent s kind ids.now)) result }
-    ensures cause { MayTell (S.may_give store.now.shelf) result }
+    ensures cause { MayTell store.now.index kind ids.now result }
     ensures damage { (objects : Objects) → IsToldDamage objects result }
     ensures faults { (count : ℕ) → Counts count count result }
 {
@@ -40,7 +40,8 @@ fn absent_ids<S: Shelf>(
     ids: &[ObjId],
 ) -> Result<IdList, AllocError>
     ensures value { (objects : Objects) → objects_of S.contents store.now ≡ Some objects
-        → IfOk result (λ found. found ≡ absent_from objects kind map.empty ids.now) }
+        → IfOk result (λ found. found ≡ absent_from (is_stored objects) kind map.empty ids.now) }
+    ensures told { IfOk result (λ found. found ≡ absent_from (is_known store.now.index) kind map.empty ids.now) }
 {
     let mut met = KeyTable::new(alloc);
     let mut found = IdList::new(alloc);
@@ -55,7 +56,8 @@ fn absent_ids<S: Shelf>(
 
 /// Whether a key is told absent.
 fn is_absent<S: Shelf>(store: &Store<S>, met: &KeyTable<()>, key: &Key) -> bool
-    ensures value { (objects : Objects) → objects_of S.contents store.now ≡ Some objects → result ≡ is_absent objects met.now key.now }
+    ensures value { (objects : Objects) → objects_of S.contents store.now ≡ Some objects → result ≡ is_absent (is_stored objects) met.now key.now }
+    ensures told { result ≡ is_absent (is_known store.now.index) met.now key.now }
 {
     !key.id.is_nil() && store.has(*key).is_none() && !met.has(key)
 }

@@ -36,7 +36,7 @@ pub(crate) fn store_refusal(fault: StoreFault) -> Refusal
 pub(crate) fn get_object<S: Shelf>(store: &mut Store<S>, key: &Key) -> Reply
     ensures value { (objects : Objects) → objects_of S.contents store.old ≡ Some objects → SaysOr objects (got key.now (map.get objects key.now)) result }
     ensures kept { Keeps S.contents store.old store.new }
-    ensures cause { MayGet (S.may_give store.new.shelf) key.now result }
+    ensures cause { MayGet store.old.index (S.may_give store.new.shelf) key.now result }
     ensures damage { (objects : Objects) → objects_of S.contents store.old ≡ Some objects → IsToldDamage objects result }
     ensures faults { Counts (S.faults store.old.shelf) (S.faults store.new.shelf) result }
 {
@@ -60,7 +60,7 @@ pub(crate) fn put_object<S: Shelf>(
     ensures kept { status_of S.contents store.new ≡ status_of S.contents store.old }
     ensures stored { (objects_of S.contents store.new ≡ objects_of S.contents store.old)
         ⊎ (objects_of S.contents store.new ≡ with_stored (record { key = key.now; bytes = bytes.now }) (objects_of S.contents store.old)) }
-    ensures cause { MayAnswer (S.may_give store.new.shelf) (act.Put key.now bytes.now) (put_decided lib.now key.now bytes.now) result }
+    ensures cause { MayAnswer store.old.index (S.may_give store.new.shelf) (act.Put key.now bytes.now) (put_decided lib.now key.now bytes.now) result }
     ensures damage { (objects : Objects) → objects_of S.contents store.old ≡ Some objects → IsToldDamage objects result }
     ensures faults { Counts (S.faults store.old.shelf) (S.faults store.new.shelf) result }
 {
@@ -78,7 +78,7 @@ fn store_object<S: Shelf>(store: &mut Store<S>, key: &Key, bytes: &[u8]) -> Repl
     ensures kept { status_of S.contents store.new ≡ status_of S.contents store.old }
     ensures stored { (objects_of S.contents store.new ≡ objects_of S.contents store.old)
         ⊎ (objects_of S.contents store.new ≡ with_stored (record { key = key.now; bytes = bytes.now }) (objects_of S.contents store.old)) }
-    ensures cause { MayAnswer (S.may_give store.new.shelf) (act.Put key.now bytes.now) (store_decided key.now bytes.now) result }
+    ensures cause { MayAnswer store.old.index (S.may_give store.new.shelf) (act.Put key.now bytes.now) (store_decided key.now bytes.now) result }
     ensures damage { (objects : Objects) → objects_of S.contents store.old ≡ Some objects → IsToldDamage objects result }
     ensures faults { Counts (S.faults store.old.shelf) (S.faults store.new.shelf) result }
 {
@@ -97,7 +97,7 @@ fn put_fs<S: Shelf>(alloc: Global, store: &mut Store<S>, key: &Key, bytes: &[u8]
     ensures kept { status_of S.contents store.new ≡ status_of S.contents store.old }
     ensures stored { (objects_of S.contents store.new ≡ objects_of S.contents store.old)
         ⊎ (objects_of S.contents store.new ≡ with_stored (record { key = key.now; bytes = bytes.now }) (objects_of S.contents store.old)) }
-    ensures cause { (lib : List ℕ) → MayAnswer (S.may_give store.new.shelf) (act.Put key.now bytes.now) (put_decided lib key.now bytes.now) result }
+    ensures cause { (lib : List ℕ) → MayAnswer store.old.index (S.may_give store.new.shelf) (act.Put key.now bytes.now) (put_decided lib key.now bytes.now) result }
     ensures damage { (objects : Objects) → objects_of S.contents store.old ≡ Some objects → IsToldDamage objects result }
     ensures faults { Counts (S.faults store.old.shelf) (S.faults store.new.shelf) result }
 {
@@ -134,7 +134,7 @@ fn put_commit_text<S: Shelf>(
     ensures kept { status_of S.contents store.new ≡ status_of S.contents store.old }
     ensures stored { (objects_of S.contents store.new ≡ objects_of S.contents store.old)
         ⊎ (objects_of S.contents store.new ≡ with_stored (record { key = key.now; bytes = bytes.now }) (objects_of S.contents store.old)) }
-    ensures cause { MayAnswer (S.may_give store.new.shelf) (act.Put key.now bytes.now) (put_decided lib.now key.now bytes.now) result }
+    ensures cause { MayAnswer store.old.index (S.may_give store.new.shelf) (act.Put key.now bytes.now) (put_decided lib.now key.now bytes.now) result }
     ensures damage { (objects : Objects) → objects_of S.contents store.old ≡ Some objects → IsToldDamage objects result }
     ensures faults { Counts (S.faults store.old.shelf) (S.faults store.new.shelf) result }
 {

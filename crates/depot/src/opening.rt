@@ -1,5 +1,5 @@
 //! How a library is made, and opened again.
-ghost use Rattle.std.specs.Prelude.{◌≡◌, ◌≤◌, ℕ, List, length, Some, None, IfOk, IfErr, OnOk, OnErr, Option, IsTrue, ⊤, Ok, false};
+ghost use Rattle.std.specs.Prelude.{◌≡◌, ◌≤◌, ℕ, List, length, Some, None, IfOk, IfErr, OnOk, OnErr, Option, ⊤, Ok, false};
 ghost use Rattle.ids.specs.FaultCount.{FailsBy};
 ghost use Rattle.ids.specs.Key.{Objects};
 ghost use Rattle.ids.specs.Outcome.{RefusesAs};

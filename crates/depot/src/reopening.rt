@@ -1,12 +1,12 @@
 //! How a library is opened again.
-ghost use Rattle.std.specs.Prelude.{◌≡◌, ◌≢◌, ℕ, List, Option, Some, IfOk, IfErr, OnOk, OnErr, Err, [], false, ⊤};
+ghost use Rattle.std.specs.Prelude.{◌≡◌, ◌≢◌, ℕ, List, Option, Some, IfOk, IfErr, OnOk, Err, [], false, ⊤};
 ghost use Rattle.ids.specs.FaultCount.{FailsBy};
 ghost use Rattle.ids.specs.Key.{Objects};
 ghost use Rattle.library_rules.specs.LibraryState.{last_number};
 ghost use Rattle.library_state.specs.ProperState.{IsProper};
 ghost use Rattle.object_store.specs.StoreView.{Keeps, objects_of, status_of};
-ghost use Rattle.depot.specs.DepotView.{IsGood};
-ghost use Rattle.depot.specs.Reopening.{IsDueOr, IsFound, IsGiven, IsOpened, IsSoundOver, IsStartFault, IsStateFault, LeftUnopenedBy, OpensTold, StartsAs, is_start_counted, start_refusal, state_refusal, without_store};
+ghost use Rattle.depot.specs.DepotView.{IsGood, IsSoundIn};
+ghost use Rattle.depot.specs.Reopening.{IsDueOr, IsFound, IsGiven, IsOpened, IsStartFault, IsStateFault, LeftUnopenedBy, OpensTold, StartsAs, is_start_counted, start_refusal, state_refusal, without_store};
 
 use crate::complete::{CheckFault, check_kept};
 use crate::depot::Depot;
@@ -53,7 +53,7 @@ impl<S: Shelf> Depot<S> {
 fn open<S: Shelf>(alloc: Global, store: &mut Store<S>) -> Result<LibState, StartFault>
     ensures value { IfOk result (IsOpened S.contents S.faults store.old store.new) }
     ensures found { IfOk result (λ state. state.kept ≢ []) }
-    ensures sound { IfOk result (IsSoundOver S.contents store.new) }
+    ensures sound { IfOk result (IsSoundIn S.contents store.new) }
     ensures err { IfErr result (LeftUnopenedBy S.contents store.old store.new) }
     ensures kept { objects_of S.contents store.new ≡ objects_of S.contents store.old }
     ensures refused { (objects : Objects) → (status : Option (List ℕ)) → objects_of S.contents store.old ≡ Some objects → status_of S.contents store.old ≡ Some status

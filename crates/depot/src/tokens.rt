@@ -1,5 +1,5 @@
 //! Tokens of a library that is kept.
-ghost use Rattle.std.specs.Prelude.{◌≡◌, ◌≤◌, ◌++◌, ◌∷◌, [], ℕ, List, length, None, Some, IfOk, OnOk, OnErr, IfSome, option_map};
+ghost use Rattle.std.specs.Prelude.{◌≡◌, ◌≤◌, ◌++◌, ◌∷◌, [], List, length, None, Some, IfOk, OnOk, OnErr, IfSome};
 ghost use Rattle.ids.specs.FaultCount.{FailsBy};
 ghost use Rattle.ids.specs.Outcome.{RefusesAs};
 ghost use Rattle.library_rules.specs.Creation.{with_token};

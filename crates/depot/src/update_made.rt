@@ -39,7 +39,7 @@ pub(crate) fn plan_merged<S: Shelf>(
     ensures value { (objects : Objects) (count : ℕ) → objects_of S.contents store.old ≡ Some objects
         → PlansMade objects merged (commit_over (library state.now count objects) moment user.now pushed merged) result }
     ensures named { IfOk result HasNames }
-    ensures cause { IfErr result (MayRefuseUpdate (S.may_give store.new.shelf)) }
+    ensures cause { IfErr result (MayRefuseUpdate store.new.index (S.may_give store.new.shelf)) }
     ensures damage { (objects : Objects) → objects_of S.contents store.old ≡ Some objects → IfErr result (IsToldDamageOf objects) }
     ensures kept { ReadsOnly S.contents S.faults store.old store.new result }
 {
@@ -105,7 +105,7 @@ fn made_commit(
 fn is_stored<S: Shelf>(store: &mut Store<S>, id: &ObjId, text: &[u8]) -> Result<bool, Refusal>
     ensures value { (objects : Objects) → objects_of S.contents store.old ≡ Some objects → StoredSo objects id.now text.now result }
     ensures not_zeros { OnOk result (is_nil id.now ≡ false) }
-    ensures cause { IfErr result (MayRefuseUpdate (S.may_give store.new.shelf)) }
+    ensures cause { IfErr result (MayRefuseUpdate store.new.index (S.may_give store.new.shelf)) }
     ensures damage { (objects : Objects) → objects_of S.contents store.old ≡ Some objects → IfErr result (IsToldDamageOf objects) }
     ensures kept { ReadsOnly S.contents S.faults store.old store.new result }
 {

@@ -46,7 +46,7 @@ pub(crate) fn plan_merge<S: Shelf>(
     ensures value { (objects : Objects) (count : ℕ) → objects_of S.contents store.old ≡ Some objects
         → MergesSo (library state.now count objects) moment user.now base pushed result }
     ensures named { IfOk result HasNames }
-    ensures cause { IfErr result (MayRefuseUpdate (S.may_give store.new.shelf)) }
+    ensures cause { IfErr result (MayRefuseUpdate store.new.index (S.may_give store.new.shelf)) }
     ensures damage { (objects : Objects) → objects_of S.contents store.old ≡ Some objects → IfErr result (IsToldDamageOf objects) }
     ensures kept { ReadsOnly S.contents S.faults store.old store.new result }
 {

@@ -9,10 +9,10 @@ ghost use Rattle.library_state.specs.declared.call.Call.{Call};
 ghost use Rattle.object_graph.specs.Traversal.{walk_commit};
 ghost use Rattle.object_store.specs.StoreView.{objects_of};
 ghost use Rattle.depot.specs.Answering.{MayRefuseUpdate, permits};
-ghost use Rattle.depot.specs.DepotView.{library};
+ghost use Rattle.depot.specs.DepotView.{IsSoundIn, library};
 ghost use Rattle.depot.specs.ObjectCalls.{IsToldDamageOf};
 ghost use Rattle.depot.specs.UpdateBase.{ReadsOnly};
-ghost use Rattle.depot.specs.UpdatePlan.{DecidesCall, DecidesSo, HasNames, IsSoundIn, PlansDue, PlansSo};
+ghost use Rattle.depot.specs.UpdatePlan.{DecidesCall, DecidesSo, HasNames, PlansDue, PlansSo};
 
 use crate::update_base::{Found, find_base, is_head, is_kept, walk_refusal};
 use crate::update_merge::plan_merge;
@@ -48,7 +48,7 @@ pub(crate) fn plan_of<S: Shelf>(
     ensures value { (objects : Objects) (count : ℕ) → objects_of S.contents store.old ≡ Some objects
         → (call : Call) → call.secret ≡ secret.now → call.act ≡ act.Update pushed
         → PlansSo (library state.now count objects) moment pushed (due (library state.now count objects) call) result }
-    ensures any { (call : Call) → call.secret ≡ secret.now → call.act ≡ act.Update pushed → DecidesCall state.now call pushed (S.may_give store.new.shelf) result }
+    ensures any { (call : Call) → call.secret ≡ secret.now → call.act ≡ act.Update pushed → DecidesCall state.now call pushed store.new.index (S.may_give store.new.shelf) result }
     ensures damage { (objects : Objects) → objects_of S.contents store.old ≡ Some objects → IfErr result (IsToldDamageOf objects) }
     ensures kept { ReadsOnly S.contents S.faults store.old store.new result }
 {
@@ -85,7 +85,7 @@ fn plan_update<S: Shelf>(
     requires some_kept { state.now.kept ≢ [] }
     ensures value { (objects : Objects) (count : ℕ) → objects_of S.contents store.old ≡ Some objects
         → PlansSo (library state.now count objects) moment pushed (update_due (library state.now count objects) token.now pushed) result }
-    ensures any { DecidesSo state.now token.now pushed (S.may_give store.new.shelf) result }
+    ensures any { DecidesSo state.now token.now pushed store.new.index (S.may_give store.new.shelf) result }
     ensures damage { (objects : Objects) → objects_of S.contents store.old ≡ Some objects → IfErr result (IsToldDamageOf objects) }
     ensures kept { ReadsOnly S.contents S.faults store.old store.new result }
 {
@@ -119,7 +119,7 @@ fn plan_unknown<S: Shelf>(
         → PlansDue (library state.now count objects) moment
         (base_due (library state.now count objects) user.now pushed (base_of (library state.now count objects) pushed)) result }
     ensures named { IfOk result HasNames }
-    ensures cause { IfErr result (MayRefuseUpdate (S.may_give store.new.shelf)) }
+    ensures cause { IfErr result (MayRefuseUpdate store.new.index (S.may_give store.new.shelf)) }
     ensures damage { (objects : Objects) → objects_of S.contents store.old ≡ Some objects → IfErr result (IsToldDamageOf objects) }
     ensures kept { ReadsOnly S.contents S.faults store.old store.new result }
 {
@@ -150,7 +150,7 @@ fn plan_based<S: Shelf>(
     ensures value { (objects : Objects) (count : ℕ) → objects_of S.contents store.old ≡ Some objects
         → PlansDue (library state.now count objects) moment (complete_due (library state.now count objects) user.now base pushed (walk_commit objects pushed).fault) result }
     ensures named { IfOk result HasNames }
-    ensures cause { IfErr result (MayRefuseUpdate (S.may_give store.new.shelf)) }
+    ensures cause { IfErr result (MayRefuseUpdate store.new.index (S.may_give store.new.shelf)) }
     ensures damage { (objects : Objects) → objects_of S.contents store.old ≡ Some objects → IfErr result (IsToldDamageOf objects) }
     ensures kept { ReadsOnly S.contents S.faults store.old store.new result }
 {

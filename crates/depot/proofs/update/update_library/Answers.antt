@@ -1,16 +1,14 @@
 -- What was planned is carried out.
-use Rattle.std.proofs.Common.{◌∙◌, ◌≡◌, ap, sym, subst, refl, None, Some, Option, Ok, Err}
+use Rattle.std.proofs.Common.{◌∙◌, ap, sym, subst, refl, None, Some, Ok, Err}
 use Rattle.std.specs.Prelude.{⊤}
 use Rattle.library_rules.specs.LibraryState.{head_of}
 use Rattle.library_state.specs.declared.call.Act.TheVariants as act
 use Rattle.library_state.specs.declared.call.Call.{Call}
-use Rattle.library_state.specs.declared.reply.Reply.{Reply}
 use Rattle.library_state.specs.declared.reply.Reply.TheVariants as reply
 use Rattle.library_rules.specs.Calls.{due}
 use Rattle.object_store.specs.Store.{CountsShelf}
-use Rattle.object_store.specs.StoreView.{objects_of}
 use Rattle.depot.specs.Answering.{Serves, with_install}
-use Rattle.depot.specs.DepotView.{DepotView, IsGood, library}
+use Rattle.depot.specs.DepotView.{DepotView, library}
 use Rattle.depot.specs.UpdateInstall.{CarriesSo, held_in}
 use Rattle.depot.specs.UpdatePlan.{objects_in}
 use Rattle.depot.proofs.GoodLemmas.{sound_at}
@@ -47,7 +45,7 @@ head_of-requires g c = record { some = λ none. c.requires.good.head (sym c.slic
 pub returns-in-None-clause-value : goal.returns-in-None-clause-value
 returns-in-None-clause-value g c = λ call asks updates.
     let old : DepotView g.row.S.Denot = record { store = c.args.store.now; state = c.args.state.now; unsettled = c.args.unsettled.now } in
-    let decides = decides_at c.args.state.now call c.args.pushed (g.S.Shelf.may_give c.plan_of.new.store.shelf) c.in-Ok.plan None c.in-None.is (c.in-Ok.ensures.any call asks updates) in
+    let decides = decides_at c.args.state.now call c.args.pushed c.plan_of.new.store.index (g.S.Shelf.may_give c.plan_of.new.store.shelf) c.in-Ok.plan None c.in-None.is (c.in-Ok.ensures.any call asks updates) in
     subst (λ id. Serves g.S.Shelf.contents g.S.Shelf.may_give g.S.Shelf.faults old call c.args.moment (reply.Updated id)
     (record { store = c.plan_of.new.store; state = c.args.state.now; unsettled = c.args.unsettled.now }))
     (sym (c.head_of.ensures.value ∙ ap head_of c.slice.ensures.value))
@@ -64,7 +62,7 @@ returns-in-None-clause-stands g c =
 
 pub carry_out-requires-clause-named : goal.carry_out-requires-clause-named
 carry_out-requires-clause-named g c =
-    (decides_at c.args.state.now (record { secret = c.args.secret.now; act = act.Update c.args.pushed }) c.args.pushed (g.S.Shelf.may_give c.plan_of.new.store.shelf) c.in-Ok.plan
+    (decides_at c.args.state.now (record { secret = c.args.secret.now; act = act.Update c.args.pushed }) c.args.pushed c.plan_of.new.store.index (g.S.Shelf.may_give c.plan_of.new.store.shelf) c.in-Ok.plan
     (Some c.in-Some.plan) c.in-Some.is (c.in-Ok.ensures.any (record { secret = c.args.secret.now; act = act.Update c.args.pushed }) refl refl)).2
 
 pub carry_out-requires-clause-ready : goal.carry_out-requires-clause-ready
@@ -74,12 +72,12 @@ carry_out-requires-clause-ready g c = λ objects told.
     plan_puttable (library c.args.state.now 0 objects) c.args.moment (due (library c.args.state.now 0 objects) call) c.in-Some.plan
     (plans_at (library c.args.state.now 0 objects) c.args.moment c.args.pushed (due (library c.args.state.now 0 objects) call) c.in-Ok.plan (Some c.in-Some.plan) c.in-Some.is
     (c.in-Ok.ensures.value objects 0 before call refl refl)).1
-    (decides_at c.args.state.now call c.args.pushed (g.S.Shelf.may_give c.plan_of.new.store.shelf) c.in-Ok.plan (Some c.in-Some.plan) c.in-Some.is (c.in-Ok.ensures.any call refl refl)).2
+    (decides_at c.args.state.now call c.args.pushed c.plan_of.new.store.index (g.S.Shelf.may_give c.plan_of.new.store.shelf) c.in-Ok.plan (Some c.in-Some.plan) c.in-Some.is (c.in-Ok.ensures.any call refl refl)).2
 
 pub returns-in-Ok-carry_out-clause-value : goal.returns-in-Ok-carry_out-clause-value
 returns-in-Ok-carry_out-clause-value g c = λ call asks updates.
     let old : DepotView g.row.S.Denot = record { store = c.args.store.now; state = c.args.state.now; unsettled = c.args.unsettled.now } in
-    let decides = decides_at c.args.state.now call c.args.pushed (g.S.Shelf.may_give c.plan_of.new.store.shelf) c.in-Ok.plan (Some c.in-Some.plan) c.in-Some.is (c.in-Ok.ensures.any call asks updates) in
+    let decides = decides_at c.args.state.now call c.args.pushed c.plan_of.new.store.index (g.S.Shelf.may_give c.plan_of.new.store.shelf) c.in-Ok.plan (Some c.in-Some.plan) c.in-Some.is (c.in-Ok.ensures.any call asks updates) in
     serves_done g.S.Shelf.contents g.S.Shelf.may_give g.S.Shelf.faults old call c.args.moment c.args.pushed updates c.in-Some.plan decides.0
     (λ objects told. (plans_at (library c.args.state.now (g.S.Shelf.faults c.args.store.now.shelf) objects) c.args.moment c.args.pushed
     (due (library c.args.state.now (g.S.Shelf.faults c.args.store.now.shelf) objects) call) c.in-Ok.plan (Some c.in-Some.plan) c.in-Some.is
@@ -94,7 +92,7 @@ pub returns-in-Ok-carry_out-clause-stands : goal.returns-in-Ok-carry_out-clause-
 returns-in-Ok-carry_out-clause-stands g c =
     let old : DepotView g.row.S.Denot = record { store = c.args.store.now; state = c.args.state.now; unsettled = c.args.unsettled.now } in
     let call : Call = record { secret = c.args.secret.now; act = act.Update c.args.pushed } in
-    let decides = decides_at c.args.state.now call c.args.pushed (g.S.Shelf.may_give c.plan_of.new.store.shelf) c.in-Ok.plan (Some c.in-Some.plan) c.in-Some.is (c.in-Ok.ensures.any call refl refl) in
+    let decides = decides_at c.args.state.now call c.args.pushed c.plan_of.new.store.index (g.S.Shelf.may_give c.plan_of.new.store.shelf) c.in-Ok.plan (Some c.in-Some.plan) c.in-Some.is (c.in-Ok.ensures.any call refl refl) in
     good_done g.S.Shelf.contents g.S.Shelf.may_give g.S.Shelf.faults old call c.args.moment c.args.pushed refl c.in-Some.plan decides.0
     (λ objects told. (plans_at (library c.args.state.now (g.S.Shelf.faults c.args.store.now.shelf) objects) c.args.moment c.args.pushed
     (due (library c.args.state.now (g.S.Shelf.faults c.args.store.now.shelf) objects) call) c.in-Ok.plan (Some c.in-Some.plan) c.in-Some.is
@@ -108,7 +106,7 @@ returns-in-Ok-carry_out-clause-stands g c =
 pub returns-clause-value : goal.returns-clause-value
 returns-clause-value g c = λ call asks updates.
     let old : DepotView g.row.S.Denot = record { store = c.args.store.now; state = c.args.state.now; unsettled = c.args.unsettled.now } in
-    let decides = decides_at c.args.state.now call c.args.pushed (g.S.Shelf.may_give c.plan_of.new.store.shelf) c.in-Ok.plan (Some c.in-Some.plan) c.in-Some.is (c.in-Ok.ensures.any call asks updates) in
+    let decides = decides_at c.args.state.now call c.args.pushed c.plan_of.new.store.index (g.S.Shelf.may_give c.plan_of.new.store.shelf) c.in-Ok.plan (Some c.in-Some.plan) c.in-Some.is (c.in-Ok.ensures.any call asks updates) in
     subst (λ why. Serves g.S.Shelf.contents g.S.Shelf.may_give g.S.Shelf.faults old call c.args.moment (reply.Refused why)
     (record { store = c.carry_out.new.store; state = c.carry_out.new.state; unsettled = c.carry_out.new.unsettled })) (sym c.store_refusal.ensures.value)
     (serves_failed g.S.Shelf.contents g.S.Shelf.may_give g.S.Shelf.faults old call c.args.moment c.args.pushed updates c.in-Some.plan decides.0
@@ -128,7 +126,7 @@ pub returns-clause-stands : goal.returns-clause-stands
 returns-clause-stands g c =
     let old : DepotView g.row.S.Denot = record { store = c.args.store.now; state = c.args.state.now; unsettled = c.args.unsettled.now } in
     let call : Call = record { secret = c.args.secret.now; act = act.Update c.args.pushed } in
-    let decides = decides_at c.args.state.now call c.args.pushed (g.S.Shelf.may_give c.plan_of.new.store.shelf) c.in-Ok.plan (Some c.in-Some.plan) c.in-Some.is (c.in-Ok.ensures.any call refl refl) in
+    let decides = decides_at c.args.state.now call c.args.pushed c.plan_of.new.store.index (g.S.Shelf.may_give c.plan_of.new.store.shelf) c.in-Ok.plan (Some c.in-Some.plan) c.in-Some.is (c.in-Ok.ensures.any call refl refl) in
     good_failed g.S.Shelf.contents g.S.Shelf.may_give g.S.Shelf.faults old call c.args.moment c.args.pushed refl c.in-Some.plan decides.0
     (λ objects told. (plans_at (library c.args.state.now (g.S.Shelf.faults c.args.store.now.shelf) objects) c.args.moment c.args.pushed
     (due (library c.args.state.now (g.S.Shelf.faults c.args.store.now.shelf) objects) call) c.in-Ok.plan (Some c.in-Some.plan) c.in-Some.is

@@ -2,12 +2,13 @@
 use Rattle.std.proofs.Common.{◌∙◌, ◌≡◌, ap, sym, subst}
 use Rattle.library_rules.specs.LibraryState.{head_of}
 use Rattle.depot.specs.DepotView.{library}
+use Rattle.depot.specs.Answering.{MayRefuseUpdate}
 use Rattle.depot.specs.ObjectCalls.{IsToldDamageOf}
 use Rattle.depot.specs.UpdateBase.{walk_refusal}
-use Rattle.depot.specs.UpdateMerge.{AreComplete, HasRoots, merge_refusal}
+use Rattle.depot.specs.UpdateMerge.{merge_refusal}
 use Rattle.depot.specs.UpdatePlan.{MergeRefuses}
 use Rattle.depot.proofs.UpdateBaseLemmas.{none_due, told_damage, told_merge}
-use Rattle.depot.proofs.UpdateMergeLemmas.{at_head, merge_damage, merge_refuses, merges_so, roots_at, roots_whole}
+use Rattle.depot.proofs.UpdateMergeLemmas.{at_head, merge_damage, merge_may, merge_refuses, merges_so, roots_at, roots_whole}
 use Rattle.depot.proofs.update_merge.plan_merge.Goals as goal
 
 pub returns-in-Err-clause-value : goal.returns-in-Err-clause-value
@@ -53,6 +54,11 @@ returns-in-Err-merge-clause-damage g c = λ objects told.
     (merge_damage c.args.state.now 0 objects c.args.moment c.args.user.now c.args.base c.args.pushed c.in-Ok.roots complete
     (roots_at objects c.args.base c.head_of-head.result (head_of c.args.state.now.kept) c.args.pushed c.in-Ok.roots head complete (c.in-Ok.ensures.value objects told))
     c.in-Err-merge.fault (c.in-Err-merge.ensures.value objects (c.in-Ok.ensures.kept.kept.objects ∙ told)))
+
+pub returns-in-Err-merge-clause-cause : goal.returns-in-Err-merge-clause-cause
+returns-in-Err-merge-clause-cause g c =
+    subst (MayRefuseUpdate c.merge.new.store.index (g.S.Shelf.may_give c.merge.new.store.shelf)) (sym c.merge_refusal.ensures.value)
+    (merge_may c.merge.new.store.index (g.S.Shelf.may_give c.merge.new.store.shelf) c.in-Err-merge.fault c.in-Err-merge.ensures.caused c.in-Err-merge.ensures.kept.cause)
 
 pub returns-clause-value : goal.returns-clause-value
 returns-clause-value g c = λ objects count told.

@@ -1,11 +1,10 @@
 -- The search for the merge base ends as it is defined.
-use Rattle.std.proofs.Common.{◌∙◌, ap, sym, inl, refl, subst}
+use Rattle.std.proofs.Common.{◌∙◌, sym, inl, subst}
 use Rattle.library_rules.specs.MergeBase.{base_of}
 use Rattle.library_state.specs.declared.refusal.Refusal.TheVariants as refusal
 use Rattle.depot.specs.DepotView.{library}
 use Rattle.depot.specs.ObjectCalls.{IsToldDamageOf}
 use Rattle.depot.specs.UpdateBase.{walk_refusal}
-use Rattle.depot.specs.UpdatePlan.{IsPlanFault}
 use Rattle.depot.specs.declared.update_base.Found.TheVariants as found
 use Rattle.depot.proofs.UpdateBaseLemmas.{fault_not_damaged}
 use Rattle.depot.proofs.UpdatePlanLemmas.{base_is_kept, found_at, known_base, unknown_fault}

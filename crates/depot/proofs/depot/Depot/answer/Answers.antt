@@ -1,6 +1,5 @@
 -- One who may ask is answered, and else the call is denied.
-use Rattle.std.proofs.Common.{◌≡◌, ◌∙◌, ap, sym, subst, false, Option, Some, option_map}
-use Rattle.library_rules.specs.LibraryState.{State}
+use Rattle.std.proofs.Common.{◌≡◌, ◌∙◌, ap, sym, subst, false}
 use Rattle.library_state.specs.declared.token.Token.{Token}
 use Rattle.std.specs.Prelude.{List}
 use Rattle.library_rules.specs.Calls.{token_of}

@@ -26,7 +26,7 @@ returns g c = record {
       c.list_ids.new.store c.list_ids.result c.list_ids.ensures.kept
       (λ objects told. c.list_ids.ensures.value (library c.self.inside.state (g.S.Shelf.faults c.self.inside.store.shelf) objects) told (sym c.slice.ensures.value)
       (sound_at g.S.Shelf.contents g.S.Shelf.faults (record { store = c.self.inside.store; state = c.self.inside.state; unsettled = c.self.inside.unsettled }) c.self.invariant objects (g.S.Shelf.faults c.self.inside.store.shelf) told))
-      (subst (λ (kept : List Install). MayAnswer (g.S.Shelf.may_give c.list_ids.new.store.shelf) (act.Ids c.args.server.now c.args.client.now) (ids_decided kept c.args.server.now) c.list_ids.result)
+      (subst (λ (kept : List Install). MayAnswer c.list_ids.new.store.index (g.S.Shelf.may_give c.list_ids.new.store.shelf) (act.Ids c.args.server.now c.args.client.now) (ids_decided kept c.args.server.now) c.list_ids.result)
       c.slice.ensures.value c.list_ids.ensures.cause) c.list_ids.ensures.damage c.list_ids.ensures.faults)
       c.requires.right;
 }
