@@ -68,20 +68,23 @@ module _ {S : Type 0} (contents : S → Option Contents) where
       let slot = slot_told store held.status (status ∙ at) in
       (slot.0, slot.1, lies store held.objects slot.0 slot.1 objects, inl slot.2)
 
-  raised_slot : (given store : StoreView S) (held : Contents) (fault : StoreFault) → LeftUnopened contents given store → status_of contents given ≡ Some held.status
+  -- only a counted failure may leave the next text
+  raised_slot : (given store : StoreView S) (held : Contents) (fault : StoreFault) (counted : Bool) → is_of_shelf fault ≡ counted → LeftUnopened contents given store
+      → (counted ≡ false → status_of contents store ≡ status_of contents given) → status_of contents given ≡ Some held.status
       → objects_of contents store ≡ Some held.objects → LeavesOpened (start.Store fault) held (contents store.shelf)
-  raised_slot given store held fault (unraised status) at objects = unraised_slot given store held (start.Store fault) status at objects
-  raised_slot given store held fault (raised found is status) at objects =
+  raised_slot given store held fault false is_counted left kept at objects = unraised_slot given store held (start.Store fault) (kept refl) at objects
+  raised_slot given store held fault true is_counted (unraised status) kept at objects = unraised_slot given store held (start.Store fault) status at objects
+  raised_slot given store held fault true is_counted (raised found is status) kept at objects =
       let slot = slot_told store (Some (text_of (next_opening found))) (status ∙ ap (written (next_opening found)) at) in (
         slot.0,
         slot.1,
         lies store held.objects slot.0 slot.1 objects,
-        inr (tt, is.text, found, is.told held.status at, is.reads, slot.2),
+        inr (is_counted, is.text, found, is.told held.status at, is.reads, slot.2),
       )
 
   pub left_unopened : (given store : StoreView S) (held : Contents) (why : StartFault) → LeftUnopenedBy contents given store why
       → status_of contents given ≡ Some held.status → objects_of contents store ≡ Some held.objects → LeavesOpened why held (contents store.shelf)
-  left_unopened given store held (start.Store fault) left at objects = raised_slot given store held fault left at objects
+  left_unopened given store held (start.Store fault) left at objects = raised_slot given store held fault (is_of_shelf fault) refl left.0 left.1 at objects
   left_unopened given store held start.NoState left at objects = unraised_slot given store held start.NoState left at objects
   left_unopened given store held (start.BadState key) left at objects = unraised_slot given store held (start.BadState key) left at objects
   left_unopened given store held start.Worn left at objects = unraised_slot given store held start.Worn left at objects

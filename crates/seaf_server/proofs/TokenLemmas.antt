@@ -14,7 +14,7 @@ use Rattle.depot.specs.declared.error.TokenFault.TheVariants as token
 use Rattle.library_rules.specs.LibraryState.{State}
 use Rattle.library_rules.specs.Recovery.{written_part}
 use Rattle.object_store.specs.Shelf.{Contents}
-use Rattle.object_store.specs.Store.{is_free}
+use Rattle.object_store.specs.Store.{is_free, is_of_shelf}
 use Rattle.object_store.specs.StoreView.{indexed, objects_of, status_of}
 use Rattle.object_store.specs.declared.error.StoreFault.{StoreFault}
 use Rattle.object_store.specs.declared.error.StoreFault.TheVariants as store
@@ -42,20 +42,21 @@ free_last true full why e = cc
 free_last false true why e = cc
 free_last false false why e = cc
 
--- what the slot holds after a write that may have failed: the present text or the next one's
+-- what the slot holds after a write that failed: the present text, or where the shelf failed the next one's
 slot_after : (present next : LibState) (still : Bool) (new : Slot) → LeftOpen false present next (Some (Some (text_of present))) still new
-    → (new ≡ Some (Some (text_of present))) ⊎ (new ≡ Some (Some (text_of next)))
+    → (new ≡ Some (Some (text_of present))) ⊎ (IsTrue (is_of_shelf store.Shelf) × (new ≡ Some (Some (text_of next))))
 slot_after present next still new (nothing same is) = inl is
 slot_after present next still new (again same was is) = inl is
 slot_after present next still new (settles same is) = inl is
 slot_after present next still new (open_present same is) = inl is
-slot_after present next still new (open_next same is) = inr is
+slot_after present next still new (open_next same is) = inr (refl, is)
 
 rewritten_slot : (present next : LibState) (still : Bool) (new : Slot) (why : StoreFault) → IsTrue (is_free why)
     → RewritesSo false present next (Some (Some (text_of present))) still new (Err why)
-    → (new ≡ Some (Some (text_of present))) ⊎ (new ≡ Some (Some (text_of next)))
+    → (new ≡ Some (Some (text_of present))) ⊎ (IsTrue (is_of_shelf why) × (new ≡ Some (Some (text_of next))))
 rewritten_slot present next still new store.Shelf free left = slot_after present next still new left
-rewritten_slot present next still new store.NoMemory free left = slot_after present next still new left
+rewritten_slot present next still new store.NoMemory free (inl (same, is)) = inl is
+rewritten_slot present next still new store.NoMemory free (inr (same, is)) = inl is
 rewritten_slot present next still new (store.Taken id) free left = absurd left
 rewritten_slot present next still new (store.Wrong id) free left = absurd left
 rewritten_slot present next still new (store.Damaged want got) free left = absurd left
@@ -133,7 +134,7 @@ module _ {S : Type 0} (contents : S → Option Contents) (faults : S → ℕ) wh
         free,
         elim (rewritten_slot old.state next now.unsettled (status_of contents now.store) why free left) [
           | inl is ↦ inl (text_stands old now held after (state_on old held) there kept is back)
-          | inr is ↦ inr (text_stands old now held after (with_new new (state_on old held)) there kept is back)
+          | inr risen ↦ inr (risen.0, text_stands old now held after (with_new new (state_on old held)) there kept risen.1 back)
         ],
       )
 

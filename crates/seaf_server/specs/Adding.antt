@@ -11,7 +11,7 @@ use Rattle.library_rules.specs.Recovery.{written_part}
 use Rattle.library_state.specs.StateSpelling.{text_of}
 use Rattle.object_graph.specs.Unchanged.{Keeps}
 use Rattle.object_store.specs.Shelf.{Contents}
-use Rattle.object_store.specs.Store.{is_free}
+use Rattle.object_store.specs.Store.{is_free, is_of_shelf}
 use Rattle.object_store.specs.declared.shelf.Slot.{Slot}
 use Rattle.server_words.specs.declared.command.Place.{Place}
 use Rattle.seaf_server.specs.LibraryOpening.{IsNotOpened, OpensTo, RefusesOpening, is_unopened_counted}
@@ -32,11 +32,11 @@ pub record StandsWithText (standing : Option Standing) (s t : State) : Type 0 wh
   pub text : held.status ≡ Some (text_of (written_part t))
 
 -- why a token is not added to the library that was opened, and how that stands then: as it was opened, but that where the
--- storage or memory failed its text may be the one with the token
+-- storage failed its text may be the one with the token
 abbrev pub RefusesToken : NewToken → State → TokenFault → Option Standing → Type 0
 RefusesToken new s token.SecretTaken after = (is_taken s.tokens new.secret ≡ true) × StandsAs after s
 RefusesToken new s token.Full after = (is_taken s.tokens new.secret ≡ false) × (1000 ≤ length s.tokens) × StandsAs after s
-RefusesToken new s (token.Store why) after = IsTrue (is_free why) × (StandsWithText after s s ⊎ StandsWithText after s (with_new new s))
+RefusesToken new s (token.Store why) after = IsTrue (is_free why) × (StandsWithText after s s ⊎ (IsTrue (is_of_shelf why) × StandsWithText after s (with_new new s)))
 
 -- over told libraries, as one stood before and stands after: what was opened is there with the token, or the token is
 -- refused by its first cause, or nothing was opened

@@ -7,7 +7,6 @@ use Rattle.object_graph.specs.Unchanged.{Keeps}
 use Rattle.depot.specs.DepotView.{DepotView, library, state_of}
 use Rattle.depot.specs.Reopening.{IsStartFault, next_opening, StartsAs, is_start_counted, start_refusal}
 use Rattle.depot.specs.declared.error.StartFault.{StartFault}
-use Rattle.depot.specs.declared.error.StartFault.TheVariants as start
 use Rattle.folder_storage.specs.Ground.{Absent, Kept, Standing}
 use Rattle.library_rules.specs.LibraryState.{State}
 use Rattle.library_rules.specs.Recovery.{opened}
@@ -56,18 +55,11 @@ pub data OpensTo (place : Place) (lib : List ℕ) (shows : ℕ → Type 0) (stan
   made : IsMemory place → standing ≡ Absent → (moment count : ℕ) → shows moment → s ≡ library_of (memory_library lib) moment count
       → OpensTo place lib shows standing s
 
-abbrev pub IsOfStore : StartFault → Type 0
-IsOfStore (start.Store fault) = ⊤
-IsOfStore start.NoState = ⊥
-IsOfStore (start.BadState key) = ⊥
-IsOfStore start.Worn = ⊥
-IsOfStore (start.Walk fault) = ⊥
-
--- what lies in the slot where a library could not be opened: what lay there, or, where the store failed, the text with the
+-- what lies in the slot where a library could not be opened: what lay there, or, where the storage failed, the text with the
 -- next opening number
 abbrev pub MayRaise : StartFault → Contents → Contents → Type 0
 MayRaise why held h = (h.status ≡ held.status)
-    ⊎ (IsOfStore why × (text : List ℕ) × (found : LibState) × (held.status ≡ Some text) × (read_state text ≡ Ok found) × (h.status ≡ Some (text_of (next_opening found))))
+    ⊎ (IsTrue (is_start_counted why) × (text : List ℕ) × (found : LibState) × (held.status ≡ Some text) × (read_state text ≡ Ok found) × (h.status ≡ Some (text_of (next_opening found))))
 
 -- a library that could not be opened keeps all its objects
 abbrev pub LeavesOpened : StartFault → Contents → Option Contents → Type 0

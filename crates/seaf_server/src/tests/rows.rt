@@ -1,12 +1,6 @@
 //! Connections with a library in memory: worked replies, row by row.
-use super::{MOMENT, library};
-use crate::serving::serve_link;
-use http_front::MemoryLink;
-use ids::{Bytes, Items};
-use library_state::ListClock;
-use std::process::Abort;
+use super::expect_replies;
 use std::test::Fail;
-use worker_server::Served;
 
 const REFUSED_ASKED: &[u8] =
     b"GET /repo/11111111-2222-4333-8444-555555555555/commit/HEAD HTTP/1.1\r\nHost: x\r\n\r\nGET /repo/11111111-2222-4333-8444-555555555555/block/a9993e364706816aba3e25717850c26c9cd0d89d HTTP/1.1\r\nHost: x\r\nSeafile-Repo-Token: bbbbbbbbbbbbbbbbbbbbbbbbbbbbbbbbbbbbbbbb\r\n\r\nGET /repo/11111111-2222-4333-8444-555555555556/commit/HEAD HTTP/1.1\r\nHost: x\r\nSeafile-Repo-Token: aaaaaaaaaaaaaaaaaaaaaaaaaaaaaaaaaaaaaaaa\r\n\r\nGET /x HTTP/1.1\r\nHost: x\r\nSeafile-Repo-Token: aaaaaaaaaaaaaaaaaaaaaaaaaaaaaaaaaaaaaaaa\r\n\r\nDELETE /x HTTP/1.1\r\nHost: x\r\nSeafile-Repo-Token: aaaaaaaaaaaaaaaaaaaaaaaaaaaaaaaaaaaaaaaa\r\n\r\nPUT /repo/11111111-2222-4333-8444-555555555555/commit/HEAD HTTP/1.1\r\nHost: x\r\nSeafile-Repo-Token: aaaaaaaaaaaaaaaaaaaaaaaaaaaaaaaaaaaaaaaa\r\n\r\n";
@@ -31,22 +25,6 @@ const UNRELATED_ASKED: &[u8] =
 
 const UNRELATED_REPLIES: &[u8] =
     b"HTTP/1.1 200 OK\r\nContent-Length: 0\r\n\r\nHTTP/1.1 400 Bad Request\r\nContent-Type: application/json\r\nContent-Length: 32\r\n\r\n{\"count\":0,\"reason\":\"unrelated\"}";
-
-/// Serves one connection, in pieces of 100 bytes, with a new library.
-fn expect_replies(
-    rt: &(impl Abort + AllocGlobal),
-    asked: &[u8],
-    replies: &[u8],
-) -> Result<(), Fail> {
-    let mut depot = library(rt.alloc())?;
-    let asked = Bytes::copy(rt.alloc(), asked)?;
-    let mut link = MemoryLink::new(rt.alloc(), asked, 100, 100_000, Items::new(rt.alloc()))?;
-    let clock = ListClock::new(Items::copy(rt.alloc(), &[MOMENT])?);
-    let how = serve_link(rt.alloc(), &mut depot, &mut link, &clock);
-    assert_eq!(rt; link.given(), replies);
-    assert!(rt; matches!(how, Served::Ended));
-    Ok(())
-}
 
 #[test]
 fn who_may_not_ask_is_told_so_and_so_is_what_cannot_be_asked(rt: HostRuntime) -> Result<(), Fail> {
