@@ -1,7 +1,8 @@
 """What a server on a folder says to bad storage: faults.py SERVER FOLDER.
 
 A missing folder, a file in its place, no permission, a full disk, a missing or odd state text, damaged and missing
-objects. After each the defined line or reply, no secret in it, and the library as it was once the fault is mended.
+objects, a library that another process has. After each the defined line or reply, no secret in it, and the library as
+it was once the fault is mended.
 """
 import json
 import os
@@ -139,6 +140,19 @@ def bad_objects(files, commit, root, file, block):
     serves("the objects put back", files)
 
 
+def two_servers(files, commit):
+    """A library's folder is one process's at a time."""
+    first = Connection(server, folder, LIBRARY, TOKEN)
+    first.head()
+    before = open(os.path.join(library, "status"), "rb").read()
+    lines("a library that another process has", folder, "store fault")
+    line("a library that another process has", "create", folder, "library exists")
+    tell("the one that has it is answered", first.head(), commit)
+    tell("its state text stayed", open(os.path.join(library, "status"), "rb").read() == before, True)
+    first.end()
+    serves("the process is gone", files)
+
+
 def no_permission(files):
     """As nobody, where this runs as root."""
     if os.geteuid() != 0 or not shutil.which("setpriv"):
@@ -195,6 +209,7 @@ def main():
     bad_folders(files)
     bad_state(files)
     bad_objects(files, commit, root, file, block)
+    two_servers(files, commit)
     no_permission(files)
     full_disk()
     print(f"{failed} wrong")
