@@ -1,24 +1,14 @@
 //! The server program: it makes libraries, adds tokens to them, and serves one connection over standard input and output.
 //!
-//! `run` is the server's top call, and `serve_link` the promise of one connection, over any shelf. Definitions: specs/,
-//! read Answering, then Runs and what it cites. `main` makes the real objects and calls `run`.
+//! `main` makes the real objects and calls `library_server::run`, whose clauses say what is done.
 #![tactic(auto)]
 
 mod adapters;
-mod adding;
-mod creating;
-mod inetd;
-mod making;
-mod not_done;
-mod opening;
-mod running;
-mod serving;
-#[cfg(test)]
-mod tests;
 
 use crate::adapters::{StandardLink, StandardSink, SystemClock};
 use folder_storage::{FolderGround, Ground, MemoryGround};
 use ids::{Items, Text};
+use library_server::run;
 use std::alloc::{AllocError, Global};
 use std::env;
 use std::io::ErrorKind;
@@ -55,7 +45,7 @@ fn run_on<G: Ground>(rt: &HostRuntime, words: &[Text], libraries: &mut G) -> u8 
     };
     let mut link = StandardLink::new(rt.stdin(), rt.stdout());
     let mut out = StandardSink::new(rt.stdout());
-    running::run(
+    run(
         rt,
         rt.alloc(),
         words,

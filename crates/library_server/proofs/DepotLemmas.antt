@@ -1,0 +1,72 @@
+-- What a depot leaves on its shelf. The key lemma is stands_back, at the end.
+use Rattle.std.proofs.Common.{◌≡◌, ℕ, Bool, true, false, cond, List, Option, None, Some, option_map, refl, sym, ap, subst, ◌∙◌}
+use Rattle.std.specs.Prelude.{is_some, unwrap_or}
+use Rattle.std.specs.FinMap as map
+use Rattle.ids.specs.Key.{Objects}
+use Rattle.depot.specs.DepotView.{DepotView, Holds, IsGood, library, state_of}
+use Rattle.folder_storage.specs.Ground.{Kept, Standing, Standings}
+use Rattle.library_rules.proofs.Reopened.{stands_by_its_objects}
+use Rattle.library_rules.specs.LibraryState.{State}
+use Rattle.library_rules.specs.Recovery.{StandsFor, written_part}
+use Rattle.library_state.specs.StateSpelling.{text_of}
+use Rattle.object_graph.specs.Unchanged.{Keeps}
+use Rattle.object_store.proofs.MapLemmas.{get-retained}
+use Rattle.object_store.specs.Shelf.{Contents}
+use Rattle.object_store.specs.StoreView.{Index, indexed, objects_of, status_of}
+use Rattle.library_server.specs.Standing.{ComesBack, StandsAs}
+
+pub some_same : {A : Type 0} (a b : A) → ◌≡◌ {A = Option A} (Some a) (Some b) → a ≡ b
+some_same a b e = ap (λ o. unwrap_or o a) e
+
+retained_bytes : (b : Bool) (x : Option (List ℕ)) (bytes : List ℕ) → cond b x None ≡ Some bytes → x ≡ Some bytes
+retained_bytes true x bytes e = e
+retained_bytes false x bytes e = cc
+
+-- what the store knows lies on the shelf
+pub indexed_lies : (index : Index) (held : Contents) → Keeps (indexed index held) held.objects
+indexed_lies index held = record {
+  kept = λ key bytes there. retained_bytes (is_some (map.get index key)) (map.get held.objects key) bytes (sym (get-retained held.objects index key) ∙ there);
+}
+
+pub mapped_from : {A B : Type 0} (f : A → B) (o : Option A) (b : B) → option_map f o ≡ Some b → (a : A) × (o ≡ Some a)
+mapped_from f (Some a) b e = (a, refl)
+mapped_from f None b e = absurd (cc)
+
+mapped_some : {A B C : Type 0} (f : A → B) (g : B → C) (o : Option A) (c : C) → option_map g (option_map f o) ≡ Some c → (a : A) × (o ≡ Some a)
+mapped_some f g (Some a) c e = (a, refl)
+mapped_some f g None c e = absurd (cc)
+
+module _ {S : Type 0} (contents : S → Option Contents) (faults : S → ℕ) where
+  -- where the state is told, the shelf tells what it holds
+  pub shelf_told : (depot : DepotView S) (s : State) → state_of contents faults depot ≡ Some s → (held : Contents) × (contents depot.store.shelf ≡ Some held)
+  shelf_told depot s told = mapped_some (indexed depot.store.index) (library depot.state (faults depot.store.shelf)) (contents depot.store.shelf) s told
+
+  pub state_is : (depot : DepotView S) (held : Contents) (s : State) → contents depot.store.shelf ≡ Some held → state_of contents faults depot ≡ Some s
+      → s ≡ library depot.state (faults depot.store.shelf) (indexed depot.store.index held)
+  state_is depot held s there told =
+      some_same s (library depot.state (faults depot.store.shelf) (indexed depot.store.index held))
+      (sym told ∙ ap (λ o. option_map (library depot.state (faults depot.store.shelf)) (option_map (indexed depot.store.index) o)) there)
+
+  -- the shelf of a settled depot stands for its state
+  pub stands_again : (depot : DepotView S) (held : Contents) (s : State) → IsGood contents faults depot → depot.unsettled ≡ false
+      → state_of contents faults depot ≡ Some s → contents depot.store.shelf ≡ Some held → StandsFor held.status held.objects s
+  stands_again depot held s good settled told there =
+      let is = state_is depot held s there told in
+      let holds : Holds depot.unsettled depot.state (indexed depot.store.index held) held.status =
+      good.text (indexed depot.store.index held) held.status (ap (option_map (indexed depot.store.index)) there) (ap (option_map (λ (c : Contents). c.status)) there) in
+      let text : held.status ≡ Some (text_of depot.state) = subst (λ b. Holds b depot.state (indexed depot.store.index held) held.status) settled holds in
+      stands_by_its_objects s held.status held.objects (good.sound s told)
+      (text ∙ ap (λ (z : State). Some (text_of (written_part z))) (sym is))
+      (subst (λ (z : State). Keeps z.objects held.objects) (sym is) (indexed_lies depot.store.index held))
+
+  -- a library that came back with a settled depot's shelf stands for its state
+  pub stands_back : (depot : DepotView S) (s : State) (old new : Standings) (folder lib : List ℕ) (standing : Standing)
+      → IsGood contents faults depot → depot.unsettled ≡ false → state_of contents faults depot ≡ Some s
+      → ComesBack old new folder lib (contents depot.store.shelf) → old folder lib ≡ Some standing → StandsAs (new folder lib) s
+  stands_back depot s old new folder lib standing good settled told back there =
+      let shelf = shelf_told depot s told in
+      record {
+        held = shelf.0;
+        there = back.here standing shelf.0 there shelf.1;
+        stands = stands_again depot shelf.0 s good settled told shelf.1;
+      }

@@ -1,0 +1,95 @@
+-- What a shelf holds on which a library was not made, or from which none was opened. The key lemmas are left_unmade and
+-- left_unopened.
+use Rattle.std.proofs.Common.{◌≡◌, ℕ, inl, inr, Bool, true, false, List, Option, None, Some, option_map, refl, sym, ap, subst, ◌∙◌}
+use Rattle.std.specs.Prelude.{◌⊎◌}
+use Rattle.depot.specs.Opening.{LeftUnmade, LeftUnmadeBy, begun, stored, untouched}
+use Rattle.depot.specs.Reopening.{LeftUnopened, LeftUnopenedBy, next_opening, raised, untouched as unraised}
+use Rattle.depot.specs.Writing.{written}
+use Rattle.depot.specs.declared.error.MakeFault.{MakeFault}
+use Rattle.depot.specs.declared.error.MakeFault.TheVariants as make
+use Rattle.depot.specs.declared.error.StartFault.{StartFault}
+use Rattle.depot.specs.declared.error.StartFault.TheVariants as start
+use Rattle.ids.specs.Key.{Objects}
+use Rattle.library_rules.specs.declared.entry.Stored.{Stored}
+use Rattle.library_state.specs.StateSpelling.{text_of}
+use Rattle.library_state.specs.declared.state.LibState.{LibState}
+use Rattle.object_graph.specs.Unchanged.{Keeps}
+use Rattle.object_store.specs.Shelf.{Contents}
+use Rattle.object_store.specs.StoreView.{StoreView, indexed, objects_of, status_of}
+use Rattle.object_store.specs.Store.{is_of_shelf}
+use Rattle.object_store.specs.declared.error.StoreFault.{StoreFault}
+use Rattle.library_server.specs.LibraryOpening.{LeavesOpened}
+use Rattle.library_server.specs.Making.{LeavesText, first_of}
+use Rattle.library_server.specs.declared.making.NewLibrary.{NewLibrary}
+use Rattle.library_server.proofs.DepotLemmas.{indexed_lies, mapped_from, some_same}
+
+module _ {S : Type 0} (contents : S → Option Contents) where
+  -- the slot of a shelf that tells it
+  slot_told : (store : StoreView S) (status : Option (List ℕ)) → status_of contents store ≡ Some status
+      → (h : Contents) × (contents store.shelf ≡ Some h) × (h.status ≡ status)
+  slot_told store status at =
+      let shelf = mapped_from (λ (c : Contents). c.status) (contents store.shelf) status at in
+      (shelf.0, shelf.1, some_same shelf.0.status status (sym (ap (option_map (λ (c : Contents). c.status)) shelf.1) ∙ at))
+
+  unmade_slot : (given store : StoreView S) (x : Stored) (first : LibState) (held : Contents) → LeftUnmade contents given x first store
+      → status_of contents given ≡ Some held.status → (status_of contents store ≡ Some held.status) ⊎ (status_of contents store ≡ Some (Some (text_of first)))
+  unmade_slot given store x first held (untouched objects status) at = inl (status ∙ at)
+  unmade_slot given store x first held (stored objects status) at = inl (status ∙ at)
+  unmade_slot given store x first held (begun objects status) at = inr (status ∙ ap (written first) at)
+
+  kept_slot : (new : NewLibrary) (moment : ℕ) (why : MakeFault) (store : StoreView S) (held : Contents) → status_of contents store ≡ Some held.status
+      → LeavesText new moment why held (contents store.shelf)
+  kept_slot new moment why store held at = let slot = slot_told store held.status at in (slot.0, slot.1, inl slot.2)
+
+  -- only a counted failure may leave the text
+  left_store : (new : NewLibrary) (moment : ℕ) (fault : StoreFault) (counted : Bool) → is_of_shelf fault ≡ counted → (store : StoreView S) (held : Contents)
+      → (status_of contents store ≡ Some held.status) ⊎ (status_of contents store ≡ Some (Some (text_of (first_of new moment))))
+      → (counted ≡ false → status_of contents store ≡ Some held.status) → LeavesText new moment (make.Store fault) held (contents store.shelf)
+  left_store new moment fault true is store held (inl at) kept = kept_slot new moment (make.Store fault) store held at
+  left_store new moment fault true is store held (inr at) kept =
+      let slot = slot_told store (Some (text_of (first_of new moment))) at in (slot.0, slot.1, inr (is, slot.2))
+  left_store new moment fault false is store held slot kept = kept_slot new moment (make.Store fault) store held (kept refl)
+
+  pub left_unmade : (new : NewLibrary) (moment : ℕ) (given store : StoreView S) (x : Stored) (held : Contents) (why : MakeFault)
+      → LeftUnmadeBy contents given x (first_of new moment) store why → status_of contents given ≡ Some held.status
+      → LeavesText new moment why held (contents store.shelf)
+  left_unmade new moment given store x held make.HasState left at = kept_slot new moment make.HasState store held (left.1 ∙ at)
+  left_unmade new moment given store x held (make.Store fault) left at =
+      left_store new moment fault (is_of_shelf fault) refl store held (unmade_slot given store x (first_of new moment) held left.0 at) (λ e. left.1 e ∙ at)
+
+  lies : (store : StoreView S) (objects : Objects) (h : Contents) → contents store.shelf ≡ Some h → objects_of contents store ≡ Some objects → Keeps objects h.objects
+  lies store objects h told at =
+      subst (λ objs. Keeps objs h.objects)
+      (some_same (indexed store.index h) objects (sym (ap (option_map (indexed store.index)) told) ∙ at)) (indexed_lies store.index h)
+
+  unraised_slot : (given store : StoreView S) (held : Contents) (why : StartFault) → status_of contents store ≡ status_of contents given
+      → status_of contents given ≡ Some held.status → objects_of contents store ≡ Some held.objects → LeavesOpened why held (contents store.shelf)
+  unraised_slot given store held why status at objects =
+      let slot = slot_told store held.status (status ∙ at) in
+      (slot.0, slot.1, lies store held.objects slot.0 slot.1 objects, inl slot.2)
+
+  -- only a counted failure may leave the next text
+  raised_slot : (given store : StoreView S) (held : Contents) (fault : StoreFault) (counted : Bool) → is_of_shelf fault ≡ counted → LeftUnopened contents given store
+      → (counted ≡ false → status_of contents store ≡ status_of contents given) → status_of contents given ≡ Some held.status
+      → objects_of contents store ≡ Some held.objects → LeavesOpened (start.Store fault) held (contents store.shelf)
+  raised_slot given store held fault false is_counted left kept at objects = unraised_slot given store held (start.Store fault) (kept refl) at objects
+  raised_slot given store held fault true is_counted (unraised status) kept at objects = unraised_slot given store held (start.Store fault) status at objects
+  raised_slot given store held fault true is_counted (raised found is status) kept at objects =
+      let slot = slot_told store (Some (text_of (next_opening found))) (status ∙ ap (written (next_opening found)) at) in (
+        slot.0,
+        slot.1,
+        lies store held.objects slot.0 slot.1 objects,
+        inr (is_counted, is.text, found, is.told held.status at, is.reads, slot.2),
+      )
+
+  pub left_unopened : (given store : StoreView S) (held : Contents) (why : StartFault) → LeftUnopenedBy contents given store why
+      → status_of contents given ≡ Some held.status → objects_of contents store ≡ Some held.objects → LeavesOpened why held (contents store.shelf)
+  left_unopened given store held (start.Store fault) left at objects = raised_slot given store held fault (is_of_shelf fault) refl left.0 left.1 at objects
+  left_unopened given store held start.NoState left at objects = unraised_slot given store held start.NoState left at objects
+  left_unopened given store held (start.BadState key) left at objects = unraised_slot given store held (start.BadState key) left at objects
+  left_unopened given store held start.Worn left at objects = unraised_slot given store held start.Worn left at objects
+  left_unopened given store held (start.Walk fault) left at objects = unraised_slot given store held (start.Walk fault) left at objects
+
+-- what stays as it is
+pub keeps_all : (objects : Objects) → Keeps objects objects
+keeps_all objects = record { kept = λ key bytes there. there }

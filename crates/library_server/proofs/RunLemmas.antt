@@ -1,0 +1,133 @@
+-- What the top call printed, and its status. The key lemmas are runs_printed and runs_usage.
+use Rattle.std.proofs.Common.{◌≡◌, ℕ, List, Option, None, Some, Result, Ok, Err, refl, sym, ap, subst, ◌∙◌, arith}
+use Rattle.std.specs.Prelude.{IfErr, IfOk, ⊤}
+use Rattle.std.specs.Io.KnownBytes.{append_known}
+use Rattle.library_rules.specs.Creation.{opening_commit}
+use Rattle.object_store.specs.declared.shelf.Slot.{Slot}
+use Rattle.object_store.specs.Shelf.{Contents}
+use Rattle.depot.specs.DepotView.{DepotView}
+use Rattle.server_words.specs.Lines.{fault_status, line_text, status_of as line_status}
+use Rattle.server_words.specs.declared.command.Command.{Command}
+use Rattle.server_words.specs.declared.command.Command.TheVariants.{Create, Token, Inetd, Help, Version, Usage}
+use Rattle.server_words.specs.declared.fault.Fault.{Fault}
+use Rattle.server_words.specs.declared.fault.Fault.TheVariants as fault
+use Rattle.server_words.specs.declared.line.Line.{Line}
+use Rattle.server_words.specs.declared.line.Line.TheVariants as line
+use Rattle.worker_server.specs.declared.served.Served.{Served}
+use Rattle.worker_server.specs.declared.served.Served.TheVariants as served
+use Rattle.library_server.specs.Connections.{LinkView, ServesOpened, ServesPlace, opened, other, served as was_served, status_of, unopened}
+use Rattle.library_server.specs.Lines.{fault_of_not_added, fault_of_not_made, fault_of_not_opened}
+use Rattle.server_words.specs.declared.command.Place.{Place}
+use Rattle.library_server.specs.Adding.{IsNotAdded, is_unadded_counted}
+use Rattle.library_server.specs.Making.{IsNotMade, RoseWhere, is_unmade_counted}
+use Rattle.library_server.specs.declared.making.NewLibrary.{NewLibrary}
+use Rattle.library_server.specs.Runs.{IsAdded, IsCreated, Printed, PrintsSo, RunsSo, SinkView, added_line, adds, created_line, creates, help_printed, in_part, line_printed, printed_of, prints, serves, unread, version_printed, whole}
+use Rattle.library_server.specs.Standing.{GroundView}
+use Rattle.library_server.specs.declared.not_done.NotAdded.{NotAdded}
+use Rattle.library_server.specs.declared.not_done.NotMade.{NotMade}
+
+-- ---- no line but the usage line has the status 2
+
+no_fault : (why : Fault) → fault_status why ≡ 2 → ⊥
+no_fault fault.NoMemory e = cc
+no_fault fault.LibraryExists e = cc
+no_fault fault.NoLibrary e = cc
+no_fault fault.NoState e = cc
+no_fault (fault.BadState key) e = cc
+no_fault fault.Worn e = cc
+no_fault (fault.Incomplete key) e = cc
+no_fault (fault.Unreadable key) e = cc
+no_fault (fault.WrongKind id) e = cc
+no_fault (fault.WrongSize id) e = cc
+no_fault fault.TooDeep e = cc
+no_fault fault.TooMany e = cc
+no_fault (fault.Damaged id) e = cc
+no_fault (fault.Taken id) e = cc
+no_fault fault.SecretTaken e = cc
+no_fault fault.TokensFull e = cc
+no_fault fault.Store e = cc
+
+no_creation : (lib : List ℕ) (created : Result (List ℕ) NotMade) → line_status (created_line lib created) ≡ 2 → ⊥
+no_creation lib (Ok head) e = cc
+no_creation lib (Err why) e = no_fault (fault_of_not_made why) e
+
+no_addition : (added : Result ⊤ NotAdded) → line_status (added_line added) ≡ 2 → ⊥
+no_addition (Ok done) e = cc
+no_addition (Err why) e = no_fault (fault_of_not_added why) e
+
+no_end : (how : Served) → status_of how ≡ 2 → ⊥
+no_end served.Ended e = cc
+no_end served.Limit e = cc
+no_end (served.Cut read) e = cc
+no_end (served.Refused status) e = cc
+no_end served.ReadFault e = cc
+no_end served.WriteFault e = cc
+no_end served.NoMemory e = cc
+
+-- what was put with another status than that of its text failed
+no_print : (printed : Printed) (before now : SinkView) (status : ℕ) → PrintsSo printed before now status → (printed.status ≡ 2 → ⊥) → status ≡ 2 → ⊥
+no_print printed before now status (whole put kept code) never two = never (sym code ∙ two)
+no_print printed before now status (in_part front rose one) never two = cc
+
+unwrapped : (a b : Printed) → ◌≡◌ {A = Option Printed} (Some a) (Some b) → b ≡ a
+unwrapped a b e = cc
+
+usage_alone : (command : Command) (printed : Printed) → printed_of command ≡ Some printed → printed.status ≡ 2
+    → (command ≡ Usage) × (printed.text ≡ line_text line.Usage)
+usage_alone (Create place lib name user secret) printed e two = absurd (cc)
+usage_alone (Token place lib user secret right) printed e two = absurd (cc)
+usage_alone (Inetd place lib) printed e two = absurd (cc)
+usage_alone Help printed e two = absurd (zero_two (sym (ap (λ z. z.status) (unwrapped help_printed printed e)) ∙ two))
+  where
+    zero_two : ◌≡◌ {A = ℕ} 0 2 → ⊥
+    zero_two e = omega arith
+usage_alone Version printed e two = absurd (zero_two (sym (ap (λ z. z.status) (unwrapped version_printed printed e)) ∙ two))
+  where
+    zero_two : ◌≡◌ {A = ℕ} 0 2 → ⊥
+    zero_two e = omega arith
+usage_alone Usage printed e two = (refl, ap (λ z. z.text) (unwrapped (line_printed line.Usage) printed e))
+
+module _ {S : Type 0} (contents : S → Option Contents) (may_give : S → Slot → Option (List ℕ) → Type 0) (faults : S → ℕ) (shows : ℕ → Type 0) where
+  no_service : (lib : List ℕ) (depot after : DepotView S) (before now : LinkView) (status : ℕ)
+      → ServesOpened contents may_give faults lib shows depot after before now status → status ≡ 2 → ⊥
+  no_service lib depot after before now status (was_served same how session ran count is) two = no_end how (sym is ∙ two)
+  no_service lib depot after before now status (other apart same left one) two = cc
+
+  -- the status 2 comes with the usage line alone
+  pub runs_usage : (command : Command) (old new : GroundView) (before now : LinkView) (out_before out_now : SinkView) (status : ℕ)
+      → RunsSo contents may_give faults shows command old new before now out_before out_now status → status ≡ 2
+      → (command ≡ Usage) × (out_now.given ≡ append_known out_before.given (line_text line.Usage))
+  runs_usage command old new before now out_before out_now status (creates place lib name user secret is made left) two =
+      absurd (no_print (line_printed (created_line lib made.created)) out_before out_now status made.prints (no_creation lib made.created) two)
+  runs_usage command old new before now out_before out_now status (adds place lib token is added left) two =
+      absurd (no_print (line_printed (added_line added.added)) out_before out_now status added.prints (no_addition added.added) two)
+  runs_usage command old new before now out_before out_now status (serves place lib is (opened depot after opens service good back) out) two =
+      absurd (no_service lib depot after before now status service two)
+  runs_usage command old new before now out_before out_now status (serves place lib is (unopened why refused code left) out) two =
+      absurd (no_fault (fault_of_not_opened why) (sym code ∙ two))
+  runs_usage command old new before now out_before out_now status (prints printed is (whole put kept code) same left) two =
+      let alone = usage_alone command printed is (sym code ∙ two) in
+      (alone.0, put ∙ ap (append_known out_before.given) alone.1)
+  runs_usage command old new before now out_before out_now status (prints printed is (in_part front rose one) same left) two = absurd (cc)
+  runs_usage command old new before now out_before out_now status (unread three same left out) two = absurd (cc)
+
+-- ---- what was printed tells what was done
+
+module _ {S : Type 0} (may_give : S → Slot → Option (List ℕ) → Type 0) where
+  pub created_so : (new : NewLibrary) (moment before now : ℕ) (created : Result (List ℕ) NotMade)
+      → IfOk created (λ head. head ≡ (opening_commit new.lib new.user moment).id) → IfErr created (IsNotMade may_give new moment)
+      → IfErr created (λ why. RoseWhere (is_unmade_counted why) before now) → IsCreated may_give new moment before now created
+  created_so new moment before now (Ok head) is cause count = is
+  created_so new moment before now (Err why) is cause count = (cause, count)
+
+  pub added_so : (place : Place) (lib : List ℕ) (shows : ℕ → Type 0) (before now : ℕ) (added : Result ⊤ NotAdded)
+      → IfErr added (IsNotAdded may_give place lib shows) → IfErr added (λ why. RoseWhere (is_unadded_counted why) before now)
+      → IsAdded may_give place lib shows before now added
+  added_so place lib shows before now (Ok done) cause count = tt
+  added_so place lib shows before now (Err why) cause count = (cause, count)
+
+-- a text that was put is the one of its name
+pub printed_as : (printed : Printed) (text : List ℕ) (before now : SinkView) (status : ℕ) → text ≡ printed.text
+    → PrintsSo (record { text = text; status = printed.status }) before now status → PrintsSo printed before now status
+printed_as printed text before now status same put =
+    subst (λ t. PrintsSo (record { text = t; status = printed.status }) before now status) same put

@@ -1,0 +1,61 @@
+-- What was handed out and came back, and counts that rose. The key lemmas are comes_back, stands_again and rose_given.
+use Rattle.std.proofs.Common.{◌≡◌, ◌≢◌, ℕ, ◌+◌, ◌-◌, ◌^◌, ◌<◌, ◌≤◌, Bool, true, false, List, Option, None, Some, option_map, Result, Ok, Err, refl, sym, ap, subst, ◌∙◌, arith}
+use Rattle.std.specs.Prelude.{min, IsTrue, ⊤}
+use Rattle.std.specs.Bool.{MatchBool}
+use Rattle.std.specs.FinMap as map
+use Rattle.ids.specs.FaultCount.{FailsBy, Rose}
+use Rattle.ids.specs.Key.{Objects}
+use Rattle.ids.specs.declared.key.Key.{Key}
+use Rattle.folder_storage.specs.Ground.{ChangesStanding, HandedOut, Kept, StandAsBefore, Standing, Standings, TakesBack, count_sum}
+use Rattle.object_store.specs.Shelf.{Contents}
+use Rattle.library_server.specs.Making.{RoseWhere}
+use Rattle.library_server.specs.Standing.{ComesBack, HandsOutOr, Returned, untouched, came_back}
+
+-- what was handed out and taken back came back
+pub comes_back : (old mid new : Standings) (folder lib : List ℕ) (contents : Option Contents)
+    → ChangesStanding old mid folder lib HandedOut → TakesBack mid new folder lib contents → ComesBack old new folder lib contents
+comes_back old mid new folder lib contents out back = record {
+  here = λ standing held there told. back.here held told (out.here ∙ ap (option_map (λ _. HandedOut)) there);
+  others = λ f l apart. back.others f l apart ∙ out.others f l apart;
+}
+
+-- a library that came back stands with what its shelf holds
+pub back_here : (old new : Standings) (folder lib : List ℕ) (contents : Option Contents) (standing : Standing) (held : Contents)
+    → ComesBack old new folder lib contents → old folder lib ≡ Some standing → contents ≡ Some held → new folder lib ≡ Some (Kept held)
+back_here old new folder lib contents standing held back there told = back.here standing held there told
+
+-- after nothing was changed
+pub out_after : (old mid new : Standings) (folder lib : List ℕ) → StandAsBefore old mid → ChangesStanding mid new folder lib HandedOut
+    → ChangesStanding old new folder lib HandedOut
+out_after old mid new folder lib same out = record {
+  here = out.here ∙ ap (option_map (λ _. HandedOut)) (same folder lib);
+  others = λ f l apart. out.others f l apart ∙ same f l;
+}
+
+pub back_after : (old mid new : Standings) (folder lib : List ℕ) (contents : Option Contents) → StandAsBefore old mid
+    → ComesBack mid new folder lib contents → ComesBack old new folder lib contents
+back_after old mid new folder lib contents same back = record {
+  here = λ standing held there told. back.here standing held (same folder lib ∙ there) told;
+  others = λ f l apart. back.others f l apart ∙ same f l;
+}
+
+module _ {S : Type 0} (contents : S → Option Contents) where
+  pub returned_after : (old mid new : Standings) (folder lib : List ℕ) → StandAsBefore old mid → Returned contents mid new folder lib
+      → Returned contents old new folder lib
+  returned_after old mid new folder lib same (untouched kept) = untouched (λ f l. kept f l ∙ same f l)
+  returned_after old mid new folder lib same (came_back shelf back) =
+      came_back shelf (back_after old mid new folder lib (contents shelf) same back)
+
+pub hands_after : {S T E : Type 0} (contents : S → Option Contents) (old mid new : Standings) (folder lib : List ℕ) (result : Result T E)
+    → StandAsBefore old mid → HandsOutOr contents mid new folder lib result → HandsOutOr contents old new folder lib result
+hands_after contents old mid new folder lib (Ok x) same out = out_after old mid new folder lib same out
+hands_after contents old mid new folder lib (Err e) same back = returned_after contents old mid new folder lib same back
+
+-- ---- counts
+
+min_above : (most s0 s1 g : ℕ) → 1 ≤ most → min (s0 + 1) most ≤ s1 → min (g + 1) most ≤ min (g + s1) most
+min_above most s0 s1 g some rose = omega arith
+
+-- a shelf whose count rose raises that of the place that takes it back
+pub rose_given : (s0 s1 g g' : ℕ) → Rose s0 s1 → g' ≡ count_sum g s1 → Rose g g'
+rose_given s0 s1 g g' rose is = rw is (min_above (2 ^ 64 - 1) s0 s1 g (omega arith) rose)

@@ -1,0 +1,36 @@
+-- The library that was opened comes back, with the token or without it.
+use Rattle.std.proofs.Common.{◌∙◌, ap}
+use Rattle.library_server.specs.Standing.{came_back}
+use Rattle.library_server.proofs.DepotLemmas.{stands_back}
+use Rattle.library_server.proofs.StandingLemmas.{comes_back, rose_given}
+use Rattle.library_server.proofs.TokenLemmas.{refuses_token}
+use Rattle.library_server.proofs.adding.add_token.Goals as goal
+
+pub returns-in-Ok-add_token-clause-told : goal.returns-in-Ok-add_token-clause-told
+returns-in-Ok-add_token-clause-told g c = λ standing there.
+    let opens = c.in-Ok.ensures.told standing there in (
+      opens.0,
+      opens.2,
+      stands_back g.G.S.Shelf.contents g.G.S.Shelf.faults c.add_token.new.self _ _ _ _ _ standing
+          c.add_token.ensures.stands c.in-Ok-add_token.ensures.text.0 (c.in-Ok-add_token.ensures.told opens.0 opens.1)
+          (comes_back _ _ _ _ _ _ c.in-Ok.ensures.back (rw c.folder_word.ensures.value at c.bring_back.ensures.ok)) there,
+    )
+
+pub returns-in-Ok-add_token-clause-back : goal.returns-in-Ok-add_token-clause-back
+returns-in-Ok-add_token-clause-back g c =
+    came_back c.add_token.new.self.store.shelf (comes_back _ _ _ _ _ _ c.in-Ok.ensures.back (rw c.folder_word.ensures.value at c.bring_back.ensures.ok))
+
+pub returns-in-Err-add_token-clause-told : goal.returns-in-Err-add_token-clause-told
+returns-in-Err-add_token-clause-told g c = λ standing there.
+    let opens = c.in-Ok.ensures.told standing there in
+    let back = comes_back _ _ _ _ _ _ c.in-Ok.ensures.back (rw c.folder_word-in-Err-add_token.ensures.value at c.bring_back-in-Err-add_token.ensures.ok) in (
+      opens.0,
+      opens.2,
+      refuses_token g.G.S.Shelf.contents g.G.S.Shelf.faults c.in-Ok.depot c.add_token.new.self opens.0 c.args.token.now c.in-Err-add_token.fault _
+          c.in-Ok.ensures.good c.in-Ok.ensures.settled opens.1 c.in-Err-add_token.ensures.refused c.in-Err-add_token.ensures.untouched c.in-Err-add_token.ensures.text
+          c.add_token.ensures.kept (λ held told. back.here standing held there told),
+    )
+
+pub returns-in-Err-add_token-clause-back : goal.returns-in-Err-add_token-clause-back
+returns-in-Err-add_token-clause-back g c =
+    came_back c.add_token.new.self.store.shelf (comes_back _ _ _ _ _ _ c.in-Ok.ensures.back (rw c.folder_word-in-Err-add_token.ensures.value at c.bring_back-in-Err-add_token.ensures.ok))

@@ -1,0 +1,22 @@
+-- What was opened comes back, and its end gives the status.
+use Rattle.std.proofs.Common.{◌∙◌, ap, refl}
+use Rattle.server_words.specs.Lines.{fault_status}
+use Rattle.library_server.specs.Connections.{opened, unopened}
+use Rattle.library_server.proofs.StandingLemmas.{comes_back}
+use Rattle.library_server.proofs.inetd.inetd.Goals as goal
+
+pub returns-in-Err : goal.returns-in-Err
+returns-in-Err g c = record {
+  serves = unopened c.in-Err.fault (record {
+    told = c.in-Err.ensures.told;
+    cause = c.in-Err.ensures.cause;
+    count = c.in-Err.ensures.faults;
+    back = c.in-Err.ensures.back;
+  }) (c.status.ensures.value ∙ ap fault_status c.fault.ensures.value) refl;
+}
+
+pub returns : goal.returns
+returns g c = record {
+  serves = opened c.in-Ok.depot c.serve_opened-status.new.depot c.in-Ok.ensures.told c.serve_opened-status.ensures.serves c.bring_back.ensures.good
+      (comes_back _ _ _ _ _ _ c.in-Ok.ensures.back (rw c.folder_word.ensures.value at c.bring_back.ensures.ok));
+}

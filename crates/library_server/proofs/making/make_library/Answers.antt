@@ -1,0 +1,29 @@
+-- What was handed out is empty, and comes back where no library was made on it.
+use Rattle.std.proofs.Common.{◌∙◌}
+use Rattle.folder_storage.specs.Ground.{no_contents}
+use Rattle.library_server.specs.Standing.{came_back}
+use Rattle.library_server.proofs.StandingLemmas.{comes_back}
+use Rattle.library_server.proofs.making.make_library.Goals as goal
+
+pub returns-in-Ok-None-clause-told : goal.returns-in-Ok-None-clause-told
+returns-in-Ok-None-clause-told g c = λ standing there.
+    ((rw c.in-Ok-None.field-0-is at c.in-Ok-None.ensures.found) standing there, (rw c.in-Ok-None.field-0-is at c.in-Ok-None.ensures.ok) _ _ ∙ there)
+
+pub returns-in-Err-clause-told : goal.returns-in-Err-clause-told
+returns-in-Err-clause-told g c = λ standing there. c.in-Err.ensures.err _ _ ∙ there
+
+pub returns-in-Ok-clause-told : goal.returns-in-Ok-clause-told
+returns-in-Ok-clause-told g c = λ standing there.
+    let made = (rw c.in-Ok-Some.field-0-is at c.in-Ok-Some.ensures.found) standing there in
+    (made.0, g.G.S.Shelf.faults c.in-Ok-Some.shelf, c.in-Ok.ensures.told no_contents made.1)
+
+pub returns-in-Err-make_on-clause-told : goal.returns-in-Err-make_on-clause-told
+returns-in-Err-make_on-clause-told g c = λ standing there.
+    let made = (rw c.in-Ok-Some.field-0-is at c.in-Ok-Some.ensures.found) standing there in
+    let back = comes_back _ _ _ _ _ _ (rw c.in-Ok-Some.field-0-is at c.in-Ok-Some.ensures.ok) c.give_back.ensures.ok in
+    let left = c.in-Err-make_on.ensures.left no_contents made.1 in
+    (made.0, c.in-Err-make_on.ensures.refused no_contents made.1, (left.0, back.here standing left.0 there left.1, left.2))
+
+pub returns-in-Err-make_on-clause-back : goal.returns-in-Err-make_on-clause-back
+returns-in-Err-make_on-clause-back g c =
+    came_back c.in-Err-make_on.shelf (comes_back _ _ _ _ _ _ (rw c.in-Ok-Some.field-0-is at c.in-Ok-Some.ensures.ok) c.give_back.ensures.ok)

@@ -1,0 +1,15 @@
+-- Where no library was made, the slot holds what it held, or the new text.
+use Rattle.std.proofs.Common.{◌∙◌, ap, inl, option_map, refl}
+use Rattle.library_rules.specs.Creation.{opening_commit, opening_object}
+use Rattle.object_store.specs.Shelf.{Contents}
+use Rattle.library_server.proofs.LeftLemmas.{left_unmade}
+use Rattle.library_server.proofs.making.make_on.Goals as goal
+
+pub returns-in-Err-clause-left : goal.returns-in-Err-clause-left
+returns-in-Err-clause-left g c = λ held there. (held, c.in-Err.ensures.err ∙ there, inl refl)
+
+pub returns-in-Err-make-clause-left : goal.returns-in-Err-make-clause-left
+returns-in-Err-make-clause-left g c = λ held there.
+    rw c.end.ensures.value (left_unmade g.S.Shelf.contents c.args.new.now c.args.moment c.in-Ok.store c.in-Err-make.store
+    (opening_object (opening_commit c.args.new.now.lib c.args.new.now.user c.args.moment)) held c.in-Err-make.fault c.in-Err-make.ensures.err
+    (ap (option_map (λ (h : Contents). h.status)) (c.in-Ok.ensures.ok.shelf ∙ there)))

@@ -1,0 +1,32 @@
+-- A command makes a library, adds a token, serves, or prints its text.
+use Rattle.std.proofs.Common.{refl, ap}
+use Rattle.library_server.specs.Runs.{adds, creates, help_printed, line_printed, printed_of, prints, serves, version_printed}
+use Rattle.server_words.specs.declared.line.Line.TheVariants as line
+use Rattle.library_server.proofs.RunLemmas.{printed_as}
+use Rattle.library_server.proofs.running.perform.Goals as goal
+
+pub returns-in-Create : goal.returns-in-Create
+returns-in-Create g c = record {
+  runs = creates c.in-Create.place c.in-Create.lib c.in-Create.name c.in-Create.user c.in-Create.secret c.in-Create.is c.create_printed.ensures.value refl;
+}
+
+pub returns-in-Token : goal.returns-in-Token
+returns-in-Token g c = record {
+  runs = adds c.in-Token.place c.in-Token.lib (record { user = c.in-Token.user; secret = c.in-Token.secret; right = c.in-Token.right }) c.in-Token.is c.add_printed.ensures.value refl;
+}
+
+pub returns-in-Inetd : goal.returns-in-Inetd
+returns-in-Inetd g c = record { runs = serves c.in-Inetd.place c.in-Inetd.lib c.in-Inetd.is c.inetd.ensures.serves refl }
+
+pub returns-in-Help : goal.returns-in-Help
+returns-in-Help g c = record {
+  runs = prints help_printed (ap printed_of c.in-Help.is) (printed_as help_printed _ _ _ _ c.help_text.ensures.value c.print.ensures.prints) refl refl;
+}
+
+pub returns-in-Version : goal.returns-in-Version
+returns-in-Version g c = record {
+  runs = prints version_printed (ap printed_of c.in-Version.is) (printed_as version_printed _ _ _ _ c.version_text.ensures.value c.print-in-Version.ensures.prints) refl refl;
+}
+
+pub returns-in-Usage : goal.returns-in-Usage
+returns-in-Usage g c = record { runs = prints (line_printed line.Usage) (ap printed_of c.in-Usage.is) c.print_line.ensures.prints refl refl }

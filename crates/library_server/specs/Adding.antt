@@ -1,0 +1,56 @@
+-- The command that adds a token. Our own. Read AddsSo first.
+use Rattle.std.specs.Prelude.{◌≡◌, ◌≤◌, ◌⊎◌, ℕ, Bool, true, false, List, length, Option, None, Some, IsTrue, Result, Ok, Err, ⊤}
+use Rattle.library_state.specs.Tokens.{is_taken}
+use Rattle.depot.specs.Tokens.{is_token_counted}
+use Rattle.depot.specs.declared.error.TokenFault.{TokenFault}
+use Rattle.depot.specs.declared.error.TokenFault.TheVariants as token
+use Rattle.folder_storage.specs.Ground.{Kept, Standing}
+use Rattle.library_rules.specs.Creation.{with_token}
+use Rattle.library_rules.specs.LibraryState.{State}
+use Rattle.library_rules.specs.Recovery.{written_part}
+use Rattle.library_state.specs.StateSpelling.{text_of}
+use Rattle.object_graph.specs.Unchanged.{Keeps}
+use Rattle.object_store.specs.Shelf.{Contents}
+use Rattle.object_store.specs.Store.{is_free, is_of_shelf}
+use Rattle.object_store.specs.declared.shelf.Slot.{Slot}
+use Rattle.server_words.specs.declared.command.Place.{Place}
+use Rattle.library_server.specs.LibraryOpening.{IsNotOpened, OpensTo, RefusesOpening, is_unopened_counted}
+use Rattle.library_server.specs.Standing.{StandsAs}
+use Rattle.library_server.specs.declared.adding.NewToken.{NewToken}
+use Rattle.library_server.specs.declared.not_done.NotAdded.{NotAdded}
+use Rattle.library_server.specs.declared.not_done.NotAdded.TheVariants as unadded
+
+-- the library with the token
+abbrev pub with_new : NewToken → State → State
+with_new new s = with_token new.user new.secret new.right s
+
+-- the library is there with the objects of this state, and with the text of that one
+pub record StandsWithText (standing : Option Standing) (s t : State) : Type 0 where
+  pub held : Contents
+  pub there : standing ≡ Some (Kept held)
+  pub lies : Keeps s.objects held.objects
+  pub text : held.status ≡ Some (text_of (written_part t))
+
+-- why a token is not added to the library that was opened, and how that stands then: as it was opened, but that where the
+-- storage failed its text may be the one with the token
+abbrev pub RefusesToken : NewToken → State → TokenFault → Option Standing → Type 0
+RefusesToken new s token.SecretTaken after = (is_taken s.tokens new.secret ≡ true) × StandsAs after s
+RefusesToken new s token.Full after = (is_taken s.tokens new.secret ≡ false) × (1000 ≤ length s.tokens) × StandsAs after s
+RefusesToken new s (token.Store why) after = IsTrue (is_free why) × (StandsWithText after s s ⊎ (IsTrue (is_of_shelf why) × StandsWithText after s (with_new new s)))
+
+-- over told libraries, as one stood before and stands after: what was opened is there with the token, or the token is
+-- refused by its first cause, or nothing was opened
+abbrev pub AddsSo : Place → List ℕ → (ℕ → Type 0) → NewToken → Standing → Result ⊤ NotAdded → Option Standing → Type 0
+AddsSo place lib shows new standing (Ok done) after = (s : State) × OpensTo place lib shows standing s × StandsAs after (with_new new s)
+AddsSo place lib shows new standing (Err (unadded.Refused why)) after = (s : State) × OpensTo place lib shows standing s × RefusesToken new s why after
+AddsSo place lib shows new standing (Err (unadded.Unopened why)) after = RefusesOpening place lib shows standing why after
+
+-- the cause of each refusal, over any ground
+abbrev pub IsNotAdded : {S : Type 0} → (S → Slot → Option (List ℕ) → Type 0) → Place → List ℕ → (ℕ → Type 0) → NotAdded → Type 0
+IsNotAdded may_give place lib shows (unadded.Unopened why) = IsNotOpened may_give place lib shows why
+IsNotAdded may_give place lib shows (unadded.Refused why) = ⊤
+
+-- the failure that the storage counts
+abbrev pub is_unadded_counted : NotAdded → Bool
+is_unadded_counted (unadded.Unopened why) = is_unopened_counted why
+is_unadded_counted (unadded.Refused why) = is_token_counted why

@@ -1,0 +1,126 @@
+-- What the top call does, and its status. Read RunsSo first, at the end.
+use Rattle.std.specs.Prelude.{◌≡◌, ℕ, List, Option, None, Some, Result, Ok, Err, ⊤}
+use Rattle.std.specs.Io.KnownBytes.{append_known}
+use Rattle.ids.specs.FaultCount.{Rose}
+use Rattle.folder_storage.specs.Ground.{StandAsBefore, Standing}
+use Rattle.http_front.specs.Link.{GivesFront}
+use Rattle.library_rules.specs.Creation.{opening_commit}
+use Rattle.object_store.specs.Shelf.{Contents}
+use Rattle.object_store.specs.declared.shelf.Slot.{Slot}
+use Rattle.server_words.specs.Lines.{help_text, line_text, status_of, version_text}
+use Rattle.server_words.specs.Spelling.{place_text}
+use Rattle.server_words.specs.declared.command.Command.{Command}
+use Rattle.server_words.specs.declared.command.Command.TheVariants.{Create, Token, Inetd, Help, Version, Usage}
+use Rattle.server_words.specs.declared.command.Place.{Place}
+use Rattle.server_words.specs.declared.line.Line.{Line}
+use Rattle.server_words.specs.declared.line.Line.TheVariants as line
+use Rattle.library_server.specs.Adding.{AddsSo, IsNotAdded, is_unadded_counted}
+use Rattle.library_server.specs.Connections.{LinkView, ServesPlace}
+use Rattle.library_server.specs.Creating.{CreatesSo}
+use Rattle.library_server.specs.Lines.{fault_of_not_added, fault_of_not_made}
+use Rattle.library_server.specs.Making.{IsNotMade, RoseWhere, is_unmade_counted}
+use Rattle.library_server.specs.Standing.{GroundView, Returned}
+use Rattle.library_server.specs.declared.adding.NewToken.{NewToken}
+use Rattle.library_server.specs.declared.making.NewLibrary.{NewLibrary}
+use Rattle.library_server.specs.declared.not_done.NotAdded.{NotAdded}
+use Rattle.library_server.specs.declared.not_done.NotMade.{NotMade}
+
+-- what is seen of a sink
+pub record SinkView : Type 0 where
+  pub given : Option (List ℕ)
+  pub faults : ℕ
+
+-- ---- what is printed
+
+-- a text, and the status of a command that printed it whole
+pub record Printed : Type 0 where
+  pub text : List ℕ
+  pub status : ℕ
+
+abbrev pub line_printed : Line → Printed
+line_printed line = record { text = line_text line; status = status_of line }
+
+abbrev pub help_printed : Printed
+help_printed = record { text = help_text; status = 0 }
+
+abbrev pub version_printed : Printed
+version_printed = record { text = version_text; status = 0 }
+
+-- the text was put whole, or the sink's count rose and the status is 1
+pub data PrintsSo (printed : Printed) (before now : SinkView) (status : ℕ) : Type 0 where
+  whole : now.given ≡ append_known before.given printed.text → now.faults ≡ before.faults → status ≡ printed.status
+      → PrintsSo printed before now status
+  in_part : GivesFront before.given now.given printed.text → Rose before.faults now.faults → status ≡ 1
+      → PrintsSo printed before now status
+
+-- what a command prints that does nothing else
+abbrev pub printed_of : Command → Option Printed
+printed_of Help = Some help_printed
+printed_of Version = Some version_printed
+printed_of Usage = Some (line_printed line.Usage)
+printed_of (Create place lib name user secret) = None
+printed_of (Token place lib user secret right) = None
+printed_of (Inetd place lib) = None
+
+-- ---- the commands that change a library
+
+-- the line that tells how the making of a library went, and the adding of a token
+abbrev pub created_line : List ℕ → Result (List ℕ) NotMade → Line
+created_line lib (Ok head) = line.Created lib head
+created_line lib (Err why) = line.Fault (fault_of_not_made why)
+
+abbrev pub added_line : Result ⊤ NotAdded → Line
+added_line (Ok done) = line.TokenAdded
+added_line (Err why) = line.Fault (fault_of_not_added why)
+
+-- a line that tells of a new library names its opening commit; one that tells a refusal has its cause
+abbrev pub IsCreated : {S : Type 0} → (S → Slot → Option (List ℕ) → Type 0) → NewLibrary → ℕ → ℕ → ℕ → Result (List ℕ) NotMade → Type 0
+IsCreated may_give new moment before now (Ok head) = head ≡ (opening_commit new.lib new.user moment).id
+IsCreated may_give new moment before now (Err why) = IsNotMade may_give new moment why × RoseWhere (is_unmade_counted why) before now
+
+abbrev pub IsAdded : {S : Type 0} → (S → Slot → Option (List ℕ) → Type 0) → Place → List ℕ → (ℕ → Type 0) → ℕ → ℕ → Result ⊤ NotAdded → Type 0
+IsAdded may_give place lib shows before now (Ok done) = ⊤
+IsAdded may_give place lib shows before now (Err why) = IsNotAdded may_give place lib shows why × RoseWhere (is_unadded_counted why) before now
+
+-- a library was made at a moment of the clock, or not, and the line tells it
+pub record CreatesLibrary {S : Type 0} (contents : S → Option Contents) (may_give : S → Slot → Option (List ℕ) → Type 0) (shows : ℕ → Type 0)
+    (place : Place) (new : NewLibrary) (old now : GroundView) (before after : SinkView) (status : ℕ) : Type 0 where
+  pub created : Result (List ℕ) NotMade
+  pub moment : ℕ
+  pub shown : shows moment
+  pub told : (standing : Standing) → old.stands (place_text place) new.lib ≡ Some standing
+      → CreatesSo new moment standing created (now.stands (place_text place) new.lib)
+  pub is : IsCreated may_give new moment old.faults now.faults created
+  pub back : Returned contents old.stands now.stands (place_text place) new.lib
+  pub prints : PrintsSo (line_printed (created_line new.lib created)) before after status
+
+-- a token was added, or not, and the line tells it
+pub record AddsToken {S : Type 0} (contents : S → Option Contents) (may_give : S → Slot → Option (List ℕ) → Type 0) (shows : ℕ → Type 0)
+    (place : Place) (lib : List ℕ) (new : NewToken) (old now : GroundView) (before after : SinkView) (status : ℕ) : Type 0 where
+  pub added : Result ⊤ NotAdded
+  pub told : (standing : Standing) → old.stands (place_text place) lib ≡ Some standing
+      → AddsSo place lib shows new standing added (now.stands (place_text place) lib)
+  pub is : IsAdded may_give place lib shows old.faults now.faults added
+  pub back : Returned contents old.stands now.stands (place_text place) lib
+  pub prints : PrintsSo (line_printed (added_line added)) before after status
+
+-- ---- all of it
+
+-- a command makes a library, adds a token, or serves a connection and prints nothing; or it prints its text and leaves the
+-- libraries and the link alone; or there was no memory for the words, and nothing was done
+pub data RunsSo {S : Type 0} (contents : S → Option Contents) (may_give : S → Slot → Option (List ℕ) → Type 0) (faults : S → ℕ)
+    (shows : ℕ → Type 0) (command : Command) (old new : GroundView) (before now : LinkView) (out_before out_now : SinkView) (status : ℕ)
+    : Type 0 where
+  creates : (place : Place) (lib name user secret : List ℕ) → command ≡ Create place lib name user secret
+      → CreatesLibrary contents may_give shows place (record { lib = lib; name = name; user = user; secret = secret }) old new out_before out_now status
+      → now ≡ before → RunsSo contents may_give faults shows command old new before now out_before out_now status
+  adds : (place : Place) (lib : List ℕ) (token : NewToken) → command ≡ Token place lib token.user token.secret token.right
+      → AddsToken contents may_give shows place lib token old new out_before out_now status
+      → now ≡ before → RunsSo contents may_give faults shows command old new before now out_before out_now status
+  serves : (place : Place) (lib : List ℕ) → command ≡ Inetd place lib
+      → ServesPlace contents may_give faults place lib shows old new before now status
+      → out_now ≡ out_before → RunsSo contents may_give faults shows command old new before now out_before out_now status
+  prints : (printed : Printed) → printed_of command ≡ Some printed → PrintsSo printed out_before out_now status
+      → new ≡ old → now ≡ before → RunsSo contents may_give faults shows command old new before now out_before out_now status
+  unread : status ≡ 3 → new ≡ old → now ≡ before → out_now ≡ out_before
+      → RunsSo contents may_give faults shows command old new before now out_before out_now status

@@ -1,0 +1,55 @@
+//! The command that adds a token to a library.
+ghost use Rattle.std.specs.Prelude.{◌≡◌, ◌≤◌, ℕ, IfErr, Option, Some, length};
+ghost use Rattle.folder_storage.specs.Ground.{Standing};
+ghost use Rattle.server_words.specs.Spelling.{place_text};
+ghost use Rattle.library_server.specs.Adding.{AddsSo, IsNotAdded, is_unadded_counted};
+ghost use Rattle.library_server.specs.Making.{RoseWhere};
+ghost use Rattle.library_server.specs.Standing.{Returned};
+
+use crate::not_done::NotAdded;
+use crate::opening::{bring_back, folder_word, open_library};
+use folder_storage::Ground;
+use ids::{LibId, Text};
+use library_state::{Clock, Right, Secret};
+use server_words::Place;
+use std::alloc::Global;
+
+/// A token that is to be added. The user's name has 1 to 255 bytes.
+#[derive(Debug, Drop)]
+pub(crate) struct NewToken {
+    pub user: Text,
+    pub secret: Secret,
+    pub right: Right,
+}
+
+/// Opens a library and adds a token to it. What was handed out is back.
+pub(crate) fn add_token<G: Ground, C: Clock>(
+    alloc: Global,
+    libraries: &mut G,
+    place: &Place,
+    lib: LibId,
+    token: &NewToken,
+    clock: &C,
+) -> Result<(), NotAdded>
+    requires ready { (1 ≤ length token.now.user) × (length token.now.user ≤ 255) }
+    ensures told { (standing : Standing) → G.stands libraries.old (place_text place.now) lib ≡ Some standing
+        → AddsSo place.now lib (C.shows clock.now) token.now standing result (G.stands libraries.new (place_text place.now) lib) }
+    ensures back { Returned G.S.contents (G.stands libraries.old) (G.stands libraries.new) (place_text place.now) lib }
+    ensures cause { IfErr result (IsNotAdded G.S.may_give place.now lib (C.shows clock.now)) }
+    ensures faults { IfErr result (λ why. RoseWhere (is_unadded_counted why) (G.faults libraries.old) (G.faults libraries.new)) }
+{
+    let mut depot = match open_library(alloc, libraries, place, lib, clock) {
+        Ok(depot) => depot,
+        Err(fault) => return Err(NotAdded::Unopened(fault)),
+    };
+    match depot.add_token(&token.user, token.secret, token.right) {
+        Ok(()) => {
+            bring_back(libraries, folder_word(place), lib, depot);
+            Ok(())
+        }
+        Err(fault) => {
+            bring_back(libraries, folder_word(place), lib, depot);
+            Err(NotAdded::Refused(fault))
+        }
+    }
+}

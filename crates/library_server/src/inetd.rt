@@ -1,0 +1,70 @@
+//! The command that serves one connection.
+ghost use Rattle.std.specs.Prelude.{◌≡◌};
+ghost use Rattle.server_words.specs.Spelling.{place_text};
+ghost use Rattle.library_server.specs.Connections.{LinkView, ServesOpened, ServesPlace, status_of};
+ghost use Rattle.library_server.specs.Standing.{GroundView};
+
+use crate::opening::{bring_back, folder_word, open_library};
+use crate::serving::serve_link;
+use depot::Depot;
+use folder_storage::Ground;
+use http_front::Link;
+use ids::LibId;
+use library_state::Clock;
+use object_store::Shelf;
+use server_words::{Line, Place};
+use std::alloc::Global;
+use worker_server::Served;
+
+/// Opens a library, serves one connection with it, and gives the status. It prints nothing. What was handed out is back.
+pub(crate) fn inetd<G: Ground, L: Link, C: Clock>(
+    alloc: Global,
+    libraries: &mut G,
+    place: &Place,
+    lib: LibId,
+    link: &mut L,
+    clock: &C,
+) -> u8
+    ensures serves { ServesPlace G.S.contents G.S.may_give G.S.faults place.now lib (C.shows clock.now)
+        (record { stands = G.stands libraries.old; faults = G.faults libraries.old })
+        (record { stands = G.stands libraries.new; faults = G.faults libraries.new })
+        (record { left = L.left link.old; given = L.given link.old; faults = L.faults link.old })
+        (record { left = L.left link.new; given = L.given link.new; faults = L.faults link.new }) result }
+{
+    let mut depot = match open_library(alloc, libraries, place, lib, clock) {
+        Ok(depot) => depot,
+        Err(fault) => return Line::Fault(fault.fault()).status(),
+    };
+    let status = serve_opened(alloc, &mut depot, lib, link, clock);
+    bring_back(libraries, folder_word(place), lib, depot);
+    status
+}
+
+/// Serves one connection with a library that was opened, unless it is another than the one that was named.
+fn serve_opened<S: Shelf, L: Link, C: Clock>(
+    alloc: Global,
+    depot: &mut Depot<S>,
+    lib: LibId,
+    link: &mut L,
+    clock: &C,
+) -> u8
+    ensures serves { ServesOpened S.contents S.may_give S.faults lib (C.shows clock.now) depot.old depot.new
+        (record { left = L.left link.old; given = L.given link.old; faults = L.faults link.old })
+        (record { left = L.left link.new; given = L.given link.new; faults = L.faults link.new }) result }
+{
+    if lib != depot.lib() {
+        return 1;
+    }
+    status_of(serve_link(alloc, depot, link, clock))
+}
+
+/// The status of a connection's end.
+fn status_of(how: Served) -> u8
+    ensures value { result ≡ status_of how }
+{
+    match how {
+        Served::Ended | Served::Limit => 0,
+        Served::Cut(_) | Served::Refused(_) | Served::ReadFault | Served::WriteFault => 1,
+        Served::NoMemory => 3,
+    }
+}

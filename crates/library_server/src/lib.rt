@@ -1,0 +1,20 @@
+//! What the server program does: it makes libraries, adds tokens to them, and serves one connection.
+//!
+//! Shown upward: `run`, the server's top call, and `serve_link`, the promise of one connection, over any shelf, link, clock
+//! and place of libraries. Definitions: specs/, read Answering, then Runs and what it cites.
+//! It opens no real stream, file or clock: those stand in the program above.
+#![tactic(auto)]
+
+mod adding;
+mod creating;
+mod inetd;
+mod making;
+mod not_done;
+mod opening;
+mod running;
+mod serving;
+#[cfg(test)]
+mod tests;
+
+pub use crate::running::run;
+pub use crate::serving::serve_link;

@@ -1,0 +1,160 @@
+//! How a command opens the library that it names.
+ghost use Rattle.std.specs.Prelude.{◌≡◌, ℕ, List, IfOk, IfErr, OnOk, Option, Some, Err, ⊤, false, codes};
+ghost use Rattle.ids.specs.FaultCount.{FailsBy};
+ghost use Rattle.depot.specs.DepotView.{IsGood, state_of};
+ghost use Rattle.depot.specs.Reopening.{IsStartFault, StartsAs, is_start_counted, start_refusal, without_store};
+ghost use Rattle.folder_storage.specs.Ground.{Absent, Standing, TakesBack, count_sum};
+ghost use Rattle.object_store.specs.Shelf.{Contents};
+ghost use Rattle.server_words.specs.Spelling.{place_text};
+ghost use Rattle.library_server.specs.LibraryOpening.{IsMemory, IsNotOpened, LeavesOpened, OpensFrom, OpensSo, is_unopened_counted, memory_library};
+ghost use Rattle.library_server.specs.Making.{RoseWhere};
+ghost use Rattle.library_server.specs.Standing.{HandsOutOr};
+
+use crate::making::{NewLibrary, make_library};
+use crate::not_done::{NotMade, NotOpened};
+use depot::{Depot, StartFault};
+use folder_storage::Ground;
+use ids::{LibId, Text};
+use library_state::{Clock, Secret};
+use object_store::{Shelf, ShelfFailed, Store};
+use server_words::Place;
+use std::alloc::{AllocError, Global};
+
+/// The word of a place.
+pub(crate) fn folder_word(place: &Place) -> &str
+    ensures value { result.now ≡ place_text place.now }
+{
+    match place {
+        Place::Memory => ":memory:",
+        Place::Folder(path) => path.slice(),
+    }
+}
+
+/// Opens the library that a command names. One that is not there is made first where its place is memory, and then used
+/// as it was made.
+///
+/// After a refusal what was handed out is back.
+pub(crate) fn open_library<G: Ground, C: Clock>(
+    alloc: Global,
+    libraries: &mut G,
+    place: &Place,
+    lib: LibId,
+    clock: &C,
+) -> Result<Depot<G::S>, NotOpened>
+    ensures settled { IfOk result (λ depot. depot.unsettled ≡ false) }
+    ensures told { (standing : Standing) → G.stands libraries.old (place_text place.now) lib ≡ Some standing
+        → OpensSo G.S.contents G.S.faults place.now lib (C.shows clock.now) standing result (G.stands libraries.new (place_text place.now) lib) }
+    ensures back { HandsOutOr G.S.contents (G.stands libraries.old) (G.stands libraries.new) (place_text place.now) lib result }
+    ensures cause { IfErr result (IsNotOpened G.S.may_give place.now lib (C.shows clock.now)) }
+    ensures faults { IfErr result (λ why. RoseWhere (is_unopened_counted why) (G.faults libraries.old) (G.faults libraries.new)) }
+    ensures good { IfOk result (IsGood G.S.contents G.S.faults) }
+    ensures count { OnOk result (G.faults libraries.new ≡ G.faults libraries.old) }
+{
+    let folder = folder_word(place);
+    let shelf = match libraries.find(folder, lib) {
+        Ok(Some(shelf)) => shelf,
+        Ok(None) => return open_absent(alloc, libraries, place, lib, clock),
+        Err(failed) => return Err(NotOpened::Storage(failed)),
+    };
+    match open_on(alloc, shelf) {
+        Ok(depot) => Ok(depot),
+        Err((shelf, fault)) => {
+            libraries.give_back(folder, lib, shelf);
+            Err(NotOpened::Refused(fault))
+        }
+    }
+}
+
+/// Gives back the shelf of a library that was opened or made, which can be opened again.
+pub(crate) fn bring_back<G: Ground>(libraries: &mut G, folder: &str, lib: LibId, depot: Depot<G::S>)
+    ensures ok { TakesBack (G.stands libraries.old) (G.stands libraries.new) folder.now lib (G.S.contents depot.store.shelf) }
+    ensures good { IsGood G.S.contents G.S.faults depot }
+    ensures faults { G.faults libraries.new ≡ count_sum (G.faults libraries.old) (G.S.faults depot.store.shelf) }
+{
+    libraries.give_back(folder, lib, depot.close().end());
+}
+
+/// Opens a library that is not there: it is made in memory, and nowhere else.
+fn open_absent<G: Ground, C: Clock>(
+    alloc: Global,
+    libraries: &mut G,
+    place: &Place,
+    lib: LibId,
+    clock: &C,
+) -> Result<Depot<G::S>, NotOpened>
+    ensures settled { IfOk result (λ depot. depot.unsettled ≡ false) }
+    ensures told { G.stands libraries.old (place_text place.now) lib ≡ Some Absent
+        → OpensSo G.S.contents G.S.faults place.now lib (C.shows clock.now) Absent result (G.stands libraries.new (place_text place.now) lib) }
+    ensures back { HandsOutOr G.S.contents (G.stands libraries.old) (G.stands libraries.new) (place_text place.now) lib result }
+    ensures cause { IfErr result (IsNotOpened G.S.may_give place.now lib (C.shows clock.now)) }
+    ensures faults { IfErr result (λ why. RoseWhere (is_unopened_counted why) (G.faults libraries.old) (G.faults libraries.new)) }
+    ensures good { IfOk result (IsGood G.S.contents G.S.faults) }
+    ensures count { OnOk result (G.faults libraries.new ≡ G.faults libraries.old) }
+{
+    match place {
+        Place::Folder(_) => Err(NotOpened::Absent),
+        Place::Memory => make_in_memory(alloc, libraries, lib, clock),
+    }
+}
+
+/// Makes the library that a command names in memory, where there is none.
+fn make_in_memory<G: Ground, C: Clock>(
+    alloc: Global,
+    libraries: &mut G,
+    lib: LibId,
+    clock: &C,
+) -> Result<Depot<G::S>, NotOpened>
+    ensures settled { IfOk result (λ depot. depot.unsettled ≡ false) }
+    ensures told { G.stands libraries.old (codes ":memory:") lib ≡ Some Absent
+        → OpensSo G.S.contents G.S.faults Place.Memory lib (C.shows clock.now) Absent result (G.stands libraries.new (codes ":memory:") lib) }
+    ensures back { HandsOutOr G.S.contents (G.stands libraries.old) (G.stands libraries.new) (codes ":memory:") lib result }
+    ensures cause { IfErr result (IsNotOpened G.S.may_give Place.Memory lib (C.shows clock.now)) }
+    ensures faults { IfErr result (λ why. RoseWhere (is_unopened_counted why) (G.faults libraries.old) (G.faults libraries.new)) }
+    ensures good { IfOk result (IsGood G.S.contents G.S.faults) }
+    ensures count { OnOk result (G.faults libraries.new ≡ G.faults libraries.old) }
+{
+    let new = match memory_library(alloc, lib) {
+        Ok(new) => new,
+        Err(_) => return Err(NotOpened::Storage(ShelfFailed::NoMemory)),
+    };
+    match make_library(alloc, libraries, ":memory:", &new, clock.now()) {
+        Ok(depot) => Ok(depot),
+        Err(fault) => Err(NotOpened::Unmade(fault)),
+    }
+}
+
+/// The library that is made in memory, with forty `a` as its secret.
+fn memory_library(alloc: Global, lib: LibId) -> Result<NewLibrary, AllocError>
+    ensures value { IfOk result (λ new. new ≡ memory_library lib) }
+{
+    let name = Text::copy(alloc, "memory")?;
+    let user = Text::copy(alloc, "me")?;
+    let secret = Secret::from_bytes([0xaa; 20]);
+    Ok(NewLibrary {
+        lib,
+        name,
+        user,
+        secret,
+    })
+}
+
+/// Opens the library of a shelf. After a refusal the shelf is given back.
+fn open_on<S: Shelf>(alloc: Global, shelf: S) -> Result<Depot<S>, (S, StartFault)>
+    ensures settled { IfOk result (λ depot. depot.unsettled ≡ false) }
+    ensures good { IfOk result (IsGood S.contents S.faults) }
+    ensures told { (held : Contents) → S.contents shelf ≡ Some held → IfOk result (OpensFrom S.contents S.faults held) }
+    ensures refused { (held : Contents) → S.contents shelf ≡ Some held
+        → StartsAs held.objects (start_refusal held.objects held.status) (without_store result) }
+    ensures left { (held : Contents) → S.contents shelf ≡ Some held → IfErr result (λ refused. LeavesOpened refused.1 held (S.contents refused.0)) }
+    ensures cause { IfErr result (λ refused. IsStartFault (S.may_give refused.0) refused.1) }
+    ensures faults { IfErr result (λ refused. FailsBy {T = ⊤} is_start_counted (S.faults shelf) (S.faults refused.0) (Err refused.1)) }
+{
+    let store = match Store::start(alloc, shelf) {
+        Ok(store) => store,
+        Err((shelf, fault)) => return Err((shelf, StartFault::Store(fault))),
+    };
+    match Depot::start(alloc, store) {
+        Ok(depot) => Ok(depot),
+        Err((store, fault)) => Err((store.end(), fault)),
+    }
+}

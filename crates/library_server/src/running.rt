@@ -1,0 +1,199 @@
+//! The server's top call.
+ghost use Rattle.std.specs.Prelude.{◌≡◌, ◌≤◌, length};
+ghost use Rattle.std.specs.Io.KnownBytes.{append_known};
+ghost use Rattle.server_words.specs.CommandLine.{NamesFit, command_of};
+ghost use Rattle.server_words.specs.Lines.{line_text};
+ghost use Rattle.server_words.specs.declared.line.Line.TheVariants as lines;
+ghost use Rattle.library_server.specs.Connections.{LinkView};
+ghost use Rattle.library_server.specs.Runs.{AddsToken, CreatesLibrary, PrintsSo, RunsSo, SinkView, added_line, created_line, help_printed, line_printed, version_printed};
+ghost use Rattle.library_server.specs.Standing.{GroundView};
+
+use crate::adding::{NewToken, add_token};
+use crate::creating::create;
+use crate::inetd::inetd;
+use crate::making::NewLibrary;
+use crate::not_done::{NotAdded, NotMade};
+use crate::opening::folder_word;
+use folder_storage::Ground;
+use http_front::{Link, Sink};
+use ids::{LibId, ObjId, Text};
+use library_state::Clock;
+use server_words::{Command, Line, Place, help_text, read_command, version_text};
+use std::alloc::Global;
+
+/// Runs the command that the words are, and gives its status.
+///
+/// `create FOLDER LIB NAME USER TOKEN` makes a library in `libraries`, `token FOLDER LIB USER TOKEN RIGHT` adds a token to
+/// one, and each puts its line or a fault line to `out`. `inetd FOLDER LIB` serves one connection over the link, and puts
+/// nothing. `--help` and `--version`, alone, put their texts. Other words put the usage line. Where FOLDER is `:memory:`,
+/// `token` and `inetd` first make a library that is not there, of the name `memory`, the user `me` and a secret of forty
+/// `a`. What `libraries` handed out is back.
+///
+/// The status is 0 where the command was done, for `inetd` where the connection ended well or met its limit; 1 after a
+/// fault, and where the sink failed; 2 for words that are no command; 3 for want of memory and nothing else, without a
+/// line where there was none for the words.
+pub fn run<G: Ground, L: Link, C: Clock, O: Sink, R>(
+    rt: &R,
+    alloc: Global,
+    words: &[Text],
+    libraries: &mut G,
+    link: &mut L,
+    clock: &C,
+    out: &mut O,
+) -> u8
+    ensures runs { RunsSo G.S.contents G.S.may_give G.S.faults (C.shows clock.now) (command_of words.now)
+        (record { stands = G.stands libraries.old; faults = G.faults libraries.old })
+        (record { stands = G.stands libraries.new; faults = G.faults libraries.new })
+        (record { left = L.left link.old; given = L.given link.old; faults = L.faults link.old })
+        (record { left = L.left link.new; given = L.given link.new; faults = L.faults link.new })
+        (record { given = O.given out.old; faults = O.faults out.old })
+        (record { given = O.given out.new; faults = O.faults out.new }) result }
+
+    // 2 comes with a written usage line alone.
+    ensures usage { result ≡ 2
+        → (command_of words.now ≡ Command.Usage) × (O.given out.new ≡ append_known (O.given out.old) (line_text lines.Usage)) }
+{
+    let _ = rt;
+    match read_command(alloc, words) {
+        Ok(command) => perform(alloc, command, libraries, link, clock, out),
+        Err(_) => 3,
+    }
+}
+
+/// Does what a command asks for.
+fn perform<G: Ground, L: Link, C: Clock, O: Sink>(
+    alloc: Global,
+    command: Command,
+    libraries: &mut G,
+    link: &mut L,
+    clock: &C,
+    out: &mut O,
+) -> u8
+    requires fits { NamesFit command }
+    ensures runs { RunsSo G.S.contents G.S.may_give G.S.faults (C.shows clock.now) command
+        (record { stands = G.stands libraries.old; faults = G.faults libraries.old })
+        (record { stands = G.stands libraries.new; faults = G.faults libraries.new })
+        (record { left = L.left link.old; given = L.given link.old; faults = L.faults link.old })
+        (record { left = L.left link.new; given = L.given link.new; faults = L.faults link.new })
+        (record { given = O.given out.old; faults = O.faults out.old })
+        (record { given = O.given out.new; faults = O.faults out.new }) result }
+{
+    match command {
+        Command::Create {
+            place,
+            lib,
+            name,
+            user,
+            secret,
+        } => {
+            let new = NewLibrary {
+                lib,
+                name,
+                user,
+                secret,
+            };
+            create_printed(alloc, libraries, &place, &new, clock, out)
+        }
+        Command::Token {
+            place,
+            lib,
+            user,
+            secret,
+            right,
+        } => {
+            let new = NewToken {
+                user,
+                secret,
+                right,
+            };
+            add_printed(alloc, libraries, &place, lib, &new, clock, out)
+        }
+        Command::Inetd { place, lib } => inetd(alloc, libraries, &place, lib, link, clock),
+        Command::Help => print(out, help_text(), 0),
+        Command::Version => print(out, version_text(), 0),
+        Command::Usage => print_line(out, Line::Usage),
+    }
+}
+
+/// Makes a library, and puts the line that tells it.
+fn create_printed<G: Ground, C: Clock, O: Sink>(
+    alloc: Global,
+    libraries: &mut G,
+    place: &Place,
+    new: &NewLibrary,
+    clock: &C,
+    out: &mut O,
+) -> u8
+    requires fits { length new.now.name ≤ 255 }
+    requires ready { (1 ≤ length new.now.user) × (length new.now.user ≤ 255) }
+    ensures value { CreatesLibrary G.S.contents G.S.may_give (C.shows clock.now) place.now new.now
+        (record { stands = G.stands libraries.old; faults = G.faults libraries.old })
+        (record { stands = G.stands libraries.new; faults = G.faults libraries.new })
+        (record { given = O.given out.old; faults = O.faults out.old })
+        (record { given = O.given out.new; faults = O.faults out.new }) result }
+{
+    let created = create(alloc, libraries, folder_word(place), new, clock.now());
+    print_line(out, created_line(new.lib, created))
+}
+
+/// The line that tells how the making of a library went.
+fn created_line(lib: LibId, created: Result<ObjId, NotMade>) -> Line
+    ensures value { result ≡ created_line lib created }
+{
+    match created {
+        Ok(head) => Line::Created { lib, head },
+        Err(why) => Line::Fault(why.fault()),
+    }
+}
+
+/// Adds a token, and puts the line that tells it.
+fn add_printed<G: Ground, C: Clock, O: Sink>(
+    alloc: Global,
+    libraries: &mut G,
+    place: &Place,
+    lib: LibId,
+    new: &NewToken,
+    clock: &C,
+    out: &mut O,
+) -> u8
+    requires ready { (1 ≤ length new.now.user) × (length new.now.user ≤ 255) }
+    ensures value { AddsToken G.S.contents G.S.may_give (C.shows clock.now) place.now lib new.now
+        (record { stands = G.stands libraries.old; faults = G.faults libraries.old })
+        (record { stands = G.stands libraries.new; faults = G.faults libraries.new })
+        (record { given = O.given out.old; faults = O.faults out.old })
+        (record { given = O.given out.new; faults = O.faults out.new }) result }
+{
+    let added = add_token(alloc, libraries, place, lib, new, clock);
+    print_line(out, added_line(added))
+}
+
+/// The line that tells how the adding of a token went.
+fn added_line(added: Result<(), NotAdded>) -> Line
+    ensures value { result ≡ added_line added }
+{
+    match added {
+        Ok(()) => Line::TokenAdded,
+        Err(why) => Line::Fault(why.fault()),
+    }
+}
+
+/// Puts a line, and gives its status.
+fn print_line<O: Sink>(out: &mut O, line: Line) -> u8
+    ensures prints { PrintsSo (line_printed line)
+        (record { given = O.given out.old; faults = O.faults out.old })
+        (record { given = O.given out.new; faults = O.faults out.new }) result }
+{
+    print(out, line.text().slice(), line.status())
+}
+
+/// Puts a text, and gives the status.
+fn print<O: Sink>(out: &mut O, text: &[u8], status: u8) -> u8
+    ensures prints { PrintsSo (record { text = text.now; status = status })
+        (record { given = O.given out.old; faults = O.faults out.old })
+        (record { given = O.given out.new; faults = O.faults out.new }) result }
+{
+    match out.put_all(text) {
+        Ok(()) => status,
+        Err(_) => 1,
+    }
+}

@@ -1,0 +1,94 @@
+//! One connection with a library that answers alone.
+ghost use Rattle.std.specs.Prelude.{◌≡◌, ◌≢◌, ℕ, List, Some, ⊤};
+ghost use Rattle.ids.specs.FaultCount.{Rose};
+ghost use Rattle.worker_server.specs.Calls.{AtAMoment, Told, Ran};
+ghost use Rattle.worker_server.specs.ServedConnection.{CountsEnd, Session};
+ghost use Rattle.library_server.specs.Answering.{AnswersOn, IsAnswered};
+
+use depot::Depot;
+use http_front::Link;
+use ids::LibId;
+use library_state::{Call, Clock, Refusal, Reply};
+use object_store::Shelf;
+use std::alloc::Global;
+use std::marker::PhantomData;
+use worker_server::{Answer, Host, Served, serve_session};
+
+/// The host of a library that nobody else asks, with a clock. It keeps no record of operations.
+#[derive(Drop)]
+struct Alone<'a, S, C> {
+    clock: &'a C,
+    shelf: PhantomData<S>,
+}
+
+impl<S: Shelf, C: Clock> Host for Alone<'_, S, C> {
+    ghost use Rattle.std.specs.Prelude.{⊤};
+    ghost use Rattle.depot.specs.DepotView.{DepotView};
+    ghost use Rattle.library_server.specs.Answering.{AnswersOn};
+
+    type Pass = Depot<S>;
+
+    ghost Line = { ⊤ };
+
+    ghost View = { DepotView S };
+
+    ghost view = { λ depot. depot };
+
+    ghost ready = { λ _ _. ⊤ };
+
+    ghost shows = { λ host moment. C.shows host.clock.now moment };
+
+    ghost asks = { AnswersOn S.contents S.may_give S.faults };
+
+    fn ask(&self, alloc: Global, pass: &mut Depot<S>, lib: LibId, call: Call) -> Answer {
+        let _ = alloc;
+        let moment = self.clock.now();
+        Answer {
+            reply: answer(pass, lib, &call, moment),
+            opening: 0,
+            place: 0,
+        }
+    }
+}
+
+/// The reply to a call on a library. `NoLibrary` comes exactly where it is not the one that is served.
+fn answer<S: Shelf>(depot: &mut Depot<S>, lib: LibId, call: &Call, moment: u64) -> Reply
+    ensures here { lib ≡ depot.old.state.lib → IsAnswered S.contents S.may_give S.faults depot.old call.now moment result depot.new }
+    ensures elsewhere { lib ≢ depot.old.state.lib → (result ≡ Reply.Refused Refusal.NoLibrary) × (depot.new ≡ depot.old) }
+{
+    if lib != depot.lib() {
+        return Reply::Refused(Refusal::NoLibrary);
+    }
+    depot.answer(call, moment)
+}
+
+/// Serves one connection with a library, which is asked one call after another, each at a moment of the clock.
+///
+/// Over a shelf that tells what it holds the replies are those of one library of a single thread, by the rules of
+/// library_rules; its tokens are asked for. Over every shelf each refusal has its cause. Ends, limits and what was given
+/// before an end are those of `worker_server::serve_session`.
+pub fn serve_link<S: Shelf, L: Link, C: Clock>(
+    alloc: Global,
+    depot: &mut Depot<S>,
+    link: &mut L,
+    clock: &C,
+) -> Served
+    // Where the link tells what it has left: the bytes given are the texts of the library's replies to the requests
+    // that those bytes spell.
+    ensures session { (input : List ℕ) → L.left link.old ≡ Some input
+        → Session (AtAMoment (C.shows clock.now) (AnswersOn S.contents S.may_give S.faults)) input (L.given link.old) (L.given link.new) depot.old depot.new result }
+
+    // Of every link: the calls that were asked.
+    ensures ran { (calls : List (Told ⊤)) × Ran (AtAMoment (C.shows clock.now) (AnswersOn S.contents S.may_give S.faults)) depot.old calls depot.new }
+
+    // The link's count of faults rose in the first two cases, and stayed in every other.
+    ensures read_fault { result ≡ Served.ReadFault → Rose (L.faults link.old) (L.faults link.new) }
+    ensures write_fault { result ≡ Served.WriteFault → Rose (L.faults link.old) (L.faults link.new) }
+    ensures faults { CountsEnd (L.faults link.old) (L.faults link.new) result }
+{
+    let host = Alone {
+        clock,
+        shelf: PhantomData,
+    };
+    serve_session(alloc, &host, depot, link)
+}
