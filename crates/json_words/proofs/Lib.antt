@@ -7,3 +7,4 @@ pub mod FoundLemmas
 pub mod ConvertedLemmas
 pub mod FrontLemmas
 pub mod KeptLemmas
+pub mod WrittenLemmas

@@ -3,3 +3,4 @@ pub mod StateChecks
 pub mod StateReadBack
 pub mod StateTextLemmas
 pub mod TokenLemmas
+pub mod StateWritten

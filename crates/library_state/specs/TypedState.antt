@@ -1,6 +1,6 @@
--- For private clauses: what the types of the program tell of a state's ids and days: their texts are read as them.
--- Read IsTyped first.
-use Rattle.std.specs.Prelude.{◌≡◌, ℕ, List, All, FitsSigned, Some}
+-- What the types of the program tell of a state: that ids are ids and texts are texts, and that numbers are within their
+-- types. Our own. Read IsTyped first.
+use Rattle.std.specs.Prelude.{◌≡◌, ℕ, ◌<◌, ◌^◌, List, All, FitsSigned, IsUtf8, Some}
 use Rattle.std.specs.Int.{w64}
 use Rattle.hex.specs.Hex.{encode_lower}
 use Rattle.uuid.specs.Text.{hyphenated_text, lower}
@@ -16,12 +16,15 @@ IsId id = object_id_of (encode_lower id) ≡ Some id
 pub record IsTypedInstall (install : Install) : Type 0 where
   pub head : IsId install.head
   pub pushed : IsId install.pushed
+  pub moment : install.at < 2 ^ 64
 
 pub record IsTypedToken (token : Token) : Type 0 where
   pub secret : IsId token.secret
+  pub user : IsUtf8 token.user
 
 pub record IsTyped (state : LibState) : Type 0 where
   pub lib : library_id_of (hyphenated_text lower state.lib) ≡ Some state.lib
+  pub name : IsUtf8 state.name
   pub days : FitsSigned w64 state.days
   pub kept : All IsTypedInstall state.kept
   pub tokens : All IsTypedToken state.tokens

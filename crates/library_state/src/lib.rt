@@ -2,13 +2,14 @@
 //!
 //! Shown upward: `LibState` with `read`, `write` and `cut`; `Secret`, `Right`, `Token`, `Install`, `History`, `Tag`;
 //! `Call`, `Act`, `Op`, `Reply`, `Refusal`; the trait `Clock`.
-//! Definitions: `specs/StateText.antt` (`state_of`), `StateSpelling.antt` (`text_of`), `Retention.antt` (`kept_for`).
-//! It answers no call itself.
+//! Definitions: `specs/StateText.antt` (`state_of`), `StateSpelling.antt` (`text_of`), `Retention.antt` (`kept_for`);
+//! `laws` has what holds of them together. It answers no call itself.
 #![tactic(auto)]
 
 mod call;
 mod clock;
 mod history;
+pub mod laws;
 mod refusal;
 mod reply;
 mod right;

@@ -36,12 +36,13 @@ pub const MAX_TOKENS: usize = 1_000;
 pub const MAX_DAYS: i64 = 36_500;
 
 impl LibState {
-    ghost use Rattle.std.specs.Prelude.{◌≡◌, Ok, IfOk};
+    ghost use Rattle.std.specs.Prelude.{◌≡◌, Ok, IfOk, OnOk};
     ghost use Rattle.json_words.specs.Answer.{Answers};
     ghost use Rattle.library_state.specs.ProperState.{IsProper};
     ghost use Rattle.library_state.specs.Retention.{kept_for};
     ghost use Rattle.library_state.specs.StateSpelling.{text_of};
     ghost use Rattle.library_state.specs.StateText.{state_of};
+    ghost use Rattle.library_state.specs.TypedState.{IsTyped};
 
     /// Reads a state text, version 1. Of several failing checks the first is answered.
     #[tactic(auto, unfolding(crate::specs::StateText::state_of))]
@@ -65,6 +66,7 @@ impl LibState {
     pub fn write(&self, alloc: Global) -> Result<Bytes, AllocError>
         ensures value { IfOk result (λ text. text ≡ text_of self.now) }
         ensures reads_back { IfOk result (λ text. IsProper self.now → state_of text ≡ Ok self.now) }
+        ensures typed { OnOk result (IsTyped self.now) }
     {
         let value = state_value(alloc, self)?;
         json_words::write(alloc, &value)

@@ -52,9 +52,10 @@ fn install_value(alloc: Global, install: &Install) -> Result<Value, AllocError>
     ensures value { IfOk result (λ value. view value ≡ install_data install.now) }
     ensures typed { OnOk result (IsTypedInstall install.now) }
 {
+    let at = install.at;
     let head = id_value(alloc, &install.head)?;
     let pushed = id_value(alloc, &install.pushed)?;
-    install_with(alloc, install.at, head, pushed)
+    install_with(alloc, at, head, pushed)
 }
 
 /// The values of the tokens.

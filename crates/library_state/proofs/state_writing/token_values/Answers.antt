@@ -1,6 +1,6 @@
 -- One token more is in the list.
-use Rattle.std.proofs.Common.{◌∷◌, ◌++◌, [], All, List, map, take, sym, ap, subst, ◌∙◌}
-use Rattle.std.proofs.lemmas.List.{take_more, map-append}
+use Rattle.std.proofs.Common.{◌∷◌, ◌++◌, [], All, List, map, take, arith, sym, ap, subst, ◌∙◌}
+use Rattle.std.proofs.lemmas.List.{take_all, take_more, map-append}
 use Rattle.std.proofs.lemmas.List.Elements.{All-push}
 use Rattle.serde_json.specs.View.{view}
 use Rattle.library_state.specs.StateSpelling.{token_data}
@@ -23,3 +23,8 @@ loop-token-preserved c =
       typed = let P : List Token → Type 0 = λ tokens. All IsTypedToken tokens in
           subst P (sym taken) (All-push IsTypedToken before token c.loop-token.invariant.typed c.in_ok-value.ensures.typed);
     }
+
+pub returns-clause-typed : goal.returns-clause-typed
+returns-clause-typed c =
+    let P : List Token → Type 0 = λ tokens. All IsTypedToken tokens in
+    subst P (take_all c.loop-token.token-index c.args.tokens.now (omega arith)) c.loop-token.invariant.typed
