@@ -1,6 +1,7 @@
 pub mod Retention
 pub mod Rights
 pub mod ProperState
+pub mod ShownSecret
 pub mod StateSpelling
 pub mod StateText
 pub mod Tokens

@@ -55,8 +55,13 @@ impl Secret {
     }
 }
 
-/// A secret is never printed.
+/// A secret is never printed: each is shown by the same text.
 impl Debug for Secret {
+    ghost use Rattle.std.specs.Prelude.{Some};
+    ghost use Rattle.library_state.specs.ShownSecret.{shown_secret};
+
+    ghost debug_output = { λ _. Some shown_secret };
+
     fn fmt<W: Write>(&self, f: &mut Formatter<W>) -> fmt::Result {
         f.write_str("Secret(..)")
     }
