@@ -3,3 +3,4 @@ pub mod HeldLemmas
 pub mod IndexLemmas
 pub mod MemoryLemmas
 pub mod RefusalLemmas
+pub mod StrayLemmas

@@ -1,6 +1,6 @@
 -- What a store holds: the objects on its shelf whose keys stand in its index, and what each call changes. Our own.
 -- Read StoreView and objects_of first.
-use Rattle.std.specs.Prelude.{◌≡◌, ◌⊎◌, ℕ, List, length, Option, Some, is_some, option_map, Result, Ok, Err, ⊤, refl}
+use Rattle.std.specs.Prelude.{◌≡◌, ◌⊎◌, ℕ, Bool, true, false, List, length, Option, None, Some, is_some, option_map, Result, Ok, Err, ⊤, refl}
 use Rattle.std.specs.Coded.{Coded, code_by, coded×, coded_ℕ}
 use Rattle.std.specs.FinMap as map
 use Rattle.ids.specs.Key.{Objects, key_cmp}
@@ -51,6 +51,30 @@ with_object known key bytes = option_map (λ objects. map.insert objects key byt
 
 abbrev pub without_object : Option Objects → Key → Option Objects
 without_object known key = option_map (λ objects. map.remove objects key) known
+
+-- ---- what lies beside
+
+-- an object that lies on the shelf and whose key isn't in the index
+pub record IsStray {S : Type 0} (contents : S → Option Contents) (store : StoreView S) (key : Key) : Type 0 where
+  pub held : Contents
+  pub told : contents store.shelf ≡ Some held
+  pub lies : is_some (map.get held.objects key) ≡ true
+  pub unknown : map.get store.index key ≡ None
+
+-- no object lies there that the store doesn't hold
+abbrev pub HasNoStray : {S : Type 0} → (S → Option Contents) → StoreView S → Type 0
+HasNoStray contents store = (key : Key) → IsStray contents store key → ⊥
+
+-- each object that lies there and isn't held was so before
+abbrev pub AddsNoStray : {S : Type 0} → (S → Option Contents) → StoreView S → StoreView S → Type 0
+AddsNoStray contents old new = (key : Key) → IsStray contents new key → IsStray contents old key
+
+-- the same, unless the call answers such a fault
+abbrev pub StraysBy : {S T E : Type 0} → (E → Bool) → (S → Option Contents) → StoreView S → StoreView S → Result T E → Type 0
+StraysBy is_fault contents old new (Ok x) = AddsNoStray contents old new
+StraysBy is_fault contents old new (Err fault) = is_fault fault ≡ false → AddsNoStray contents old new
+
+-- ---- what a call changes
 
 -- nothing that the store or its shelf holds is changed
 pub record Keeps {S : Type 0} (contents : S → Option Contents) (old new : StoreView S) : Type 0 where

@@ -1,6 +1,6 @@
 //! A shelf that stops after so many calls, as a machine that loses power.
 ghost use Rattle.std.specs.Prelude.{◌≡◌, ◌<◌, ◌^◌, ◌-◌, ℕ, List, IfOk, Some, nat_lt};
-ghost use Rattle.object_store.specs.FuseShelf.{Passes, burnt, failed_by};
+ghost use Rattle.object_store.specs.FuseShelf.{PassesChange, PassesRead, burnt, failed_by};
 ghost use Rattle.object_store.specs.Shelf.{Changes, Contents, CountsFaults, FindsNext, lies_in, put_known, removed_known, with_put, without};
 
 use crate::memory_shelf::MemoryShelf;
@@ -8,11 +8,13 @@ use crate::shelf::{Found, Shelf, ShelfFailed, Slot};
 use ids::{Bytes, Kind, ObjId};
 use std::marker::Model;
 
-/// A shelf in memory that passes so many calls on, and then fails every call and changes nothing any more.
+/// A shelf in memory that passes so many calls on, and then fails every call and changes nothing any more. A late one
+/// does the first call that fails all the same, where it is a put or a removal.
 #[derive(Drop)]
 pub struct FuseShelf {
     inner: MemoryShelf,
     left: u64,
+    late: bool,
     faults: u64,
 }
 
@@ -23,29 +25,30 @@ impl Model for FuseShelf {
 
     ghost coded = { fuse_shelf_code };
 
-    ghost view = { λ a. record { inner = a.inner; left = a.left; faults = a.faults } };
+    ghost view = { λ a. record { inner = a.inner; left = a.left; late = a.late; faults = a.faults } };
 }
 
 impl FuseShelf {
-    /// A shelf that passes `calls` calls on.
-    pub fn new(inner: MemoryShelf, calls: u64) -> FuseShelf
-        ensures value { result ≡ record { inner = inner; left = calls; faults = 0 } }
+    /// A shelf that passes so many calls on. Where it is late, the first call that fails is done if it changes a slot.
+    pub fn new(inner: MemoryShelf, passes: u64, late: bool) -> FuseShelf
+        ensures value { result ≡ record { inner = inner; left = passes; late = late; faults = 0 } }
     {
         FuseShelf {
             inner,
-            left: calls,
+            left: passes,
+            late,
             faults: 0,
         }
     }
 
-    /// The shelf in memory, as the last call that was passed on left it.
-    pub fn end(self) -> MemoryShelf
+    /// The shelf in memory, as the last call that was done left it.
+    pub fn into_inner(self) -> MemoryShelf
         ensures value { result ≡ self.inner }
     {
         self.inner
     }
 
-    /// Whether the next call is passed on. Where it is not, that is a fault.
+    /// Whether the next call is passed on. Where it is not, that is a fault, and no later call is late.
     fn burn(&mut self) -> bool
         ensures value { result ≡ nat_lt 0 self.old.left }
         ensures ok { self.new ≡ burnt self.old }
@@ -53,6 +56,7 @@ impl FuseShelf {
     {
         if self.left == 0 {
             self.faults = self.faults.saturating_add(1);
+            self.late = false;
             return false;
         }
         let _faults = self.faults;
@@ -88,7 +92,7 @@ impl Shelf for FuseShelf {
         ensures found { IfOk result (λ given. given ≡ lies_in self.new.inner.contents slot) }
         ensures kept { Some self.new.inner.contents ≡ Some self.old.inner.contents }
         ensures faults { CountsFaults self.old.faults self.new.faults result }
-        ensures value { Passes self.old self.new self.old.inner.contents result }
+        ensures value { PassesRead self.old self.new result }
     {
         if !self.burn() {
             return Err(ShelfFailed::Shelf);
@@ -102,9 +106,14 @@ impl Shelf for FuseShelf {
     fn put(&mut self, slot: Slot, bytes: &[u8]) -> Result<(), ShelfFailed>
         ensures ok { Changes (Some self.old.inner.contents) (put_known (Some self.old.inner.contents) slot bytes.now) (Some self.new.inner.contents) result }
         ensures faults { CountsFaults self.old.faults self.new.faults result }
-        ensures value { Passes self.old self.new (with_put self.old.inner.contents slot bytes.now) result }
+        ensures value { PassesChange self.old self.new (with_put self.old.inner.contents slot bytes.now) result }
     {
+        let late = self.late;
         if !self.burn() {
+            if late {
+                let _ = self.inner.put(slot, bytes);
+                return Err(ShelfFailed::Shelf);
+            }
             return Err(ShelfFailed::Shelf);
         }
         match self.inner.put(slot, bytes) {
@@ -116,9 +125,14 @@ impl Shelf for FuseShelf {
     fn remove(&mut self, slot: Slot) -> Result<(), ShelfFailed>
         ensures ok { Changes (Some self.old.inner.contents) (removed_known (Some self.old.inner.contents) slot) (Some self.new.inner.contents) result }
         ensures faults { CountsFaults self.old.faults self.new.faults result }
-        ensures value { Passes self.old self.new (without self.old.inner.contents slot) result }
+        ensures value { PassesChange self.old self.new (without self.old.inner.contents slot) result }
     {
+        let late = self.late;
         if !self.burn() {
+            if late {
+                let _ = self.inner.remove(slot);
+                return Err(ShelfFailed::Shelf);
+            }
             return Err(ShelfFailed::Shelf);
         }
         match self.inner.remove(slot) {
@@ -131,7 +145,7 @@ impl Shelf for FuseShelf {
         ensures found { (held : Contents) → Some self.old.inner.contents ≡ Some held → IfOk result (FindsNext held.objects kind after) }
         ensures kept { Some self.new.inner.contents ≡ Some self.old.inner.contents }
         ensures faults { CountsFaults self.old.faults self.new.faults result }
-        ensures value { Passes self.old self.new self.old.inner.contents result }
+        ensures value { PassesRead self.old self.new result }
     {
         if !self.burn() {
             return Err(ShelfFailed::Shelf);

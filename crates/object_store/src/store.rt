@@ -6,8 +6,8 @@ ghost use Rattle.ids.specs.Key.{Objects};
 ghost use Rattle.ids.specs.MapView.{IsNext};
 ghost use Rattle.ids.specs.ObjectId.{nil};
 ghost use Rattle.ids.specs.Outcome.{ExactlyWith, RefusesAs};
-ghost use Rattle.object_store.specs.Store.{CountsShelf, IsFoundSame, IsGetFault, IsOfStored, IsPutFault, IsWhole, damage_at, has_other_name, is_free, is_want, put_refusal, same_bytes};
-ghost use Rattle.object_store.specs.StoreView.{IsStarted, Keeps, NoteChanges, PutChanges, RemovalChanges, StartsSo, left_after, objects_of, status_of, with_object};
+ghost use Rattle.object_store.specs.Store.{CountsShelf, IsFoundSame, IsGetFault, IsOfStored, IsPutFault, IsWhole, damage_at, has_other_name, is_free, is_of_shelf, is_want, put_refusal, same_bytes};
+ghost use Rattle.object_store.specs.StoreView.{AddsNoStray, HasNoStray, IsStarted, Keeps, NoteChanges, PutChanges, RemovalChanges, StartsSo, StraysBy, left_after, objects_of, status_of, with_object};
 
 use crate::changing::{put_new, remove_object};
 use crate::error::StoreFault;
@@ -45,6 +45,7 @@ impl<S: Shelf> Store<S> {
     /// The store of all that lies on the shelf. With a fault the shelf is given back, and holds what it held.
     pub fn start(alloc: Global, shelf: S) -> Result<Store<S>, (S, StoreFault)>
         ensures ok { IfOk result (IsStarted S.contents shelf) }
+        ensures lying { IfOk result (HasNoStray S.contents) }
         ensures err { IfErr result (λ refused. S.contents refused.0 ≡ S.contents shelf) }
         ensures refused { IfErr result (λ refused. IsTrue (is_free refused.1)) }
         ensures faults { StartsSo S.faults shelf result }
@@ -68,6 +69,7 @@ impl<S: Shelf> Store<S> {
 
         // Of every shelf: what changes in the index and on the shelf.
         ensures changes { PutChanges S.contents self.old self.new key bytes.now result }
+        ensures lying { StraysBy is_of_shelf S.contents self.old self.new result }
 
         // The refusals, in the order in which they are looked for. A wrong name and the id that names nothing are found
         // before the shelf is asked. Want of memory and a failure of the shelf may come in the place of the others.
@@ -152,6 +154,7 @@ impl<S: Shelf> Store<S> {
         ensures ok { objects_of S.contents self.new ≡ left_after (objects_of S.contents self.old) key result }
         ensures kept { status_of S.contents self.new ≡ status_of S.contents self.old }
         ensures changes { RemovalChanges S.contents self.old self.new key result }
+        ensures lying { StraysBy is_of_shelf S.contents self.old self.new result }
         ensures faults { CountsShelf (S.faults self.old.shelf) (S.faults self.new.shelf) result }
     {
         remove_object(&mut self.shelf, &mut self.index, &key)
@@ -161,6 +164,7 @@ impl<S: Shelf> Store<S> {
     pub fn note(&mut self, text: &[u8]) -> Result<(), StoreFault>
         ensures ok { OnOk result (status_of S.contents self.new ≡ option_map (λ _. Some text.now) (status_of S.contents self.old)) }
         ensures changes { NoteChanges S.contents self.old self.new text.now result }
+        ensures lying { AddsNoStray S.contents self.old self.new }
         ensures kept { objects_of S.contents self.new ≡ objects_of S.contents self.old }
         ensures faults { CountsShelf (S.faults self.old.shelf) (S.faults self.new.shelf) result }
     {

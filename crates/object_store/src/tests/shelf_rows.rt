@@ -80,7 +80,7 @@ fn every_shelf_gives_what_was_put(rt: HostRuntime) -> Result<(), Fail> {
     let alloc = rt.alloc();
     gives_what_was_put(&rt, &mut memory(alloc, &[])?);
     gives_what_was_put(&rt, &mut odd(alloc, &[])?);
-    gives_what_was_put(&rt, &mut FuseShelf::new(memory(alloc, &[])?, 100));
+    gives_what_was_put(&rt, &mut FuseShelf::new(memory(alloc, &[])?, 100, false));
     Ok(())
 }
 
@@ -89,7 +89,7 @@ fn every_shelf_tells_its_names_in_order(rt: HostRuntime) -> Result<(), Fail> {
     let alloc = rt.alloc();
     tells_names_in_order(&rt, &mut memory(alloc, &[])?);
     tells_names_in_order(&rt, &mut odd(alloc, &[])?);
-    tells_names_in_order(&rt, &mut FuseShelf::new(memory(alloc, &[])?, 100));
+    tells_names_in_order(&rt, &mut FuseShelf::new(memory(alloc, &[])?, 100, false));
     Ok(())
 }
 
@@ -102,9 +102,9 @@ fn a_failing_put_is_counted_and_leaves_the_old_or_the_new(rt: HostRuntime) -> Re
     let mut shelf = odd(alloc, &[1])?;
     counts_a_failing_put(&rt, &mut shelf);
     assert!(rt; is_text(&shelf.fetch(Slot::Status), b"old"));
-    let mut fuse = FuseShelf::new(memory(alloc, &[])?, 1);
+    let mut fuse = FuseShelf::new(memory(alloc, &[])?, 1, false);
     counts_a_failing_put(&rt, &mut fuse);
-    let mut shelf = fuse.end();
+    let mut shelf = fuse.into_inner();
     assert!(rt; is_text(&shelf.fetch(Slot::Status), b"old"));
     Ok(())
 }
@@ -114,7 +114,7 @@ fn every_failing_call_is_told_and_counted(rt: HostRuntime) -> Result<(), Fail> {
     let alloc = rt.alloc();
     counts_each_call(&rt, &mut memory(alloc, &[0, 1, 2, 3])?);
     counts_each_call(&rt, &mut odd(alloc, &[0, 1, 2, 3])?);
-    counts_each_call(&rt, &mut FuseShelf::new(memory(alloc, &[])?, 0));
+    counts_each_call(&rt, &mut FuseShelf::new(memory(alloc, &[])?, 0, false));
     Ok(())
 }
 

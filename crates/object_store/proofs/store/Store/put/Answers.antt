@@ -1,7 +1,8 @@
 -- A put changes what is held under its key alone, and is refused for the name first, then for what is stored.
-use Rattle.std.proofs.Common.{sym, ◌∙◌, Some, length}
+use Rattle.std.proofs.Common.{sym, ◌∙◌, Some, length, refl}
 use Rattle.std.specs.FinMap as map
 use Rattle.object_store.proofs.RefusalLemmas.{given-stored, if-same, new-due, new-refused, not-held, put-failed, put-made, put-refused, same-held, there-held, absent-key}
+use Rattle.object_store.proofs.StrayLemmas.{strays_put, strays_put_by, strays_same}
 use Rattle.object_store.specs.Shelf.{put_known}
 use Rattle.object_store.specs.Store.{put_refusal}
 use Rattle.object_store.specs.declared.put.Put.{Put}
@@ -57,4 +58,21 @@ returns-clause-refused g c objects told =
           (g.S.Shelf.contents c.self.inside.shelf) (put_known (g.S.Shelf.contents c.self.inside.shelf) (Object c.args.key) c.args.bytes.now)
           (g.S.Shelf.contents c.put_new.new.shelf) w.in-Err.fault
           (put_refusal objects c.args.key c.args.bytes.now) w.in-Err.ensures.value)
+    ]
+
+pub returns-then-has-clause-lying : goal.returns-then-has-clause-lying
+returns-then-has-clause-lying g c =
+    rw (← c.self.view_is)
+    (strays_same g.S.Shelf.contents (record { shelf = c.self.inside.shelf; index = c.self.inside.index }) (record { shelf = c.put_stored.new.shelf; index = c.self.inside.index })
+    c.put_stored.result refl c.put_stored.ensures.kept)
+
+pub returns-clause-lying : goal.returns-clause-lying
+returns-clause-lying g c =
+    elim c.match-put_new.branch [
+      | in-Ok w ↦ rw (w.result-is, ← c.self.view_is)
+          (strays_put g.S.Shelf.contents (record { shelf = c.self.inside.shelf; index = c.self.inside.index }) (record { shelf = c.put_new.new.shelf; index = c.put_new.new.index })
+          c.args.key c.args.bytes.now w.in-Ok.ensures.value.0 w.in-Ok.ensures.value.1)
+      | in-Err w ↦ rw (w.result-is, ← c.self.view_is)
+          (strays_put_by g.S.Shelf.contents (record { shelf = c.self.inside.shelf; index = c.self.inside.index }) (record { shelf = c.put_new.new.shelf; index = c.put_new.new.index })
+          c.args.key c.args.bytes.now w.in-Err.fault w.in-Err.ensures.value)
     ]
