@@ -1,0 +1,13 @@
+# Runs one row, tests/rows/NAME/row, in an empty folder: `begin.sh WORDS ROW`, with the program's path in PROGRAM.
+set -eu
+LC_ALL=C
+export LC_ALL
+# The seconds that one run of the program may take.
+SECONDS_EACH=60
+tab=$(printf '\t')
+. "$1/objects.sh"
+. "$1/requests.sh"
+. "$1/runs.sh"
+ROW=$2
+mkdir kept sent kept/block kept/fs kept/commit kept/size
+. "$ROW/row"

@@ -1,0 +1,147 @@
+# Runs of the program, and what it leaves.
+
+# fail WHY: the row fails.
+fail() {
+    printf '%s\n' "$*"
+    exit 1
+}
+
+# same WHAT WANTED GOT: two files have the same bytes.
+same() (
+    cmp -s "$2" "$3" && return
+    printf '%s: %s\n  wanted:\n' "$1" "$(cmp "$2" "$3" 2>&1)"
+    cat -v "$2" | cut -c 1-400 | tail -n 40 | sed 's/^/  | /'
+    printf '\n  got:\n'
+    cat -v "$3" | cut -c 1-400 | tail -n 40 | sed 's/^/  | /'
+    fail ''
+)
+
+# server WORD..: runs the program with these words, and the row's standard input.
+server() {
+    began=$(date +%s)
+    status=0
+    timeout -k 5 "$SECONDS_EACH" "$PROGRAM" "$@" > got 2> complaint || status=$?
+    ended=$(date +%s)
+    ran=$*
+}
+
+# ended STATUS LINE..: how the last run ended, and the lines that it printed, each with its line feed.
+ended() {
+    [ "$status" = "$1" ] || fail "$ran: status $status, and not $1: $(cat -v got complaint)"
+    shift
+    : > wanted
+    [ "$#" = 0 ] || printf '%s\n' "$@" > wanted
+    same "$ran" wanted got
+    [ ! -s complaint ] || fail "$ran: it wrote to standard error: $(cat -v complaint)"
+}
+
+# library: makes the library in the folder `folder`, of `me`, by a run of its own. The row finds its first commit in
+# $opening, and that commit's moment in $opened_at: the line that was printed tells a commit of a moment of this run.
+library() {
+    mkdir folder
+    server create folder "$LIB" docs me "$SECRET" < /dev/null
+    for opened_at in $(seq "$began" "$ended"); do
+        opening=$(make_commit "$opened_at" none none "$NIL" 'Created library')
+        [ "$(cat got)" != "created $LIB $opening" ] || break
+    done
+    ended 0 "created $LIB $opening"
+}
+
+# token SECRET RIGHT: bob@x.org has a token of this right, by a run of its own.
+token() {
+    server token folder "$LIB" bob@x.org "$1" "$2" < /dev/null
+    ended 0 'token added'
+}
+
+# connect [PLACE [LIB]]: a connection with the library of this place, `folder` if left out.
+connect() {
+    place=${1-folder} asked_of=${2-$LIB} piece=0 merge_parent='' secret=$SECRET closes=no
+    : > asked
+    rm -f wanted.*
+    : > wanted.0
+}
+
+# given: what the connection is sent. A row may send it in another way.
+given() {
+    cat asked
+}
+
+# hang_up STATUS: runs the connection, which must give the replies in this order, nothing else, and that status.
+hang_up() {
+    given | {
+        server inetd "$place" "$asked_of"
+        printf '%s %s %s\n' "$status" "$began" "$ended" > how
+    }
+    read -r status began ended < how
+    connection=$((${connection-0} + 1))
+    ran="connection $connection"
+    cat wanted.0 > wanted
+    if [ -n "$merge_parent" ]; then
+        for merged_at in $(seq "$began" "$ended"); do
+            merged=$(make_commit "$merged_at" "$merge_parent" "$merge_second" "$merge_root" 'Auto merge by system' $merge_flag)
+            { cat wanted.0; printf '%s' "$merged"; cat wanted.1; } > wanted
+            ! cmp -s wanted got || break
+        done
+    fi
+    same "$ran" wanted got
+    [ "$status" = "$1" ] || fail "$ran: status $status, and not $1: $(cat -v complaint)"
+    [ ! -s complaint ] || fail "$ran: it wrote to standard error: $(cat -v complaint)"
+}
+
+# path_of KIND ID: where an object lies in the folder, for the kinds block, fs and commit.
+path_of() (
+    case $1 in
+    block) of=blocks ;;
+    fs) of=fs ;;
+    commit) of=commits ;;
+    esac
+    printf 'folder/%s/%s/%.2s/%s\n' "$LIB" "$of" "$2" "${2#??}"
+)
+
+# holds KIND ID..: exactly these objects of the kind lie in the folder, each with the bytes that the row kept under it.
+holds() (
+    kind=$1
+    shift
+    : > wanted
+    for id in "$@"; do
+        path_of "$kind" "$id" >> wanted
+    done
+    sort -o wanted wanted
+    path=$(path_of "$kind" xx)
+    find "${path%/xx/*}" -type f | sort > got
+    same "the objects of kind $kind" wanted got
+    for id in "$@"; do
+        same "$kind $id" "kept/$kind/$id" "$(path_of "$kind" "$id")"
+    done
+)
+
+# install HEAD PUSHED [TIME]: one entry of a state text's `kept`. The time is that of a run, NOW if left out.
+install() (
+    printf '{"at":%s,"head":"%s","pushed":"%s"}' "${3-NOW}" "$1" "$2"
+)
+
+# token_of SECRET USER RIGHT [LAST]: one entry of a state text's `tokens`.
+token_of() (
+    printf '{"last":%s,"right":"%s","secret":"%s","user":"%s"}' "${4-0}" "$3" "$1" "$2"
+)
+
+# state OPENING KEPT [TOKENS [COLLECTION [DAYS]]]: the text of a library's state, whose one token is that of `me` if left out.
+state() (
+    printf '{"collection":%s,"days":%s,"kept":[%s],"lib":"%s","name":"docs","opening":%s,"tokens":[%s],"version":1}' \
+        "${4-0}" "${5--1}" "$2" "$LIB" "$1" "${3-$(token_of "$SECRET" me own)}"
+)
+
+# holds_state ..: the folder has this state, NOW being one moment of the last run.
+holds_state() (
+    state "$@" > text
+    for moment in $(seq "$began" "$ended"); do
+        sed "s/NOW/$moment/" text | tr -d '\n' > wanted
+        ! cmp -s wanted "folder/$LIB/status" || return 0
+    done
+    same 'the state text' wanted "folder/$LIB/status"
+)
+
+# set_state ..: writes this state text into the folder.
+set_state() (
+    state "$@" > "folder/$LIB/status"
+)
