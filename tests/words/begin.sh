@@ -3,7 +3,7 @@ set -eu
 LC_ALL=C
 export LC_ALL
 # The seconds that one run of the program may take.
-SECONDS_EACH=60
+SECONDS_EACH=${SECONDS_EACH-60}
 tab=$(printf '\t')
 . "$1/objects.sh"
 . "$1/requests.sh"
