@@ -9,6 +9,7 @@ import os
 import shutil
 import subprocess
 import sys
+import time
 
 sys.path.insert(0, os.path.join(os.path.dirname(os.path.abspath(__file__)), ".."))
 from pipe_client import (Connection, Odd, command, commit_object, directory_object, file_entry, file_object, files_of,
@@ -70,12 +71,13 @@ def path_of(kind, name):
     return os.path.join(library, kind, name[:2], name[2:])
 
 
-def with_bytes(path, data, work):
-    """Does the work while the file has these bytes, or isn't there."""
+def with_bytes(path, data, work, age=60):
+    """Does the work while the file has these bytes, or isn't there. What is older than the state text, it vouches for."""
     kept = open(path, "rb").read()
     os.remove(path)
     if data is not None:
         open(path, "wb").write(data)
+        os.utime(path, (time.time() - age,) * 2)
     try:
         work()
     finally:
@@ -111,6 +113,11 @@ def bad_folders(files):
     os.mkdir(other)
     lines("no library in the folder", other, "no library")
     tell("nothing was made in it", os.listdir(other), [])
+    elsewhere = os.path.join(folder, "elsewhere")
+    os.makedirs(os.path.join(elsewhere, "tmp"))
+    os.symlink(elsewhere, os.path.join(other, LIBRARY + ".new"))
+    line("a link in the place of a library that is made", "create", other, "store fault")
+    tell("the link was not followed", os.listdir(elsewhere), ["tmp"])
     line("a library that is there", "create", folder, "library exists")
     serves("a library that is there", files)
 
@@ -132,6 +139,8 @@ def bad_objects(files, commit, root, file, block):
     with_bytes(path_of("fs", root), b"{}", lambda: lines("a damaged directory", folder, f"damaged {root}"))
     with_bytes(path_of("commits", commit), b"{}", lambda: lines("a damaged commit", folder, f"unreadable commit {commit}"))
     with_bytes(path_of("blocks", block), None, lambda: lines("a missing block", folder, f"incomplete block {block}"))
+    with_bytes(path_of("fs", root), b"{}", lambda: lines("a torn directory that no text vouches for", folder,
+                                                         f"incomplete fs {root}"), age=0)
     with_bytes(path_of("blocks", block), b"short", lambda: lines("a short block", folder, f"wrong size {file}"))
     got = name_of(b"other byte")
     damaged = json.dumps({"got": got, "reason": "damaged", "want": block}, separators=(",", ":"))
@@ -141,7 +150,7 @@ def bad_objects(files, commit, root, file, block):
 
 
 def two_servers(files, commit):
-    """A library's folder is one process's at a time."""
+    """A library's folder is one process's at a time: whoever has the lock of the file in it."""
     first = Connection(server, folder, LIBRARY, TOKEN)
     first.head()
     before = open(os.path.join(library, "status"), "rb").read()

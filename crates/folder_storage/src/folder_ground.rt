@@ -2,14 +2,15 @@
 ghost use Rattle.std.specs.Prelude.{◌≡◌};
 
 use crate::answer::answer;
+use crate::file_system::FileSystem;
 use crate::folder_shelf::FolderShelf;
 use crate::ground::Ground;
-use crate::library_folder::{find_library, make_library};
+use crate::opening::{find_library, make_library};
+use crate::system_files::SystemFiles;
 use ids::LibId;
 use object_store::{Shelf, ShelfFailed};
-use std::fs::{File, Files};
 
-/// Libraries in folders of the file system, each in a folder of its own, named by its id. It tells nothing of them.
+/// Libraries in folders of a file system, each in a folder of its own, named by its id. It tells nothing of them.
 ///
 /// It has a library once its first state text is durable. One that was made and goes back before is not there, and what
 /// was put is taken away when it is made anew.
@@ -17,46 +18,49 @@ use std::fs::{File, Files};
 /// A folder above that isn't there, a missing permission, a full disk, and a library that another process has are
 /// faults; no library is missing for them.
 #[derive(Drop)]
-pub struct FolderGround<R> {
-    rt: R,
+pub struct FolderGround<F> {
+    files: F,
     faults: u64,
 }
 
-impl<R> FolderGround<R> {
+impl<R> FolderGround<SystemFiles<R>> {
     /// A ground over the file system of the runtime, with no faults.
-    pub fn new(rt: R) -> FolderGround<R>
+    pub fn new(rt: R) -> FolderGround<SystemFiles<R>>
         ensures faults { result.faults ≡ 0 }
     {
-        FolderGround { rt, faults: 0 }
+        FolderGround {
+            files: SystemFiles::new(rt),
+            faults: 0,
+        }
     }
 }
 
-impl<R: Files<File = File> + AllocGlobal + Clone + Drop> Ground for FolderGround<R> {
+impl<F: FileSystem + Drop> Ground for FolderGround<F> {
     ghost use Rattle.std.specs.Prelude.{None};
 
-    type S = FolderShelf<R>;
+    type S = FolderShelf<F>;
 
     ghost stands = { λ _ _ _. None };
 
     ghost faults = { λ ground. ground.faults };
 
-    fn find(&mut self, folder: &str, lib: LibId) -> Result<Option<FolderShelf<R>>, ShelfFailed> {
-        let found = find_library(&self.rt, folder, &lib);
+    fn find(&mut self, folder: &str, lib: LibId) -> Result<Option<FolderShelf<F>>, ShelfFailed> {
+        let found = find_library(&self.files, folder, &lib);
         match answer(&mut self.faults, found)? {
             Some(library) => Ok(Some(FolderShelf::new(library))),
             None => Ok(None),
         }
     }
 
-    fn make(&mut self, folder: &str, lib: LibId) -> Result<Option<FolderShelf<R>>, ShelfFailed> {
-        let made = make_library(&self.rt, folder, &lib);
+    fn make(&mut self, folder: &str, lib: LibId) -> Result<Option<FolderShelf<F>>, ShelfFailed> {
+        let made = make_library(&self.files, folder, &lib);
         match answer(&mut self.faults, made)? {
             Some(library) => Ok(Some(FolderShelf::new(library))),
             None => Ok(None),
         }
     }
 
-    fn give_back(&mut self, folder: &str, lib: LibId, shelf: FolderShelf<R>) {
+    fn give_back(&mut self, folder: &str, lib: LibId, shelf: FolderShelf<F>) {
         let _ = folder;
         let _ = lib;
         self.faults = self.faults.saturating_add(shelf.faults());

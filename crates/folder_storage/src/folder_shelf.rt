@@ -2,10 +2,10 @@
 ghost use Rattle.std.specs.Prelude.{◌≡◌};
 
 use crate::answer::{answer, counted};
+use crate::file_system::FileSystem;
 use crate::library_folder::LibraryFolder;
 use ids::{Bytes, Kind, ObjId};
 use object_store::{Found, Shelf, ShelfFailed, Slot};
-use std::fs::{File, Files};
 
 /// A shelf over the files of one library's folder, one file a slot. It tells nothing of what it holds, and counts the
 /// calls that failed.
@@ -34,21 +34,21 @@ use std::fs::{File, Files};
 /// rests on file times: on times that nobody else sets, and on a clock that is not set back by more than these 10
 /// seconds between a state text and what is put after it. A library that is only read costs no sync.
 #[derive(Drop)]
-pub struct FolderShelf<R> {
-    folder: LibraryFolder<R>,
+pub struct FolderShelf<F> {
+    folder: LibraryFolder<F>,
     faults: u64,
 }
 
-impl<R> FolderShelf<R> {
+impl<F> FolderShelf<F> {
     /// A shelf over this folder, with no faults.
-    pub(crate) fn new(folder: LibraryFolder<R>) -> FolderShelf<R>
+    pub(crate) fn new(folder: LibraryFolder<F>) -> FolderShelf<F>
         ensures faults { result.faults ≡ 0 }
     {
         FolderShelf { folder, faults: 0 }
     }
 }
 
-impl<R: Files<File = File> + AllocGlobal + Clone + Drop> Shelf for FolderShelf<R> {
+impl<F: FileSystem + Drop> Shelf for FolderShelf<F> {
     ghost use Rattle.std.specs.Prelude.{None, ⊤};
 
     ghost contents = { λ _. None };
@@ -62,10 +62,18 @@ impl<R: Files<File = File> + AllocGlobal + Clone + Drop> Shelf for FolderShelf<R
     }
 
     fn put(&mut self, slot: Slot, bytes: &[u8]) -> Result<(), ShelfFailed> {
-        let written = self.folder.write_beside(&slot, bytes);
-        let spare = answer(&mut self.faults, written)?;
-        let moved = self.folder.move_in(&slot, &spare);
-        counted(&mut self.faults, moved)
+        match slot {
+            Slot::Object(key) => {
+                let written = self.folder.write_beside(bytes);
+                answer(&mut self.faults, written)?;
+                let moved = self.folder.move_in(&key, bytes);
+                counted(&mut self.faults, moved)
+            }
+            Slot::Status => {
+                let put = self.folder.put_state(bytes);
+                answer(&mut self.faults, put)
+            }
+        }
     }
 
     fn remove(&mut self, slot: Slot) -> Result<(), ShelfFailed> {

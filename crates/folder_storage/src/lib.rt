@@ -10,20 +10,26 @@
 
 mod answer;
 mod counted_shelf;
+mod durable;
 mod earlier;
-mod files;
+mod file_system;
 mod folder_ground;
 mod folder_shelf;
 mod ground;
 mod library_folder;
 mod listing;
 mod memory_ground;
+mod opening;
 mod paths;
+mod system_files;
 #[cfg(test)]
 mod tests;
+mod whole;
 
 pub use crate::counted_shelf::CountedShelf;
+pub use crate::file_system::{FileFacts, FileKind, FileSystem};
 pub use crate::folder_ground::FolderGround;
 pub use crate::folder_shelf::FolderShelf;
 pub use crate::ground::Ground;
 pub use crate::memory_ground::{KeptLibrary, MemoryGround};
+pub use crate::system_files::SystemFiles;

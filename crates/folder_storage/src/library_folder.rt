@@ -1,256 +1,173 @@
 //! The folder of one library, held by this process.
-use crate::earlier::earlier_objects;
-use crate::files::{
-    is_there, make_folder, sweep, sync_file, sync_folder, take_folder, unless_missing, write_file,
-};
+use crate::earlier::Earlier;
+use crate::file_system::FileSystem;
 use crate::listing::Listing;
-use crate::paths::{
-    draft_path, kind_path, library_path, listed_folder, named_path, object_folder, object_path,
-    slot_path,
-};
-use ids::{Bytes, Key, Kind, LibId, ObjId};
+use crate::paths::{listed_folder, named_path, object_path, slot_path};
+use ids::{Bytes, Key, Kind, ObjId};
 use object_store::{Found, Slot};
-use std::fs::{File, Files};
+use std::alloc::AllocError;
+use std::io;
 use std::io::ErrorKind;
-use std::{fs, io};
 
-/// The folders of a library's folder, in which it is made ready.
-const FOLDERS: [&str; 4] = ["tmp", "commits", "fs", "blocks"];
+/// The SHA-1 of a commit's bytes, by which it is known again: its own name is that of something else.
+#[derive(Clone, Copy, Debug, PartialEq, Eq)]
+pub(crate) struct CommitSum {
+    pub(crate) id: ObjId,
+    pub(crate) sum: ObjId,
+}
 
 /// The folder of one library.
 #[derive(Drop)]
-pub(crate) struct LibraryFolder<R> {
-    rt: R,
+pub(crate) struct LibraryFolder<F> {
+    /// The file system, through which the library's lock is held.
+    pub(crate) files: F,
     /// Where it stands.
-    path: String,
+    pub(crate) path: String,
     /// Where a new one will stand once it has a state text.
-    home: Option<String>,
-    /// The folder in which a new one stands, until its place there is durable.
-    above: Option<String>,
-    /// The open folder, which is locked as long as it is open.
-    lock: File,
+    pub(crate) home: Option<String>,
+    /// The folder in which it stands, until its place there is durable.
+    pub(crate) above: Option<String>,
     /// The objects that were put and not made durable: those of this run, and of earlier ones once they were sought.
     pub(crate) unsynced: Vec<Key>,
-    /// Whether the objects of earlier runs are among them, or were made durable.
-    has_earlier: bool,
+    /// What this run put among the commits that aren't durable.
+    pub(crate) commits: Vec<CommitSum>,
+    /// What no earlier state text vouches for.
+    pub(crate) earlier: Earlier,
+    /// Whether what earlier runs put whole is among the unsynced, or was made durable.
+    pub(crate) has_earlier: bool,
+    /// An object that was taken away since it could not be made durable. No state text is put while there is one.
+    pub(crate) lost: Option<Key>,
+    /// Whether the mark stands that syncs have begun.
+    pub(crate) is_marked: bool,
+    /// Whether a sync of the unsynced objects or their folders may have failed, so that another one tells nothing.
+    pub(crate) is_in_doubt: bool,
+    /// Whether a folder's own name is in doubt, so that this run puts nothing any more.
+    pub(crate) is_adrift: bool,
+    /// Whether all that was unsynced as the state text was put last is durable.
+    pub(crate) is_synced: bool,
     /// What was listed last.
     listing: Option<Listing>,
 }
 
-/// What was written beside its slot, and where it goes.
-#[derive(Drop)]
-pub(crate) struct Spare {
-    path: String,
-    slot: String,
-    /// The folder of the slot.
-    folder: String,
-}
-
-/// Opens the folder of a library, if it is there.
-pub(crate) fn find_library<R: Files<File = File> + AllocGlobal + Clone + Drop>(
-    rt: &R,
-    folder: &str,
-    lib: &LibId,
-) -> io::Result<Option<LibraryFolder<R>>> {
-    let path = library_path(rt.alloc(), folder, lib)?;
-    if !is_there(rt, folder, path.as_str())? {
-        return Ok(None);
-    }
-    let lock = take_folder(rt, path.as_str())?;
-    Ok(Some(LibraryFolder::open(rt, path, lock)?))
-}
-
-/// Makes the folder of a library, unless it is there.
-pub(crate) fn make_library<R: Files<File = File> + AllocGlobal + Clone + Drop>(
-    rt: &R,
-    folder: &str,
-    lib: &LibId,
-) -> io::Result<Option<LibraryFolder<R>>> {
-    let path = library_path(rt.alloc(), folder, lib)?;
-    if is_there(rt, folder, path.as_str())? {
-        return Ok(None);
-    }
-    let draft = draft_path(rt.alloc(), folder, lib)?;
-    make_folder(rt, draft.as_str())?;
-    let lock = take_folder(rt, draft.as_str())?;
-    // Another process may have made it before this one had the lock: then the folder taken here is new and empty.
-    if is_there(rt, folder, path.as_str())? {
-        let _ = fs::remove_dir(rt, draft.as_str());
-        return Ok(None);
-    }
-    take_away(rt, draft.as_str())?;
-    let mut made = LibraryFolder::open(rt, draft, lock)?;
-    made.home = Some(path);
-    made.above = Some(String::from_str(rt.alloc(), folder)?);
-    Ok(Some(made))
-}
-
-/// Takes away all that is in the folder of a library that was not made to its end.
-fn take_away<R: Files + AllocGlobal>(rt: &R, path: &str) -> io::Result<()> {
-    for name in FOLDERS {
-        let folder = named_path(rt.alloc(), path, name)?;
-        unless_missing(fs::remove_dir_all(rt, folder.as_str()))?;
-    }
-    let status = named_path(rt.alloc(), path, "status")?;
-    unless_missing(fs::remove_file(rt, status.as_str()))
-}
-
-impl<R: Files<File = File> + AllocGlobal + Clone + Drop> LibraryFolder<R> {
-    /// Opens the folder at this path, which this process has taken. The spare files of a run that was killed are taken
-    /// away.
-    fn open(rt: &R, path: String, lock: File) -> io::Result<LibraryFolder<R>> {
-        for name in FOLDERS {
-            make_folder(rt, named_path(rt.alloc(), path.as_str(), name)?.as_str())?;
-        }
-        sweep(rt, named_path(rt.alloc(), path.as_str(), "tmp")?.as_str())?;
-        Ok(LibraryFolder {
-            rt: rt.clone()?,
+impl<F: FileSystem + Drop> LibraryFolder<F> {
+    /// The folder at this path, which this process has taken, in the folder above.
+    pub(crate) fn new(files: F, path: String, above: String, earlier: Earlier) -> LibraryFolder<F> {
+        let alloc = files.alloc();
+        LibraryFolder {
+            files,
             path,
             home: None,
-            above: None,
-            lock,
-            unsynced: Vec::new(rt.alloc()),
+            above: Some(above),
+            unsynced: Vec::new(alloc),
+            commits: Vec::new(alloc),
+            earlier,
             has_earlier: false,
+            lost: None,
+            is_marked: false,
+            is_in_doubt: false,
+            is_adrift: false,
+            is_synced: false,
             listing: None,
-        })
+        }
     }
 
     /// Whether the folder is still there: where a file isn't, this tells an empty slot from a lost folder.
-    fn check(&self) -> io::Result<()> {
-        fs::metadata(&self.rt, self.path.as_str())?;
-        Ok(())
+    fn check(&mut self) -> io::Result<()> {
+        match self.files.look_through(self.path.as_str())? {
+            Some(_) => Ok(()),
+            None => Err(io::Error::from(ErrorKind::NotFound)),
+        }
     }
 
     /// The bytes in a slot.
-    pub(crate) fn read(&self, slot: &Slot) -> io::Result<Option<Bytes>> {
-        let path = slot_path(self.rt.alloc(), self.path.as_str(), slot)?;
-        match fs::read(&self.rt, path.as_str()) {
-            Ok(bytes) => Ok(Some(Bytes::from_vec(bytes))),
-            Err(failure) if failure.kind() == ErrorKind::NotFound => {
+    pub(crate) fn read(&mut self, slot: &Slot) -> io::Result<Option<Bytes>> {
+        let path = slot_path(self.files.alloc(), self.path.as_str(), slot)?;
+        match self.files.read(path.as_str())? {
+            Some(bytes) => Ok(Some(Bytes::from_vec(bytes))),
+            None => {
                 self.check()?;
                 Ok(None)
             }
-            Err(failure) => Err(failure),
         }
     }
 
-    /// Writes the bytes beside their slot. No slot changes. Before a state text is written, every object that was put
-    /// is made durable.
-    pub(crate) fn write_beside(&mut self, slot: &Slot, bytes: &[u8]) -> io::Result<Spare> {
-        let spare = self.spare(slot)?;
-        let is_durable = match slot {
-            Slot::Object(_) => {
-                self.unsynced.reserve(1)?;
-                false
-            }
-            Slot::Status => {
-                self.make_durable()?;
-                true
-            }
-        };
-        match write_file(&self.rt, spare.path.as_str(), bytes, is_durable) {
-            Ok(()) => Ok(spare),
-            Err(failure) => {
-                let _ = fs::remove_file(&self.rt, spare.path.as_str());
-                Err(failure)
-            }
+    /// Writes the bytes of an object beside its slot, and makes room to note it. No slot changes.
+    pub(crate) fn write_beside(&mut self, bytes: &[u8]) -> io::Result<()> {
+        if self.is_adrift {
+            return Err(io::Error::from(ErrorKind::Other));
         }
+        self.unsynced.reserve(1)?;
+        self.commits.reserve(1)?;
+        self.write_spare(bytes, false)
     }
 
-    /// Where the bytes of a slot are written first, and where they go.
-    fn spare(&self, slot: &Slot) -> io::Result<Spare> {
-        let library = self.path.as_str();
-        let path = named_path(self.rt.alloc(), library, "tmp/spare")?;
-        let slot_file = slot_path(self.rt.alloc(), library, slot)?;
-        let folder = match slot {
-            Slot::Object(key) => object_folder(self.rt.alloc(), library, key)?,
-            Slot::Status => String::new(self.rt.alloc()),
-        };
-        Ok(Spare {
-            path,
-            slot: slot_file,
-            folder,
-        })
+    /// Writes the spare file. Where that fails nothing is left of it.
+    pub(crate) fn write_spare(&mut self, bytes: &[u8], is_durable: bool) -> io::Result<()> {
+        let spare = self.spare()?;
+        let written = self.files.write(spare.as_str(), bytes, is_durable);
+        if written.is_err() {
+            let _ = self.files.remove_file(spare.as_str());
+        }
+        written
     }
 
-    /// Moves what was written beside into its slot.
-    pub(crate) fn move_in(&mut self, slot: &Slot, spare: &Spare) -> io::Result<()> {
-        match slot {
-            Slot::Object(key) => {
-                // First, since a move that fails may have been done.
-                self.forget_listing(key);
-                self.unsynced.push(*key)?;
-                self.move_object(spare)
-            }
-            Slot::Status => self.move_status(spare),
+    /// Moves the spare file to this path. Where that fails nothing is left of it.
+    pub(crate) fn move_spare(&mut self, path: &str) -> io::Result<()> {
+        let spare = self.spare()?;
+        let moved = self.files.rename(spare.as_str(), path);
+        if moved.is_err() {
+            let _ = self.files.remove_file(spare.as_str());
         }
+        moved
     }
 
-    /// Moves an object into its slot, whose folder is made where it isn't there.
-    fn move_object(&self, spare: &Spare) -> io::Result<()> {
-        match fs::rename(&self.rt, spare.path.as_str(), spare.slot.as_str()) {
-            Ok(()) => Ok(()),
-            Err(failure) if failure.kind() == ErrorKind::NotFound => {
-                make_folder(&self.rt, spare.folder.as_str())?;
-                fs::rename(&self.rt, spare.path.as_str(), spare.slot.as_str())
-            }
-            Err(failure) => Err(failure),
-        }
+    /// Where bytes are written first.
+    pub(crate) fn spare(&self) -> Result<String, AllocError> {
+        named_path(self.files.alloc(), self.path.as_str(), "tmp/spare")
     }
 
-    /// Moves the state text into its slot, durably. With its first state text a new library's folder takes its name.
-    fn move_status(&mut self, spare: &Spare) -> io::Result<()> {
-        fs::rename(&self.rt, spare.path.as_str(), spare.slot.as_str())?;
-        sync_folder(&self.rt, self.path.as_str())?;
-        if let Some(home) = self.home.take() {
-            if let Err(failure) = fs::rename(&self.rt, self.path.as_str(), home.as_str()) {
-                self.home = Some(home);
-                return Err(failure);
-            }
-            self.path = home;
+    /// Moves the object that was written beside into its slot.
+    pub(crate) fn move_in(&mut self, key: &Key, bytes: &[u8]) -> io::Result<()> {
+        // First, since a move that fails may have been done.
+        self.forget_listing(key);
+        self.note_put(key, bytes)?;
+        let path = object_path(self.files.alloc(), self.path.as_str(), key)?;
+        let folder = listed_folder(
+            self.files.alloc(),
+            self.path.as_str(),
+            key.kind,
+            first_byte(key),
+        )?;
+        if self.files.look(folder.as_str())?.is_none() {
+            self.files.make_folder(folder.as_str())?;
         }
-        if let Some(above) = &self.above {
-            sync_folder(&self.rt, above.as_str())?;
+        self.move_spare(path.as_str())
+    }
+
+    /// Notes an object that is put by this run.
+    fn note_put(&mut self, key: &Key, bytes: &[u8]) -> Result<(), AllocError> {
+        self.unsynced.push(*key)?;
+        take_out(&mut self.earlier.whole, key);
+        take_out(&mut self.earlier.torn, key);
+        self.find_again(key);
+        if key.kind == Kind::Commit {
+            let sum = ObjId::of(bytes);
+            self.commits.retain(|commit| commit.id != key.id);
+            self.commits.push(CommitSum { id: key.id, sum })?;
         }
-        self.above = None;
         Ok(())
     }
 
-    /// Makes every object durable that was put since this was done last, by whichever run: its file, and then each
-    /// folder that was touched.
-    fn make_durable(&mut self) -> io::Result<()> {
-        self.seek_unsynced()?;
-        let library = self.path.as_str();
-        for key in &self.unsynced {
-            let path = object_path(self.rt.alloc(), library, key)?;
-            sync_file(&self.rt, path.as_str())?;
+    /// An object that was lost is put again, or wanted no more.
+    fn find_again(&mut self, key: &Key) {
+        if self.lost == Some(*key) {
+            self.lost = None;
         }
-        let mut last = None;
-        for key in &self.unsynced {
-            sync_folders(&self.rt, library, last, key)?;
-            last = Some(*key);
-        }
-        self.unsynced.clear();
-        Ok(())
-    }
-
-    /// Takes what earlier runs put among the objects that are to be made durable, once in this run, and sorts them.
-    pub(crate) fn seek_unsynced(&mut self) -> io::Result<()> {
-        self.unsynced.sort()?;
-        if self.has_earlier {
-            return Ok(());
-        }
-        let earlier = earlier_objects(&self.rt, self.path.as_str(), &self.unsynced)?;
-        for key in &earlier {
-            self.unsynced.push(*key)?;
-        }
-        self.has_earlier = true;
-        Ok(self.unsynced.sort()?)
     }
 
     /// The path of a slot's file.
     pub(crate) fn path_of(&self, slot: &Slot) -> io::Result<String> {
-        Ok(slot_path(self.rt.alloc(), self.path.as_str(), slot)?)
+        Ok(slot_path(self.files.alloc(), self.path.as_str(), slot)?)
     }
 
     /// Takes away the file of a slot, if it is there.
@@ -258,18 +175,19 @@ impl<R: Files<File = File> + AllocGlobal + Clone + Drop> LibraryFolder<R> {
         if let Slot::Object(key) = slot {
             self.forget_listing(key);
         }
-        match fs::remove_file(&self.rt, path) {
-            Ok(()) => Ok(()),
-            Err(failure) if failure.kind() == ErrorKind::NotFound => self.check(),
-            Err(failure) => Err(failure),
+        if !self.files.remove_file(path)? {
+            self.check()?;
         }
+        if let Slot::Object(key) = slot {
+            self.find_again(key);
+        }
+        Ok(())
     }
 
     /// Forgets what was listed of the folder that an object lies in.
-    fn forget_listing(&mut self, key: &Key) {
-        let first = key.id.as_bytes()[0];
+    pub(crate) fn forget_listing(&mut self, key: &Key) {
         let is_stale = match &self.listing {
-            Some(listing) => listing.is_of(key.kind, first),
+            Some(listing) => listing.is_of(key.kind, first_byte(key)),
             None => false,
         };
         if is_stale {
@@ -279,7 +197,7 @@ impl<R: Files<File = File> + AllocGlobal + Clone + Drop> LibraryFolder<R> {
 
     /// The object of the kind with the least id above `after`.
     pub(crate) fn next(&mut self, kind: Kind, after: &Option<ObjId>) -> io::Result<Option<Found>> {
-        for first in first_byte(after)..=u8::MAX {
+        for first in first_listed(after)..=u8::MAX {
             if let Some(found) = self.next_in(kind, first, after)? {
                 return Ok(Some(found));
             }
@@ -300,42 +218,31 @@ impl<R: Files<File = File> + AllocGlobal + Clone + Drop> LibraryFolder<R> {
                 return Ok(listing.next(after));
             }
         }
-        let folder = listed_folder(self.rt.alloc(), self.path.as_str(), kind, first)?;
-        let listing = Listing::read(&self.rt, folder.as_str(), kind, first)?;
+        let folder = listed_folder(self.files.alloc(), self.path.as_str(), kind, first)?;
+        let torn = self.earlier.torn.as_slice();
+        let listing = Listing::read(&mut self.files, folder.as_str(), kind, first, torn)?;
         let found = listing.next(after);
         self.listing = Some(listing);
         Ok(found)
     }
 }
 
+/// The first byte of a key's id.
+pub(crate) fn first_byte(key: &Key) -> u8 {
+    key.id.as_bytes()[0]
+}
+
 /// The first byte of an id, and 0 where there is none.
-fn first_byte(id: &Option<ObjId>) -> u8 {
+fn first_listed(id: &Option<ObjId>) -> u8 {
     match id {
         Some(id) => id.as_bytes()[0],
         None => 0,
     }
 }
 
-/// Makes durable the folder of an object, unless it is that of the one before. It may be missing: then the object is.
-fn sync_folders<R: Files<File = File> + AllocGlobal>(
-    rt: &R,
-    library: &str,
-    last: Option<Key>,
-    key: &Key,
-) -> io::Result<()> {
-    let (same_kind, same_folder) = match last {
-        Some(last) => (
-            last.kind == key.kind,
-            last.kind == key.kind && last.id.as_bytes()[0] == key.id.as_bytes()[0],
-        ),
-        None => (false, false),
-    };
-    if !same_folder {
-        let folder = object_folder(rt.alloc(), library, key)?;
-        unless_missing(sync_folder(rt, folder.as_str()))?;
+/// Takes a key out of a sorted list, if it is there.
+fn take_out(keys: &mut Vec<Key>, key: &Key) {
+    if let Ok(place) = keys.binary_search(key) {
+        let _ = keys.remove(place);
     }
-    if !same_kind {
-        sync_folder(rt, kind_path(rt.alloc(), library, key.kind)?.as_str())?;
-    }
-    Ok(())
 }

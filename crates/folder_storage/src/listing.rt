@@ -1,10 +1,10 @@
 //! The objects of one folder, in the order of their ids.
-use ids::{Kind, ObjId};
+use crate::file_system::{FileKind, FileSystem};
+use crate::paths::named_path;
+use ids::{Key, Kind, ObjId};
 use object_store::Found;
-use std::alloc::Global;
-use std::fs::{DirEntry, File, Files, Metadata};
-use std::io::ErrorKind;
-use std::{fs, io};
+use std::alloc::{AllocError, Global};
+use std::io;
 
 /// The objects of a kind whose ids begin with one byte.
 #[derive(Drop)]
@@ -16,28 +16,24 @@ pub(crate) struct Listing {
 
 impl Listing {
     /// Reads the folder at this path, which holds the objects of the kind whose ids begin with `first`. No folder is
-    /// no objects. What is no object's file is passed over.
-    pub(crate) fn read<R: Files<File = File> + AllocGlobal + Clone + Drop>(
-        rt: &R,
+    /// no objects. What is no object's file is passed over, and so is what is `torn`, which is sorted.
+    pub(crate) fn read<F: FileSystem>(
+        files: &mut F,
         path: &str,
         kind: Kind,
         first: u8,
+        torn: &[Key],
     ) -> io::Result<Listing> {
-        let mut objects = Vec::new(rt.alloc());
-        let entries = match fs::read_dir(rt, path) {
-            Ok(entries) => entries,
-            Err(failure) if failure.kind() == ErrorKind::NotFound => {
-                return Ok(Listing {
-                    kind,
-                    first,
-                    objects,
-                });
-            }
-            Err(failure) => return Err(failure),
+        let mut objects = Vec::new(files.alloc());
+        let names = match files.list(path)? {
+            Some(names) => names,
+            None => Vec::new(files.alloc()),
         };
-        for entry in entries {
-            if let Some(found) = found_at(rt.alloc(), first, entry)? {
-                objects.push(found)?;
+        for name in &names {
+            if let Some(found) = found_at(files, path, first, name.as_str())? {
+                if !is_torn(torn, kind, &found) {
+                    objects.push(found)?;
+                }
             }
         }
         objects.sort_by_key(|found| found.id)?;
@@ -63,46 +59,33 @@ impl Listing {
     }
 }
 
-/// The object whose file an entry is, if it is one.
-fn found_at<R: Files<File = File> + Drop>(
-    alloc: Global,
+/// The object whose file has this name in a folder, if it is one.
+fn found_at<F: FileSystem>(
+    files: &mut F,
+    folder: &str,
     first: u8,
-    entry: io::Result<DirEntry<R>>,
+    name: &str,
 ) -> io::Result<Option<Found>> {
-    let (id, metadata) = match object_file(alloc, first, entry)? {
-        Some(file) => file,
-        None => return Ok(None),
-    };
-    if is_lost(&id, metadata.len()) {
-        return Ok(None);
-    }
-    Ok(Some(Found {
-        id,
-        size: metadata.len(),
-    }))
-}
-
-/// The id that the name of an object's file tells, and what is told of the file, if an entry is one.
-pub(crate) fn object_file<R: Files<File = File> + Drop>(
-    alloc: Global,
-    first: u8,
-    entry: io::Result<DirEntry<R>>,
-) -> io::Result<Option<(ObjId, Metadata)>> {
-    let entry = match entry {
-        Ok(entry) => entry,
-        Err(failure) if is_bad_name(&failure) => return Ok(None),
-        Err(failure) => return Err(failure),
-    };
-    let id = match id_of(alloc, first, entry.file_name())? {
+    let id = match id_of(files.alloc(), first, name)? {
         Some(id) => id,
         None => return Ok(None),
     };
-    let metadata = entry.metadata()?;
-    if metadata.is_file() {
-        Ok(Some((id, metadata)))
-    } else {
-        Ok(None)
+    let path = named_path(files.alloc(), folder, name)?;
+    match files.look(path.as_str())? {
+        Some(facts) if facts.kind == FileKind::File && !is_lost(&id, facts.size) => {
+            Ok(Some(Found {
+                id,
+                size: facts.size,
+            }))
+        }
+        _ => Ok(None),
     }
+}
+
+/// Whether the object is among these, which are sorted.
+fn is_torn(torn: &[Key], kind: Kind, found: &Found) -> bool {
+    let key = Key { kind, id: found.id };
+    torn.binary_search(&key).is_ok()
 }
 
 /// Whether a file of this size is what a loss of power left of an object: it is empty, and its name is not that of no
@@ -111,13 +94,8 @@ fn is_lost(id: &ObjId, size: u64) -> bool {
     size == 0 && *id != ObjId::of(b"")
 }
 
-/// Whether an entry has a name that is no text.
-fn is_bad_name(failure: &io::Error) -> bool {
-    failure.kind() == ErrorKind::InvalidFilename && failure.raw_os_error().is_none()
-}
-
 /// The id whose first byte this is and whose other 38 digits are the name.
-fn id_of(alloc: Global, first: u8, name: &str) -> io::Result<Option<ObjId>> {
+pub(crate) fn id_of(alloc: Global, first: u8, name: &str) -> Result<Option<ObjId>, AllocError> {
     let digits = format!(in alloc; "{first:02x}{name}")?;
     Ok(ObjId::read(digits.as_str()).ok())
 }

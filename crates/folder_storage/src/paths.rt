@@ -28,6 +28,14 @@ pub(crate) fn slot_path(alloc: Global, library: &str, slot: &Slot) -> Result<Str
     }
 }
 
+/// The path of a folder while it is entered anew.
+pub(crate) fn moved_path(alloc: Global, folder: &str) -> Result<String, AllocError> {
+    let mut path = String::with_capacity(alloc, folder.len().saturating_add(64))?;
+    path.push_str(folder)?;
+    path.push_str(".moved")?;
+    Ok(path)
+}
+
 /// The path of an object's file: `KIND/xx/` and the other 38 digits of its id.
 pub(crate) fn object_path(alloc: Global, library: &str, key: &Key) -> Result<String, AllocError> {
     let digits = key.id.digits();
@@ -36,15 +44,6 @@ pub(crate) fn object_path(alloc: Global, library: &str, key: &Key) -> Result<Str
     push_ascii(&mut path, &digits[..FOLDER_DIGITS])?;
     path.push('/')?;
     push_ascii(&mut path, &digits[FOLDER_DIGITS..])?;
-    Ok(path)
-}
-
-/// The path of the folder that an object lies in.
-pub(crate) fn object_folder(alloc: Global, library: &str, key: &Key) -> Result<String, AllocError> {
-    let digits = key.id.digits();
-    let mut path = kind_path(alloc, library, key.kind)?;
-    path.push('/')?;
-    push_ascii(&mut path, &digits[..FOLDER_DIGITS])?;
     Ok(path)
 }
 

@@ -34,7 +34,7 @@ fn lib() -> LibId {
 }
 
 /// The ground of the file system.
-fn ground(rt: &HostRuntime) -> Result<FolderGround<HostRuntime>, Fail> {
+fn ground(rt: &HostRuntime) -> Result<FolderGround<SystemFiles<HostRuntime>>, Fail> {
     Ok(FolderGround::new(rt.clone()?))
 }
 
@@ -51,12 +51,15 @@ where
 }
 
 /// The library of these tests, made in a folder.
-fn made(rt: &HostRuntime, folder: &str) -> Result<FolderShelf<HostRuntime>, Fail> {
+fn made(rt: &HostRuntime, folder: &str) -> Result<FolderShelf<SystemFiles<HostRuntime>>, Fail> {
     there(ground(rt)?.make(folder, lib()))
 }
 
 /// The library of these tests, found in a folder.
-fn found_again(rt: &HostRuntime, folder: &str) -> Result<FolderShelf<HostRuntime>, Fail> {
+fn found_again(
+    rt: &HostRuntime,
+    folder: &str,
+) -> Result<FolderShelf<SystemFiles<HostRuntime>>, Fail> {
     there(ground(rt)?.find(folder, lib()))
 }
 

@@ -1,0 +1,266 @@
+//! How what was put is made durable, and the state text after it.
+use crate::file_system::FileSystem;
+use crate::library_folder::{LibraryFolder, first_byte};
+use crate::paths::{kind_path, listed_folder, moved_path, named_path, object_path};
+use crate::whole::is_whole;
+use ids::{Key, Kind, ObjId};
+use std::io;
+use std::io::ErrorKind;
+
+/// A folder whose names are made durable.
+#[derive(Clone, Copy, Debug, PartialEq, Eq)]
+pub(crate) enum Place {
+    /// That of a kind's objects whose ids begin with this byte.
+    Objects(Kind, u8),
+    /// That of a kind.
+    OfKind(Kind),
+}
+
+/// Makes the objects durable, each with its folder, and then puts the state text.
+pub(crate) fn put_durably<F: FileSystem + Drop>(
+    library: &mut LibraryFolder<F>,
+    keys: &[Key],
+    text: &[u8],
+) -> io::Result<()> {
+    for key in keys {
+        library.sync_object(key)?;
+    }
+    let mut last = None;
+    for key in keys {
+        let place = Place::Objects(key.kind, first_byte(key));
+        if last != Some(place) {
+            library.sync_place(place)?;
+            last = Some(place);
+        }
+    }
+    for kind in [Kind::Commit, Kind::Fs, Kind::Block] {
+        if has_kind(keys, kind) {
+            library.sync_place(Place::OfKind(kind))?;
+        }
+    }
+    library.put_text(text)
+}
+
+/// Whether a key is of this kind.
+fn has_kind(keys: &[Key], kind: Kind) -> bool {
+    for key in keys {
+        if key.kind == kind {
+            return true;
+        }
+    }
+    false
+}
+
+impl<F: FileSystem + Drop> LibraryFolder<F> {
+    /// Puts the state text, after every object that was put before it was made durable, by whichever run.
+    ///
+    /// Where a sync fails, what it was to make durable is in doubt: another sync would say that all is well.
+    pub(crate) fn put_state(&mut self, text: &[u8]) -> io::Result<()> {
+        if self.is_adrift || self.lost.is_some() {
+            return Err(io::Error::from(ErrorKind::Other));
+        }
+        self.seek_unsynced()?;
+        let keys = self.unsynced.clone()?;
+        if !keys.is_empty() {
+            self.mark()?;
+        }
+        self.is_synced = false;
+        let put = put_durably(self, keys.as_slice(), text);
+        if self.is_synced {
+            self.unsynced.clear();
+            self.commits.clear();
+            self.earlier.whole.clear();
+        }
+        self.is_in_doubt = !self.is_synced;
+        if put.is_ok() {
+            self.unmark();
+        }
+        put
+    }
+
+    /// Takes what earlier runs put among the objects that are to be made durable, once in this run, and sorts them.
+    pub(crate) fn seek_unsynced(&mut self) -> io::Result<()> {
+        if !self.has_earlier {
+            for key in &self.earlier.whole {
+                self.unsynced.push(*key)?;
+            }
+            self.has_earlier = true;
+        }
+        self.unsynced.sort()?;
+        self.unsynced.dedup();
+        Ok(())
+    }
+
+    /// Leaves a mark before the first sync: a run that finds it trusts no sync of what that mark's run put. Where a sync
+    /// failed before, the mark itself is made durable.
+    fn mark(&mut self) -> io::Result<()> {
+        if !self.is_marked {
+            let mark = named_path(self.files.alloc(), self.path.as_str(), "syncing")?;
+            self.files.write(mark.as_str(), b"", false)?;
+            self.is_marked = true;
+        }
+        if self.is_in_doubt {
+            self.files.sync_folder(self.path.as_str())?;
+        }
+        Ok(())
+    }
+
+    /// Takes the mark away. One that stays costs time alone.
+    fn unmark(&mut self) {
+        if self.is_marked {
+            if let Ok(mark) = named_path(self.files.alloc(), self.path.as_str(), "syncing") {
+                self.is_marked = self.files.remove_file(mark.as_str()).is_err();
+            }
+        }
+    }
+
+    /// Makes an object's file durable. One whose sync may have failed is written anew.
+    fn sync_object(&mut self, key: &Key) -> io::Result<()> {
+        let path = object_path(self.files.alloc(), self.path.as_str(), key)?;
+        if !self.is_in_doubt && self.files.sync_file(path.as_str()).is_ok() {
+            return Ok(());
+        }
+        let anew = self.write_anew(key, path.as_str());
+        match anew {
+            Ok(()) => Ok(()),
+            Err(failure) => {
+                self.give_up(key, path.as_str())?;
+                Err(after_a_change(failure))
+            }
+        }
+    }
+
+    /// Writes an object anew, durably, unless it was removed. It has to read back as what was put.
+    fn write_anew(&mut self, key: &Key, path: &str) -> io::Result<()> {
+        let bytes = match self.files.read(path)? {
+            Some(bytes) => bytes,
+            None => return Ok(()),
+        };
+        if !self.is_as_put(key, bytes.as_slice()) {
+            return Err(io::Error::from(ErrorKind::InvalidData));
+        }
+        self.write_spare(bytes.as_slice(), true)?;
+        self.move_spare(path)
+    }
+
+    /// Whether the bytes are those that were put under the key.
+    fn is_as_put(&self, key: &Key, bytes: &[u8]) -> bool {
+        for commit in &self.commits {
+            if key.kind == Kind::Commit && commit.id == key.id {
+                return commit.sum == ObjId::of(bytes);
+            }
+        }
+        is_whole(key, bytes)
+    }
+
+    /// Takes away an object of this run that could not be made durable. One that an earlier run put stays, since a state
+    /// text that stands may name it.
+    fn give_up(&mut self, key: &Key, path: &str) -> io::Result<()> {
+        if self.earlier.whole.binary_search(key).is_ok() {
+            return Ok(());
+        }
+        self.lost = Some(*key);
+        self.forget_listing(key);
+        self.files.remove_file(path)?;
+        Ok(())
+    }
+
+    /// Makes a folder's names durable. Where a sync failed before, a folder of objects is first entered anew.
+    fn sync_place(&mut self, place: Place) -> io::Result<()> {
+        let alloc = self.files.alloc();
+        let is_there = match place {
+            Place::Objects(kind, first) => {
+                let folder = listed_folder(alloc, self.path.as_str(), kind, first)?;
+                if self.is_in_doubt {
+                    self.enter_anew(folder.as_str())?;
+                }
+                self.files.sync_folder(folder.as_str())?;
+                true
+            }
+            Place::OfKind(kind) => {
+                let folder = kind_path(alloc, self.path.as_str(), kind)?;
+                self.files.sync_folder(folder.as_str())?
+            }
+        };
+        if is_there {
+            return Ok(());
+        }
+        Err(io::Error::from(ErrorKind::NotFound))
+    }
+
+    /// Moves a folder away and back, so that its name is written anew.
+    fn enter_anew(&mut self, folder: &str) -> io::Result<()> {
+        if self.files.look(folder)?.is_none() {
+            return Ok(());
+        }
+        let moved = moved_path(self.files.alloc(), folder)?;
+        self.files.rename(folder, moved.as_str())?;
+        match self.files.rename(moved.as_str(), folder) {
+            Ok(()) => Ok(()),
+            Err(failure) => {
+                self.is_adrift = true;
+                Err(after_a_change(failure))
+            }
+        }
+    }
+
+    /// Puts the state text, durably. With its first one a new library's folder takes its name.
+    fn put_text(&mut self, text: &[u8]) -> io::Result<()> {
+        self.is_synced = true;
+        let status = named_path(self.files.alloc(), self.path.as_str(), "status")?;
+        self.write_spare(text, true)?;
+        let moved = self.move_spare(status.as_str());
+        if let Err(failure) = moved {
+            return Err(after_a_change(failure));
+        }
+        match self.settle() {
+            Ok(()) => Ok(()),
+            Err(failure) => Err(after_a_change(failure)),
+        }
+    }
+
+    /// Makes the name of the state text durable, and that of the library's folder.
+    fn settle(&mut self) -> io::Result<()> {
+        self.files.sync_folder(self.path.as_str())?;
+        match self.home.take() {
+            Some(home) => self.take_name(home),
+            None => self.sync_above(),
+        }
+    }
+
+    /// Gives a new library's folder its name. Where that can't be made durable it has no name again.
+    fn take_name(&mut self, home: String) -> io::Result<()> {
+        if let Err(failure) = self.files.rename(self.path.as_str(), home.as_str()) {
+            self.home = Some(home);
+            return Err(failure);
+        }
+        let synced = self.sync_above();
+        if synced.is_err() && self.files.rename(home.as_str(), self.path.as_str()).is_ok() {
+            self.is_adrift = false;
+            self.home = Some(home);
+            return synced;
+        }
+        self.path = home;
+        synced
+    }
+
+    /// Makes the name of the library's folder durable, once in this run.
+    fn sync_above(&mut self) -> io::Result<()> {
+        if let Some(above) = &self.above {
+            if let Err(failure) = self.files.sync_folder(above.as_str()) {
+                self.is_adrift = true;
+                return Err(failure);
+            }
+        }
+        self.above = None;
+        Ok(())
+    }
+}
+
+/// The failure of a call that may have changed something: want of memory is no excuse there.
+fn after_a_change(failure: io::Error) -> io::Error {
+    if failure.kind() == ErrorKind::OutOfMemory {
+        return io::Error::from(ErrorKind::Other);
+    }
+    failure
+}

@@ -1,0 +1,73 @@
+//! The calls of the system by which libraries are kept in folders.
+use std::alloc::Global;
+use std::io;
+
+/// What stands at a path.
+#[derive(Clone, Copy, Debug, PartialEq, Eq)]
+pub enum FileKind {
+    File,
+    Folder,
+    /// A link, a pipe, a socket or a device.
+    Other,
+}
+
+/// What is told of what stands at a path.
+#[derive(Clone, Copy, Debug, PartialEq, Eq)]
+pub struct FileFacts {
+    pub kind: FileKind,
+    pub size: u64,
+    /// When it was changed last, in seconds.
+    pub changed: i64,
+}
+
+/// The calls of the system by which libraries are kept in folders. `SystemFiles` hands them to the system; a stand-in may
+/// count them, let one fail, and lose what was not made durable.
+///
+/// A path that isn't there is no failure where a call answers an `Option` or a `bool`.
+pub trait FileSystem {
+    /// What texts and lists are made with.
+    fn alloc(&self) -> Global;
+
+    /// Another handle of the same files, which holds no lock.
+    fn another(&self) -> io::Result<Self>;
+
+    /// What stands at a path. A link at its end is not followed.
+    fn look(&mut self, path: &str) -> io::Result<Option<FileFacts>>;
+
+    /// What stands at a path, or at the end of the link there.
+    fn look_through(&mut self, path: &str) -> io::Result<Option<FileFacts>>;
+
+    /// The names in a folder, in any order. A name that is no text is left out.
+    fn list(&mut self, folder: &str) -> io::Result<Option<Vec<String>>>;
+
+    /// The bytes of a file.
+    fn read(&mut self, path: &str) -> io::Result<Option<Vec<u8>>>;
+
+    /// Writes a file with these bytes, its owner's alone, in place of what stands there; durably if that is asked.
+    fn write(&mut self, path: &str, bytes: &[u8], is_durable: bool) -> io::Result<()>;
+
+    /// Makes the bytes of a file durable. The answer is whether it is there.
+    fn sync_file(&mut self, path: &str) -> io::Result<bool>;
+
+    /// Makes the names in a folder durable. The answer is whether it is there.
+    fn sync_folder(&mut self, path: &str) -> io::Result<bool>;
+
+    /// Gives a file or folder another name, in place of the file that has it.
+    fn rename(&mut self, from: &str, to: &str) -> io::Result<()>;
+
+    /// Takes a file away. The answer is whether it was there.
+    fn remove_file(&mut self, path: &str) -> io::Result<bool>;
+
+    /// Takes an empty folder away.
+    fn remove_folder(&mut self, path: &str) -> io::Result<()>;
+
+    /// Takes a folder away with all that is in it. No link is followed.
+    fn remove_all(&mut self, path: &str) -> io::Result<()>;
+
+    /// Makes a folder, its owner's alone, unless something of that name is there.
+    fn make_folder(&mut self, path: &str) -> io::Result<()>;
+
+    /// Takes the lock of a file, which is made where it isn't there, for as long as this handle stands. A lock that
+    /// another handle has is a failure, and so is a file that is no longer at this path once the lock is had.
+    fn lock(&mut self, path: &str) -> io::Result<()>;
+}
