@@ -9,3 +9,4 @@ pub mod FileReadBack
 pub mod DirectoryReadBack
 pub mod ObjectReadingLemmas
 pub mod PartsLemmas
+pub mod DescendingLemmas

@@ -1,7 +1,8 @@
 //! File and directory objects: their one grammar, read and written exactly.
 //!
 //! Shown upward: `FsObject` with `read` and `write`, `FileObject`, `DirObject`, `Dirent`, and the faults.
-//! Definitions: `specs/FsObject.antt` (`fs_of`), `specs/Spelling.antt` (`text_of`). It stores nothing.
+//! Definitions: `specs/FsObject.antt` (`fs_of`), `specs/Spelling.antt` (`text_of`); `laws` has what holds of
+//! written directories. It stores nothing.
 #![tactic(auto)]
 
 mod dir_object;
@@ -13,6 +14,7 @@ mod fields;
 mod file_object;
 mod file_reading;
 mod fs_object;
+pub mod laws;
 mod object_reading;
 mod parts;
 #[cfg(test)]
