@@ -12,3 +12,4 @@ pub mod Counting
 pub mod Locality
 pub mod SameBelow
 pub mod Stored
+pub mod Reaching

@@ -3,3 +3,4 @@ pub mod Listing
 pub mod Objects
 pub mod Traversal
 pub mod Unchanged
+pub mod Reached

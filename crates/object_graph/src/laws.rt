@@ -6,7 +6,8 @@ ghost use Rattle.ids.specs.declared.key.Key.{Key};
 ghost use Rattle.tree_model.specs.Path.{PathV};
 ghost use Rattle.tree_model.specs.Tree.{Tree, Fits};
 ghost use Rattle.commit_objects.specs.declared.commit.Commit.{Commit};
-ghost use Rattle.object_graph.specs.Objects.{commit_at, node_below, IsTreeOf};
+ghost use Rattle.object_graph.specs.Objects.{commit_at, commit_key, node_below, IsTreeOf};
+ghost use Rattle.object_graph.specs.Reached.{ReachedFrom, named};
 ghost use Rattle.object_graph.specs.Traversal.{start, is_in, walk_root, walk_object, walk_below, walk_commit, needs, IsComplete, IsCompleteRoot};
 ghost use Rattle.object_graph.specs.Unchanged.{AgreeOn, Keeps};
 
@@ -38,6 +39,20 @@ pub fn a_complete_commit_stays_complete_as_what_it_does_not_need_leaves()
 pub fn what_a_complete_commit_needs_is_stored()
     ensures { (objects : Objects) → (id : List ℕ) → IsComplete objects id → (key : Key)
         → is_in (needs objects id) key ≡ true → IsSome (map.get objects key) }
+{}
+
+/// What a commit needs is reached from it by what objects name, whether it is complete or not.
+pub fn what_a_commit_needs_is_reached_from_it()
+    ensures { (objects : Objects) → (id : List ℕ) → (key : Key) → is_in (needs objects id) key ≡ true
+        → ReachedFrom objects [] (commit_key id ∷ []) key }
+{}
+
+/// What a complete commit needs names nothing else, so all that is reached from the commit is needed by it.
+pub fn a_complete_commit_needs_all_that_is_reached_from_it()
+    ensures named { (objects : Objects) → (id : List ℕ) → IsComplete objects id → (above : Key) → (key : Key)
+        → is_in (needs objects id) above ≡ true → is_in (named objects above) key ≡ true → is_in (needs objects id) key ≡ true }
+    ensures reached { (objects : Objects) → (id : List ℕ) → IsComplete objects id → (key : Key)
+        → ReachedFrom objects [] (commit_key id ∷ []) key → is_in (needs objects id) key ≡ true }
 {}
 
 /// A commit's first fault is that a key is incomplete only where the traversal visited that key last, and nothing is
