@@ -1,5 +1,5 @@
 -- The objects that are made are directories of the tree. The key lemmas are dirs_start, dirs_more, dirs_all and clash_here.
-use Rattle.std.proofs.Common.{◌≡◌, ℕ, Bool, true, false, if◌then◌else◌, List, [], ◌∷◌, ◌++◌, refl, sym, ap, ◌∙◌, subst, All, Option, Some, None, is_some, IsSome, option_map, Result, Ok, Less, ◌⊎◌, inl, inr, true≢false}
+use Rattle.std.proofs.Common.{◌≡◌, ◌≢◌, ℕ, Bool, true, false, if◌then◌else◌, List, [], ◌∷◌, ◌++◌, refl, sym, ap, ap₂, ◌∙◌, subst, All, Option, Some, None, is_some, IsSome, option_map, Result, Ok, Less, ◌⊎◌, inl, inr, true≢false}
 use Rattle.std.specs.FinMap as map
 use Rattle.std.specs.List.{IsDistinct}
 use Rattle.std.specs.Str.{bytes_eq}
@@ -7,7 +7,7 @@ use Rattle.ids.specs.Key.{Objects, key_cmp}
 use Rattle.ids.specs.ObjectId.{nil}
 use Rattle.ids.specs.declared.key.Key.{Key}
 use Rattle.tree_model.specs.Path.{PathV, path_cmp}
-use Rattle.tree_model.proofs.Listed.{same_path}
+use Rattle.tree_model.proofs.Listed.{same_path, same_path-true}
 use Rattle.fs_objects.specs.Directory.{names_of}
 use Rattle.fs_objects.specs.FsObject.{fs_of}
 use Rattle.fs_objects.specs.Mode.{is_file_mode, is_directory_mode}
@@ -22,9 +22,11 @@ use Rattle.object_graph.specs.Unchanged.{Keeps}
 use Rattle.object_graph.specs.declared.entry.Entry.{Entry}
 use Rattle.object_graph.specs.declared.entry.Entry.TheVariants.{Dir, File}
 use Rattle.tree_merge.specs.Sides.{Entries}
-use Rattle.tree_merge.specs.TreeBuilding.{AreDirectories, AreNamed, HasMade, IsClash, IsDirectoryText, IsEntryMade, IsNilOrMade, IsOwn, IsOwnName, IsRefusedList, IsSound, IsWritten, Lists}
-use Rattle.tree_merge.proofs.BuildingLemmas.{BuiltSo, no_directory}
+use Rattle.tree_merge.specs.TreeBuilding.{AreDirectories, AreNamed, HasMade, IsClash, IsDirectoryText, IsEntryMade, IsNilOrMade, IsNilWhereEmpty, IsOwn, IsOwnName, IsRefusedList, IsSound, IsWritten, Lists}
+use Rattle.tree_merge.proofs.BuildingLemmas.{BuiltSo, entry_name, no_directory}
+use Rattle.object_graph.proofs.Entries.{named_name}
 use Rattle.tree_merge.proofs.DirentLemmas.{same_name, written_listing}
+use Rattle.tree_merge.proofs.EmptyDirectories.{nil_where_empty, some_written, zeros_same}
 use Rattle.tree_merge.proofs.MadeLemmas.{kept_itself}
 
 -- ---- ids of what was made
@@ -83,11 +85,13 @@ module _ (W : Entries) (M M2 : Objects) (dirs : AreDirectories W M) (keeps : Kee
 pub record DirsSo (W : Entries) (H : PathV → List Dirent) (M : Objects) : Type 0 where
   pub made : AreDirectories W M
   pub held : (d : PathV) (n : List ℕ) (e : Dirent) → entry_named n (H d) ≡ Some e → is_directory_mode e.mode ≡ true → IsNilOrMade M e.id
+  pub zeros : (d : PathV) (n : List ℕ) (e : Dirent) → entry_named n (H d) ≡ Some e → is_directory_mode e.mode ≡ true → IsNilWhereEmpty W (d ++ n ∷ []) e.id
 
 pub dirs_start : (W : Entries) (H : PathV → List Dirent) (M : Objects) → ((d : PathV) → H d ≡ []) → M ≡ map.empty → DirsSo W H M
 dirs_start W H M none empty = record {
   made = record { texts = λ key bytes there. absurd (nothing key bytes there); below = λ key bytes there. absurd (nothing key bytes there) };
   held = λ d n e is dir. absurd (no_entry d n e is);
+  zeros = λ d n e is dir. absurd (no_entry d n e is);
 }
   where
     nothing : (key : Key) (bytes : List ℕ) → map.get M key ≡ Some bytes → ⊥
@@ -97,15 +101,17 @@ dirs_start W H M none empty = record {
     no_entry d n e is = let both : None ≡ Some e = sym (ap (entry_named n) (none d)) ∙ is in cc
 
 -- the text of what a directory holds, all of whose entries are listed
-pub text_here : (W R : Entries) (H : PathV → List Dirent) (M : Objects) → BuiltSo W R H M → (path : PathV) → (path ≡ []) ⊎ IsSome (map.get R path) → (path ≡ []) ⊎ (map.get W path ≡ Some Dir)
-    → ((name : List ℕ) → map.get R (path ++ name ∷ []) ≡ None) → IsDistinct bytes_eq (names_of (H path)) → (bytes : List ℕ)
+pub text_here : (W R : Entries) (H : PathV → List Dirent) (M : Objects) → BuiltSo W R H M → DirsSo W H M → (path : PathV) → (path ≡ []) ⊎ IsSome (map.get R path) → (path ≡ []) ⊎ (map.get W path ≡ Some Dir)
+    → ((name : List ℕ) → map.get R (path ++ name ∷ []) ≡ None) → IsDistinct bytes_eq (names_of (H path)) → H path ≢ [] → (bytes : List ℕ)
     → (All IsProperEntry (H path) → fs_of bytes ≡ Ok (fs.Dir (in_written_order (H path)))) → IsDirectoryText W bytes
-text_here W R H M so path waits is_dir gone distinct bytes reads = record {
+text_here W R H M so dirs path waits is_dir gone distinct some bytes reads = record {
   path = path;
   is_dir = is_dir;
   dirents = in_written_order (H path);
   reads = reads (so.proper path);
+  some = some_written (H path) distinct some;
   told = λ name. ap (option_map entry_of) (written_listing (H path) distinct name) ∙ so.done M (kept_itself M) path name [] waits (gone name);
+  zeros = λ name e found dir. dirs.zeros path name e (sym (written_listing (H path) distinct name) ∙ found) dir;
 }
 
 -- and what it lists
@@ -130,7 +136,7 @@ fresh_here W R H M M2 so dirs path waits is_dir gone keeps named i lists has = b
     by (Some bytes) there some (inr written) = record {
       bytes = written.bytes;
       there = written.there;
-      text = text_here W R H M so path waits is_dir gone lists.distinct written.bytes written.reads;
+      text = text_here W R H M so dirs path waits is_dir gone lists.distinct written.some written.bytes written.reads;
       below = below_here H M M2 keeps dirs.held path lists.distinct written.bytes (written.reads (so.proper path));
     }
 
@@ -157,7 +163,7 @@ named_pushed (x ∷ es) e f n = by (same_name n x.name) (named_pushed es e f n)
     by false more is = more is
 
 module _ (W R : Entries) (H H2 : PathV → List Dirent) (M M2 : Objects) (path d : PathV) (n : List ℕ) (x : Entry) (e : Dirent)
-    (sound : IsSound W) (so : BuiltSo W R H M) (dirs : DirsSo W H M) (there : map.get R path ≡ Some x)
+    (sound : IsSound W) (so : BuiltSo W R H M) (dirs : DirsSo W H M) (split : path ≡ d ++ n ∷ []) (there : map.get R path ≡ Some x)
     (behind : (q : PathV) → path_cmp path q ≡ Less → map.get R q ≡ None) (children : (name : List ℕ) → path_cmp path (path ++ name ∷ []) ≡ Less)
     (made : IsEntryMade M2 n x (H path) e) (keeps : Keeps M M2) (named : AreNamed M2) (told : (id : List ℕ) → HasMade M2 id → (HasMade M id) ⊎ IsOwn x e id)
     (listed : (q : PathV) → H2 q ≡ (if same_path q d then (if same_path q path then [] else H q) ++ e ∷ [] else (if same_path q path then [] else H q))) where
@@ -169,6 +175,18 @@ module _ (W R : Entries) (H H2 : PathV → List Dirent) (M M2 : Objects) (path d
     where
       by : (y : Entry) → IsEntryMade M2 n y (H path) e → map.get W path ≡ Some y → IsNilOrMade M2 e.id
       by Dir h is = nil_or_written M2 e.id (H path) h.lists
+      by (File id mode mtime modifier size) h is = absurd (true≢false (sym dir ∙ ap (λ (f : Dirent). is_directory_mode f.mode) h ∙ no_directory mode file))
+        where
+          file : is_file_mode mode ≡ true
+          file = sound.modes path (record { id = id; mode = mode; mtime = mtime; modifier = modifier; size = size }) is
+
+  own_zeros : is_directory_mode e.mode ≡ true → IsNilWhereEmpty W path e.id
+  own_zeros dir = by x made whole_there
+    where
+      by : (y : Entry) → IsEntryMade M2 n y (H path) e → map.get W path ≡ Some y → IsNilWhereEmpty W path e.id
+      by Dir h is =
+          nil_where_empty W M2 path e.id (H path) (so.proper path) h.lists
+          (λ name. so.done M (kept_itself M) path name [] (inr (ap is_some there)) (behind (path ++ name ∷ []) (children name)))
       by (File id mode mtime modifier size) h is = absurd (true≢false (sym dir ∙ ap (λ (f : Dirent). is_directory_mode f.mode) h ∙ no_directory mode file))
         where
           file : is_file_mode mode ≡ true
@@ -205,8 +223,38 @@ module _ (W R : Entries) (H H2 : PathV → List Dirent) (M M2 : Objects) (path d
       by false true is = nothing is
       by false false is = old is
 
+  -- the new entry, found by a name, has its own name
+  zeros_new : (q : PathV) (es : List Dirent) (k : List ℕ) (f : Dirent) → q ≡ d → entry_named k es ≡ Some f → e ≡ f → is_directory_mode f.mode ≡ true → IsNilWhereEmpty W (q ++ k ∷ []) f.id
+  zeros_new q es k f at found same dir =
+      let name : k ≡ n = named_name k es f found ∙ ap (λ (y : Dirent). y.name) (sym same) ∙ entry_name M2 n x (H path) e made in
+      let place : path ≡ q ++ k ∷ [] = split ∙ ap₂ (λ (p : PathV) (m : List ℕ). p ++ m ∷ []) (sym at) (sym name) in
+      subst (λ (p : PathV). IsNilWhereEmpty W p f.id) place
+      (subst (λ (y : Dirent). IsNilWhereEmpty W path y.id) same (own_zeros (ap (λ (y : Dirent). is_directory_mode y.mode) same ∙ dir)))
+
+  zeros_more : (q : PathV) (k : List ℕ) (f : Dirent) → entry_named k (H2 q) ≡ Some f → is_directory_mode f.mode ≡ true → IsNilWhereEmpty W (q ++ k ∷ []) f.id
+  zeros_more q k f found dir = by (same_path q d) (same_path q path) refl (ap (entry_named k) (sym (listed q)) ∙ found)
+    where
+      pushed : (es : List Dirent) → same_path q d ≡ true → (entry_named k es ≡ Some f → IsNilWhereEmpty W (q ++ k ∷ []) f.id) → entry_named k (es ++ e ∷ []) ≡ Some f → IsNilWhereEmpty W (q ++ k ∷ []) f.id
+      pushed es tie old is =
+          elim (named_pushed es e f k is) [ inl before ↦ old before | inr same ↦ zeros_new q (es ++ e ∷ []) k f (same_path-true q d tie) is same dir ]
+
+      old : entry_named k (H q) ≡ Some f → IsNilWhereEmpty W (q ++ k ∷ []) f.id
+      old is = dirs.zeros q k f is dir
+
+      nothing : None ≡ Some f → IsNilWhereEmpty W (q ++ k ∷ []) f.id
+      nothing is = absurd (no_entry f is)
+        where
+          no_entry : (g : Dirent) → None ≡ Some g → ⊥
+          no_entry g is = cc
+
+      by : (b c : Bool) → same_path q d ≡ b → entry_named k (if b then (if c then [] else H q) ++ e ∷ [] else (if c then [] else H q)) ≡ Some f → IsNilWhereEmpty W (q ++ k ∷ []) f.id
+      by true true tie is = pushed [] tie nothing is
+      by true false tie is = pushed (H q) tie old is
+      by false true tie is = nothing is
+      by false false tie is = old is
+
   pub dirs_more : DirsSo W H2 M2
-  dirs_more = record { made = dirs_grown W M M2 dirs.made keeps named told_more; held = held_more }
+  dirs_more = record { made = dirs_grown W M M2 dirs.made keeps named told_more; held = held_more; zeros = zeros_more }
 
 -- ---- at the end
 
@@ -224,6 +272,11 @@ dirs_all W R H M M2 root so dirs none keeps named lists told = (
           | inr own ↦ inr (fresh_here W R H M M2 so dirs [] (inl refl) (inl refl) (λ name. none (name ∷ [])) keeps named i (subst (λ (j : List ℕ). Lists M2 j (H [])) (sym own) lists) has)
         ]
 
+pub root_nil : (W R : Entries) (H : PathV → List Dirent) (M M2 : Objects) (root : List ℕ) → BuiltSo W R H M → ((q : PathV) → map.get R q ≡ None)
+    → Lists M2 root (H []) → IsNilWhereEmpty W [] root
+root_nil W R H M M2 root so none lists =
+    nil_where_empty W M2 [] root (H []) (so.proper []) lists (λ name. so.done M (kept_itself M) [] name [] (inl refl) (none (name ∷ [])))
+
 -- ---- a directory that can't be made
 
 pub clash_here : (W R : Entries) (H : PathV → List Dirent) (M : Objects) (path : PathV) (id : List ℕ) → BuiltSo W R H M → DirsSo W H M → AreNamed M
@@ -232,7 +285,7 @@ pub clash_here : (W R : Entries) (H : PathV → List Dirent) (M : Objects) (path
 clash_here W R H M path id so dirs named waits is_dir gone refused = record {
   bytes = refused.bytes;
   own = refused.refused.own;
-  text = text_here W R H M so path waits is_dir gone refused.distinct refused.bytes refused.reads;
+  text = text_here W R H M so dirs path waits is_dir gone refused.distinct refused.some refused.bytes refused.reads;
   clash =
       elim refused.refused.clash [
         | inl zeros ↦ inl zeros
@@ -249,7 +302,9 @@ module _ (W E : Entries) (same : (q : PathV) → map.get W q ≡ map.get E q) wh
     is_dir = elim text.is_dir [ inl root ↦ inl root | inr dir ↦ inr (sym (same text.path) ∙ dir) ];
     dirents = text.dirents;
     reads = text.reads;
+    some = text.some;
     told = λ name. text.told name ∙ same (text.path ++ name ∷ []);
+    zeros = λ name e found dir. zeros_same W E same (text.path ++ name ∷ []) e.id (text.zeros name e found dir);
   }
 
   pub dirs_same : (M : Objects) → AreDirectories W M → AreDirectories E M

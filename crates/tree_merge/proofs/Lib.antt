@@ -13,6 +13,7 @@ pub mod TableLemmas
 pub mod TellingLemmas
 pub mod GoodModes
 pub mod StoredTrees
+pub mod EmptyDirectories
 pub mod DirectoryLemmas
 pub mod CompleteRoots
 pub mod ListedPaths

@@ -72,26 +72,29 @@ not_nil id some = by (is_nil id) refl
     by false is = is
 
 -- a directory whose text was made has its entries
-pub lists_written : (made : Objects) (id bytes : List ℕ) (entries : List Dirent) → IsMade made id bytes
+pub lists_written : (made : Objects) (id bytes : List ℕ) (entries : List Dirent) → entries ≢ [] → IsMade made id bytes
     → (IsProper (fs.Dir entries) → fs_of bytes ≡ Ok (as_written (fs.Dir entries))) → IsDistinct bytes_eq (names_of entries) → Lists made id entries
-lists_written made id bytes entries is_made reads distinct = record {
+lists_written made id bytes entries some is_made reads distinct = record {
   names = λ proper objects keeps n.
       ap (λ (b : Bool). entry_named n (if b then [] else entries_of (fs_in (fs_key id) (map.get objects (fs_key id))))) (not_nil id is_made.some)
       ∙ ap (λ (o : Option (List ℕ)). entry_named n (entries_of (fs_in (fs_key id) o))) (keeps.kept (fs_key id) bytes is_made.there)
       ∙ ap (λ (r : Result _ _). entry_named n (entries_of (as_read (fs_key id) r))) (reads proper)
       ∙ written_listing entries distinct n;
   distinct = distinct;
-  written = inr (record { bytes = bytes; there = is_made.there; reads = reads });
+  written = inr (record { some = some; bytes = bytes; there = is_made.there; reads = reads });
 }
 
 -- forty zeros are the directory of no entries
 pub lists_nothing : (made : Objects) → Lists made nil []
 lists_nothing made = record { names = λ proper objects keeps n. refl; distinct = distinct_none; written = inl refl }
 
+pub lists_empty : (made : Objects) (entries : List Dirent) → entries ≡ [] → Lists made nil entries
+lists_empty made entries is = subst (Lists made nil) (sym is) (lists_nothing made)
+
 -- a text that can't be made is that of a directory that can't
-pub refused_list : (made : Objects) (bytes id : List ℕ) (entries : List Dirent) → IsRefused made bytes id
+pub refused_list : (made : Objects) (bytes id : List ℕ) (entries : List Dirent) → entries ≢ [] → IsRefused made bytes id
     → (IsProper (fs.Dir entries) → fs_of bytes ≡ Ok (as_written (fs.Dir entries))) → IsDistinct bytes_eq (names_of entries) → IsRefusedList made entries id
-refused_list made bytes id entries refused reads distinct = record { bytes = bytes; reads = reads; distinct = distinct; refused = refused }
+refused_list made bytes id entries some refused reads distinct = record { some = some; bytes = bytes; reads = reads; distinct = distinct; refused = refused }
 
 pub kept_itself : (made : Objects) → Keeps made made
 kept_itself made = record { kept = λ k b there. there }

@@ -90,14 +90,31 @@ module _ (entries : Entries) (made more : Objects) (dirs : AreDirectories entrie
 
 -- ---- the directories of the tree
 
+-- a table of entries has nothing exactly where its tree has nothing
+nodes_none : (objects : Objects) (entries : Entries) (tree : Tree) → IsSeen objects entries tree → (q : PathV) → map.get entries q ≡ None → map.get tree q ≡ None
+nodes_none objects entries tree seen q none = seen q ∙ ap (option_map (node_of objects)) none
+
+entries_none : (objects : Objects) (entries : Entries) (tree : Tree) → IsSeen objects entries tree → (q : PathV) → map.get tree q ≡ None → map.get entries q ≡ None
+entries_none objects entries tree seen q none = unmapped (map.get entries q) (sym (seen q) ∙ none)
+  where
+    unmapped : (o : Option Entry) → option_map (node_of objects) o ≡ None → o ≡ None
+    unmapped None is = refl
+    unmapped (Some x) is = cc
+
 text_in : (objects : Objects) (entries : Entries) (tree : Tree) → IsSeen objects entries tree → (bytes : List ℕ) → IsDirectoryText entries bytes → IsDirectoryIn objects tree bytes
 text_in objects entries tree seen bytes text = record {
   path = text.path;
   is_dir = elim text.is_dir [ inl root ↦ inl root | inr dir ↦ inr (ap is_dir (seen text.path) ∙ ap (λ (o : Option Entry). is_dir (option_map (node_of objects) o)) dir) ];
   entries = text.dirents;
   reads = text.reads;
+  some = text.some;
   nodes = λ name.
       seen (text.path ++ name ∷ []) ∙ ap (option_map (node_of objects)) (sym (text.told name)) ∙ both (entry_named name text.dirents);
+  zeros = λ name e found dir.
+      let own = text.zeros name e found dir in (
+        λ is k. nodes_none objects entries tree seen ((text.path ++ name ∷ []) ++ k ∷ []) (own.0 is k),
+        λ none. own.1 (λ k. entries_none objects entries tree seen ((text.path ++ name ∷ []) ++ k ∷ []) (none k)),
+      );
 }
   where
     both : (o : Option Dirent) → option_map (node_of objects) (option_map entry_of o) ≡ option_map (λ e. node_of objects (entry_of e)) o
@@ -178,6 +195,10 @@ module _ (objects : Objects) (base head pushed : List ℕ) (complete : AreComple
       root = λ more keeps also path.
           (told more keeps).nodes path ∙ ap (option_map (node_of more)) (is.value is_sound more (left_or_stored more keeps also) path);
       complete = complete_left;
+      zeros = (
+        λ root_is q. nodes_none objects named.nodes (merged naming s) seen_here q ((is.zeros is_sound).0 root_is q),
+        λ none. (is.zeros is_sound).1 (λ q. entries_none objects named.nodes (merged naming s) seen_here q (none q)),
+      );
       conflicts = is.conflicts ∙ (here objects base head pushed complete s are named told).conflicts;
       new = λ key some. new_left key (map.get objects key) (are_left.is key) some;
       needed = λ key some. needed_left key (map.get left key) refl some;

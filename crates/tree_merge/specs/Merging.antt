@@ -1,5 +1,5 @@
 -- What a merge of stored trees gives. Our own. Read IsMerged and IsTaken, then MergesTo.
-use Rattle.std.specs.Prelude.{◌≡◌, ◌≢◌, ◌⊎◌, ◌≤◌, ◌<◌, ℕ, Bool, true, if◌then◌else◌, List, [], ◌∷◌, ◌++◌, Some, None, is_some, option_map, IsSome, Result, Ok, Err, ⊤}
+use Rattle.std.specs.Prelude.{◌≡◌, ◌≢◌, ◌⊎◌, ◌↔◌, ◌≤◌, ◌<◌, ℕ, Bool, true, if◌then◌else◌, List, [], ◌∷◌, ◌++◌, Some, None, is_some, option_map, IsSome, Result, Ok, Err, ⊤}
 use Rattle.std.specs.FinMap as map
 use Rattle.sha1.specs.Sha1.{sha1}
 use Rattle.ids.specs.Key.{Objects}
@@ -11,6 +11,7 @@ use Rattle.tree_model.specs.DirectorySurvival.{Sides}
 use Rattle.tree_model.specs.ConflictCopies.{conflicts, first_long, places_of}
 use Rattle.tree_model.specs.ThreeWayMerge.{Merge, merge, MergedTree as merged_tree, TooLong as too_long, TooMany as too_many}
 use Rattle.fs_objects.specs.FsObject.{fs_of}
+use Rattle.fs_objects.specs.Mode.{is_directory_mode}
 use Rattle.fs_objects.specs.declared.dirent.Dirent.{Dirent}
 use Rattle.fs_objects.specs.declared.fs_object.FsObject.TheVariants as fs
 use Rattle.conflict_names.specs.Naming.{naming}
@@ -36,22 +37,30 @@ use Rattle.tree_merge.specs.declared.merging.Merged.{Merged}
 abbrev pub merge_of : Sides → Merge
 merge_of s = merge naming s.base s.head s.pushed
 
--- the bytes are those of a directory of the tree: the tree has, under each name below some path, what the entry of that
--- name stands for
+-- a directory's id is forty zeros exactly where the tree has nothing in it
+abbrev pub IsNilWhereNone : Tree → PathV → List ℕ → Type 0
+IsNilWhereNone tree dir id = (id ≡ nil) ↔ ((name : List ℕ) → map.get tree (dir ++ name ∷ []) ≡ None)
+
+-- the bytes are those of a directory of the tree that isn't empty: the tree has, under each name below some path, what the
+-- entry of that name stands for
 pub record IsDirectoryIn (objects : Objects) (tree : Tree) (bytes : List ℕ) : Type 0 where
   pub path : PathV
   pub is_dir : (path ≡ []) ⊎ (has_dir tree path ≡ true)
   pub entries : List Dirent
   pub reads : fs_of bytes ≡ Ok (fs.Dir entries)
+  pub some : entries ≢ []
   pub nodes : (name : List ℕ) → map.get tree (path ++ name ∷ []) ≡ option_map (λ e. node_of objects (entry_of e)) (entry_named name entries)
+  pub zeros : (name : List ℕ) (e : Dirent) → entry_named name entries ≡ Some e → is_directory_mode e.mode ≡ true → IsNilWhereNone tree (path ++ name ∷ []) e.id
 
 -- The merge of the three trees was made. Among all objects that have those stored and those made, the root is complete and has
--- its tree. What was made wasn't stored, the root needs it, and it is a directory of the tree.
+-- its tree; it is forty zeros exactly where that has no path. What was made wasn't stored, the root needs it, and it is a
+-- directory of the tree that isn't empty.
 pub record IsMerged (objects : Objects) (s : Sides) (merged : Merged) : Type 0 where
   pub tree : Tree
   pub is : merge_of s ≡ merged_tree tree
   pub root : (more : Objects) → Keeps objects more → Keeps merged.made more → IsTreeOf more merged.root tree
   pub complete : (more : Objects) → Keeps objects more → Keeps merged.made more → IsCompleteRoot more merged.root
+  pub zeros : (merged.root ≡ nil) ↔ ((path : PathV) → map.get tree path ≡ None)
   pub conflicts : merged.conflicts ≡ places_of (conflicts naming s)
   pub new : (key : Key) → IsSome (map.get merged.made key) → map.get objects key ≡ None
   pub needed : (key : Key) → IsSome (map.get merged.made key) → (more : Objects) → Keeps objects more → Keeps merged.made more
@@ -134,6 +143,7 @@ pub record IsBuilt (named : Named) (merged : Merged) : Type 0 where
   pub value : IsSound named.nodes → (more : Objects) → Keeps merged.made more → AreEntriesOf more merged.root named.nodes
   pub needed : IsSound named.nodes → (id : List ℕ) → HasMade merged.made id → (more : Objects) → Keeps merged.made more → IsDirectoryOf more merged.root id
   pub dirs : IsSound named.nodes → AreDirectories named.nodes merged.made × IsNilOrMade merged.made merged.root
+  pub zeros : IsSound named.nodes → (merged.root ≡ nil) ↔ ((path : PathV) → map.get named.nodes path ≡ None)
   pub names : AreNamed merged.made
   pub conflicts : merged.conflicts ≡ named.conflicts
 

@@ -1,5 +1,5 @@
 -- The objects of a tree that is given by its entries. Our own. Read IsSound, then IsDirectoryOf, IsDirectoryText and IsClash.
-use Rattle.std.specs.Prelude.{◌≡◌, ◌≢◌, ◌⊎◌, ℕ, true, List, [], ◌∷◌, ◌++◌, Option, Some, None, IsSome, All, option_map, option_and_then, pos, if◌then◌else◌, Ok, ⊤}
+use Rattle.std.specs.Prelude.{◌≡◌, ◌≢◌, ◌⊎◌, ◌↔◌, ℕ, true, List, [], ◌∷◌, ◌++◌, Option, Some, None, IsSome, All, option_map, option_and_then, pos, if◌then◌else◌, Ok, ⊤}
 use Rattle.std.specs.List.{IsDistinct}
 use Rattle.std.specs.Str.{bytes_eq}
 use Rattle.std.specs.FinMap as map
@@ -58,13 +58,20 @@ pub record IsOwnName (key : Key) (bytes : List ℕ) : Type 0 where
 abbrev pub AreNamed : Objects → Type 0
 AreNamed made = (key : Key) (bytes : List ℕ) → map.get made key ≡ Some bytes → IsOwnName key bytes
 
--- the bytes are those of a directory of the tree: the tree has, under each name below some path, what the entry of that name is
+-- a directory's id is forty zeros exactly where the tree has nothing in it
+abbrev pub IsNilWhereEmpty : Entries → PathV → List ℕ → Type 0
+IsNilWhereEmpty entries dir id = (id ≡ nil) ↔ ((name : List ℕ) → map.get entries (dir ++ name ∷ []) ≡ None)
+
+-- the bytes are those of a directory of the tree that isn't empty: the tree has, under each name below some path, what the
+-- entry of that name is
 pub record IsDirectoryText (entries : Entries) (bytes : List ℕ) : Type 0 where
   pub path : PathV
   pub is_dir : (path ≡ []) ⊎ (map.get entries path ≡ Some entry.Dir)
   pub dirents : List Dirent
   pub reads : fs_of bytes ≡ Ok (fs.Dir dirents)
+  pub some : dirents ≢ []
   pub told : (name : List ℕ) → option_map entry_of (entry_named name dirents) ≡ map.get entries (path ++ name ∷ [])
+  pub zeros : (name : List ℕ) (e : Dirent) → entry_named name dirents ≡ Some e → is_directory_mode e.mode ≡ true → IsNilWhereEmpty entries (path ++ name ∷ []) e.id
 
 -- an id of a directory: forty zeros, or that of an object that was made
 abbrev pub IsNilOrMade : Objects → List ℕ → Type 0
@@ -112,6 +119,7 @@ pub record IsMade (made : Objects) (id bytes : List ℕ) : Type 0 where
 
 -- the object under the id has these entries, in the order in which they are written; none is stored under forty zeros
 pub record IsWritten (made : Objects) (id : List ℕ) (entries : List Dirent) : Type 0 where
+  pub some : entries ≢ []
   pub bytes : List ℕ
   pub there : map.get made (fs_key id) ≡ Some bytes
   pub reads : All IsProperEntry entries → fs_of bytes ≡ Ok (fs.Dir (in_written_order entries))
@@ -129,6 +137,7 @@ pub record IsRefused (made : Objects) (bytes id : List ℕ) : Type 0 where
 
 -- nor can a directory of these entries
 pub record IsRefusedList (made : Objects) (entries : List Dirent) (id : List ℕ) : Type 0 where
+  pub some : entries ≢ []
   pub bytes : List ℕ
   pub reads : All IsProperEntry entries → fs_of bytes ≡ Ok (fs.Dir (in_written_order entries))
   pub distinct : IsDistinct bytes_eq (names_of entries)

@@ -1,10 +1,11 @@
 //! The directory objects of a tree, made of its entries by path.
-ghost use Rattle.std.specs.Prelude.{◌≡◌, ◌++◌, ◌∷◌, [], ℕ, List, IfErr, IfOk, OnOk, OnErr, Ok, Err, ◌⊎◌, ◌≢◌, if◌then◌else◌};
+ghost use Rattle.std.specs.Prelude.{◌≡◌, ◌++◌, ◌∷◌, [], ℕ, List, None, IfErr, IfOk, OnOk, OnErr, Ok, Err, ◌⊎◌, ◌≢◌, ◌↔◌, if◌then◌else◌};
 ghost use Rattle.std.specs.FinMap as map;
 ghost use Rattle.std.specs.List.{IsDistinct};
 ghost use Rattle.std.specs.Ordering.{eq_by_cmp};
 ghost use Rattle.std.specs.Str.{bytes_eq};
 ghost use Rattle.ids.specs.Key.{Objects};
+ghost use Rattle.ids.specs.ObjectId.{nil};
 ghost use Rattle.tree_model.specs.Path.{PathV, path_cmp};
 ghost use Rattle.fs_objects.specs.Directory.{names_of};
 ghost use Rattle.fs_objects.specs.FsObject.{fs_of};
@@ -62,6 +63,7 @@ pub fn build(alloc: Global, mut entries: PathTable<Entry>) -> Result<BuiltTree, 
     ensures needed { IfOk result (λ built. IsSound entries → (id : List ℕ) → HasMade built.made id
         → (objects : Objects) → Keeps built.made objects → IsDirectoryOf objects built.root id) }
     ensures dirs { IfOk result (λ built. IsSound entries → AreDirectories entries built.made × IsNilOrMade built.made built.root) }
+    ensures zeros { IfOk result (λ built. IsSound entries → (built.root ≡ nil) ↔ ((path : PathV) → map.get entries path ≡ None)) }
     ensures kept { IfOk result (λ built. AreNamed built.made) }
 
     // The refusal. Want of memory may come in its place.
@@ -201,7 +203,7 @@ fn directory_dirent(alloc: Global, name: Name, id: ObjId) -> Result<Dirent, Buil
     }
 }
 
-/// The object of a directory with these entries: none where it has none.
+/// The object of a directory, of which these entries are known, if any: none where it has none.
 fn make_directory(
     alloc: Global,
     entries: Option<Items<Dirent>>,
@@ -220,6 +222,7 @@ fn make_directory(
     }
 }
 
+/// The object of a directory with these entries, if there are any.
 fn make_listed(
     alloc: Global,
     entries: Items<Dirent>,
@@ -232,6 +235,9 @@ fn make_listed(
     ensures named { AreNamed made.old → AreNamed made.new }
     ensures taken { (id : List ℕ) → result ≡ Err (BuildFault.Taken id) → IsRefusedList made.old entries id }
 {
+    if entries.is_empty() {
+        return Ok(ObjId::NIL);
+    }
     match directory_text(alloc, entries) {
         Ok(bytes) => make_object(bytes, made),
         Err(_) => Err(BuildFault::NoMemory),

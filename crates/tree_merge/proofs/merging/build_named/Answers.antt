@@ -13,6 +13,7 @@ returns-in-Ok-clause-value c =
       value = c.in-Ok.ensures.value;
       needed = c.in-Ok.ensures.needed;
       dirs = c.in-Ok.ensures.dirs;
+      zeros = c.in-Ok.ensures.zeros;
       names = c.in-Ok.ensures.kept;
       conflicts = refl;
     })

@@ -15,7 +15,9 @@ use Rattle.tree_merge.proofs.TableLemmas.{get-popped, popped_len, above_popped, 
 use Rattle.tree_merge.proofs.DirentLemmas.{distinct_none}
 use Rattle.tree_merge.proofs.BuildingLemmas.{built_start, built_more, entry_name}
 use Rattle.tree_merge.proofs.BuiltLemmas.{built_all, needed_all, same_sound, without_root, no_root_left, distinct_more, to_do_more}
-use Rattle.tree_merge.proofs.DirectoryLemmas.{dirs_start, dirs_more, dirs_all, dirs_same, clash_here, clash_same}
+use Rattle.tree_merge.proofs.DirectoryLemmas.{dirs_start, dirs_more, dirs_all, dirs_same, root_nil, clash_here, clash_same}
+use Rattle.tree_merge.proofs.EmptyDirectories.{root_zeros, zeros_same}
+use Rattle.tree_merge.proofs.MadeLemmas.{kept_itself}
 use Rattle.tree_merge.proofs.PathsInOrder.{before_child}
 use Rattle.tree_merge.proofs.tree_builder.build.Goals as goal
 
@@ -71,7 +73,7 @@ loop-path-preserved c =
       dirs = λ sound.
           dirs_more c.drop_root.new.entries c.loop-path.entries (λ d. held_at (map.get c.loop-path.held d)) (λ d. held_at (map.get c.add_entry.new.held d))
           c.loop-path.made c.add_entry.new.made c.in-Some.path added.dir added.name c.in-Some.entry added.dirent
-          sound (inv.built sound) (inv.dirs sound) there
+          sound (inv.built sound) (inv.dirs sound) added.split there
           (above_popped c.loop-path.entries c.pop_last.new.self (c.in-Some.path, c.in-Some.entry) c.in-Some.ensures.found)
           (before_child c.in-Some.path)
           added.made c.in-Ok.ensures.kept (c.in-Ok.ensures.named inv.named) added.told added.listed;
@@ -115,6 +117,17 @@ returns-in-Ok-make_directory-clause-dirs c sound =
     (top_lists c.make_directory.new.made c.in-Ok-make_directory.root c.loop-path.held c.root-root.result c.remove-top.result c.root-root.ensures.value c.remove-top.ensures.value c.in-Ok-make_directory.ensures.value)
     c.in-Ok-make_directory.ensures.told in
     (dirs_same c.drop_root.new.entries c.args.entries whole c.make_directory.new.made all.0, all.1)
+
+pub returns-in-Ok-make_directory-clause-zeros : goal.returns-in-Ok-make_directory-clause-zeros
+returns-in-Ok-make_directory-clause-zeros c sound =
+    let whole = without_root c.args.entries c.drop_root.new.entries c.drop_root.ensures.ok sound.no_root in
+    let left = same_sound c.drop_root.new.entries c.args.entries whole sound in
+    root_zeros c.args.entries c.make_directory.new.made c.in-Ok-make_directory.root
+    (returns-in-Ok-make_directory-clause-value c sound c.make_directory.new.made (kept_itself c.make_directory.new.made))
+    (zeros_same c.drop_root.new.entries c.args.entries whole [] c.in-Ok-make_directory.root
+    (root_nil c.drop_root.new.entries c.loop-path.entries (λ d. held_at (map.get c.loop-path.held d)) c.loop-path.made c.make_directory.new.made c.in-Ok-make_directory.root
+    (c.loop-path.invariant.built left) (gone_all c.loop-path.entries c.in_default.ensures.absent)
+    (top_lists c.make_directory.new.made c.in-Ok-make_directory.root c.loop-path.held c.root-root.result c.remove-top.result c.root-root.ensures.value c.remove-top.ensures.value c.in-Ok-make_directory.ensures.value)))
 
 pub returns-in-Err-clause-taken : goal.returns-in-Err-clause-taken
 returns-in-Err-clause-taken c id e sound =
