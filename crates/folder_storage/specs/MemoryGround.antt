@@ -1,7 +1,7 @@
 -- The libraries of a ground in memory, as a list. Our own. Read standing_in first.
 use Rattle.std.specs.Prelude.{◌≡◌, ℕ, ◌<◌, ◌&&◌, Bool, true, false, List, [], ◌∷◌, length, slice_index_or, if◌then◌else◌, Option, None, Some}
 use Rattle.std.specs.Str.{bytes_eq}
-use Rattle.object_store.specs.MemoryShelf.{MemoryShelfState}
+use Rattle.object_store.specs.Shelf.{Contents}
 use Rattle.folder_storage.specs.Ground.{Standing, Standings, Absent, Kept, HandedOut}
 use Rattle.folder_storage.specs.declared.memory_ground.KeptLibrary.{KeptLibrary}
 
@@ -9,9 +9,9 @@ use Rattle.folder_storage.specs.declared.memory_ground.KeptLibrary.{KeptLibrary}
 abbrev pub is_at : KeptLibrary → List ℕ → List ℕ → Bool
 is_at kept folder lib = bytes_eq kept.folder folder && bytes_eq kept.lib lib
 
-abbrev pub standing_of : Option MemoryShelfState → Standing
+abbrev pub standing_of : Option Contents → Standing
 standing_of None = HandedOut
-standing_of (Some shelf) = Kept shelf.contents
+standing_of (Some shelf) = Kept shelf
 
 -- how a library stands: as the first entry of it says
 abbrev pub standing_in : List KeptLibrary → List ℕ → List ℕ → Standing
@@ -29,7 +29,7 @@ pub record IsPlaceOf (libraries : List KeptLibrary) (folder lib : List ℕ) (pla
   pub first : (k : ℕ) (d : KeptLibrary) → k < place → is_at (slice_index_or libraries k d) folder lib ≡ false
 
 -- what stands where a shelf is laid, unless one stands there
-abbrev pub returned : Option MemoryShelfState → MemoryShelfState → Option MemoryShelfState
+abbrev pub returned : Option Contents → Contents → Option Contents
 returned None shelf = Some shelf
 returned (Some before) shelf = Some before
 

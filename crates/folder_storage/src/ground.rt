@@ -1,14 +1,15 @@
 //! Where libraries are kept.
-ghost use Rattle.std.specs.Prelude.{◌≡◌, ℕ, List, IfOk, OnErr, Some};
+ghost use Rattle.std.specs.Prelude.{◌≡◌, ◌≢◌, ℕ, List, IfErr, IfOk, OnErr, Some};
 ghost use Rattle.object_store.specs.Shelf.{CountsFaults};
-ghost use Rattle.folder_storage.specs.Ground.{FindsLibrary, HandsOut, HasNoFaults, MakesLibrary, StandAsBefore, Standing, TakesBack, count_sum};
+ghost use Rattle.folder_storage.specs.Ground.{FindsLibrary, HandedOut, HandsOut, HasNoFaults, MakesLibrary, StandAsBefore, Standing, TakesBack, count_sum};
 
 use ids::LibId;
 use object_store::{Shelf, ShelfFailed};
 
 /// Where libraries are kept, each by the word of its folder and its id.
 ///
-/// A ground in memory tells how each library stands, and has a library once it was made. An adapter over a real one
+/// A ground in memory tells how each library stands, and has a library once it was made. To find or to make one whose
+/// standing is told, and which isn't out, fails but for want of memory never. An adapter over a real one
 /// tells nothing, and may have a library from its first state text on alone: one that goes back without is forgotten,
 /// and can be made anew. A shelf that was handed out is given back, and a library that the ground has then stands there
 /// with what the shelf holds. The count of faults rises in each call that answers `Shelf` and in no other but
@@ -29,6 +30,8 @@ pub trait Ground {
             → IfOk result (FindsLibrary Self.S.contents standing) }
         ensures ok { IfOk result (HandsOut (stands self.old) (stands self.new) folder.now lib) }
         ensures err { OnErr result (StandAsBefore (stands self.old) (stands self.new)) }
+        ensures there { (standing : Standing) → stands self.old folder.now lib ≡ Some standing → standing ≢ HandedOut
+            → IfErr result (λ failed. failed ≡ ShelfFailed.NoMemory) }
         ensures faults { CountsFaults (faults self.old) (faults self.new) result }
         ensures fresh { IfOk result (HasNoFaults Self.S.faults) };
 
@@ -38,6 +41,8 @@ pub trait Ground {
             → IfOk result (MakesLibrary Self.S.contents standing) }
         ensures ok { IfOk result (HandsOut (stands self.old) (stands self.new) folder.now lib) }
         ensures err { OnErr result (StandAsBefore (stands self.old) (stands self.new)) }
+        ensures there { (standing : Standing) → stands self.old folder.now lib ≡ Some standing
+            → IfErr result (λ failed. failed ≡ ShelfFailed.NoMemory) }
         ensures faults { CountsFaults (faults self.old) (faults self.new) result }
         ensures fresh { IfOk result (HasNoFaults Self.S.faults) };
 

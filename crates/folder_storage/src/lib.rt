@@ -21,6 +21,7 @@ mod listing;
 mod memory_ground;
 mod opening;
 mod paths;
+mod steady_shelf;
 mod system_files;
 #[cfg(test)]
 mod tests;
@@ -32,4 +33,5 @@ pub use crate::folder_ground::FolderGround;
 pub use crate::folder_shelf::FolderShelf;
 pub use crate::ground::Ground;
 pub use crate::memory_ground::{KeptLibrary, MemoryGround};
+pub use crate::steady_shelf::SteadyShelf;
 pub use crate::system_files::SystemFiles;

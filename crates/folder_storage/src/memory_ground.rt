@@ -1,13 +1,13 @@
 //! Libraries in memory.
-ghost use Rattle.std.specs.Prelude.{◌≡◌, ◌<◌, ℕ, List, [], ◌∷◌, ◌++◌, vec_len, slice_index_or, slice_set, IfErr, IfNone, IfOk, IfSome, OnErr, OnOk, None, Some};
+ghost use Rattle.std.specs.Prelude.{◌≡◌, ◌≢◌, ◌<◌, ℕ, List, [], ◌∷◌, ◌++◌, vec_len, slice_index_or, slice_set, IfErr, IfNone, IfOk, IfSome, OnErr, OnOk, None, Some};
 ghost use Rattle.object_store.specs.Shelf.{CountsFaults};
 ghost use Rattle.folder_storage.specs.Ground.{Absent, FindsLibrary, HandedOut, HandsOut, HasNoFaults, MakesLibrary, StandAsBefore, Standing, no_contents};
 ghost use Rattle.folder_storage.specs.MemoryGround.{IsPlaceOf, entry_out, is_at, returned, standing_in, standings};
 
-use crate::counted_shelf::CountedShelf;
 use crate::ground::Ground;
-use ids::{Items, LibId, Text};
-use object_store::{MemoryShelf, Shelf, ShelfFailed};
+use crate::steady_shelf::SteadyShelf;
+use ids::{LibId, Text};
+use object_store::{Shelf, ShelfFailed};
 use std::alloc::Global;
 
 /// A library of a ground in memory, and its shelf unless that was handed out.
@@ -15,11 +15,11 @@ use std::alloc::Global;
 pub struct KeptLibrary {
     pub folder: Text,
     pub lib: LibId,
-    pub shelf: Option<MemoryShelf>,
+    pub shelf: Option<SteadyShelf>,
 }
 
-/// Libraries in memory. It tells how each stands, and has a library once it was made, with or without a state text. It
-/// answers `Shelf` only where a library is looked for that was handed out, and never where one is made. Looking for one
+/// Libraries in memory, on shelves of which no call fails. It tells how each stands, and has a library once it was made,
+/// with or without a state text. It answers `Shelf` only where a library is looked for that was handed out, and never where one is made. Looking for one
 /// takes no memory, and gives no other fault.
 #[derive(Drop)]
 pub struct MemoryGround {
@@ -45,31 +45,29 @@ impl MemoryGround {
 impl Ground for MemoryGround {
     ghost use Rattle.folder_storage.specs.MemoryGround.{standings};
 
-    type S = CountedShelf<MemoryShelf>;
+    type S = SteadyShelf;
 
     ghost stands = { λ ground. standings ground.libraries.items };
 
     ghost faults = { λ ground. ground.faults };
 
-    fn find(
-        &mut self,
-        folder: &str,
-        lib: LibId,
-    ) -> Result<Option<CountedShelf<MemoryShelf>>, ShelfFailed>
+    fn find(&mut self, folder: &str, lib: LibId) -> Result<Option<SteadyShelf>, ShelfFailed>
         ensures found { (standing : Standing) → standings self.old.libraries.items folder.now lib ≡ Some standing
-            → IfOk result (FindsLibrary (λ counted. Some counted.shelf.contents) standing) }
+            → IfOk result (FindsLibrary (λ shelf. Some shelf) standing) }
         ensures ok { IfOk result (HandsOut (standings self.old.libraries.items) (standings self.new.libraries.items) folder.now lib) }
         ensures err { OnErr result (StandAsBefore (standings self.old.libraries.items) (standings self.new.libraries.items)) }
         ensures shelf { IfErr result (λ failed. (failed ≡ ShelfFailed.Shelf) × (standing_in self.old.libraries.items folder.now lib ≡ HandedOut)) }
+        ensures there { (standing : Standing) → standings self.old.libraries.items folder.now lib ≡ Some standing → standing ≢ HandedOut
+            → IfErr result (λ failed. failed ≡ ShelfFailed.NoMemory) }
         ensures faults { CountsFaults self.old.faults self.new.faults result }
-        ensures fresh { IfOk result (HasNoFaults (λ counted. counted.faults)) }
+        ensures fresh { IfOk result (HasNoFaults (λ shelf. 0)) }
     {
         let place = match place_of(&self.libraries, folder, &lib) {
             Some(place) => place,
             None => return Ok(None),
         };
         match take_at(&mut self.libraries, place) {
-            Some(shelf) => Ok(Some(CountedShelf::new(shelf))),
+            Some(shelf) => Ok(Some(shelf)),
             None => {
                 self.faults = self.faults.saturating_add(1);
                 Err(ShelfFailed::Shelf)
@@ -77,32 +75,30 @@ impl Ground for MemoryGround {
         }
     }
 
-    fn make(
-        &mut self,
-        folder: &str,
-        lib: LibId,
-    ) -> Result<Option<CountedShelf<MemoryShelf>>, ShelfFailed>
+    fn make(&mut self, folder: &str, lib: LibId) -> Result<Option<SteadyShelf>, ShelfFailed>
         ensures found { (standing : Standing) → standings self.old.libraries.items folder.now lib ≡ Some standing
-            → IfOk result (MakesLibrary (λ counted. Some counted.shelf.contents) standing) }
+            → IfOk result (MakesLibrary (λ shelf. Some shelf) standing) }
         ensures ok { IfOk result (HandsOut (standings self.old.libraries.items) (standings self.new.libraries.items) folder.now lib) }
         ensures err { OnErr result (StandAsBefore (standings self.old.libraries.items) (standings self.new.libraries.items)) }
         ensures no_memory { IfErr result (λ failed. failed ≡ ShelfFailed.NoMemory) }
+        ensures there { (standing : Standing) → standings self.old.libraries.items folder.now lib ≡ Some standing
+            → IfErr result (λ failed. failed ≡ ShelfFailed.NoMemory) }
         ensures faults { CountsFaults self.old.faults self.new.faults result }
-        ensures fresh { IfOk result (HasNoFaults (λ counted. counted.faults)) }
+        ensures fresh { IfOk result (HasNoFaults (λ shelf. 0)) }
     {
         match place_of(&self.libraries, folder, &lib) {
             Some(_) => Ok(None),
             None => match add_library(self.alloc, &mut self.libraries, folder, lib) {
-                Ok(shelf) => Ok(Some(CountedShelf::new(shelf))),
+                Ok(shelf) => Ok(Some(shelf)),
                 Err(failed) => Err(failed),
             },
         }
     }
 
-    fn give_back(&mut self, folder: &str, lib: LibId, shelf: CountedShelf<MemoryShelf>) {
+    fn give_back(&mut self, folder: &str, lib: LibId, shelf: SteadyShelf) {
         self.faults = self.faults.saturating_add(shelf.faults());
         if let Some(place) = place_of(&self.libraries, folder, &lib) {
-            lay_at(&mut self.libraries, place, shelf.end());
+            lay_at(&mut self.libraries, place, shelf);
         }
     }
 
@@ -137,9 +133,9 @@ fn add_library(
     libraries: &mut Vec<KeptLibrary>,
     folder: &str,
     lib: LibId,
-) -> Result<MemoryShelf, ShelfFailed>
+) -> Result<SteadyShelf, ShelfFailed>
     ensures ok { OnOk result (libraries.new.items ≡ libraries.old.items ++ entry_out folder.now lib ∷ []) }
-    ensures value { IfOk result (λ shelf. shelf.contents ≡ no_contents) }
+    ensures value { IfOk result (λ shelf. shelf ≡ no_contents) }
     ensures err { OnErr result (libraries.new.items ≡ libraries.old.items) }
     ensures no_memory { IfErr result (λ failed. failed ≡ ShelfFailed.NoMemory) }
 {
@@ -153,13 +149,13 @@ fn add_library(
         shelf: None,
     };
     match libraries.push(entry) {
-        Ok(()) => Ok(MemoryShelf::new(alloc, Items::new(alloc))),
+        Ok(()) => Ok(SteadyShelf::new(alloc)),
         Err(_) => Err(ShelfFailed::NoMemory),
     }
 }
 
 /// Takes the shelf of an entry.
-fn take_at(libraries: &mut Vec<KeptLibrary>, place: usize) -> Option<MemoryShelf>
+fn take_at(libraries: &mut Vec<KeptLibrary>, place: usize) -> Option<SteadyShelf>
     requires fits { place < vec_len libraries.old }
     ensures value { (d : KeptLibrary) → result ≡ (slice_index_or libraries.old.items place d).shelf }
     ensures ok { (d : KeptLibrary) → libraries.new.items
@@ -169,7 +165,7 @@ fn take_at(libraries: &mut Vec<KeptLibrary>, place: usize) -> Option<MemoryShelf
 }
 
 /// Lays the shelf of an entry, unless it has one.
-fn lay_at(libraries: &mut Vec<KeptLibrary>, place: usize, shelf: MemoryShelf)
+fn lay_at(libraries: &mut Vec<KeptLibrary>, place: usize, shelf: SteadyShelf)
     requires fits { place < vec_len libraries.old }
     ensures ok { (d : KeptLibrary) → libraries.new.items
         ≡ slice_set libraries.old.items place (record (slice_index_or libraries.old.items place d) {

@@ -39,22 +39,25 @@ fn memory_keeps_libraries(rt: HostRuntime) -> Result<(), Fail> {
 
 #[test]
 fn a_fault_is_counted_once(rt: HostRuntime) -> Result<(), Fail> {
-    let mut libraries = MemoryGround::new(rt.alloc());
-    let shelf = there(libraries.make("F", lib()))?;
-    drop(shelf);
-    let fails = Items::copy(rt.alloc(), &[0])?;
-    let failing = CountedShelf::new(MemoryShelf::new(rt.alloc(), fails));
-    libraries.give_back("F", lib(), failing);
-    let mut shelf = there(libraries.find("F", lib()))?;
+    let folder = scratch(&rt, "once")?;
+    let mut libraries = ground(&rt)?;
+    let mut shelf = there(libraries.make(folder.as_str(), lib()))?;
+    assert_eq!(rt; shelf.put(Slot::Status, b"state"), Ok(()));
+    libraries.give_back(folder.as_str(), lib(), shelf);
+    let here = format!(in rt.alloc(); "{}/{LIB}", folder.as_str())?;
+    let away = format!(in rt.alloc(); "{}/away", folder.as_str())?;
+    let mut shelf = there(libraries.find(folder.as_str(), lib()))?;
+    fs::rename(&rt, here.as_str(), away.as_str())?;
     assert!(rt; matches!(shelf.fetch(Slot::Status), Err(ShelfFailed::Shelf)));
     assert_eq!(rt; shelf.faults(), 1);
-    libraries.give_back("F", lib(), shelf);
+    fs::rename(&rt, away.as_str(), here.as_str())?;
+    libraries.give_back(folder.as_str(), lib(), shelf);
     assert_eq!(rt; libraries.faults(), 1);
-    let shelf = there(libraries.find("F", lib()))?;
+    let shelf = there(libraries.find(folder.as_str(), lib()))?;
     assert_eq!(rt; shelf.faults(), 0);
-    libraries.give_back("F", lib(), shelf);
+    libraries.give_back(folder.as_str(), lib(), shelf);
     assert_eq!(rt; libraries.faults(), 1);
-    Ok(())
+    Ok(clear(&rt, folder.as_str())?)
 }
 
 #[test]

@@ -1,11 +1,11 @@
 -- What is found is handed out.
 use Rattle.std.proofs.Common.{refl}
-use Rattle.folder_storage.proofs.StandingLemmas.{taken-found, taken-changes, taken-out, taken-stays}
+use Rattle.folder_storage.proofs.StandingLemmas.{taken-found, taken-changes, taken-out, taken-stays, told_out}
 use Rattle.folder_storage.proofs.memory_ground.MemoryGroundGround.find.Goals as goal
 
 pub returns-in-Some-take_at-clause-found : goal.returns-in-Some-take_at-clause-found
 returns-in-Some-take_at-clause-found c =
-    rw c.new.ensures.shelf (taken-found c.args.self.now.libraries.items c.args.folder.now c.args.lib c.in-Some.place c.in-Some-take_at.shelf (rw c.deref.ensures.value at c.in-Some.ensures.found) c.in-Some-take_at.ensures.value)
+    taken-found c.args.self.now.libraries.items c.args.folder.now c.args.lib c.in-Some.place c.in-Some-take_at.shelf (rw c.deref.ensures.value at c.in-Some.ensures.found) c.in-Some-take_at.ensures.value
 
 pub returns-in-Some-take_at-clause-ok : goal.returns-in-Some-take_at-clause-ok
 returns-in-Some-take_at-clause-ok c =
@@ -20,3 +20,8 @@ returns-in-None-take_at-clause-shelf c = (
   refl,
   taken-out c.args.self.now.libraries.items c.args.folder.now c.args.lib c.in-Some.place (rw c.deref.ensures.value at c.in-Some.ensures.found) c.in-None-take_at.ensures.value,
 )
+
+pub returns-in-None-take_at-clause-there : goal.returns-in-None-take_at-clause-there
+returns-in-None-take_at-clause-there c = λ standing told apart.
+    absurd (apart (told_out c.args.self.now.libraries.items c.args.folder.now c.args.lib standing told
+    (taken-out c.args.self.now.libraries.items c.args.folder.now c.args.lib c.in-Some.place (rw c.deref.ensures.value at c.in-Some.ensures.found) c.in-None-take_at.ensures.value)))

@@ -4,4 +4,4 @@ use Rattle.folder_storage.proofs.memory_ground.MemoryGroundGround.give_back.Goal
 
 pub returns-in-Some-clause-ok : goal.returns-in-Some-clause-ok
 returns-in-Some-clause-ok c =
-    laid-takes_back c.args.self.now.libraries.items c.lay_at.new.libraries.items c.args.folder.now c.args.lib c.in-Some.place c.args.shelf.shelf (rw c.deref.ensures.value at c.in-Some.ensures.found) (rw c.end.ensures.value at c.lay_at.ensures.ok)
+    laid-takes_back c.args.self.now.libraries.items c.lay_at.new.libraries.items c.args.folder.now c.args.lib c.in-Some.place c.args.shelf (rw c.deref.ensures.value at c.in-Some.ensures.found) c.lay_at.ensures.ok
