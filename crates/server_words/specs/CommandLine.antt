@@ -1,5 +1,5 @@
 -- The words of the command line, without the program's name, as a command. Our own. Read command_of first, at the end.
-use Rattle.std.specs.Prelude.{ℕ, ◌≤◌, ◌==◌, ◌&&◌, ◌||◌, Bool, not, nat_lt, nat_le, ⊤, if◌then◌else◌, List, [], ◌∷◌, length, Option, None, Some, codes}
+use Rattle.std.specs.Prelude.{ℕ, ◌≤◌, ◌==◌, ◌&&◌, ◌||◌, Bool, true, false, not, nat_lt, nat_le, ⊤, if◌then◌else◌, List, [], ◌∷◌, length, Option, None, Some, codes}
 use Rattle.std.specs.List.{list_any}
 use Rattle.std.specs.Str.{bytes_eq}
 use Rattle.json_words.specs.IdText.{library_id_of, object_id_of}
@@ -80,6 +80,22 @@ command_of (word ∷ []) = lone_command word
 command_of (word ∷ folder ∷ lib ∷ []) = short_command word folder lib
 command_of (word ∷ folder ∷ lib ∷ third ∷ fourth ∷ fifth ∷ []) = long_command word folder lib third fourth fifth
 command_of words = Usage
+
+-- where a command that names a place keeps its libraries
+abbrev pub place_in : Command → Option Place
+place_in (Create place lib name user secret) = Some place
+place_in (Token place lib user secret right) = Some place
+place_in (Inetd place lib) = Some place
+place_in _ = None
+
+abbrev pub is_memory : Place → Bool
+is_memory Memory = true
+is_memory (Folder path) = false
+
+-- the second word is that of the place in memory
+abbrev pub names_memory : List (List ℕ) → Bool
+names_memory (word ∷ folder ∷ more) = bytes_eq folder (codes ":memory:")
+names_memory _ = false
 
 -- the names of a command have 1 to 255 bytes
 abbrev pub IsNameSize : List ℕ → Type 0

@@ -2,7 +2,7 @@
 ghost use Rattle.std.specs.Prelude.{◌≡◌, IfOk};
 ghost use Rattle.std.specs.Bool.{OnTrue};
 ghost use Rattle.std.specs.List.{list_any};
-ghost use Rattle.server_words.specs.CommandLine.{IsNameSize, NamesFit, command_of, create_command, is_control, is_name, lone_command, long_command, place_word, secret_of, short_command, token_command};
+ghost use Rattle.server_words.specs.CommandLine.{IsNameSize, NamesFit, command_of, create_command, is_control, is_name, lone_command, long_command, names_memory, place_word, secret_of, short_command, token_command};
 
 use crate::command::{Command, Place};
 use ids::Text;
@@ -39,6 +39,19 @@ pub fn read_command(alloc: Global, words: &[Text]) -> Result<Command, AllocError
             fifth.slice(),
         ),
         _ => Ok(Command::Usage),
+    }
+}
+
+/// Whether a command of these words keeps its libraries in memory: its second word is `:memory:`. It takes no memory.
+///
+/// For words that `read_command` reads as a command with a place this is that place
+/// (`laws::a_command_is_in_memory_where_its_words_say_so`); of other words it says nothing.
+pub fn names_memory(words: &[Text]) -> bool
+    ensures value { result ≡ names_memory words.now }
+{
+    match words {
+        [_, folder, ..] => folder.slice() == ":memory:",
+        _ => false,
     }
 }
 

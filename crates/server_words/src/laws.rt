@@ -1,7 +1,8 @@
 //! What holds of words and commands, for all of them: theorems on the definitions, with no code.
-ghost use Rattle.std.specs.Prelude.{◌≡◌, ◌≢◌, ℕ, List};
-ghost use Rattle.server_words.specs.CommandLine.{command_of};
+ghost use Rattle.std.specs.Prelude.{◌≡◌, ◌≢◌, ℕ, List, Some};
+ghost use Rattle.server_words.specs.CommandLine.{command_of, is_memory, names_memory, place_in};
 ghost use Rattle.server_words.specs.Spelling.{IsCommand, words_of};
+ghost use Rattle.server_words.specs.declared.command.Place.{Place};
 
 use crate::command::Command;
 
@@ -13,4 +14,10 @@ pub fn a_command_is_spelled_in_one_way()
 /// Every command can be asked for: its spelling is read as it.
 pub fn a_command_is_read_from_its_spelling()
     ensures { (command : Command) → command ≢ Command.Usage → IsCommand command → command_of (words_of command) ≡ command }
+{}
+
+/// A command keeps its libraries in memory exactly where its second word says so: whoever looks at that word alone takes
+/// the place that `read_command` reads.
+pub fn a_command_is_in_memory_where_its_words_say_so()
+    ensures { (words : List (List ℕ)) → (place : Place) → place_in (command_of words) ≡ Some place → names_memory words ≡ is_memory place }
 {}
