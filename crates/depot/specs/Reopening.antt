@@ -143,6 +143,14 @@ IsStartFault may_give start.Worn = GivesWorn may_give
 IsStartFault may_give (start.Walk fault) = ⊤
 IsStartFault may_give (start.Store fault) = IsReadFault may_give fault
 
+-- a fault that the text alone has, or the store
+abbrev pub IsTextFault : StartFault → Type 0
+IsTextFault start.NoState = ⊤
+IsTextFault (start.BadState key) = ⊤
+IsTextFault start.Worn = ⊥
+IsTextFault (start.Walk fault) = ⊥
+IsTextFault (start.Store fault) = ⊤
+
 -- the cause of a fault of a state that was read
 abbrev pub IsStateFault : LibState → (Slot → Option (List ℕ) → Type 0) → StartFault → Type 0
 IsStateFault state may_give start.NoState = ⊥
@@ -162,6 +170,12 @@ is_start_counted (start.Walk fault) = false
 -- the state with the next opening number
 abbrev pub next_opening : LibState → LibState
 next_opening state = record state { opening = state.opening + 1 }
+
+-- the state, with the next opening number, of a text that the shelf may give
+pub record IsNextOf (may_give : Slot → Option (List ℕ) → Type 0) (state : LibState) : Type 0 where
+  pub found : LibState
+  pub given : IsGiven may_give found
+  pub next : state ≡ next_opening found
 
 -- what was read: a text, as this state; where the shelf tells it, the text of the slot
 pub record IsFound {S : Type 0} (contents : S → Option Contents) (given : StoreView S) (found : LibState) : Type 0 where

@@ -1,6 +1,6 @@
 //! One library that is kept: made, opened, asked, and kept on a shelf with the text of its state.
 //!
-//! Shown upward: `Depot` and the faults of its calls. Definitions: `specs/DepotView.antt` (`state_of`, `IsGood`), then
+//! Shown upward: `Depot` and the faults of its calls, and `read_state`. Definitions: `specs/DepotView.antt` (`state_of`, `IsGood`), then
 //! `specs/Answering.antt`, `specs/Opening.antt`, `specs/Reopening.antt`, `specs/Tokens.antt` and `specs/Writing.antt`.
 //! What a call may answer stands in library_rules. It serves no connection and starts no thread.
 #![tactic(auto)]
@@ -31,3 +31,4 @@ mod update_plan;
 
 pub use crate::depot::Depot;
 pub use crate::error::{MakeFault, StartFault, TokenFault};
+pub use crate::reopening::read_state;

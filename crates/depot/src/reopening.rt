@@ -6,7 +6,7 @@ ghost use Rattle.library_rules.specs.LibraryState.{last_number};
 ghost use Rattle.library_state.specs.ProperState.{IsProper};
 ghost use Rattle.object_store.specs.StoreView.{Keeps, objects_of, status_of};
 ghost use Rattle.depot.specs.DepotView.{IsGood, IsSoundIn};
-ghost use Rattle.depot.specs.Reopening.{IsDueOr, IsFound, IsGiven, IsOpened, IsStartFault, IsStateFault, LeftUnopenedBy, OpensTold, StartsAs, is_start_counted, start_refusal, state_refusal, without_store};
+ghost use Rattle.depot.specs.Reopening.{IsDueOr, IsFound, IsGiven, IsNextOf, IsOpened, IsStartFault, IsStateFault, IsTextFault, LeftUnopenedBy, OpensTold, StartsAs, is_start_counted, start_refusal, state_refusal, without_store};
 
 use crate::complete::{CheckFault, check_kept};
 use crate::depot::Depot;
@@ -27,6 +27,7 @@ impl<S: Shelf> Depot<S> {
         ensures told { (objects : Objects) → objects_of S.contents store ≡ Some objects → IfOk result (OpensTold S.contents S.faults store objects) }
         ensures stands { IfOk result (IsGood S.contents S.faults) }
         ensures settled { IfOk result (λ depot. depot.unsettled ≡ false) }
+        ensures given { IfOk result (λ depot. (shelf : S) × IsNextOf (S.may_give shelf) depot.state) }
         ensures err { IfErr result (λ refused. LeftUnopenedBy S.contents store refused.0 refused.1) }
         ensures kept { IfErr result (λ refused. objects_of S.contents refused.0 ≡ objects_of S.contents store) }
 
@@ -54,6 +55,7 @@ fn open<S: Shelf>(alloc: Global, store: &mut Store<S>) -> Result<LibState, Start
     ensures value { IfOk result (IsOpened S.contents S.faults store.old store.new) }
     ensures found { IfOk result (λ state. state.kept ≢ []) }
     ensures sound { IfOk result (IsSoundIn S.contents store.new) }
+    ensures given { IfOk result (λ state. (shelf : S) × IsNextOf (S.may_give shelf) state) }
     ensures err { IfErr result (LeftUnopenedBy S.contents store.old store.new) }
     ensures kept { objects_of S.contents store.new ≡ objects_of S.contents store.old }
     ensures refused { (objects : Objects) → (status : Option (List ℕ)) → objects_of S.contents store.old ≡ Some objects → status_of S.contents store.old ≡ Some status
@@ -77,8 +79,9 @@ fn open<S: Shelf>(alloc: Global, store: &mut Store<S>) -> Result<LibState, Start
     }
 }
 
-/// The state whose text the slot holds.
-fn read_state<S: Shelf>(alloc: Global, store: &mut Store<S>) -> Result<LibState, StartFault>
+/// The state whose text the slot holds. It writes nothing. `Depot::start` reads it so before it looks at what the library
+/// keeps.
+pub fn read_state<S: Shelf>(alloc: Global, store: &mut Store<S>) -> Result<LibState, StartFault>
     ensures value { IfOk result (IsFound S.contents store.old) }
     ensures proper { IfOk result IsProper }
     ensures given { IfOk result (IsGiven (S.may_give store.new.shelf)) }
@@ -86,6 +89,7 @@ fn read_state<S: Shelf>(alloc: Global, store: &mut Store<S>) -> Result<LibState,
     ensures refused { (objects : Objects) → (status : Option (List ℕ)) → status_of S.contents store.old ≡ Some status
         → IfErr result (IsDueOr objects (start_refusal objects status)) }
     ensures cause { IfErr result (IsStartFault (S.may_give store.new.shelf)) }
+    ensures bad { IfErr result IsTextFault }
     ensures faults { FailsBy is_start_counted (S.faults store.old.shelf) (S.faults store.new.shelf) result }
 {
     let text = match store.noted() {

@@ -1,5 +1,5 @@
 -- The state that was read is proper, its commits are complete, and it can be opened once more.
-use Rattle.std.proofs.Common.{◌∙◌, sym}
+use Rattle.std.proofs.Common.{◌∙◌, refl, sym}
 use Rattle.depot.proofs.ReopeningLemmas.{left_unopened, opened_over, same_status}
 use Rattle.depot.proofs.reopening.open.Goals as goal
 
@@ -13,3 +13,6 @@ returns-in-Err-write_text-clause-err g c =
     left_unopened g.S.Shelf.contents c.args.store.now c.check_state.new.store c.write_text.new.store c.in-Ok.state c.in-Err-write_text.fault c.in-Ok.ensures.value
     (same_status g.S.Shelf.contents c.args.store.now c.read_state.new.store c.check_state.new.store c.in-Ok.ensures.kept c.in-Ok-check_state.ensures.kept)
     c.in-Err-write_text.ensures.value
+
+pub returns-in-Ok-write_text-clause-given : goal.returns-in-Ok-write_text-clause-given
+returns-in-Ok-write_text-clause-given g c = (c.read_state.new.store.shelf, record { found = c.in-Ok.state; given = c.in-Ok.ensures.given; next = refl })
