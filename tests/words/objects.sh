@@ -81,15 +81,15 @@ commit() (
         "$1" "${4:-1}" "$parent" "$LIB" "$3" > "kept/commit/$1"
 )
 
-# make_commit TIME PARENT SECOND ROOT DESCRIPTION [conflict]: a commit as the library makes it by `me`, under the SHA-1 of
-# its text with forty zeros in the place of its name. PARENT and SECOND are ids or none.
+# make_commit TIME PARENT SECOND ROOT DESCRIPTION [conflict]: a commit as the library makes it by `me`, or by $made_by where a
+# row sets it, under the SHA-1 of its text with forty zeros in the place of its name. PARENT and SECOND are ids or none.
 make_commit() (
     first="\"$2\"" second="\"$3\"" flag=''
     [ "$2" != none ] || first=null
     [ "$3" != none ] || second=null
     [ -z "${6-}" ] || flag='"conflict":1,'
-    rest=$(printf '%s"creator":"%s","creator_name":"me","ctime":%s,"description":"%s","parent_id":%s,"repo_id":"%s","root_id":"%s","second_parent_id":%s,"version":1' \
-        "$flag" "$NIL" "$1" "$5" "$first" "$LIB" "$4" "$second")
+    rest=$(printf '%s"creator":"%s","creator_name":"%s","ctime":%s,"description":"%s","parent_id":%s,"repo_id":"%s","root_id":"%s","second_parent_id":%s,"version":1' \
+        "$flag" "$NIL" "${made_by-me}" "$1" "$5" "$first" "$LIB" "$4" "$second")
     printf '{"commit_id":"%s",%s}' "$NIL" "$rest" > new
     id=$(sha1 new)
     printf '{"commit_id":"%s",%s}' "$id" "$rest" > "kept/commit/$id"
