@@ -130,7 +130,7 @@ module _ {V E : Type 0} (stands : V → List E → V → Type 0) (k : About V) w
       let f = r.each id me.0 at in
       let looked = f.looked_below in
       let first = prefix_length me.0.seen r.history f.seen_first in
-      let w : View V E = record me.0 { looked = n } in
+      let w : View V E = record me.0 { looked = n; looks = me.0.looks + 1 } in
       let fits : Fits k r.history r.serving r.drawn r.owner r.maker id w = record {
         ticketed = f.ticketed;
         turning = f.turning;

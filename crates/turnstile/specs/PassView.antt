@@ -30,7 +30,7 @@ module _ {V E : Type 0} where
   abbrev pub turns_of : Seated (Parcel V E) (View V E) → ℕ
   turns_of p = (view_of p).turns
 
-  -- the start of the history, its known beginning, the last length read outside of a turn, the number last read of the next ticket, and the places of its own entries
+  -- the start of the history, its known beginning, the last length read outside of a turn and how many times it was read, the number last read of the next ticket, and the places of its own entries
   abbrev pub start_of : Seated (Parcel V E) (View V E) → Option V
   start_of p = (view_of p).start
 
@@ -39,6 +39,9 @@ module _ {V E : Type 0} where
 
   abbrev pub looked_of : Seated (Parcel V E) (View V E) → ℕ
   looked_of p = (view_of p).looked
+
+  abbrev pub looks_of : Seated (Parcel V E) (View V E) → ℕ
+  looks_of p = (view_of p).looks
 
   abbrev pub drawn_of : Seated (Parcel V E) (View V E) → ℕ
   drawn_of p = (view_of p).drawn
@@ -89,6 +92,7 @@ module _ {V E : Type 0} where
     pub first_stays : w.first ≡ v.first
     pub parts_stay : w.parts ≡ v.parts
     pub looked_stays : w.looked ≡ v.looked
+    pub looks_stay : w.looks ≡ v.looks
     pub book_stays : w.book ≡ v.book
     pub seen_grows : IsPrefix v.seen w.seen
     pub looked_below : v.looked ≤ length w.seen

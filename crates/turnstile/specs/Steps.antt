@@ -23,7 +23,7 @@ module _ {V E : Type 0} where
 
   -- a participant at the start, which stands for `parts` of the `passes`
   abbrev pub newcomer : Option V → ℕ → ℕ → ℕ → View V E
-  newcomer start passes first parts = record { start = start; passes = passes; first = first; parts = parts; ticket = None; turn = false; told = 0; turns = 0; drawn = 0; seen = []; other = []; looked = 0; book = [] }
+  newcomer start passes first parts = record { start = start; passes = passes; first = first; parts = parts; ticket = None; turn = false; told = 0; turns = 0; drawn = 0; seen = []; other = []; looked = 0; looks = 0; book = [] }
 
   -- split: the first keeps all but one part, and the second begins with that one
   abbrev pub one_less : View V E → View V E
@@ -34,7 +34,7 @@ module _ {V E : Type 0} where
 
   -- join: the first has what both had, and the second is spent
   abbrev pub both_of : View V E → View V E → View V E
-  both_of v w = record v { parts = v.parts + w.parts; turns = v.turns + w.turns; drawn = max v.drawn w.drawn; seen = longer v.seen w.seen; other = shorter v.seen w.seen; looked = max v.looked w.looked; book = v.book ++ w.book }
+  both_of v w = record v { parts = v.parts + w.parts; turns = v.turns + w.turns; drawn = max v.drawn w.drawn; seen = longer v.seen w.seen; other = shorter v.seen w.seen; looked = max v.looked w.looked; looks = v.looks + w.looks; book = v.book ++ w.book }
 
   abbrev pub spent : View V E
   spent = newcomer None 0 0 0
@@ -75,9 +75,9 @@ module _ {V E : Type 0} where
   abbrev pub Counted : Participant V E → ℕ → Participant V E → Type 0
   Counted m n w = (n ≡ length m.0.seen) × (m.0.looked ≤ n) × (w ≡ m)
 
-  -- count outside of a turn: the number read is kept
+  -- count outside of a turn: the number read is kept, and this was one look more
   abbrev pub Glanced : Participant V E → ℕ → Participant V E → Type 0
-  Glanced m n w = (m.0.looked ≤ n) × (length m.0.seen ≤ n) × (w ≡ (record m.0 { looked = n }, m.1))
+  Glanced m n w = (m.0.looked ≤ n) × (length m.0.seen ≤ n) × (w ≡ (record m.0 { looked = n; looks = m.0.looks + 1 }, m.1))
 
   -- a load of the passes word: how many passes were made, and what the last join taught
   abbrev pub Totalled : Participant V E → ℕ → Participant V E → Type 0

@@ -8,7 +8,7 @@
 #![tactic(auto)]
 
 mod held;
-mod laws;
+pub mod laws;
 mod lock;
 mod pass;
 mod rule;
@@ -21,11 +21,6 @@ mod turnstile;
 mod view;
 
 pub use held::Held;
-pub use laws::{
-    at_most_one_participant_has_the_turn, each_entry_is_in_one_book,
-    no_more_than_all_turns_are_drawn, the_value_stands_for_the_history_whenever_the_turn_is_free,
-    what_is_known_begins_the_history, who_stands_for_all_has_seen_all,
-};
 pub use lock::{Lock, Turnstile};
 pub use pass::Spent;
 pub use rule::Turns;

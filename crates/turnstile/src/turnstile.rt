@@ -1,10 +1,10 @@
 //! The calls of a turnstile: new, count, join and close.
-ghost use Rattle.std.specs.Prelude.{◌≡◌, ℕ, ◌<◌, ◌≤◌, ◌↔◌, All, Some, length, vec_len, vec_capacity, IfOk, IfErr, OnOk, IsOk, [], ◌∷◌};
+ghost use Rattle.std.specs.Prelude.{◌≡◌, ℕ, ◌+◌, ◌<◌, ◌≤◌, ◌↔◌, All, Some, length, vec_len, vec_capacity, IfOk, IfErr, OnOk, IsOk, [], ◌∷◌};
 ghost use mathlib.Core.List.{IsPrefix};
 ghost use Rattle.turnstile.specs.Lists.{Has, IsOnce, shorter};
 ghost use Rattle.turnstile.specs.Rule.{most_turns, Stands};
 ghost use Rattle.turnstile.specs.Steps.{newcomer, both_of};
-ghost use Rattle.turnstile.specs.PassView.{StandsFor, IsPassOf, IsNewPass, WasMadeBy, participant_of, view_of, start_of, first_of, parts_of, passes_of, seen_of, looked_of, book_of};
+ghost use Rattle.turnstile.specs.PassView.{StandsFor, IsPassOf, IsNewPass, WasMadeBy, participant_of, view_of, start_of, first_of, parts_of, passes_of, seen_of, looked_of, looks_of, book_of};
 
 use crate::lock::{Lock, Turnstile};
 use crate::seated::{Pass, Seated};
@@ -87,12 +87,13 @@ impl<V: Story> Turnstile<V> {
 
     /// The number of entries so far, by one load. It neither waits nor takes memory.
     ///
-    /// It is no less than what the pass has seen or looked at, and the pass keeps it.
+    /// It is no less than what the pass has seen or looked at, and the pass keeps it. The call looks just once: the number is
+    /// that of this look, and not one that was kept.
     pub fn count(&self, pass: &mut Pass<V>) -> u64
         requires ready { IsPassOf self.now pass.old }
         ensures value { (looked_of pass.old ≤ result) × (length (seen_of pass.old) ≤ result) }
         ensures ready { IsPassOf self.now pass.new }
-        ensures view { view_of pass.new ≡ record (view_of pass.old) { looked = result } }
+        ensures view { view_of pass.new ≡ record (view_of pass.old) { looked = result; looks = looks_of pass.old + 1 } }
     {
         self.glance(pass)
     }

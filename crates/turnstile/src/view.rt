@@ -90,6 +90,8 @@ pub struct View<V, E> {
     pub other: LinkedList<E>,
     /// The last length of the history that it read outside of a turn.
     pub looked: u64,
+    /// How many times it read that length.
+    pub looks: u64,
     /// The places of its own entries.
     pub book: LinkedList<u64>,
 }
