@@ -1,9 +1,10 @@
 -- A library that is opened again. The key lemmas are sound_opened and stands_by_its_objects.
-use Rattle.std.proofs.Common.{◌≡◌, ℕ, ◌+◌, ◌≤◌, ◌<◌, Bool, true, false, List, [], ◌∷◌, refl, sym, subst, true≢false, arith, Some, Option, ◌||◌}
+use Rattle.std.proofs.Common.{◌≡◌, ℕ, ◌+◌, ◌≤◌, ◌<◌, Bool, true, false, List, [], ◌∷◌, refl, sym, subst, true≢false, arith, Some, Option, Ok, ◌||◌}
 use Rattle.std.specs.List.{list_any}
 use Rattle.ids.specs.Key.{Objects}
 use Rattle.ids.specs.declared.key.Key.{Key}
 use Rattle.library_state.specs.StateSpelling.{text_of}
+use Rattle.library_state.specs.StateText.{state_of as read_state}
 use Rattle.object_graph.specs.Objects.{same_id}
 use Rattle.object_graph.specs.Traversal.{is_in, needs, IsComplete}
 use Rattle.object_graph.specs.Unchanged.{Keeps}
@@ -59,10 +60,11 @@ needed_stored s sound key e =
     needs_stored s.objects found.id (sound.kept.complete found.id found.among) key found.passes
 
 -- where the text and the objects of a sound state are there, what else lies there is garbage
-pub stands_by_its_objects : (s : State) (slot : Option (List ℕ)) (lying : Objects) → IsSound s → slot ≡ Some (text_of (written_part s)) → Keeps s.objects lying
-    → StandsFor slot lying s
-stands_by_its_objects s slot lying sound text keeps = record {
+pub stands_by_its_objects : (s : State) (slot : Option (List ℕ)) (lying : Objects) → IsSound s → slot ≡ Some (text_of (written_part s))
+    → read_state (text_of (written_part s)) ≡ Ok (written_part s) → Keeps s.objects lying → StandsFor slot lying s
+stands_by_its_objects s slot lying sound text reads keeps = record {
   text = text;
+  reads = reads;
   lies = keeps;
   garbage = λ key absent. fails (is_needed lying s.kept key) (λ e. apart (is_stored s.objects key) (there key e) absent);
 }

@@ -1,8 +1,9 @@
 -- What lies on a shelf that stands for a state, and what is opened from it. Our own. Read StandsFor, then opened.
-use Rattle.std.specs.Prelude.{◌≡◌, ℕ, ◌+◌, false, List, Option, None, Some}
+use Rattle.std.specs.Prelude.{◌≡◌, ℕ, ◌+◌, false, List, Option, None, Some, Ok}
 use Rattle.ids.specs.Key.{Objects}
 use Rattle.ids.specs.declared.key.Key.{Key}
 use Rattle.library_state.specs.StateSpelling.{text_of}
+use Rattle.library_state.specs.StateText.{state_of as read_state}
 use Rattle.library_state.specs.declared.state.LibState.{LibState}
 use Rattle.object_graph.specs.Unchanged.{Keeps}
 use Rattle.library_rules.specs.LibraryState.{State, is_stored, is_needed}
@@ -19,10 +20,11 @@ written_part s = record {
   tokens = s.tokens;
 }
 
--- the state's text stands in the shelf's slot, each object of the state lies there with its bytes, and what else lies
+-- the state's text stands in the shelf's slot and is read as the state's, each object of the state lies there with its bytes, and what else lies
 -- there no kept commit needs
 pub record StandsFor (slot : Option (List ℕ)) (lying : Objects) (s : State) : Type 0 where
   pub text : slot ≡ Some (text_of (written_part s))
+  pub reads : read_state (text_of (written_part s)) ≡ Ok (written_part s)
   pub lies : Keeps s.objects lying
   pub garbage : (key : Key) → is_stored s.objects key ≡ false → is_needed lying s.kept key ≡ false
 

@@ -3,6 +3,7 @@ ghost use Rattle.std.specs.Prelude.{◌≡◌, ◌++◌, ℕ, ◌≤◌, ◌<◌
 ghost use Rattle.ids.specs.Key.{Objects};
 ghost use Rattle.library_state.specs.ProperState.{IsProper};
 ghost use Rattle.library_state.specs.StateSpelling.{text_of};
+ghost use Rattle.library_state.specs.StateText.{state_of};
 ghost use Rattle.library_state.specs.Tokens.{is_taken};
 ghost use Rattle.library_state.specs.declared.call.Call.{Call};
 ghost use Rattle.library_state.specs.declared.reply.Reply.{Reply};
@@ -76,10 +77,11 @@ pub fn a_sound_library_with_a_token_more_is_sound()
         → length s.tokens < 1000 → 1 ≤ length user → length user ≤ 255 → IsSound (with_token user secret right s) }
 {}
 
-/// Where the text and the objects of a sound state are there, the shelf stands for it: no kept commit needs what else lies there.
+/// Where the text and the objects of a sound state are there, and the text is read as the state's, the shelf stands for it:
+/// no kept commit needs what else lies there.
 pub fn a_shelf_stands_for_a_state_by_its_text_and_its_objects()
     ensures { (s : State) → (slot : Option (List ℕ)) → (lying : Objects) → IsSound s → slot ≡ Some (text_of (written_part s))
-        → Keeps s.objects lying → StandsFor slot lying s }
+        → state_of (text_of (written_part s)) ≡ Ok (written_part s) → Keeps s.objects lying → StandsFor slot lying s }
 {}
 
 /// A sound state is written as a proper one.
