@@ -21,3 +21,5 @@ pub mod UpdateMadeLemmas
 pub mod UpdateMergeLemmas
 pub mod UpdateLemmas
 pub mod UpdateGoodLemmas
+pub mod StrayLemmas
+pub mod StandingLemmas

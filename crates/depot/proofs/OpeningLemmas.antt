@@ -23,8 +23,8 @@ use Rattle.object_store.specs.Store.{put_refusal}
 use Rattle.object_store.specs.StoreView.{StoreView, with_object, objects_of, status_of}
 use Rattle.depot.specs.DepotView.{library, IsGood}
 use Rattle.depot.specs.Opening.{IsCreated, first_state}
-use Rattle.depot.specs.Writing.{with_stored}
-use Rattle.depot.proofs.GoodLemmas.{sound_told}
+use Rattle.depot.specs.Writing.{ReadsBack, with_stored}
+use Rattle.depot.proofs.GoodLemmas.{none_fresh, sound_told}
 use Rattle.depot.proofs.Told.{MappedAt, mapped_at}
 use Rattle.depot.proofs.WritingLemmas.{stored_as_put, written_at}
 
@@ -53,17 +53,19 @@ commit_found known new commit bytes reads put objects told =
 module _ {S : Type 0} (contents : S → Option Contents) (faults : S → ℕ) where
   pub good_made : (given store : StoreView S) (lib name user secret : List ℕ) (moment : ℕ) (state : LibState)
       → IsCreated contents faults given (opening_commit lib user moment) (first_state lib name user secret (opening_commit lib user moment).id moment) store state
-      → length name ≤ 255 → 1 ≤ length user → length user ≤ 255 → IsGood contents faults (record { store = store; state = state; unsettled = false })
+      → length name ≤ 255 → 1 ≤ length user → length user ≤ 255 → IsGood contents faults (record { store = store; state = state; unsettled = false; running = None })
   good_made given store lib name user secret moment state created name_fits some_user user_fits = record {
     head = subst (λ (st : LibState). st.kept ≢ []) (sym created.is_first) (cons_some (record { head = commit.id; pushed = commit.id; at = moment }) []);
-    sound = sound_told contents faults (record { store = store; state = state; unsettled = false }) (λ objects told.
+    reads = subst ReadsBack (sym created.is_first) created.stores.text.reads;
+    fresh = none_fresh contents faults store;
+    sound = sound_told contents faults (record { store = store; state = state; unsettled = false; running = None }) (λ objects told.
         let before = mapped_at (λ (o : Objects). put_new o (opening_object commit)) (objects_of contents given) objects (sym created.stores.objects ∙ told) in
         subst (λ st. IsSound (library st (faults store.shelf) objects)) (sym created.is_first)
         (subst (λ o. IsSound (library first (faults store.shelf) o)) before.gives
         (sound_created lib name user secret moment before.value (faults store.shelf)
         (subst (λ o. commit_at o commit.id ≡ Ok commit) (sym before.gives) (created.found objects told)) name_fits some_user user_fits)));
     text = λ objects status told at.
-        written_at first (status_of contents given) (status_of contents store) status created.stores.text at
+        written_at first (status_of contents given) (status_of contents store) status created.stores.text.text at
         ∙ ap (λ st. Some (text_of st)) (sym created.is_first);
   }
     where

@@ -22,7 +22,7 @@ use Rattle.depot.specs.Reopening.{IsFound, IsOpened, LeftUnopenedBy, IsGiven, Is
 use Rattle.depot.specs.Writing.{Writes, written}
 use Rattle.depot.specs.declared.error.StartFault.{StartFault}
 use Rattle.depot.specs.declared.error.StartFault.TheVariants as start
-use Rattle.depot.proofs.GoodLemmas.{sound_told}
+use Rattle.depot.proofs.GoodLemmas.{none_fresh, sound_told}
 use Rattle.depot.proofs.WritingLemmas.{written_at}
 
 -- ---- commits that are complete, one after another
@@ -107,11 +107,13 @@ opened_over found objects count proper other free =
 -- ---- a library that was opened
 
 pub good_opened : {S : Type 0} (contents : S → Option Contents) (faults : S → ℕ) (given store : StoreView S) (state : LibState)
-    → IsOpened contents faults given store state → state.kept ≢ [] → IsSoundIn contents store state → IsGood contents faults (record { store = store; state = state; unsettled = false })
+    → IsOpened contents faults given store state → state.kept ≢ [] → IsSoundIn contents store state → IsGood contents faults (record { store = store; state = state; unsettled = false; running = None })
 good_opened contents faults given store state opened some sound = record {
   head = some;
-  sound = sound_told contents faults (record { store = store; state = state; unsettled = false }) (λ objects told. sound objects (faults store.shelf) told);
-  text = λ objects status told at. written_at state (status_of contents given) (status_of contents store) status opened.text at;
+  reads = opened.text.reads;
+  fresh = none_fresh contents faults store;
+  sound = sound_told contents faults (record { store = store; state = state; unsettled = false; running = None }) (λ objects told. sound objects (faults store.shelf) told);
+  text = λ objects status told at. written_at state (status_of contents given) (status_of contents store) status opened.text.text at;
 }
 
 -- the store after the text with the next opening number wasn't written
@@ -122,7 +124,7 @@ left_unopened contents given mid store found (Taken id) is same writes = absurd 
 left_unopened contents given mid store found (Wrong id) is same writes = absurd writes
 left_unopened contents given mid store found (Damaged want got) is same writes = absurd writes
 left_unopened contents given mid store found Shelf is same (inl old) = (untouched (old ∙ same), λ e. absurd (true≢false e))
-left_unopened contents given mid store found Shelf is same (inr new) = (raised found is (new ∙ ap (written (next_opening found)) same), λ e. absurd (true≢false e))
+left_unopened contents given mid store found Shelf is same (inr new) = (raised found is (record { text = new.text ∙ ap (written (next_opening found)) same; reads = new.reads }), λ e. absurd (true≢false e))
 left_unopened contents given mid store found NoMemory is same writes = (untouched (writes ∙ same), λ e. writes ∙ same)
 
 -- two calls that change nothing keep the text

@@ -1,5 +1,5 @@
 -- What a call answers and leaves that writes the state text. The key lemmas are serves_changed and good_changed.
-use Rattle.std.proofs.Common.{◌≡◌, ◌≢◌, inl, inr, ℕ, ◌≤◌, Bool, true, false, if◌then◌else◌, List, [], ◌∷◌, refl, sym, ap, ◌∙◌, subst, true≢false, Option, Some, option_map, Result, Ok, Err}
+use Rattle.std.proofs.Common.{◌≡◌, ◌≢◌, inl, inr, ℕ, ◌≤◌, Bool, false, if◌then◌else◌, List, [], ◌∷◌, refl, sym, ap, ◌∙◌, subst, true≢false, Option, None, Some, option_map, Result, Ok, Err}
 use Rattle.std.specs.Bool.{MatchBool}
 use Rattle.std.specs.Prelude.{⊤, OnOk, OnErr}
 use Rattle.ids.specs.FaultCount.{Rose}
@@ -19,15 +19,16 @@ use Rattle.library_state.specs.declared.reply.Reply.TheVariants as reply
 use Rattle.library_state.specs.declared.state.LibState.{LibState}
 use Rattle.object_store.specs.Shelf.{Contents}
 use Rattle.object_store.specs.Store.{CountsShelf}
-use Rattle.object_store.specs.StoreView.{StoreView, objects_of, status_of}
+use Rattle.object_store.specs.StoreView.{AddsNoStray, StoreView, objects_of, status_of}
 use Rattle.object_store.specs.declared.error.StoreFault.{StoreFault}
 use Rattle.object_store.specs.declared.error.StoreFault.TheVariants.{Taken, Wrong, Damaged, Shelf, NoMemory}
 use Rattle.object_store.specs.declared.shelf.Slot.{Slot as ShelfSlot}
-use Rattle.depot.specs.Answering.{AnswersSo, MayAnswer, MayAnswerSo, Serves, Would, decided, next_state, refused, rewritten, unwritten}
+use Rattle.depot.specs.Answering.{IsAnswered, MayAnswer, MayAnswerSo, Serves, Would, decided, next_state, refused, rewritten, unwritten}
 use Rattle.depot.specs.Changing.{TextSo, answer_of, same, changed}
-use Rattle.depot.specs.DepotView.{DepotView, library, state_of, IsGood}
+use Rattle.depot.specs.DepotView.{at_rest, DepotView, library, state_of, IsGood}
 use Rattle.depot.specs.ObjectCalls.{Counts, IsFault, IsToldDamage, is_counted}
-use Rattle.depot.specs.Writing.{LeftBy, settled, written}
+use Rattle.depot.specs.NextState.{Follows}
+use Rattle.depot.specs.Writing.{IsWritten, LeftBy, settled}
 use Rattle.depot.proofs.AnsweringLemmas.{fault_answers, says_answers}
 use Rattle.depot.proofs.GoodLemmas.{good_rewritten}
 use Rattle.depot.proofs.GrownLemmas.{good_kept}
@@ -66,55 +67,57 @@ library_apart next present count objects apart e = apart (ap written_part e)
 
 -- ---- an answer after which the state is another
 
-entered : (s t : State) (call : Call) (moment : ℕ) (said : Reply) → due s call ≡ Says said → step_changes moment (step.Asked call) said s ≡ t → t ≢ s → AnswersSo s call moment said (Some t)
-entered s t call moment said is changes apart = record {
-  state = t;
-  changes = lone s (step.Asked call) moment said ∷ [];
-  left = refl;
-  step = record {
-    permitted = record {
-      permits = (subst (DuePermits s (lone s (step.Asked call) moment said)) (sym is) (inl (record { reply = refl; faults = refl }), refl), refl);
-      changes = λ stays. apart (sym (lone_apply s (step.Asked call) moment said ∙ changes) ∙ stays);
+entered : (s t : State) (call : Call) (moment : ℕ) (said : Reply) → due s call ≡ Says said → step_changes moment (step.Asked call) said s ≡ t → t ≢ s → IsAnswered s call moment said (Some t)
+entered s t call moment said is changes apart = (
+  lone s (step.Asked call) moment said ∷ [],
+  record {
+    state = t;
+    left = refl;
+    step = record {
+      permitted = record {
+        permits = (subst (DuePermits s (lone s (step.Asked call) moment said)) (sym is) (inl (record { reply = refl; faults = refl }), refl), refl);
+        changes = λ stays. apart (sym (lone_apply s (step.Asked call) moment said ∙ changes) ∙ stays);
+      };
+      is_step = refl;
+      at = refl;
+      answers = refl;
+      state = lone_apply s (step.Asked call) moment said ∙ changes;
     };
-    is_step = refl;
-    at = refl;
-    answers = refl;
-    state = lone_apply s (step.Asked call) moment said ∙ changes;
-  };
-}
+  },
+)
 
 module _ {S : Type 0} (contents : S → Option Contents) (may_give : S → ShelfSlot → Option (List ℕ) → Type 0) (faults : S → ℕ) (old : DepotView S) (call : Call) (moment : ℕ)
     (said : Reply) (next : LibState) (plain : is_refused said ≡ false) (is_decided : decided old.state call ≡ Some said) (is_next : next_state old.state call moment said ≡ next)
     (is_due : (objects : Objects) → due (library old.state (faults old.store.shelf) objects) call ≡ Says said)
     (makes : (objects : Objects) → step_changes moment (step.Asked call) said (library old.state (faults old.store.shelf) objects) ≡ library next (faults old.store.shelf) objects)
-    (store : StoreView S) (state : LibState) (still : Bool) (kept : objects_of contents store ≡ objects_of contents old.store) where
+    (store : StoreView S) (state : LibState) (still : Bool) (kept : objects_of contents store ≡ objects_of contents old.store) (lying : AddsNoStray contents old.store store) where
   -- the library that is left
   left_is : (st : LibState) → state ≡ st → (objects : Objects) → objects_of contents old.store ≡ Some objects
-      → state_of contents faults (record { store = store; state = state; unsettled = still }) ≡ Some (library st (faults store.shelf) objects)
+      → state_of contents faults (record { store = store; state = state; unsettled = still; running = None }) ≡ Some (library st (faults store.shelf) objects)
   left_is st is objects told = ap (λ (p : LibState). option_map (library p (faults store.shelf)) (objects_of contents store)) is ∙ ap (option_map (library st (faults store.shelf))) (kept ∙ told)
 
   refused_by : (fault : StoreFault) → (is_free : (objects : Objects) → IsFault objects (answer_of said (Err fault)))
       → Counts (faults old.store.shelf) (faults store.shelf) (answer_of said (Err fault)) → state ≡ old.state
-      → (s : State) → state_of contents faults old ≡ Some s → AnswersSo s call moment (answer_of said (Err fault)) (state_of contents faults (record { store = store; state = state; unsettled = still }))
+      → (s : State) → state_of contents faults (at_rest old) ≡ Some s → IsAnswered s call moment (answer_of said (Err fault)) (state_of contents faults (record { store = store; state = state; unsettled = still; running = None }))
   refused_by fault is_free count stays = of_told contents may_give faults old call moment
-      (λ s. AnswersSo s call moment (answer_of said (Err fault)) (state_of contents faults (record { store = store; state = state; unsettled = still }))) (λ objects told.
-      subst (AnswersSo (library old.state (faults old.store.shelf) objects) call moment (answer_of said (Err fault))) (sym (left_is old.state stays objects told))
+      (λ s. IsAnswered s call moment (answer_of said (Err fault)) (state_of contents faults (record { store = store; state = state; unsettled = still; running = None }))) (λ objects told.
+      subst (IsAnswered (library old.state (faults old.store.shelf) objects) call moment (answer_of said (Err fault))) (sym (left_is old.state stays objects told))
       (fault_answers (library old.state (faults old.store.shelf) objects) call moment (λ e. says_not_denied said (sym (is_due objects) ∙ e))
       (answer_of said (Err fault)) (faults store.shelf) (is_free objects) count))
 
   read_by : next ≡ old.state → faults store.shelf ≡ faults old.store.shelf → state ≡ next
-      → (s : State) → state_of contents faults old ≡ Some s → AnswersSo s call moment said (state_of contents faults (record { store = store; state = state; unsettled = still }))
+      → (s : State) → state_of contents faults (at_rest old) ≡ Some s → IsAnswered s call moment said (state_of contents faults (record { store = store; state = state; unsettled = still; running = None }))
   read_by is count ok = of_told contents may_give faults old call moment
-      (λ s. AnswersSo s call moment said (state_of contents faults (record { store = store; state = state; unsettled = still }))) (λ objects told.
-      subst (AnswersSo (library old.state (faults old.store.shelf) objects) call moment said)
+      (λ s. IsAnswered s call moment said (state_of contents faults (record { store = store; state = state; unsettled = still; running = None }))) (λ objects told.
+      subst (IsAnswered (library old.state (faults old.store.shelf) objects) call moment said)
       (sym (left_is old.state (ok ∙ is) objects told ∙ ap (λ n. Some (library old.state n objects)) count))
       (says_answers (library old.state (faults old.store.shelf) objects) call moment said (is_due objects) (makes objects ∙ ap (λ st. library st (faults old.store.shelf) objects) is)))
 
   entered_by : next ≢ old.state → faults store.shelf ≡ faults old.store.shelf → state ≡ next
-      → (s : State) → state_of contents faults old ≡ Some s → AnswersSo s call moment said (state_of contents faults (record { store = store; state = state; unsettled = still }))
+      → (s : State) → state_of contents faults (at_rest old) ≡ Some s → IsAnswered s call moment said (state_of contents faults (record { store = store; state = state; unsettled = still; running = None }))
   entered_by apart count ok = of_told contents may_give faults old call moment
-      (λ s. AnswersSo s call moment said (state_of contents faults (record { store = store; state = state; unsettled = still }))) (λ objects told.
-      subst (AnswersSo (library old.state (faults old.store.shelf) objects) call moment said)
+      (λ s. IsAnswered s call moment said (state_of contents faults (record { store = store; state = state; unsettled = still; running = None }))) (λ objects told.
+      subst (IsAnswered (library old.state (faults old.store.shelf) objects) call moment said)
       (sym (left_is next ok objects told ∙ ap (λ n. Some (library next n objects)) count))
       (entered (library old.state (faults old.store.shelf) objects) (library next (faults old.store.shelf) objects) call moment said (is_due objects) (makes objects)
       (library_apart next old.state (faults old.store.shelf) objects apart)))
@@ -127,7 +130,7 @@ module _ {S : Type 0} (contents : S → Option Contents) (may_give : S → Shelf
   ok_left ok = ok ∙ sym is_next ∙ sym (ap (λ b. if b then old.state else next_state old.state call moment said) plain)
 
   -- the answer could be given
-  would : Would contents faults old call moment said
+  would : Would contents faults (at_rest old) call moment said
   would = of_told contents may_give faults old call moment (λ s. MayAnswerSo s call moment said) (λ objects told. (
     [],
     (
@@ -141,13 +144,15 @@ module _ {S : Type 0} (contents : S → Option Contents) (may_give : S → Shelf
   pub serves_changed : (result : Result ⊤ StoreFault) → OnOk result (state ≡ next) → OnErr result (state ≡ old.state)
       → TextSo old.unsettled old.state next (status_of contents old.store) still (status_of contents store) result
       → CountsShelf (faults old.store.shelf) (faults store.shelf) result
-      → Serves contents may_give faults old call moment (answer_of said result) (record { store = store; state = state; unsettled = still })
+      → Serves contents may_give faults (at_rest old) call moment (answer_of said result) (record { store = store; state = state; unsettled = still; running = None })
   serves_changed (Ok done) ok err (same is settles text good) count = record {
     told = read_by is count ok;
     may_come = subst (λ o. MayAnswer old.store.index (may_give store.shelf) call.act o said) (sym is_decided) (inl refl);
     damage = λ objects told. told_no_damage objects said plain;
     count = ok_counts count;
     left = ok_left ok;
+    fresh = refl;
+    lying = λ _. lying;
     slot = unwritten (ok ∙ is) settles text;
   }
   serves_changed (Ok done) ok err (changed apart writes) count = record {
@@ -156,7 +161,10 @@ module _ {S : Type 0} (contents : S → Option Contents) (may_give : S → Shelf
     damage = λ objects told. told_no_damage objects said plain;
     count = ok_counts count;
     left = ok_left ok;
-    slot = rewritten plain writes.0 (subst (λ st. status_of contents store ≡ written st (settled old.unsettled old.state (status_of contents old.store))) (sym ok) writes.1);
+    fresh = refl;
+    lying = λ _. lying;
+    slot = rewritten plain (λ stays. apart (sym ok ∙ stays)) writes.0
+        (subst (λ st. IsWritten st (settled old.unsettled old.state (status_of contents old.store)) (status_of contents store)) (sym ok) writes.1);
   }
   serves_changed (Err Shelf) ok err (same is settles text good) count = cc
   serves_changed (Err NoMemory) ok err (same is settles text good) count = cc
@@ -169,7 +177,9 @@ module _ {S : Type 0} (contents : S → Option Contents) (may_give : S → Shelf
     damage = λ objects told. tt;
     count = count;
     left = err;
-    slot = refused Shelf refl said plain would (subst (λ st. LeftBy Shelf old.unsettled old.state st (status_of contents old.store) still (status_of contents store)) (sym is_next) writes);
+    fresh = refl;
+    lying = λ _. lying;
+    slot = refused Shelf refl said plain would (λ stays. apart (sym is_next ∙ stays)) (subst (λ st. LeftBy Shelf old.unsettled old.state st (status_of contents old.store) still (status_of contents store)) (sym is_next) writes);
   }
   serves_changed (Err NoMemory) ok err (changed apart writes) count = record {
     told = refused_by NoMemory (λ objects. tt) count err;
@@ -177,22 +187,24 @@ module _ {S : Type 0} (contents : S → Option Contents) (may_give : S → Shelf
     damage = λ objects told. tt;
     count = count;
     left = err;
-    slot = refused NoMemory refl said plain would (subst (λ st. LeftBy NoMemory old.unsettled old.state st (status_of contents old.store) still (status_of contents store)) (sym is_next) writes);
+    fresh = refl;
+    lying = λ _. lying;
+    slot = refused NoMemory refl said plain would (λ stays. apart (sym is_next ∙ stays)) (subst (λ st. LeftBy NoMemory old.unsettled old.state st (status_of contents old.store) still (status_of contents store)) (sym is_next) writes);
   }
   serves_changed (Err (Taken id)) ok err (changed apart writes) count = absurd writes
   serves_changed (Err (Wrong id)) ok err (changed apart writes) count = absurd writes
   serves_changed (Err (Damaged want got)) ok err (changed apart writes) count = absurd writes
 
 -- the depot stays good
-pub good_changed : {S : Type 0} (contents : S → Option Contents) (faults : S → ℕ) (old : DepotView S) (next : LibState) → IsGood contents faults old → next.kept ≢ []
+pub good_changed : {S : Type 0} (contents : S → Option Contents) (faults : S → ℕ) (old : DepotView S) (next : LibState) → IsGood contents faults (at_rest old) → Follows old.state next → next.kept ≢ []
     → ((objects : Objects) (count : ℕ) → objects_of contents old.store ≡ Some objects → IsSound (library next count objects))
     → (store : StoreView S) (state : LibState) (still : Bool) (result : Result ⊤ StoreFault) → OnOk result (state ≡ next) → OnErr result (state ≡ old.state)
     → TextSo old.unsettled old.state next (status_of contents old.store) still (status_of contents store) result
-    → objects_of contents store ≡ objects_of contents old.store → IsGood contents faults (record { store = store; state = state; unsettled = still })
-good_changed contents faults old next good some sound store state still result ok err (changed apart writes) kept =
-    good_rewritten contents faults old good next some sound store state still result ok err writes kept
-good_changed contents faults old next good some sound store state still (Ok done) ok err (same is settles text fine) kept =
-    subst (λ (d : DepotView _). IsGood contents faults d) (sym (ap (λ st. record { store = store; state = st; unsettled = still }) (ok ∙ is)
-    ∙ ap (λ b. record { store = store; state = old.state; unsettled = b }) settles))
+    → objects_of contents store ≡ objects_of contents old.store → IsGood contents faults (record { store = store; state = state; unsettled = still; running = None })
+good_changed contents faults old next good follows some sound store state still result ok err (changed apart writes) kept =
+    good_rewritten contents faults old good next follows some sound store state still result ok err writes kept
+good_changed contents faults old next good follows some sound store state still (Ok done) ok err (same is settles text fine) kept =
+    subst (λ (d : DepotView _). IsGood contents faults d) (sym (ap (λ st. record { store = store; state = st; unsettled = still; running = None }) (ok ∙ is)
+    ∙ ap (λ b. record { store = store; state = old.state; unsettled = b; running = None }) settles))
     (good_kept contents faults old good store text kept)
-good_changed contents faults old next good some sound store state still (Err fault) ok err (same is settles text fine) kept = cc
+good_changed contents faults old next good follows some sound store state still (Err fault) ok err (same is settles text fine) kept = cc

@@ -1,6 +1,6 @@
 -- What an update leaves of a library that is kept, and that it stays good. The key lemmas are serves_refused, serves_kept,
 -- serves_done and serves_failed, and good_done and good_failed.
-use Rattle.std.proofs.Common.{◌≡◌, ◌≢◌, inl, inr, ℕ, ◌≤◌, Bool, true, false, if◌then◌else◌, List, [], ◌∷◌, ◌++◌, refl, sym, ap, ◌∙◌, subst, true≢false, Option, None, Some, option_map, IsTrue, Err}
+use Rattle.std.proofs.Common.{◌≡◌, ◌≢◌, inl, inr, ℕ, ◌+◌, ◌≤◌, arith, length, length-append, Bool, true, false, if◌then◌else◌, List, [], ◌∷◌, ◌++◌, refl, sym, ap, ◌∙◌, subst, true≢false, Option, None, Some, option_map, IsTrue, Err}
 use Rattle.std.specs.Bool.{MatchBool}
 use Rattle.std.specs.Prelude.{⊤}
 use Rattle.ids.specs.FaultCount.{Rose}
@@ -21,19 +21,21 @@ use Rattle.library_state.specs.declared.reply.Reply.{Reply}
 use Rattle.library_state.specs.declared.reply.Reply.TheVariants as reply
 use Rattle.library_state.specs.declared.state.LibState.{LibState}
 use Rattle.object_store.specs.Shelf.{Contents}
-use Rattle.object_store.specs.Store.{CountsShelf, is_free}
-use Rattle.object_store.specs.StoreView.{Keeps, StoreView, objects_of, status_of}
+use Rattle.object_store.specs.Store.{CountsShelf, is_free, is_of_shelf}
+use Rattle.object_store.specs.StoreView.{AddsNoStray, Keeps, StoreView, objects_of, status_of}
+use Rattle.object_store.proofs.StrayLemmas.{strays_kept}
 use Rattle.object_store.specs.declared.error.StoreFault.{StoreFault}
 use Rattle.object_store.specs.declared.error.StoreFault.TheVariants.{Taken, Wrong, Damaged, Shelf, NoMemory}
 use Rattle.object_store.specs.declared.shelf.Slot.{Slot as ShelfSlot}
-use Rattle.depot.specs.Answering.{AnswersSo, MayAnswer, MayAnswerSo, Serves, SlotSo, Would, decided, next_by, next_state, refused, rewritten, unwritten, with_install}
-use Rattle.depot.specs.DepotView.{DepotView, library, state_of, Holds, IsGood}
+use Rattle.depot.specs.Answering.{IsAnswered, MayAnswer, MayAnswerSo, Serves, SlotSo, Would, decided, next_by, next_state, refused, rewritten, unwritten, with_install}
+use Rattle.depot.specs.DepotView.{at_rest, DepotView, library, state_of, Holds, IsGood}
 use Rattle.depot.specs.ObjectCalls.{Counts, IsToldDamageOf, store_refusal}
 use Rattle.depot.specs.UpdateInstall.{IsCarriedOut, IsWriteFault, LeftBehind, StoresPart, held_in, stopped, unsure, with_all}
 use Rattle.depot.specs.UpdatePlan.{IsPlan, IsPlanFault, objects_in}
-use Rattle.depot.specs.Writing.{LeftBy, settled, written}
+use Rattle.depot.specs.NextState.{Follows, answered}
+use Rattle.depot.specs.Writing.{IsWritten, LeftBy, ReadsBack, settled}
 use Rattle.depot.specs.declared.update_plan.Plan.{Plan}
-use Rattle.depot.proofs.GoodLemmas.{sound_at, sound_told}
+use Rattle.depot.proofs.GoodLemmas.{none_fresh, sound_at, sound_told}
 use Rattle.depot.proofs.GrownLemmas.{kept_status, sound_grown}
 use Rattle.depot.proofs.Told.{mapped_at}
 use Rattle.depot.proofs.UpdateInstallLemmas.{counted_same, free_told}
@@ -50,17 +52,23 @@ held_kept contents old new keeps =
 -- ---- soundness
 
 -- what an answer leaves of a sound state is sound
-pub sound_answered : (s t : State) (call : Call) (moment : ℕ) (r : Reply) → IsSound s → AnswersSo s call moment r (Some t) → IsSound t
-sound_answered s t call moment r sound answers =
+pub sound_answered : (s t : State) (call : Call) (moment : ℕ) (r : Reply) → IsSound s → IsAnswered s call moment r (Some t) → IsSound t
+sound_answered s t call moment r sound (changes, answers) =
     let same : answers.state ≡ t = some_same (sym answers.left) in
-    subst IsSound same (sound_stands s answers.state answers.changes sound (step_stands s (step.Asked call) moment r answers.state answers.changes answers.step))
+    subst IsSound same (sound_stands s answers.state changes sound (step_stands s (step.Asked call) moment r answers.state changes answers.step))
   where
     some_same : {x y : State} → Some x ≡ Some y → x ≡ y
     some_same e = cc
 
 holds_more : (unsettled : Bool) (state : LibState) (objects : Objects) (x : Stored) (status : Option (List ℕ)) → Holds unsettled state objects status → Holds unsettled state (put_new objects x) status
 holds_more true state objects x status (inl is) = inl is
-holds_more true state objects x status (inr held) = inr (record { other = held.other; text = held.text; sound = λ count. sound_grown held.other count objects x (held.sound count) })
+holds_more true state objects x status (inr held) = inr (record {
+  other = held.other;
+  follows = held.follows;
+  text = held.text;
+  reads = held.reads;
+  sound = λ count. sound_grown held.other count objects x (held.sound count);
+})
 holds_more false state objects x status is = is
 
 holds_added : (unsettled : Bool) (state : LibState) (objects : Objects) (added : List Stored) (status : Option (List ℕ)) → Holds unsettled state objects status → Holds unsettled state (with_added objects added) status
@@ -89,6 +97,20 @@ next_same : (state : LibState) (call : Call) (moment : ℕ) (pushed head : List 
 next_same state call moment pushed head updates kept =
     ap (λ a. next_by state call.secret moment a (reply.Updated head)) updates ∙ ap (λ b. if b then state else with_install head pushed moment state) kept
 
+-- a head update more is another state
+pub install_apart : (state : LibState) (head pushed : List ℕ) (moment : ℕ) → with_install head pushed moment state ≢ state
+install_apart state head pushed moment same =
+    longer (length state.kept) (sym (length-append state.kept (record { head = head; pushed = pushed; at = moment } ∷ [])) ∙ ap (λ (st : LibState). length st.kept) same)
+  where
+    longer : (n : ℕ) → n + 1 ≢ n
+    longer n e = omega arith
+
+-- the state with the head update follows
+install_follows : (state : LibState) (pushed head : List ℕ) (moment : ℕ) → is_kept state.kept pushed ≡ false → Follows state (with_install head pushed moment state)
+install_follows state pushed head moment new =
+    answered (record { secret = None; act = act.Update pushed }) moment (reply.Updated head) refl
+    (next_is state (record { secret = None; act = act.Update pushed }) moment pushed head refl new)
+
 module _ {S : Type 0} (contents : S → Option Contents) (may_give : S → ShelfSlot → Option (List ℕ) → Type 0) (faults : S → ℕ) (old : DepotView S)
     (call : Call) (moment : ℕ) (pushed : List ℕ) (updates : call.act ≡ act.Update pushed) where
   -- the library before, over what is told
@@ -97,17 +119,17 @@ module _ {S : Type 0} (contents : S → Option Contents) (may_give : S → Shelf
 
   -- an answer for what is told
   told_by : (r : Reply) (new : DepotView S)
-      → ((objects : Objects) → objects_of contents old.store ≡ Some objects → AnswersSo (at objects) call moment r (state_of contents faults new))
-      → (s : State) → state_of contents faults old ≡ Some s → AnswersSo s call moment r (state_of contents faults new)
+      → ((objects : Objects) → objects_of contents old.store ≡ Some objects → IsAnswered (at objects) call moment r (state_of contents faults new))
+      → (s : State) → state_of contents faults (at_rest old) ≡ Some s → IsAnswered s call moment r (state_of contents faults new)
   told_by r new each s is =
       let found = mapped_at (library old.state (faults old.store.shelf)) (objects_of contents old.store) s is in
-      subst (λ t. AnswersSo t call moment r (state_of contents faults new)) found.gives (each found.value found.is)
+      subst (λ t. IsAnswered t call moment r (state_of contents faults new)) found.gives (each found.value found.is)
 
   left_as : (r : Reply) (new : DepotView S) (added : List Stored) (state : LibState) (count : ℕ) (objects : Objects) → new.state ≡ state → faults new.store.shelf ≡ count
       → objects_of contents new.store ≡ with_all added (objects_of contents old.store) → objects_of contents old.store ≡ Some objects
-      → AnswersSo (at objects) call moment r (Some (library state count (with_added objects added))) → AnswersSo (at objects) call moment r (state_of contents faults new)
+      → IsAnswered (at objects) call moment r (Some (library state count (with_added objects added))) → IsAnswered (at objects) call moment r (state_of contents faults (at_rest new))
   left_as r new added state count objects same counts stored told answers =
-      subst (AnswersSo (at objects) call moment r)
+      subst (IsAnswered (at objects) call moment r)
       (sym (ap (option_map (library new.state (faults new.store.shelf))) (stored ∙ ap (with_all added) told)
       ∙ ap (λ st. Some (library st (faults new.store.shelf) (with_added objects added))) same
       ∙ ap (λ n. Some (library state n (with_added objects added))) counts)) answers
@@ -116,7 +138,7 @@ module _ {S : Type 0} (contents : S → Option Contents) (may_give : S → Shelf
 
   module _ (store : StoreView S) (keeps : Keeps contents old.store store) where
     abbrev unmoved : DepotView S
-    unmoved = record { store = store; state = old.state; unsettled = old.unsettled }
+    unmoved = record { store = store; state = old.state; unsettled = old.unsettled; running = None }
 
     nothing_stored : objects_of contents store ≡ with_all [] (objects_of contents old.store)
     nothing_stored = keeps.objects ∙ by (objects_of contents old.store)
@@ -128,7 +150,7 @@ module _ {S : Type 0} (contents : S → Option Contents) (may_give : S → Shelf
     pub serves_refused : (why : Refusal) → ((objects : Objects) → objects_of contents old.store ≡ Some objects → IsPlanFault (at objects) moment (due (at objects) call) why)
         → Counts (faults old.store.shelf) (faults store.shelf) (reply.Refused why) → MayAnswer store.index (may_give store.shelf) (act.Update pushed) (decided old.state call) (reply.Refused why)
         → ((objects : Objects) → objects_of contents old.store ≡ Some objects → IsToldDamageOf objects why)
-        → Serves contents may_give faults old call moment (reply.Refused why) unmoved
+        → Serves contents may_give faults (at_rest old) call moment (reply.Refused why) unmoved
     serves_refused why plans count may damage = record {
       told = told_by (reply.Refused why) unmoved (λ objects told. left_as (reply.Refused why) unmoved [] old.state (faults store.shelf) objects refl refl nothing_stored told
           (refused_answers old.state (faults old.store.shelf) objects call moment pushed updates why (faults store.shelf) (plans objects told) count));
@@ -137,12 +159,14 @@ module _ {S : Type 0} (contents : S → Option Contents) (may_give : S → Shelf
       damage = damage;
       count = count;
       left = refl;
+      fresh = refl;
+      lying = λ _. strays_kept contents old.store store keeps.index keeps.shelf;
       slot = unwritten refl refl (kept_status contents old.store store keeps);
     }
 
     pub serves_kept : is_kept old.state.kept pushed ≡ true → ((objects : Objects) → objects_of contents old.store ≡ Some objects → due (at objects) call ≡ Says (reply.Updated (head_of old.state.kept)))
         → faults store.shelf ≡ faults old.store.shelf → decided old.state call ≡ Some (reply.Updated (head_of old.state.kept))
-        → Serves contents may_give faults old call moment (reply.Updated (head_of old.state.kept)) unmoved
+        → Serves contents may_give faults (at_rest old) call moment (reply.Updated (head_of old.state.kept)) unmoved
     serves_kept kept says count is = record {
       told = told_by (reply.Updated (head_of old.state.kept)) unmoved (λ objects told.
           left_as (reply.Updated (head_of old.state.kept)) unmoved [] old.state (faults old.store.shelf) objects refl count nothing_stored told
@@ -151,6 +175,8 @@ module _ {S : Type 0} (contents : S → Option Contents) (may_give : S → Shelf
       damage = λ objects told. tt;
       count = count;
       left = sym (next_same old.state call moment pushed (head_of old.state.kept) updates kept);
+      fresh = refl;
+      lying = λ _. strays_kept contents old.store store keeps.index keeps.shelf;
       slot = unwritten refl refl (kept_status contents old.store store keeps);
     }
 
@@ -163,16 +189,16 @@ module _ {S : Type 0} (contents : S → Option Contents) (may_give : S → Shelf
     next = with_install plan.head pushed moment old.state
 
     done_told : (objects : Objects) → objects_of contents old.store ≡ Some objects
-        → AnswersSo (at objects) call moment (reply.Updated plan.head) (Some (library next (faults old.store.shelf) (with_added objects (objects_in plan))))
+        → IsAnswered (at objects) call moment (reply.Updated plan.head) (Some (library next (faults old.store.shelf) (with_added objects (objects_in plan))))
     done_told objects told = done_answers old.state (faults old.store.shelf) objects call moment pushed updates plan new_commit (planned objects told)
 
     module _ (store : StoreView S) (state : LibState) (still : Bool) where
       abbrev new : DepotView S
-      new = record { store = store; state = state; unsettled = still }
+      new = record { store = store; state = state; unsettled = still; running = None }
 
       module _ (done : IsCarriedOut old.unsettled old.state next (objects_in plan) (held_in contents old.store) still (held_in contents store)) (same : state ≡ next) where
-        pub serves_done : faults store.shelf ≡ faults old.store.shelf → Serves contents may_give faults old call moment (reply.Updated plan.head) new
-        serves_done count = record {
+        pub serves_done : faults store.shelf ≡ faults old.store.shelf → AddsNoStray contents old.store store → Serves contents may_give faults (at_rest old) call moment (reply.Updated plan.head) new
+        serves_done count lying = record {
           told = told_by (reply.Updated plan.head) new (λ objects told.
               left_as (reply.Updated plan.head) new (objects_in plan) next (faults old.store.shelf) objects same count done.objects told (done_told objects told));
           may_come = subst (λ o. MayAnswer old.store.index (may_give store.shelf) call.act o (reply.Updated plan.head)) (sym undecided)
@@ -180,12 +206,17 @@ module _ {S : Type 0} (contents : S → Option Contents) (may_give : S → Shelf
           damage = λ objects told. tt;
           count = count;
           left = same ∙ sym (next_is old.state call moment pushed plan.head updates new_commit);
-          slot = rewritten refl done.settles (done.text ∙ ap (λ st. written st (settled old.unsettled old.state (status_of contents old.store))) (sym same));
+          fresh = refl;
+          lying = λ _. lying;
+          slot = rewritten refl (λ stays. install_apart old.state plan.head pushed moment (sym same ∙ stays)) done.settles
+              (subst (λ st. IsWritten st (settled old.unsettled old.state (status_of contents old.store)) (status_of contents store)) (sym same) done.text);
         }
 
-        pub good_done : IsGood contents faults old → IsGood contents faults new
+        pub good_done : IsGood contents faults (at_rest old) → IsGood contents faults new
         good_done good = record {
           head = subst (λ (st : LibState). st.kept ≢ []) (sym same) (push_some old.state.kept (record { head = plan.head; pushed = pushed; at = moment }));
+          reads = subst ReadsBack (sym same) done.text.reads;
+          fresh = none_fresh contents faults store;
           sound = sound_told contents faults new (λ objects told.
               let before = mapped_at (λ (o : Objects). with_added o (objects_in plan)) (objects_of contents old.store) objects (sym done.objects ∙ told) in
               subst (λ o. IsSound (library state (faults store.shelf) o)) before.gives
@@ -194,7 +225,7 @@ module _ {S : Type 0} (contents : S → Option Contents) (may_give : S → Shelf
               (sound_answered (at before.value) (library next (faults old.store.shelf) (with_added before.value (objects_in plan))) call moment (reply.Updated plan.head)
               (sound_at contents faults old good before.value (faults old.store.shelf) before.is) (done_told before.value before.is)))));
           text = λ objects status told holds. subst (λ b. Holds b state objects status) (sym done.settles)
-              (subst (λ st. status ≡ Some (text_of st)) (sym same) (written_at next (settled old.unsettled old.state (status_of contents old.store)) (status_of contents store) status done.text holds));
+              (subst (λ st. status ≡ Some (text_of st)) (sym same) (written_at next (settled old.unsettled old.state (status_of contents old.store)) (status_of contents store) status done.text.text holds));
         }
 
       -- ---- a plan is given up
@@ -215,13 +246,13 @@ module _ {S : Type 0} (contents : S → Option Contents) (may_give : S → Shelf
 
         module _ (free : (objects : Objects) → objects_of contents old.store ≡ Some objects → IsTrue (is_free fault)) (count : CountsShelf {T = ⊤} (faults old.store.shelf) (faults store.shelf) (Err fault)) where
           failed_told : (objects : Objects) → objects_of contents old.store ≡ Some objects
-              → AnswersSo (at objects) call moment (reply.Refused (store_refusal fault)) (Some (library old.state (faults store.shelf) (with_added objects part.part)))
+              → IsAnswered (at objects) call moment (reply.Refused (store_refusal fault)) (Some (library old.state (faults store.shelf) (with_added objects part.part)))
           failed_told objects told =
               stopped_answers old.state (faults old.store.shelf) objects call moment pushed updates plan part.part (store_refusal fault) (faults store.shelf) (planned objects told) part.front
               (free_told objects fault (free objects told)) (fault_counts (faults old.store.shelf) (faults store.shelf) fault count)
 
-          pub serves_failed : IsWriteFault (may_give store.shelf) fault → Serves contents may_give faults old call moment (reply.Refused (store_refusal fault)) new
-          serves_failed cause = record {
+          pub serves_failed : IsWriteFault (may_give store.shelf) fault → (is_of_shelf fault ≡ false → AddsNoStray contents old.store store) → Serves contents may_give faults (at_rest old) call moment (reply.Refused (store_refusal fault)) new
+          serves_failed cause lying = record {
             told = told_by (reply.Refused (store_refusal fault)) new (λ objects told.
                 left_as (reply.Refused (store_refusal fault)) new part.part old.state (faults store.shelf) objects same refl part.objects told (failed_told objects told));
             may_come = subst (λ o. MayAnswer old.store.index (may_give store.shelf) call.act o (reply.Refused (store_refusal fault))) (sym undecided)
@@ -229,11 +260,13 @@ module _ {S : Type 0} (contents : S → Option Contents) (may_give : S → Shelf
             damage = λ objects told. free_not_damage objects fault (free objects told);
             count = fault_counts (faults old.store.shelf) (faults store.shelf) fault count;
             left = same;
+            fresh = refl;
+            lying = λ free. lying (counted_same fault ∙ free);
             slot = by behind;
           }
             where
               by : LeftBehind fault old.unsettled old.state next (objects_in plan) (held_in contents old.store) still (held_in contents store)
-                  → SlotSo (Would contents faults old call moment) call moment (reply.Refused (store_refusal fault)) old.unsettled old.state (status_of contents old.store) still state (status_of contents store)
+                  → SlotSo (Would contents faults (at_rest old) call moment) call moment (reply.Refused (store_refusal fault)) old.unsettled old.state (status_of contents old.store) still state (status_of contents store)
               by (stopped stays unsettled kept) = unwritten same unsettled kept
               by (unsure is stored left) =
                   refused fault refl (reply.Updated plan.head) refl
@@ -241,16 +274,17 @@ module _ {S : Type 0} (contents : S → Option Contents) (may_give : S → Shelf
                   let found = mapped_at (library old.state (faults old.store.shelf)) (objects_of contents old.store) s known in
                   subst (λ t. MayAnswerSo t call moment (reply.Updated plan.head)) found.gives
                   (done_may old.state (faults old.store.shelf) found.value call moment pushed updates plan (planned found.value found.is)))
+                  (λ stays. install_apart old.state plan.head pushed moment (sym (next_is old.state call moment pushed plan.head updates new_commit) ∙ stays))
                   (subst (λ st. LeftBy fault old.unsettled old.state st (status_of contents old.store) still (status_of contents store))
                   (sym (next_is old.state call moment pushed plan.head updates new_commit)) left)
 
-          sound_next : IsGood contents faults old → (objects : Objects) → objects_of contents old.store ≡ Some objects → (n : ℕ) → IsSound (library next n (with_added objects (objects_in plan)))
+          sound_next : IsGood contents faults (at_rest old) → (objects : Objects) → objects_of contents old.store ≡ Some objects → (n : ℕ) → IsSound (library next n (with_added objects (objects_in plan)))
           sound_next good objects told n =
               sound_counted (library next (faults old.store.shelf) (with_added objects (objects_in plan))) n
               (sound_answered (at objects) (library next (faults old.store.shelf) (with_added objects (objects_in plan))) call moment (reply.Updated plan.head)
               (sound_at contents faults old good objects (faults old.store.shelf) told) (done_told objects told))
 
-          text_left : IsGood contents faults old → LeftBehind fault old.unsettled old.state next (objects_in plan) (held_in contents old.store) still (held_in contents store)
+          text_left : IsGood contents faults (at_rest old) → LeftBehind fault old.unsettled old.state next (objects_in plan) (held_in contents old.store) still (held_in contents store)
               → (objects : Objects) (status : Option (List ℕ)) → objects_of contents store ≡ Some objects → status_of contents store ≡ Some status → Holds still old.state objects status
           text_left good (stopped stays unsettled kept) objects status told holds =
               let before = mapped_at (λ (o : Objects). with_added o stays.part) (objects_of contents old.store) objects (sym stays.objects ∙ told) in
@@ -262,11 +296,13 @@ module _ {S : Type 0} (contents : S → Option Contents) (may_give : S → Shelf
               subst (λ o. Holds still old.state o status) before.gives
               (holds_after old.unsettled old.state next (with_added before.value (objects_in plan)) (status_of contents old.store)
               (λ given was. holds_added old.unsettled old.state before.value (objects_in plan) given (good.text before.value given before.is was))
-              (sound_next good before.value before.is) still (status_of contents store) status fault left holds)
+              (install_follows old.state pushed plan.head moment new_commit) (sound_next good before.value before.is) still (status_of contents store) status fault left holds)
 
-          pub good_failed : IsGood contents faults old → IsGood contents faults new
+          pub good_failed : IsGood contents faults (at_rest old) → IsGood contents faults new
           good_failed good = record {
             head = subst (λ (st : LibState). st.kept ≢ []) (sym same) good.head;
+            reads = subst ReadsBack (sym same) good.reads;
+            fresh = none_fresh contents faults store;
             sound = sound_told contents faults new (λ objects told.
                 let before = mapped_at (λ (o : Objects). with_added o part.part) (objects_of contents old.store) objects (sym part.objects ∙ told) in
                 subst (λ o. IsSound (library state (faults store.shelf) o)) before.gives

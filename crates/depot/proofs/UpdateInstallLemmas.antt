@@ -1,6 +1,6 @@
 -- Objects that are put one after another, and what a plan leaves behind. The key lemmas are stores_then, puttable_front,
 -- puttable_back, one_stored, may_refuse_put and free_put.
-use Rattle.std.proofs.Common.{◌≡◌, ◌≢◌, ◌⊎◌, inl, inr, ℕ, Bool, true, false, if◌then◌else◌, true≢false, List, [], ◌∷◌, ◌++◌, append_assoc, refl, sym, ap, ◌∙◌, subst, Option, None, Some, IsTrue, Result, Ok, Err}
+use Rattle.std.proofs.Common.{◌≡◌, ◌⊎◌, inl, inr, ℕ, Bool, true, false, if◌then◌else◌, true≢false, List, [], ◌∷◌, ◌++◌, append_assoc, refl, sym, ap, ◌∙◌, subst, Option, None, Some, IsTrue, Result, Ok, Err}
 use Rattle.std.specs.Prelude.{⊤}
 use Rattle.sha1.specs.Sha1.{sha1}
 use Rattle.ids.specs.Key.{Objects}
@@ -19,7 +19,7 @@ use Rattle.depot.specs.Answering.{MayRefuseUpdate}
 use Rattle.depot.specs.ObjectCalls.{IsToldRefusal, is_of_store, store_refusal}
 use Rattle.depot.specs.UpdateInstall.{ArePuttable, ArePuttableIn, Held, InstallsText, IsCarriedOut, LeftBehind, StoresPart, StoresSo, unsure, with_all}
 use Rattle.depot.specs.UpdatePlan.{AreNamed}
-use Rattle.depot.specs.Writing.{LeftBy, SettlesSo, Slot, Writes, again, leaves_open, nothing, open_next, open_present, settled, written}
+use Rattle.depot.specs.Writing.{IsWritten, LeftBy, SettlesSo, Slot, Writes, again, leaves_open, nothing, open_next, open_present, settled}
 use Rattle.depot.proofs.UpdateBaseLemmas.{damage_apart}
 use Rattle.depot.proofs.WritingLemmas.{stored_as_put}
 
@@ -143,23 +143,23 @@ settle_left true still present next old new (Taken id) same so = absurd so
 settle_left true still present next old new (Wrong id) same so = absurd so
 settle_left true still present next old new (Damaged want got) same so = absurd so
 settle_left true still present next old new Shelf same (inl is) = nothing same is
-settle_left true still present next old new Shelf same (inr is) = again same refl is
+settle_left true still present next old new Shelf same (inr is) = again same refl is.text
 settle_left true still present next old new NoMemory same so = inl (same, so)
 
 -- the slot once it was settled
 pub settled_slot : (unsettled : Bool) (present : LibState) (old new : Slot) → SettlesSo unsettled present old new (Ok tt) → new ≡ settled unsettled present old
-settled_slot true present old new so = so
+settled_slot true present old new so = so.text
 settled_slot false present old new so = so.0
 
 -- a text that was written after it was settled
 pub noted : (unsettled still : Bool) (present next : LibState) (old mid new : Slot) (result : Result ⊤ StoreFault) → mid ≡ settled unsettled present old → still ≡ leaves_open result
     → Writes next mid new result → InstallsText unsettled present next old still new result
-noted unsettled still present next old mid new (Ok done) first left so = (left, so ∙ ap (written next) first)
+noted unsettled still present next old mid new (Ok done) first left so = (left, subst (λ s. IsWritten next s new) first so)
 noted unsettled still present next old mid new (Err (Taken id)) first left so = absurd so
 noted unsettled still present next old mid new (Err (Wrong id)) first left so = absurd so
 noted unsettled still present next old mid new (Err (Damaged want got)) first left so = absurd so
 noted unsettled still present next old mid new (Err Shelf) first left (inl is) = open_present left (is ∙ first)
-noted unsettled still present next old mid new (Err Shelf) first left (inr is) = open_next left (is ∙ ap (written next) first)
+noted unsettled still present next old mid new (Err Shelf) first left (inr is) = open_next left (subst (λ s. IsWritten next s new) first is)
 noted unsettled still present next old mid new (Err NoMemory) first left so = inr (left, so ∙ first)
 
 -- ---- objects of a table
@@ -206,5 +206,5 @@ pub carried_out : (unsettled still : Bool) (present mid next : LibState) (all : 
 carried_out unsettled still present mid next all old new slot stored same kept text = record {
   objects = stored;
   settles = text.0;
-  text = text.1 ∙ ap (λ state. written next (settled unsettled state slot)) same ∙ ap (λ s. written next (settled unsettled present s)) kept;
+  text = subst (λ s. IsWritten next s new.slot) (ap (λ state. settled unsettled state slot) same ∙ ap (settled unsettled present) kept) text.1;
 }

@@ -1,6 +1,7 @@
--- What the slot holds after a write of the state text, and what is stored after a put. The key lemmas are holds_after,
--- holds_next and stored_as_put.
-use Rattle.std.proofs.Common.{◌≡◌, ◌≢◌, inl, inr, ℕ, Bool, true, false, if◌then◌else◌, List, refl, sym, ap, ◌∙◌, subst, true≢false, Option, None, Some, is_some, Ok, Err}
+-- What the slot holds after a write of the state text, and what is stored after a put. The key lemmas are writes_noted,
+-- holds_after, holds_next and stored_as_put.
+use Rattle.std.proofs.Common.{◌≡◌, inl, inr, ℕ, Bool, true, false, if◌then◌else◌, List, refl, sym, ap, ◌∙◌, subst, true≢false, Option, None, Some, is_some, option_map, Result, Ok, Err}
+use Rattle.std.specs.Prelude.{◌⊎◌, ⊤}
 use Rattle.std.specs.FinMap as map
 use Rattle.std.specs.Cmp.Lexicographic.{same_text}
 use Rattle.ids.specs.Key.{Objects}
@@ -9,19 +10,48 @@ use Rattle.ids.proofs.KeyOrder.{key_cmp_total, key_cmp_exact}
 use Rattle.ids.proofs.MapLemmas.{insert-same}
 use Rattle.library_rules.specs.Changes.{put_new}
 use Rattle.library_rules.specs.LibraryState.{IsSound}
+use Rattle.library_rules.proofs.ProperText.{sound_is_proper}
 use Rattle.library_state.specs.StateSpelling.{text_of}
 use Rattle.library_state.specs.declared.state.LibState.{LibState}
 use Rattle.object_store.specs.Store.{has_other_name, name_refusal, put_refusal, same_bytes, first_refusal, stored_refusal}
-use Rattle.object_store.specs.StoreView.{with_object}
+use Rattle.object_store.specs.Shelf.{Contents, put_known}
+use Rattle.object_store.specs.StoreView.{NoteChanges, StoreView, status_of, with_object}
 use Rattle.object_store.specs.declared.error.StoreFault.{StoreFault}
 use Rattle.object_store.specs.declared.error.StoreFault.TheVariants.{Taken, Wrong, Damaged, Shelf, NoMemory}
+use Rattle.object_store.specs.declared.shelf.Slot.TheVariants.{Status}
 use Rattle.depot.specs.DepotView.{library, Holds}
-use Rattle.depot.specs.Writing.{Slot, written, settled, LeftOpen, nothing, again, settles, open_present, open_next, RewritesSo, with_stored}
+use Rattle.depot.specs.NextState.{Follows}
+use Rattle.depot.specs.Writing.{IsWritten, ReadsBack, Slot, Writes, written, settled, LeftOpen, nothing, again, settles, open_present, open_next, RewritesSo, with_stored}
 
 -- the text that was written is there
 pub written_at : (state : LibState) (old new : Slot) (status : Option (List ℕ)) → new ≡ written state old → new ≡ Some status → status ≡ Some (text_of state)
 written_at state None new status is at = cc
 written_at state (Some held) new status is at = cc
+
+-- a text that was put into the slot
+pub writes_noted : {S : Type 0} (contents : S → Option Contents) (old new : StoreView S) (state : LibState) (text : List ℕ) (result : Result ⊤ StoreFault)
+    → text ≡ text_of state → ReadsBack state → NoteChanges contents old new text result → Writes state (status_of contents old) (status_of contents new) result
+writes_noted {S} contents old new state text result is reads changes = by result changes
+  where
+    put : contents new.shelf ≡ put_known (contents old.shelf) Status text → IsWritten state (status_of contents old) (status_of contents new)
+    put done = record { text = ap (option_map (λ (held : Contents). held.status)) done ∙ known (contents old.shelf); reads = reads }
+      where
+        known : (o : Option Contents) → option_map (λ (held : Contents). held.status) (put_known o Status text) ≡ written state (option_map (λ (held : Contents). held.status) o)
+        known None = refl
+        known (Some held) = ap (λ t. Some (Some t)) is
+
+    by : (r : Result ⊤ StoreFault) → NoteChanges contents old new text r → Writes state (status_of contents old) (status_of contents new) r
+    by (Ok done) made = put made.shelf
+    by (Err Shelf) may = made may.shelf
+      where
+        made : (contents new.shelf ≡ contents old.shelf) ⊎ (contents new.shelf ≡ put_known (contents old.shelf) Status text)
+            → (status_of contents new ≡ status_of contents old) ⊎ IsWritten state (status_of contents old) (status_of contents new)
+        made (inl kept) = inl (ap (option_map (λ (held : Contents). held.status)) kept)
+        made (inr done) = inr (put done)
+    by (Err NoMemory) keeps = ap (option_map (λ (held : Contents). held.status)) keeps.shelf
+    by (Err (Taken id)) none = absurd none
+    by (Err (Wrong id)) none = absurd none
+    by (Err (Damaged want got)) none = absurd none
 
 -- ---- what the slot holds then
 
@@ -37,8 +67,8 @@ holds_present : (b : Bool) (present : LibState) (objects : Objects) (status : Op
 holds_present true present objects status e = inl e
 holds_present false present objects status e = e
 
-slot_before : (b : Bool) (present next : LibState) (old new : Slot) (status : Option (List ℕ)) → new ≡ written next (settled b present old) → new ≡ Some status → status ≡ Some (text_of next)
-slot_before b present next old new status e at = written_at next (settled b present old) new status e at
+slot_before : (b : Bool) (present next : LibState) (old new : Slot) (status : Option (List ℕ)) → IsWritten next (settled b present old) new → new ≡ Some status → status ≡ Some (text_of next)
+slot_before b present next old new status is at = written_at next (settled b present old) new status is.text at
 
 -- a slot that is told was told before a write
 pub told_before : (state : LibState) (old new : Slot) (status : Option (List ℕ)) → new ≡ written state old → new ≡ Some status → is_some old ≡ true
@@ -60,7 +90,7 @@ some_at (Some x) e = (x, refl)
 
 module _ (unsettled : Bool) (present next : LibState) (objects : Objects) (old : Slot)
     (held : (given : Option (List ℕ)) → old ≡ Some given → Holds unsettled present objects given)
-    (sound : (faults : ℕ) → IsSound (library next faults objects)) where
+    (follows : Follows present next) (sound : (faults : ℕ) → IsSound (library next faults objects)) where
   present_again : (new : Slot) (status : Option (List ℕ)) → new ≡ settled unsettled present old → new ≡ Some status → status ≡ Some (text_of present)
   present_again new status e at =
       let back : settled unsettled present old ≡ Some status = sym e ∙ at in
@@ -74,7 +104,13 @@ module _ (unsettled : Bool) (present next : LibState) (objects : Objects) (old :
   holds_left still new status (open_present same e) at = holds_present still present objects status (present_again new status e at)
   holds_left still new status (open_next same e) at =
       subst (λ b. Holds b present objects status) (sym same)
-      (inr (record { other = next; text = slot_before unsettled present next old new status e at; sound = sound }))
+      (inr (record {
+        other = next;
+        follows = follows;
+        text = slot_before unsettled present next old new status e at;
+        reads = e.reads (sound_is_proper (library next 0 objects) (sound 0));
+        sound = sound;
+      }))
 
   -- after a refusal the present text stands, or it is open which of the two
   pub holds_after : (still : Bool) (new : Slot) (status : Option (List ℕ)) (fault : StoreFault) → RewritesSo unsettled present next old still new (Err fault) → new ≡ Some status

@@ -1,5 +1,5 @@
 -- What a library that is kept answers, and what a call leaves of it. Our own. Read AnswersSo, then decided and MayAnswer,
--- then state_after and SlotSo.
+-- then SlotSo; what is left of the state is in NextState.
 use Rattle.std.specs.Prelude.{◌≡◌, ◌≢◌, ◌⊎◌, ℕ, nat_lt, Bool, true, false, if◌then◌else◌, List, [], ◌∷◌, ◌++◌, Option, None, Some, is_some, option_map, filter, not, IsSome, IsNone, IsTrue, ⊤}
 use Rattle.std.specs.Bool.{then_some}
 use Rattle.std.specs.FinMap as map
@@ -7,7 +7,7 @@ use Rattle.ids.specs.Key.{Objects}
 use Rattle.ids.specs.declared.key.Key.{Key}
 use Rattle.ids.specs.declared.key.Kind.{Kind}
 use Rattle.library_rules.specs.Calls.{first_refusal, ids_of, keys_of, may, put_refusals, token_of}
-use Rattle.library_rules.specs.Changes.{head_in, is_refused, seen_by}
+use Rattle.library_rules.specs.Changes.{is_refused}
 use Rattle.library_rules.specs.History.{Permits, StepSo, lone}
 use Rattle.library_rules.specs.LibraryState.{State, head_of, is_kept, is_day_count}
 use Rattle.library_rules.specs.declared.entry.Entry.{Entry}
@@ -16,7 +16,6 @@ use Rattle.library_rules.specs.declared.entry.Stored.{Stored}
 use Rattle.library_state.specs.declared.call.Act.{Act}
 use Rattle.library_state.specs.declared.call.Act.TheVariants as act
 use Rattle.library_state.specs.declared.call.Call.{Call}
-use Rattle.library_state.specs.declared.call.Op.TheVariants as op
 use Rattle.library_state.specs.declared.history.Install.{Install}
 use Rattle.library_state.specs.declared.refusal.Refusal.{Refusal}
 use Rattle.library_state.specs.declared.refusal.Refusal.TheVariants as refusal
@@ -28,21 +27,27 @@ use Rattle.object_graph.specs.Objects.{commit_key, is_nil}
 use Rattle.object_graph.specs.Traversal.{distinct_from}
 use Rattle.object_store.specs.Shelf.{Contents}
 use Rattle.object_store.specs.Store.{GivesOther, IsDamage, IsWhole}
-use Rattle.object_store.specs.StoreView.{Index, objects_of, status_of}
+use Rattle.object_store.specs.StoreView.{AddsNoStray, Index, objects_of, status_of}
 use Rattle.object_store.specs.declared.error.StoreFault.{StoreFault}
 use Rattle.object_store.specs.declared.shelf.Slot.{Slot as ShelfSlot}
 use Rattle.object_store.specs.declared.shelf.Slot.TheVariants.{Object}
 use Rattle.tree_merge.specs.TreeBuilding.{IsCollision}
 use Rattle.depot.specs.DepotView.{DepotView, state_of}
-use Rattle.depot.specs.ObjectCalls.{Counts, IsToldDamage, own_name, store_refusal}
-use Rattle.depot.specs.Writing.{Slot, LeftBy, settled, written}
+use Rattle.depot.specs.FreshKeys.{RunsOn, told_there}
+pub use Rattle.depot.specs.NextState.{next_by, next_state, state_after, with_install}
+use Rattle.depot.specs.ObjectCalls.{Counts, IsToldDamage, is_counted, own_name, store_refusal}
+use Rattle.depot.specs.Writing.{IsWritten, LeftBy, Slot, settled}
 
--- the answer is permitted, and what is left is what it leaves: the same state, or the one after an entry of the history
-pub record AnswersSo (s : State) (call : Call) (moment : ℕ) (r : Reply) (after : Option State) : Type 0 where
+-- the answer is permitted, and what is left is what it leaves by these entries of the history: the same state by none, or
+-- the one after its one entry
+pub record AnswersSo (s : State) (call : Call) (moment : ℕ) (r : Reply) (changes : List Entry) (after : Option State) : Type 0 where
   pub state : State
-  pub changes : List Entry
   pub left : after ≡ Some state
   pub step : StepSo s (Asked call) moment r state changes
+
+-- the same by some entries
+abbrev pub IsAnswered : State → Call → ℕ → Reply → Option State → Type 0
+IsAnswered s call moment r after = (changes : List Entry) × AnswersSo s call moment r changes after
 
 -- whether a token may do this
 abbrev pub permits : Option Token → Act → Bool
@@ -210,40 +215,19 @@ module _ (index : Index) where
 
 -- ---- the state text
 
--- the state with one head update more
-abbrev pub with_install : (head pushed : List ℕ) → ℕ → LibState → LibState
-with_install head pushed moment state = record state { kept = state.kept ++ record { head = head; pushed = pushed; at = moment } ∷ [] }
-
--- what an act changes that is answered so
-abbrev pub next_by : LibState → Option (List ℕ) → ℕ → Act → Reply → LibState
-next_by state secret moment (act.Check op.Upload) r = record state { tokens = seen_by secret state.collection state.tokens }
-next_by state secret moment (act.Check op.Download) r = state
-next_by state secret moment act.Head r = state
-next_by state secret moment (act.Get key) r = state
-next_by state secret moment (act.Put key bytes) r = state
-next_by state secret moment (act.Missing k ids) r = state
-next_by state secret moment (act.Update pushed) r = if is_kept state.kept pushed then state else with_install (head_in r pushed) pushed moment state
-next_by state secret moment (act.Limit days) r = record state { days = days }
-next_by state secret moment (act.Ids server client) r = state
-
-abbrev pub next_state : LibState → Call → ℕ → Reply → LibState
-next_state state call moment r = next_by state call.secret moment call.act r
-
--- the state after an answer: a refusal leaves it as it was
-abbrev pub state_after : LibState → Call → ℕ → Reply → LibState
-state_after state call moment r = if is_refused r then state else next_state state call moment r
-
 -- a call may be answered so, with these objects more
 abbrev pub MayAnswerSo : State → Call → ℕ → Reply → Type 0
 MayAnswerSo s call moment said = (added : List Stored) × Permits s (record (lone s (Asked call) moment said) { added = added })
 
--- what the slot holds after an answer: nothing was written; or the text of the state that is left, after the present one
--- where that was open; or, after a failure of the shelf, it is open whether the present text stands or that of the state
--- that the call would have made by an answer that it could have; and after want of memory the present one alone
+-- what the slot holds after an answer. Nothing was written where the state stays; the text of another state that is left,
+-- after the present one where that was open; or, after a failure of the shelf, it is open whether the present text stands
+-- or that of another state, which the call would have made by an answer that it could have; and after want of memory the
+-- present one alone
 pub data SlotSo (would : Reply → Type 0) (call : Call) (moment : ℕ) (r : Reply) (unsettled : Bool) (present : LibState) (old : Slot) (still : Bool) (after : LibState) (new : Slot) : Type 0 where
   unwritten : after ≡ present → still ≡ unsettled → new ≡ old → SlotSo would call moment r unsettled present old still after new
-  rewritten : is_refused r ≡ false → still ≡ false → new ≡ written after (settled unsettled present old) → SlotSo would call moment r unsettled present old still after new
+  rewritten : is_refused r ≡ false → after ≢ present → still ≡ false → IsWritten after (settled unsettled present old) new → SlotSo would call moment r unsettled present old still after new
   refused : (fault : StoreFault) → r ≡ reply.Refused (store_refusal fault) → (said : Reply) → is_refused said ≡ false → would said
+      → next_state present call moment said ≢ present
       → LeftBy fault unsettled present (next_state present call moment said) old still new
       → SlotSo would call moment r unsettled present old still after new
 
@@ -256,9 +240,11 @@ Would contents faults old call moment said = (s : State) → state_of contents f
 -- what a call answers and leaves
 pub record Serves {S : Type 0} (contents : S → Option Contents) (may_give : S → ShelfSlot → Option (List ℕ) → Type 0) (faults : S → ℕ) (old : DepotView S)
     (call : Call) (moment : ℕ) (r : Reply) (new : DepotView S) : Type 0 where
-  pub told : (s : State) → state_of contents faults old ≡ Some s → AnswersSo s call moment r (state_of contents faults new)
+  pub told : (s : State) → state_of contents faults old ≡ Some s → IsAnswered s call moment r (state_of contents faults new)
   pub may_come : MayAnswer old.store.index (may_give new.store.shelf) call.act (decided old.state call) r
   pub damage : (objects : Objects) → objects_of contents old.store ≡ Some objects → IsToldDamage objects r
   pub count : Counts (faults old.store.shelf) (faults new.store.shelf) r
   pub left : new.state ≡ state_after old.state call moment r
+  pub fresh : RunsOn old.store.index new.store.index (told_there old.store.index call.act r) old.running new.running
+  pub lying : is_counted r ≡ false → AddsNoStray contents old.store new.store
   pub slot : SlotSo (Would contents faults old call moment) call moment r old.unsettled old.state (status_of contents old.store) new.unsettled new.state (status_of contents new.store)

@@ -1,26 +1,41 @@
--- What a depot is: a store, the library that its state text tells, and whether the last write of that text failed. Our own.
--- Read DepotView and state_of first, then IsGood.
-use Rattle.std.specs.Prelude.{◌≡◌, ◌≢◌, ◌⊎◌, ℕ, Bool, true, false, List, [], Option, None, Some, option_map, refl}
-use Rattle.std.specs.Coded.{Coded, code_by, coded×, coded_bool}
-use Rattle.ids.specs.Key.{Objects}
-use Rattle.library_rules.specs.LibraryState.{State, IsSound}
+-- What a depot is: a store, the library that its state text tells, whether the last write of that text failed, and the
+-- collection that runs. Our own. Read DepotView and state_of first, then IsGood.
+use Rattle.std.specs.Prelude.{◌≡◌, ◌≢◌, ◌⊎◌, ℕ, Bool, true, false, List, [], Option, None, Some, is_some, option_map, Ok, refl}
+use Rattle.std.specs.Coded.{Coded, code_by, coded×, coded_bool, coded_option, coded_ℕ}
+use Rattle.std.specs.FinMap as map
+use Rattle.std.specs.FinSet as set
+use Rattle.ids.specs.Key.{Objects, key_cmp}
+use Rattle.ids.specs.contracts.key.Key as key_contracts
+use Rattle.ids.specs.declared.key.Key.{Key}
+use Rattle.library_rules.specs.LibraryState.{Running, State, IsSound, is_fresh}
 use Rattle.library_state.specs.StateSpelling.{text_of}
+use Rattle.library_state.specs.StateText.{state_of as read_state}
 use Rattle.library_state.specs.contracts.state.LibState as state_contracts
 use Rattle.library_state.specs.declared.state.LibState.{LibState}
 use Rattle.object_store.specs.Shelf.{Contents}
 use Rattle.object_store.specs.StoreView.{StoreView, store_code, objects_of, status_of}
+use Rattle.depot.specs.NextState.{Follows}
+use Rattle.depot.specs.Writing.{ReadsBack}
 
 -- a depot as contracts see it. It is unsettled after a write of the state text that failed: then the slot may hold the
--- text of the state that the refused call would have made
+-- text of the state that the refused call would have made. No depot of today runs a collection
 pub record DepotView (S : Type 0) : Type 0 where
   pub store : StoreView S
   pub state : LibState
   pub unsettled : Bool
+  pub running : Option Running
+
+-- a collection that runs is stored as its fields
+abbrev pub running_code : Coded Running
+running_code = code_by (set.FinSet key_cmp × (ℕ × ℕ)) (coded× (set.code key_contracts.the_row.coded) (coded× coded_ℕ coded_ℕ))
+    (λ running. (running.fresh, (running.stored, running.turned))) (λ parts. record { fresh = parts.0; stored = parts.1.0; turned = parts.1.1 }) (λ _. refl)
 
 -- a depot is stored as its fields
 abbrev pub depot_code : {S : Type 0} → Coded S → Coded (DepotView S)
-depot_code {S} shelf = code_by (StoreView S × (LibState × Bool)) (coded× (store_code shelf) (coded× state_contracts.the_row.coded coded_bool))
-    (λ depot. (depot.store, (depot.state, depot.unsettled))) (λ parts. record { store = parts.0; state = parts.1.0; unsettled = parts.1.1 }) (λ _. refl)
+depot_code {S} shelf = code_by (StoreView S × (LibState × (Bool × Option Running)))
+    (coded× (store_code shelf) (coded× state_contracts.the_row.coded (coded× coded_bool (coded_option running_code))))
+    (λ depot. (depot.store, (depot.state, (depot.unsettled, depot.running))))
+    (λ parts. record { store = parts.0; state = parts.1.0; unsettled = parts.1.1.0; running = parts.1.1.1 }) (λ _. refl)
 
 -- the library of a state text, with these objects, no collection running, and this count of faults
 abbrev pub library : LibState → ℕ → Objects → State
@@ -37,6 +52,10 @@ library state faults objects = record {
   faults = faults;
 }
 
+-- the same, with the collection that runs
+abbrev pub running_library : LibState → Option Running → ℕ → Objects → State
+running_library state running faults objects = record (library state faults objects) { running = running }
+
 -- the library that a store and a state text are, where the shelf tells its contents
 abbrev pub library_of : {S : Type 0} → (S → Option Contents) → (S → ℕ) → StoreView S → LibState → Option State
 library_of contents faults store state = option_map (library state (faults store.shelf)) (objects_of contents store)
@@ -47,24 +66,35 @@ IsSoundIn contents store state = (objects : Objects) (count : ℕ) → objects_o
 
 -- the library that a depot is
 abbrev pub state_of : {S : Type 0} → (S → Option Contents) → (S → ℕ) → DepotView S → Option State
-state_of contents faults depot = library_of contents faults depot.store depot.state
+state_of contents faults depot = option_map (running_library depot.state depot.running (faults depot.store.shelf)) (objects_of contents depot.store)
+
+-- a depot in which no collection runs
+abbrev pub at_rest : {S : Type 0} → DepotView S → DepotView S
+at_rest depot = record depot { running = None }
 
 -- ---- what the slot holds
 
--- the text of another state, of a sound library over the same objects
-pub record HoldsOther (objects : Objects) (status : Option (List ℕ)) : Type 0 where
+-- the text of another state, which a call would have made of the present one: it is read as that state, and the library
+-- is sound over the same objects
+pub record HoldsOther (present : LibState) (objects : Objects) (status : Option (List ℕ)) : Type 0 where
   pub other : LibState
+  pub follows : Follows present other
   pub text : status ≡ Some (text_of other)
+  pub reads : read_state (text_of other) ≡ Ok other
   pub sound : (faults : ℕ) → IsSound (library other faults objects)
 
--- the slot holds the state's text; while the depot is unsettled it may hold another's
+-- the slot holds the state's text; while the depot is unsettled it may hold that of the state which the refused call
+-- would have made
 abbrev pub Holds : Bool → LibState → Objects → Option (List ℕ) → Type 0
 Holds false state objects status = status ≡ Some (text_of state)
-Holds true state objects status = (status ≡ Some (text_of state)) ⊎ HoldsOther objects status
+Holds true state objects status = (status ≡ Some (text_of state)) ⊎ HoldsOther state objects status
 
--- a depot always has a head; where its shelf tells its contents, the library is sound and the slot holds its text
+-- a depot always has a head, its text is read as its state, and fresh keys are known; where its shelf tells its contents,
+-- the library is sound and the slot holds its text
 pub record IsGood {S : Type 0} (contents : S → Option Contents) (faults : S → ℕ) (depot : DepotView S) : Type 0 where
   pub head : depot.state.kept ≢ []
+  pub reads : ReadsBack depot.state
+  pub fresh : (key : Key) → is_fresh depot.running key ≡ true → is_some (map.get depot.store.index key) ≡ true
   pub sound : (s : State) → state_of contents faults depot ≡ Some s → IsSound s
   pub text : (objects : Objects) (status : Option (List ℕ)) → objects_of contents depot.store ≡ Some objects
       → status_of contents depot.store ≡ Some status → Holds depot.unsettled depot.state objects status

@@ -1,9 +1,11 @@
-pub mod DepotView
+pub mod NextState
 pub mod Writing
+pub mod DepotView
 pub mod Opening
 pub mod Tokens
 pub mod Reopening
 pub mod ObjectCalls
+pub mod FreshKeys
 pub mod Answering
 pub mod Changing
 pub mod Missing
@@ -12,3 +14,4 @@ pub mod UpdatePlan
 pub mod UpdateMerge
 pub mod UpdateInstall
 pub mod Update
+pub mod Standing

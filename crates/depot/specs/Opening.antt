@@ -11,11 +11,10 @@ use Rattle.object_store.specs.Shelf.{Contents}
 use Rattle.object_store.specs.Store.{IsPutFault, is_free, is_of_shelf}
 use Rattle.object_store.specs.StoreView.{StoreView, objects_of, status_of}
 use Rattle.object_store.specs.declared.error.StoreFault.{StoreFault}
-use Rattle.object_store.specs.declared.error.StoreFault.TheVariants as store
 use Rattle.object_store.specs.declared.shelf.Slot.{Slot}
 use Rattle.object_store.specs.declared.shelf.Slot.TheVariants.{Status}
 use Rattle.depot.specs.DepotView.{DepotView}
-use Rattle.depot.specs.Writing.{with_stored, written}
+use Rattle.depot.specs.Writing.{IsWritten, with_stored}
 use Rattle.depot.specs.declared.error.MakeFault.{MakeFault}
 use Rattle.depot.specs.declared.error.MakeFault.TheVariants as make
 
@@ -67,7 +66,7 @@ IsSlotFault may_give (make.Store fault) = IsTrue (is_free fault)
 -- the opening commit is stored, and then the slot holds the text
 pub record StoresFirst {S : Type 0} (contents : S → Option Contents) (given : StoreView S) (x : Stored) (first : LibState) (store : StoreView S) : Type 0 where
   pub objects : objects_of contents store ≡ with_stored x (objects_of contents given)
-  pub text : status_of contents store ≡ written first (status_of contents given)
+  pub text : IsWritten first (status_of contents given) (status_of contents store)
 
 -- the same, with the state that was made, and the opening commit can be read
 pub record IsCreated {S : Type 0} (contents : S → Option Contents) (faults : S → ℕ) (given : StoreView S) (commit : Commit) (first : LibState)
@@ -82,8 +81,9 @@ pub record IsMade {S : Type 0} (contents : S → Option Contents) (faults : S �
     (depot : DepotView S) : Type 0 where
   pub state : depot.state ≡ first
   pub settled : depot.unsettled ≡ false
+  pub idle : depot.running ≡ None
   pub objects : objects_of contents depot.store ≡ with_stored x (objects_of contents given)
-  pub text : status_of contents depot.store ≡ written first (status_of contents given)
+  pub text : IsWritten first (status_of contents given) (status_of contents depot.store)
   pub count : faults depot.store.shelf ≡ faults given.shelf
 
 -- the store after a library wasn't made: as it was, or with the opening commit; and with that the slot may hold the text
@@ -92,7 +92,7 @@ pub data LeftUnmade {S : Type 0} (contents : S → Option Contents) (given : Sto
       → LeftUnmade contents given x first store
   stored : objects_of contents store ≡ with_stored x (objects_of contents given) → status_of contents store ≡ status_of contents given
       → LeftUnmade contents given x first store
-  begun : objects_of contents store ≡ with_stored x (objects_of contents given) → status_of contents store ≡ written first (status_of contents given)
+  begun : objects_of contents store ≡ with_stored x (objects_of contents given) → IsWritten first (status_of contents given) (status_of contents store)
       → LeftUnmade contents given x first store
 
 -- the same by the refusal: where a text is there nothing is changed, and only a failure of the shelf may leave the text

@@ -20,7 +20,7 @@ use Rattle.object_store.specs.declared.shelf.Slot.TheVariants.{Status}
 use Rattle.tree_walk.specs.declared.fault.WalkFault.{WalkFault}
 use Rattle.tree_walk.specs.declared.fault.WalkFault.TheVariants as walk
 use Rattle.depot.specs.DepotView.{DepotView, library, state_of}
-use Rattle.depot.specs.Writing.{written}
+use Rattle.depot.specs.Writing.{IsWritten}
 use Rattle.depot.specs.declared.complete.CheckFault.{CheckFault}
 use Rattle.depot.specs.declared.complete.CheckFault.TheVariants as check
 use Rattle.depot.specs.declared.error.StartFault.{StartFault}
@@ -190,7 +190,7 @@ pub record IsOpened {S : Type 0} (contents : S → Option Contents) (faults : S 
   pub is_found : IsFound contents given found
   pub is_next : state ≡ next_opening found
   pub objects : objects_of contents store ≡ objects_of contents given
-  pub text : status_of contents store ≡ written state (status_of contents given)
+  pub text : IsWritten state (status_of contents given) (status_of contents store)
   pub count : faults store.shelf ≡ faults given.shelf
 
 -- over told objects: the library is that of the text that was read, with all objects that lie there, no collection
@@ -208,7 +208,7 @@ without_store (Err refused) = Err refused.1
 -- the store after a library wasn't opened: as it was; or the slot may hold the text with the next opening number
 pub data LeftUnopened {S : Type 0} (contents : S → Option Contents) (given store : StoreView S) : Type 0 where
   untouched : status_of contents store ≡ status_of contents given → LeftUnopened contents given store
-  raised : (found : LibState) → IsFound contents given found → status_of contents store ≡ written (next_opening found) (status_of contents given)
+  raised : (found : LibState) → IsFound contents given found → IsWritten (next_opening found) (status_of contents given) (status_of contents store)
       → LeftUnopened contents given store
 
 -- only a failure of the shelf may leave the next text

@@ -1,18 +1,14 @@
 -- Tokens of a library that is kept: when one is refused. Our own. Read token_refusal first.
-use Rattle.std.specs.Prelude.{ℕ, Bool, false, nat_le, if◌then◌else◌, List, [], ◌∷◌, ◌++◌, length, Option, None, Some, option_map, Result, Ok, Err, ⊤}
+use Rattle.std.specs.Prelude.{ℕ, Bool, false, nat_le, if◌then◌else◌, List, length, Option, None, Some, option_map, Result, Ok, Err, ⊤}
 use Rattle.std.specs.List.{slice_get}
 use Rattle.library_state.specs.Tokens.{is_taken}
 use Rattle.library_state.specs.declared.right.Right.{Right}
-use Rattle.library_state.specs.declared.state.LibState.{LibState}
 use Rattle.library_state.specs.declared.token.Token.{Token}
 use Rattle.object_store.specs.Store.{is_free, is_of_shelf}
 use Rattle.object_store.specs.declared.error.StoreFault.{StoreFault}
+pub use Rattle.depot.specs.NextState.{with_new_token}
 use Rattle.depot.specs.declared.error.TokenFault.{TokenFault}
 use Rattle.depot.specs.declared.error.TokenFault.TheVariants.{SecretTaken, Full, Store}
-
--- the state with one token more, which saw no collection
-abbrev pub with_new_token : (user secret : List ℕ) → Right → LibState → LibState
-with_new_token user secret right state = record state { tokens = state.tokens ++ record { secret = secret; user = user; right = right; last = 0 } ∷ [] }
 
 -- why a token isn't added: another one has its secret, or there are 1,000
 abbrev pub token_refusal : List Token → List ℕ → Option TokenFault

@@ -11,7 +11,7 @@ use Rattle.object_store.specs.declared.error.StoreFault.{StoreFault}
 use Rattle.object_store.specs.declared.shelf.Slot.{Slot as ShelfSlot}
 use Rattle.depot.specs.Answering.{MayRefuseUpdate}
 use Rattle.depot.specs.ObjectCalls.{store_refusal}
-use Rattle.depot.specs.Writing.{Slot, LeftBy, settled, written}
+use Rattle.depot.specs.Writing.{IsWritten, LeftBy, Slot, settled}
 
 -- objects that are put one after another, where the objects are told
 abbrev pub with_all : List Stored → Option Objects → Option Objects
@@ -46,7 +46,7 @@ IsWriteFault may_give fault = (index : Index) → MayRefuseUpdate index may_give
 
 -- a text that is written in the place of the present one, after that where it was open
 abbrev pub InstallsText : Bool → LibState → LibState → Slot → Bool → Slot → Result ⊤ StoreFault → Type 0
-InstallsText unsettled present next old still new (Ok done) = (still ≡ false) × (new ≡ written next (settled unsettled present old))
+InstallsText unsettled present next old still new (Ok done) = (still ≡ false) × IsWritten next (settled unsettled present old) new
 InstallsText unsettled present next old still new (Err fault) = LeftBy fault unsettled present next old still new
 
 -- the objects and the slot, where they are told
@@ -65,7 +65,7 @@ pub data LeftBehind (fault : StoreFault) (unsettled : Bool) (present next : LibS
 pub record IsCarriedOut (unsettled : Bool) (present next : LibState) (all : List Stored) (old : Held) (still : Bool) (new : Held) : Type 0 where
   pub objects : new.objects ≡ with_all all old.objects
   pub settles : still ≡ false
-  pub text : new.slot ≡ written next (settled unsettled present old.slot)
+  pub text : IsWritten next (settled unsettled present old.slot) new.slot
 
 abbrev pub CarriesSo : Bool → LibState → LibState → List Stored → Held → Bool → Held → Result ⊤ StoreFault → Type 0
 CarriesSo unsettled present next all old still new (Ok done) = IsCarriedOut unsettled present next all old still new

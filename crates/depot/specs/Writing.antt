@@ -5,7 +5,9 @@ use Rattle.ids.specs.ObjectId.{nil}
 use Rattle.commit_objects.specs.declared.commit.Commit.{Commit}
 use Rattle.library_rules.specs.Changes.{put_new}
 use Rattle.library_rules.specs.declared.entry.Stored.{Stored}
+use Rattle.library_state.specs.ProperState.{IsProper}
 use Rattle.library_state.specs.StateSpelling.{text_of}
+use Rattle.library_state.specs.StateText.{state_of as read_state}
 use Rattle.library_state.specs.declared.state.LibState.{LibState}
 use Rattle.object_store.specs.declared.error.StoreFault.{StoreFault}
 use Rattle.object_store.specs.declared.error.StoreFault.TheVariants.{Taken, Wrong, Damaged, Shelf, NoMemory}
@@ -18,11 +20,20 @@ Slot = Option (Option (List ℕ))
 abbrev pub written : LibState → Slot → Slot
 written state slot = option_map (λ _. Some (text_of state)) slot
 
+-- the text of a proper state is read as it
+abbrev pub ReadsBack : LibState → Type 0
+ReadsBack state = IsProper state → read_state (text_of state) ≡ Ok state
+
+-- the slot holds the text of a state, where it is told, and the text is read as that state
+pub record IsWritten (state : LibState) (old new : Slot) : Type 0 where
+  pub text : new ≡ written state old
+  pub reads : ReadsBack state
+
 -- after a write the slot holds the text; after a failure of the shelf that or what it held; after want of memory what it
 -- held; and nothing else comes
 abbrev pub Writes : LibState → Slot → Slot → Result ⊤ StoreFault → Type 0
-Writes state old new (Ok done) = new ≡ written state old
-Writes state old new (Err Shelf) = (new ≡ old) ⊎ (new ≡ written state old)
+Writes state old new (Ok done) = IsWritten state old new
+Writes state old new (Err Shelf) = (new ≡ old) ⊎ IsWritten state old new
 Writes state old new (Err NoMemory) = new ≡ old
 Writes state old new (Err (Taken id)) = ⊥
 Writes state old new (Err (Wrong id)) = ⊥
@@ -53,7 +64,7 @@ pub data LeftOpen (unsettled : Bool) (present next : LibState) (old : Slot) (sti
   again : still ≡ unsettled → unsettled ≡ true → new ≡ written present old → LeftOpen unsettled present next old still new
   settles : still ≡ false → new ≡ settled unsettled present old → LeftOpen unsettled present next old still new
   open_present : still ≡ true → new ≡ settled unsettled present old → LeftOpen unsettled present next old still new
-  open_next : still ≡ true → new ≡ written next (settled unsettled present old) → LeftOpen unsettled present next old still new
+  open_next : still ≡ true → IsWritten next (settled unsettled present old) new → LeftOpen unsettled present next old still new
 
 -- after want of memory nothing was written; or the present text was, again, and stands
 abbrev pub LeftWanting : Bool → LibState → Slot → Bool → Slot → Type 0
@@ -70,7 +81,7 @@ LeftBy (Damaged want got) unsettled present next old still new = ⊥
 -- a call that changes the state from the present to the next one writes its text, after the present one where that was
 -- open; and it fails as the shelf does, or for want of memory
 abbrev pub RewritesSo : Bool → LibState → LibState → Slot → Bool → Slot → Result ⊤ StoreFault → Type 0
-RewritesSo unsettled present next old still new (Ok done) = (still ≡ false) × (new ≡ written next (settled unsettled present old))
+RewritesSo unsettled present next old still new (Ok done) = (still ≡ false) × IsWritten next (settled unsettled present old) new
 RewritesSo unsettled present next old still new (Err fault) = LeftBy fault unsettled present next old still new
 
 -- one object more, where the objects are told

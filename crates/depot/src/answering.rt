@@ -4,10 +4,11 @@ ghost use Rattle.ids.specs.Key.{Objects};
 ghost use Rattle.library_rules.specs.Calls.{token_of};
 ghost use Rattle.library_rules.specs.LibraryState.{State};
 ghost use Rattle.library_state.specs.Rights.{right_number};
-ghost use Rattle.object_store.specs.StoreView.{objects_of, status_of};
-ghost use Rattle.depot.specs.Answering.{AnswersSo, MayAnswer, Serves, SlotSo, Would, decided, permits, state_after};
+ghost use Rattle.object_store.specs.StoreView.{AddsNoStray, objects_of, status_of};
+ghost use Rattle.depot.specs.Answering.{IsAnswered, MayAnswer, Serves, SlotSo, Would, decided, permits, state_after};
 ghost use Rattle.depot.specs.DepotView.{IsGood, state_of};
-ghost use Rattle.depot.specs.ObjectCalls.{Counts, IsToldDamage};
+ghost use Rattle.depot.specs.FreshKeys.{RunsOn, told_there};
+ghost use Rattle.depot.specs.ObjectCalls.{Counts, IsToldDamage, is_counted};
 
 use crate::depot::Depot;
 use crate::update_plan::token_of;
@@ -23,7 +24,7 @@ impl<S: Shelf> Depot<S> {
     /// the one of the state that the call would have made.
     pub fn answer(&mut self, call: &Call, moment: u64) -> Reply
         ensures told { (s : State) → state_of S.contents S.faults self.old ≡ Some s
-            → AnswersSo s call.now moment result (state_of S.contents S.faults self.new) }
+            → IsAnswered s call.now moment result (state_of S.contents S.faults self.new) }
         ensures stands { IsGood S.contents S.faults self.new }
 
         // Of every shelf: what the state decides, and the cause of each fault.
@@ -34,7 +35,9 @@ impl<S: Shelf> Depot<S> {
 
         // What is left beside the objects, and what the slot holds.
         ensures left { self.new.state ≡ state_after self.old.state call.now moment result }
+        ensures lying { is_counted result ≡ false → AddsNoStray S.contents self.old.store self.new.store }
         ensures kept { self.new.state.lib ≡ self.old.state.lib }
+        ensures fresh { RunsOn self.old.store.index self.new.store.index (told_there self.old.store.index call.now.act result) self.old.running self.new.running }
         ensures text { SlotSo (Would S.contents S.faults self.old call.now moment) call.now moment result self.old.unsettled self.old.state (status_of S.contents self.old.store)
             self.new.unsettled self.new.state (status_of S.contents self.new.store) }
     {

@@ -5,7 +5,7 @@ ghost use Rattle.library_state.specs.declared.call.Act.TheVariants as act;
 ghost use Rattle.library_state.specs.declared.call.Op.TheVariants as op;
 ghost use Rattle.library_state.specs.declared.token.Token.{Token};
 ghost use Rattle.object_store.specs.Store.{CountsShelf};
-ghost use Rattle.object_store.specs.StoreView.{objects_of, status_of};
+ghost use Rattle.object_store.specs.StoreView.{AddsNoStray, objects_of, status_of};
 ghost use Rattle.depot.specs.Answering.{Serves, permits};
 ghost use Rattle.depot.specs.Changing.{IsPlaceOf, TextSo, answer_of, marked};
 
@@ -102,6 +102,7 @@ fn see_collection<S: Shelf>(
     ensures text { (d : Token) → TextSo unsettled.old state.old (record state.old { tokens = marked place state.old.collection state.old.tokens d })
         (status_of S.contents store.old) unsettled.new (status_of S.contents store.new) result }
     ensures kept { objects_of S.contents store.new ≡ objects_of S.contents store.old }
+    ensures lying { AddsNoStray S.contents store.old store.new }
     ensures faults { CountsShelf (S.faults store.old.shelf) (S.faults store.new.shelf) result }
 {
     let before = state.tokens.slice()[place].last;

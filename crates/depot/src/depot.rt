@@ -23,15 +23,16 @@ pub struct Depot<S: Shelf> {
 }
 
 impl<S: Shelf> Model for Depot<S> {
+    ghost use Rattle.std.specs.Prelude.{None};
     ghost use Rattle.depot.specs.DepotView.{DepotView, IsGood, depot_code};
 
     ghost Value = { DepotView S };
 
     ghost coded = { depot_code S.code };
 
-    ghost view = { λ a. record { store = a.store; state = a.state; unsettled = a.unsettled } };
+    ghost view = { λ a. record { store = a.store; state = a.state; unsettled = a.unsettled; running = None } };
 
-    ghost invariant = { λ a. IsGood S.contents S.faults (record { store = a.store; state = a.state; unsettled = a.unsettled }) };
+    ghost invariant = { λ a. IsGood S.contents S.faults (record { store = a.store; state = a.state; unsettled = a.unsettled; running = None }) };
 }
 
 impl<S: Shelf> Depot<S> {

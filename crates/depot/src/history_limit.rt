@@ -4,7 +4,7 @@ ghost use Rattle.library_rules.specs.Calls.{token_of};
 ghost use Rattle.library_rules.specs.LibraryState.{is_day_count};
 ghost use Rattle.library_state.specs.declared.call.Act.TheVariants as act;
 ghost use Rattle.object_store.specs.Store.{CountsShelf};
-ghost use Rattle.object_store.specs.StoreView.{objects_of, status_of};
+ghost use Rattle.object_store.specs.StoreView.{AddsNoStray, objects_of, status_of};
 ghost use Rattle.depot.specs.Answering.{Serves, permits};
 ghost use Rattle.depot.specs.Changing.{TextSo};
 
@@ -58,6 +58,7 @@ fn set_days<S: Shelf>(
     ensures text { TextSo unsettled.old state.old (record state.old { days = days })
         (status_of S.contents store.old) unsettled.new (status_of S.contents store.new) result }
     ensures kept { objects_of S.contents store.new ≡ objects_of S.contents store.old }
+    ensures lying { AddsNoStray S.contents store.old store.new }
     ensures faults { CountsShelf (S.faults store.old.shelf) (S.faults store.new.shelf) result }
 {
     let before = state.days;

@@ -2,7 +2,7 @@
 //!
 //! Shown upward: `Depot` and the faults of its calls, and `read_state`. Definitions: `specs/DepotView.antt` (`state_of`, `IsGood`), then
 //! `specs/Answering.antt`, `specs/Opening.antt`, `specs/Reopening.antt`, `specs/Tokens.antt` and `specs/Writing.antt`.
-//! What a call may answer stands in library_rules. It serves no connection and starts no thread.
+//! Laws: `src/laws.rt`. What a call may answer stands in library_rules. It serves no connection and starts no thread.
 #![tactic(auto)]
 
 mod answering;
@@ -13,6 +13,7 @@ mod complete;
 mod depot;
 mod error;
 mod history_limit;
+pub mod laws;
 mod listing;
 mod missing;
 mod object_calls;

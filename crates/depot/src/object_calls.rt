@@ -1,14 +1,14 @@
 //! The calls on objects: to get, to put, and to ask what is missing.
-ghost use Rattle.std.specs.Prelude.{◌≡◌, ◌⊎◌, ◌∷◌, [], ℕ, List, Some, Err};
+ghost use Rattle.std.specs.Prelude.{false, ◌≡◌, ◌⊎◌, ◌∷◌, [], ℕ, List, Some, Err};
 ghost use Rattle.std.specs.FinMap as map;
 ghost use Rattle.ids.specs.Key.{Objects};
 ghost use Rattle.ids.specs.declared.key.Kind.TheVariants as kinds;
 ghost use Rattle.library_rules.specs.Calls.{first_refusal, got, not_fs, other_name, put_due};
 ghost use Rattle.library_rules.specs.LibraryState.{State};
 ghost use Rattle.library_state.specs.declared.call.Act.TheVariants as act;
-ghost use Rattle.object_store.specs.StoreView.{Keeps, objects_of, status_of};
+ghost use Rattle.object_store.specs.StoreView.{AddsNoStray, Keeps, objects_of, status_of};
 ghost use Rattle.depot.specs.Answering.{MayAnswer, MayGet, put_decided, store_decided};
-ghost use Rattle.depot.specs.ObjectCalls.{Counts, DoneSo, IsToldDamage, SaysOr, store_due, store_refusal};
+ghost use Rattle.depot.specs.ObjectCalls.{Counts, DoneSo, IsToldDamage, SaysOr, is_counted, store_due, store_refusal};
 ghost use Rattle.depot.specs.Writing.{with_stored};
 
 use commit_objects::Commit;
@@ -62,6 +62,7 @@ pub(crate) fn put_object<S: Shelf>(
         ⊎ (objects_of S.contents store.new ≡ with_stored (record { key = key.now; bytes = bytes.now }) (objects_of S.contents store.old)) }
     ensures cause { MayAnswer store.old.index (S.may_give store.new.shelf) (act.Put key.now bytes.now) (put_decided lib.now key.now bytes.now) result }
     ensures damage { (objects : Objects) → objects_of S.contents store.old ≡ Some objects → IsToldDamage objects result }
+    ensures lying { is_counted result ≡ false → AddsNoStray S.contents store.old store.new }
     ensures faults { Counts (S.faults store.old.shelf) (S.faults store.new.shelf) result }
 {
     match key.kind {
@@ -80,6 +81,7 @@ fn store_object<S: Shelf>(store: &mut Store<S>, key: &Key, bytes: &[u8]) -> Repl
         ⊎ (objects_of S.contents store.new ≡ with_stored (record { key = key.now; bytes = bytes.now }) (objects_of S.contents store.old)) }
     ensures cause { MayAnswer store.old.index (S.may_give store.new.shelf) (act.Put key.now bytes.now) (store_decided key.now bytes.now) result }
     ensures damage { (objects : Objects) → objects_of S.contents store.old ≡ Some objects → IsToldDamage objects result }
+    ensures lying { is_counted result ≡ false → AddsNoStray S.contents store.old store.new }
     ensures faults { Counts (S.faults store.old.shelf) (S.faults store.new.shelf) result }
 {
     let new = store.has(*key).is_none();
@@ -99,6 +101,7 @@ fn put_fs<S: Shelf>(alloc: Global, store: &mut Store<S>, key: &Key, bytes: &[u8]
         ⊎ (objects_of S.contents store.new ≡ with_stored (record { key = key.now; bytes = bytes.now }) (objects_of S.contents store.old)) }
     ensures cause { (lib : List ℕ) → MayAnswer store.old.index (S.may_give store.new.shelf) (act.Put key.now bytes.now) (put_decided lib key.now bytes.now) result }
     ensures damage { (objects : Objects) → objects_of S.contents store.old ≡ Some objects → IsToldDamage objects result }
+    ensures lying { is_counted result ≡ false → AddsNoStray S.contents store.old store.new }
     ensures faults { Counts (S.faults store.old.shelf) (S.faults store.new.shelf) result }
 {
     match FsObject::read(alloc, bytes) {
@@ -136,6 +139,7 @@ fn put_commit_text<S: Shelf>(
         ⊎ (objects_of S.contents store.new ≡ with_stored (record { key = key.now; bytes = bytes.now }) (objects_of S.contents store.old)) }
     ensures cause { MayAnswer store.old.index (S.may_give store.new.shelf) (act.Put key.now bytes.now) (put_decided lib.now key.now bytes.now) result }
     ensures damage { (objects : Objects) → objects_of S.contents store.old ≡ Some objects → IsToldDamage objects result }
+    ensures lying { is_counted result ≡ false → AddsNoStray S.contents store.old store.new }
     ensures faults { Counts (S.faults store.old.shelf) (S.faults store.new.shelf) result }
 {
     let commit = match Commit::read(alloc, bytes) {

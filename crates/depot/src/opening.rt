@@ -6,7 +6,7 @@ ghost use Rattle.ids.specs.Outcome.{RefusesAs};
 ghost use Rattle.library_rules.specs.Creation.{created, opening_commit, opening_object};
 ghost use Rattle.object_graph.specs.Objects.{commit_at};
 ghost use Rattle.object_store.specs.Store.{CountsShelf, IsPutFault, is_free, is_of_shelf, put_refusal};
-ghost use Rattle.object_store.specs.StoreView.{Keeps, objects_of, status_of};
+ghost use Rattle.object_store.specs.StoreView.{AddsNoStray, Keeps, StraysBy, objects_of, status_of};
 ghost use Rattle.depot.specs.DepotView.{IsGood, state_of};
 ghost use Rattle.depot.specs.Opening.{IsCreated, IsMade, IsMakeFault, IsSlotFault, LeftUnmade, LeftUnmadeBy, RefusesWith, StoresFirst, first_state, is_make_counted, is_make_free, make_refusal};
 ghost use Rattle.depot.specs.Writing.{HasProperParents};
@@ -44,6 +44,7 @@ impl<S: Shelf> Depot<S> {
         ensures told { (objects : Objects) → objects_of S.contents store ≡ Some objects
             → IfOk result (λ depot. state_of S.contents S.faults depot ≡ Some (created lib name.now user.now secret moment objects (S.faults store.shelf))) }
         ensures stands { IfOk result (IsGood S.contents S.faults) }
+        ensures lying { IfOk result (λ depot. AddsNoStray S.contents store depot.store) }
         ensures err { IfErr result (λ refused. LeftUnmadeBy S.contents store (opening_object (opening_commit lib user.now moment))
             (first_state lib name.now user.now secret (opening_commit lib user.now moment).id moment) refused.0 refused.1) }
 
@@ -85,6 +86,7 @@ fn create<S: Shelf>(
         → RefusesAs is_make_free result (make_refusal status (put_refusal objects (opening_object (opening_commit lib user.now moment)).key
         (opening_object (opening_commit lib user.now moment)).bytes)) }
     ensures cause { IfErr result (IsMakeFault (S.may_give store.new.shelf) (opening_object (opening_commit lib user.now moment))) }
+    ensures lying { StraysBy is_make_counted S.contents store.old store.new result }
     ensures faults { FailsBy is_make_counted (S.faults store.old.shelf) (S.faults store.new.shelf) result }
 {
     match check_empty(store) {
@@ -196,6 +198,7 @@ fn store_first<S: Shelf>(
     ensures refused { (objects : Objects) → objects_of S.contents store.old ≡ Some objects
         → RefusesAs is_free result (put_refusal objects (opening_object commit.now).key (opening_object commit.now).bytes) }
     ensures cause { IfErr result (IsPutFault (S.may_give store.new.shelf) (opening_object commit.now).key (opening_object commit.now).bytes) }
+    ensures lying { StraysBy is_of_shelf S.contents store.old store.new result }
     ensures faults { CountsShelf (S.faults store.old.shelf) (S.faults store.new.shelf) result }
 {
     match put_commit(alloc, store, commit) {

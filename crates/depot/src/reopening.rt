@@ -1,10 +1,10 @@
 //! How a library is opened again.
-ghost use Rattle.std.specs.Prelude.{◌≡◌, ◌≢◌, ℕ, List, Option, Some, IfOk, IfErr, OnOk, Err, [], false, ⊤};
+ghost use Rattle.std.specs.Prelude.{None, ◌≡◌, ◌≢◌, ℕ, List, Option, Some, IfOk, IfErr, OnOk, Err, [], false, ⊤};
 ghost use Rattle.ids.specs.FaultCount.{FailsBy};
 ghost use Rattle.ids.specs.Key.{Objects};
 ghost use Rattle.library_rules.specs.LibraryState.{last_number};
 ghost use Rattle.library_state.specs.ProperState.{IsProper};
-ghost use Rattle.object_store.specs.StoreView.{Keeps, objects_of, status_of};
+ghost use Rattle.object_store.specs.StoreView.{AddsNoStray, Keeps, objects_of, status_of};
 ghost use Rattle.depot.specs.DepotView.{IsGood, IsSoundIn};
 ghost use Rattle.depot.specs.Reopening.{IsDueOr, IsFound, IsGiven, IsNextOf, IsOpened, IsStartFault, IsStateFault, IsTextFault, LeftUnopenedBy, OpensTold, StartsAs, is_start_counted, start_refusal, state_refusal, without_store};
 
@@ -26,8 +26,10 @@ impl<S: Shelf> Depot<S> {
         ensures value { IfOk result (λ depot. IsOpened S.contents S.faults store depot.store depot.state) }
         ensures told { (objects : Objects) → objects_of S.contents store ≡ Some objects → IfOk result (OpensTold S.contents S.faults store objects) }
         ensures stands { IfOk result (IsGood S.contents S.faults) }
+        ensures lying { IfOk result (λ depot. AddsNoStray S.contents store depot.store) }
         ensures settled { IfOk result (λ depot. depot.unsettled ≡ false) }
         ensures given { IfOk result (λ depot. (shelf : S) × IsNextOf (S.may_give shelf) depot.state) }
+        ensures idle { IfOk result (λ depot. depot.running ≡ None) }
         ensures err { IfErr result (λ refused. LeftUnopenedBy S.contents store refused.0 refused.1) }
         ensures kept { IfErr result (λ refused. objects_of S.contents refused.0 ≡ objects_of S.contents store) }
 
@@ -57,6 +59,7 @@ fn open<S: Shelf>(alloc: Global, store: &mut Store<S>) -> Result<LibState, Start
     ensures sound { IfOk result (IsSoundIn S.contents store.new) }
     ensures given { IfOk result (λ state. (shelf : S) × IsNextOf (S.may_give shelf) state) }
     ensures err { IfErr result (LeftUnopenedBy S.contents store.old store.new) }
+    ensures lying { AddsNoStray S.contents store.old store.new }
     ensures kept { objects_of S.contents store.new ≡ objects_of S.contents store.old }
     ensures refused { (objects : Objects) → (status : Option (List ℕ)) → objects_of S.contents store.old ≡ Some objects → status_of S.contents store.old ≡ Some status
         → StartsAs objects (start_refusal objects status) result }

@@ -1,7 +1,7 @@
 //! The state text: when it is written, and what stands where a write fails.
 ghost use Rattle.std.specs.Prelude.{◌≡◌, OnOk, OnErr, false};
 ghost use Rattle.object_store.specs.Store.{CountsShelf};
-ghost use Rattle.object_store.specs.StoreView.{objects_of, status_of};
+ghost use Rattle.object_store.specs.StoreView.{AddsNoStray, objects_of, status_of};
 ghost use Rattle.depot.specs.Writing.{SettlesSo, Writes, leaves_open};
 
 use library_state::LibState;
@@ -16,6 +16,7 @@ pub(crate) fn write_text<S: Shelf>(
 ) -> Result<(), StoreFault>
     ensures value { Writes state.now (status_of S.contents store.old) (status_of S.contents store.new) result }
     ensures kept { objects_of S.contents store.new ≡ objects_of S.contents store.old }
+    ensures lying { AddsNoStray S.contents store.old store.new }
     ensures faults { CountsShelf (S.faults store.old.shelf) (S.faults store.new.shelf) result }
 {
     let text = match state.write(alloc) {
@@ -36,6 +37,7 @@ pub(crate) fn settle<S: Shelf>(
     ensures value { SettlesSo unsettled.old state.now (status_of S.contents store.old) (status_of S.contents store.new) result }
     ensures err { OnErr result (unsettled.new ≡ unsettled.old) }
     ensures kept { objects_of S.contents store.new ≡ objects_of S.contents store.old }
+    ensures lying { AddsNoStray S.contents store.old store.new }
     ensures faults { CountsShelf (S.faults store.old.shelf) (S.faults store.new.shelf) result }
 {
     if !*unsettled {
@@ -61,6 +63,7 @@ pub(crate) fn write_next<S: Shelf>(
     ensures value { Writes next.now (status_of S.contents store.old) (status_of S.contents store.new) result }
     ensures ok { unsettled.new ≡ leaves_open result }
     ensures kept { objects_of S.contents store.new ≡ objects_of S.contents store.old }
+    ensures lying { AddsNoStray S.contents store.old store.new }
     ensures faults { CountsShelf (S.faults store.old.shelf) (S.faults store.new.shelf) result }
 {
     match write_text(alloc, store, next) {

@@ -7,7 +7,7 @@ ghost use Rattle.library_rules.specs.LibraryState.{State};
 ghost use Rattle.library_state.specs.Tokens.{is_taken};
 ghost use Rattle.library_state.specs.declared.token.Token.{Token};
 ghost use Rattle.object_store.specs.Store.{CountsShelf};
-ghost use Rattle.object_store.specs.StoreView.{objects_of, status_of};
+ghost use Rattle.object_store.specs.StoreView.{AddsNoStray, objects_of, status_of};
 ghost use Rattle.depot.specs.DepotView.{IsGood, state_of};
 ghost use Rattle.depot.specs.Tokens.{is_token_counted, is_token_free, store_answer, token_refusal, token_shown, with_new_token};
 ghost use Rattle.depot.specs.Writing.{RewritesSo};
@@ -34,6 +34,8 @@ impl<S: Shelf> Depot<S> {
             → state_of S.contents S.faults self.new ≡ Some (with_token user.now secret right s)) }
         ensures kept { objects_of S.contents self.new.store ≡ objects_of S.contents self.old.store }
         ensures stands { IsGood S.contents S.faults self.new }
+        ensures lying { AddsNoStray S.contents self.old.store self.new.store }
+        ensures running { self.new.running ≡ self.old.running }
 
         // What the slot holds, where the store was asked.
         ensures text { IfSome (store_answer result) (RewritesSo self.old.unsettled self.old.state (with_new_token user.now secret right self.old.state)
@@ -109,6 +111,7 @@ fn write_token<S: Shelf>(
     ensures value { RewritesSo unsettled.old state.old (record state.old { tokens = state.old.tokens ++ token ∷ [] })
         (status_of S.contents store.old) unsettled.new (status_of S.contents store.new) result }
     ensures kept { objects_of S.contents store.new ≡ objects_of S.contents store.old }
+    ensures lying { AddsNoStray S.contents store.old store.new }
     ensures faults { CountsShelf (S.faults store.old.shelf) (S.faults store.new.shelf) result }
 {
     match settle(alloc, store, state, unsettled) {

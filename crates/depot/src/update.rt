@@ -1,5 +1,5 @@
 //! An update: a pushed commit is taken in, and the library stands at it, or at its merge with what it stood at.
-ghost use Rattle.std.specs.Prelude.{◌≡◌, true};
+ghost use Rattle.std.specs.Prelude.{◌≡◌, None, true};
 ghost use Rattle.library_rules.specs.Calls.{token_of};
 ghost use Rattle.library_state.specs.declared.call.Act.TheVariants as act;
 ghost use Rattle.depot.specs.Answering.{permits};
@@ -49,10 +49,10 @@ fn update_library<S: Shelf>(
     moment: u64,
 ) -> Reply
     requires right { permits (token_of state.old.tokens secret.now) (act.Update pushed) ≡ true }
-    requires good { IsGood S.contents S.faults (record { store = store.old; state = state.old; unsettled = unsettled.old }) }
-    ensures value { UpdatesSo S.contents S.may_give S.faults (record { store = store.old; state = state.old; unsettled = unsettled.old }) secret.now pushed moment result
-        (record { store = store.new; state = state.new; unsettled = unsettled.new }) }
-    ensures stands { IsGood S.contents S.faults (record { store = store.new; state = state.new; unsettled = unsettled.new }) }
+    requires good { IsGood S.contents S.faults (record { store = store.old; state = state.old; unsettled = unsettled.old; running = None }) }
+    ensures value { UpdatesSo S.contents S.may_give S.faults (record { store = store.old; state = state.old; unsettled = unsettled.old; running = None }) secret.now pushed moment result
+        (record { store = store.new; state = state.new; unsettled = unsettled.new; running = None }) }
+    ensures stands { IsGood S.contents S.faults (record { store = store.new; state = state.new; unsettled = unsettled.new; running = None }) }
 {
     let plan = match plan_of(alloc, store, state, secret, pushed, moment) {
         Ok(plan) => plan,

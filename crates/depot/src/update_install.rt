@@ -5,12 +5,12 @@ ghost use Rattle.ids.specs.Key.{Objects};
 ghost use Rattle.library_state.specs.StateSpelling.{text_of};
 ghost use Rattle.library_state.specs.declared.history.Install.{Install};
 ghost use Rattle.library_state.specs.declared.state.LibState.{LibState};
-ghost use Rattle.object_store.specs.Store.{CountsShelf, is_free};
-ghost use Rattle.object_store.specs.StoreView.{objects_of, status_of};
+ghost use Rattle.object_store.specs.Store.{CountsShelf, is_free, is_of_shelf};
+ghost use Rattle.object_store.specs.StoreView.{AddsNoStray, StraysBy, objects_of, status_of};
 ghost use Rattle.depot.specs.Answering.{with_install};
 ghost use Rattle.depot.specs.UpdateInstall.{ArePuttableIn, CarriesSo, InstallsText, IsWriteFault, StoresSo, held_in};
 ghost use Rattle.depot.specs.UpdatePlan.{AreNamed, listed, objects_in, own_object};
-ghost use Rattle.depot.specs.Writing.{Writes, leaves_open};
+ghost use Rattle.depot.specs.Writing.{ReadsBack, Writes, leaves_open};
 
 use crate::state_write::settle;
 use crate::update_plan::Plan;
@@ -40,6 +40,7 @@ pub(crate) fn carry_out<S: Shelf>(
         (held_in S.contents store.old) unsettled.new (held_in S.contents store.new) result }
     ensures free { (objects : Objects) → objects_of S.contents store.old ≡ Some objects → IfErr result (λ fault. IsTrue (is_free fault)) }
     ensures cause { IfErr result (IsWriteFault (S.may_give store.new.shelf)) }
+    ensures lying { StraysBy is_of_shelf S.contents store.old store.new result }
     ensures faults { CountsShelf (S.faults store.old.shelf) (S.faults store.new.shelf) result }
 {
     let mut kept = match with_install(alloc, state.kept.slice(), install) {
@@ -87,6 +88,7 @@ fn text_with(alloc: Global, state: &mut LibState, kept: &mut History) -> Result<
     ensures state { state.new ≡ state.old }
     ensures kept { kept.new ≡ kept.old }
     ensures value { IfOk result (λ text. text ≡ text_of (record state.old { kept = kept.old })) }
+    ensures reads { IfOk result (λ text. ReadsBack (record state.old { kept = kept.old })) }
 {
     mem::swap(&mut state.kept, kept);
     let text = state.write(alloc);
@@ -102,6 +104,7 @@ fn put_plan<S: Shelf>(store: &mut Store<S>, plan: &Plan) -> Result<(), StoreFaul
     ensures kept { status_of S.contents store.new ≡ status_of S.contents store.old }
     ensures free { (objects : Objects) → objects_of S.contents store.old ≡ Some objects → IfErr result (λ fault. IsTrue (is_free fault)) }
     ensures cause { IfErr result (IsWriteFault (S.may_give store.new.shelf)) }
+    ensures lying { StraysBy is_of_shelf S.contents store.old store.new result }
     ensures faults { CountsShelf (S.faults store.old.shelf) (S.faults store.new.shelf) result }
 {
     match put_dirs(store, &plan.dirs) {
@@ -119,6 +122,7 @@ fn put_dirs<S: Shelf>(store: &mut Store<S>, dirs: &KeyTable<Bytes>) -> Result<()
     ensures kept { status_of S.contents store.new ≡ status_of S.contents store.old }
     ensures free { (objects : Objects) → objects_of S.contents store.old ≡ Some objects → IfErr result (λ fault. IsTrue (is_free fault)) }
     ensures cause { IfErr result (IsWriteFault (S.may_give store.new.shelf)) }
+    ensures lying { StraysBy is_of_shelf S.contents store.old store.new result }
     ensures faults { CountsShelf (S.faults store.old.shelf) (S.faults store.new.shelf) result }
 {
     for (key, bytes) in dirs.iter() {
@@ -142,6 +146,7 @@ fn put_text<S: Shelf>(
     ensures kept { status_of S.contents store.new ≡ status_of S.contents store.old }
     ensures free { (objects : Objects) → objects_of S.contents store.old ≡ Some objects → IfErr result (λ fault. IsTrue (is_free fault)) }
     ensures cause { IfErr result (IsWriteFault (S.may_give store.new.shelf)) }
+    ensures lying { StraysBy is_of_shelf S.contents store.old store.new result }
     ensures faults { CountsShelf (S.faults store.old.shelf) (S.faults store.new.shelf) result }
 {
     match text {
@@ -166,6 +171,7 @@ fn put_one<S: Shelf>(store: &mut Store<S>, key: &Key, bytes: &Bytes) -> Result<(
     ensures kept { status_of S.contents store.new ≡ status_of S.contents store.old }
     ensures free { (objects : Objects) → objects_of S.contents store.old ≡ Some objects → IfErr result (λ fault. IsTrue (is_free fault)) }
     ensures cause { IfErr result (IsWriteFault (S.may_give store.new.shelf)) }
+    ensures lying { StraysBy is_of_shelf S.contents store.old store.new result }
     ensures faults { CountsShelf (S.faults store.old.shelf) (S.faults store.new.shelf) result }
 {
     match store.put(*key, bytes.slice()) {
@@ -182,9 +188,10 @@ fn write_installed<S: Shelf>(
     unsettled: &mut bool,
     text: &[u8],
 ) -> Result<(), StoreFault>
-    ensures value { (next : LibState) → text.now ≡ text_of next
+    ensures value { (next : LibState) → text.now ≡ text_of next → ReadsBack next
         → InstallsText unsettled.old state.now next (status_of S.contents store.old) unsettled.new (status_of S.contents store.new) result }
     ensures kept { objects_of S.contents store.new ≡ objects_of S.contents store.old }
+    ensures lying { AddsNoStray S.contents store.old store.new }
     ensures free { IfErr result (λ fault. IsTrue (is_free fault)) }
     ensures faults { CountsShelf (S.faults store.old.shelf) (S.faults store.new.shelf) result }
 {
@@ -202,9 +209,10 @@ fn note_text<S: Shelf>(
     text: &[u8],
 ) -> Result<(), StoreFault>
     requires ready { unsettled.old ≡ false }
-    ensures value { (next : LibState) → text.now ≡ text_of next → Writes next (status_of S.contents store.old) (status_of S.contents store.new) result }
+    ensures value { (next : LibState) → text.now ≡ text_of next → ReadsBack next → Writes next (status_of S.contents store.old) (status_of S.contents store.new) result }
     ensures ok { unsettled.new ≡ leaves_open result }
     ensures kept { objects_of S.contents store.new ≡ objects_of S.contents store.old }
+    ensures lying { AddsNoStray S.contents store.old store.new }
     ensures free { IfErr result (λ fault. IsTrue (is_free fault)) }
     ensures faults { CountsShelf (S.faults store.old.shelf) (S.faults store.new.shelf) result }
 {

@@ -14,3 +14,9 @@ returns-in-Err-write_next-clause-err g c =
     ∙ ap (λ (tokens : List Token). marked c.args.place (slice_index_or c.slice.result.now c.args.place d).last tokens d) (c.mark.ensures.value d)
     ∙ ap (λ (tokens : List Token). marked c.args.place (slice_index_or tokens c.args.place d).last (marked c.args.place c.args.state.now.collection c.args.state.now.tokens d) d) c.slice.ensures.value
     ∙ marked_back c.args.state.now.tokens c.args.place c.args.state.now.collection d d c.requires.within)
+
+pub returns-in-Ok-write_next-clause-lying : goal.returns-in-Ok-write_next-clause-lying
+returns-in-Ok-write_next-clause-lying g c key stray = c.in-Ok.ensures.lying key (c.write_next.ensures.lying key stray)
+
+pub returns-in-Err-write_next-clause-lying : goal.returns-in-Err-write_next-clause-lying
+returns-in-Err-write_next-clause-lying g c key stray = c.in-Ok.ensures.lying key (c.write_next.ensures.lying key stray)

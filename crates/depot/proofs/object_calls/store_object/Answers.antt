@@ -5,6 +5,9 @@ use Rattle.library_state.specs.declared.reply.Reply.TheVariants as reply
 use Rattle.object_store.specs.StoreView.{objects_of}
 use Rattle.depot.specs.ObjectCalls.{DoneSo, IsToldDamage, store_due}
 use Rattle.depot.proofs.ObjectCallLemmas.{put_damage, put_refused}
+use Rattle.std.proofs.Common.{ap}
+use Rattle.depot.specs.ObjectCalls.{is_of_store}
+use Rattle.depot.proofs.UpdateInstallLemmas.{counted_same}
 use Rattle.depot.proofs.object_calls.store_object.Goals as goal
 
 pub returns-in-Err-clause-value : goal.returns-in-Err-clause-value
@@ -16,3 +19,6 @@ pub returns-in-Err-clause-damage : goal.returns-in-Err-clause-damage
 returns-in-Err-clause-damage g c = λ objects told.
     subst (λ (why : Refusal). IsToldDamage objects (reply.Refused why)) (sym c.store_refusal.ensures.value)
     (put_damage objects c.args.key.now c.args.bytes.now c.in-Err.fault (c.in-Err.ensures.refused objects told))
+
+pub returns-in-Err-clause-lying : goal.returns-in-Err-clause-lying
+returns-in-Err-clause-lying g c free = c.in-Err.ensures.lying (counted_same c.in-Err.fault ∙ ap is_of_store (sym c.store_refusal.ensures.value) ∙ free)

@@ -1,6 +1,7 @@
 -- The state that was read is proper, its commits are complete, and it can be opened once more.
 use Rattle.std.proofs.Common.{◌∙◌, refl, sym}
 use Rattle.depot.proofs.ReopeningLemmas.{left_unopened, opened_over, same_status}
+use Rattle.object_store.proofs.StrayLemmas.{strays_kept}
 use Rattle.depot.proofs.reopening.open.Goals as goal
 
 pub returns-in-Ok-write_text-clause-sound : goal.returns-in-Ok-write_text-clause-sound
@@ -16,3 +17,23 @@ returns-in-Err-write_text-clause-err g c =
 
 pub returns-in-Ok-write_text-clause-given : goal.returns-in-Ok-write_text-clause-given
 returns-in-Ok-write_text-clause-given g c = (c.read_state.new.store.shelf, record { found = c.in-Ok.state; given = c.in-Ok.ensures.given; next = refl })
+
+pub returns-in-Err-clause-lying : goal.returns-in-Err-clause-lying
+returns-in-Err-clause-lying g c = strays_kept g.S.Shelf.contents c.args.store.now c.read_state.new.store c.in-Err.ensures.kept.index c.in-Err.ensures.kept.shelf
+
+pub returns-in-Err-check_state-clause-lying : goal.returns-in-Err-check_state-clause-lying
+returns-in-Err-check_state-clause-lying g c =
+    strays_kept g.S.Shelf.contents c.args.store.now c.check_state.new.store
+    (c.in-Err-check_state.ensures.kept.index ∙ c.in-Ok.ensures.kept.index) (c.in-Err-check_state.ensures.kept.shelf ∙ c.in-Ok.ensures.kept.shelf)
+
+pub returns-in-Ok-write_text-clause-lying : goal.returns-in-Ok-write_text-clause-lying
+returns-in-Ok-write_text-clause-lying g c key stray =
+    strays_kept g.S.Shelf.contents c.args.store.now c.check_state.new.store
+    (c.in-Ok-check_state.ensures.kept.index ∙ c.in-Ok.ensures.kept.index) (c.in-Ok-check_state.ensures.kept.shelf ∙ c.in-Ok.ensures.kept.shelf)
+    key (c.in-Ok-write_text.ensures.lying key stray)
+
+pub returns-in-Err-write_text-clause-lying : goal.returns-in-Err-write_text-clause-lying
+returns-in-Err-write_text-clause-lying g c key stray =
+    strays_kept g.S.Shelf.contents c.args.store.now c.check_state.new.store
+    (c.in-Ok-check_state.ensures.kept.index ∙ c.in-Ok.ensures.kept.index) (c.in-Ok-check_state.ensures.kept.shelf ∙ c.in-Ok.ensures.kept.shelf)
+    key (c.in-Err-write_text.ensures.lying key stray)

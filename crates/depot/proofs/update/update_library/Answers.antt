@@ -6,6 +6,7 @@ use Rattle.library_state.specs.declared.call.Act.TheVariants as act
 use Rattle.library_state.specs.declared.call.Call.{Call}
 use Rattle.library_state.specs.declared.reply.Reply.TheVariants as reply
 use Rattle.library_rules.specs.Calls.{due}
+use Rattle.object_store.proofs.StrayLemmas.{strays_kept}
 use Rattle.object_store.specs.Store.{CountsShelf}
 use Rattle.depot.specs.Answering.{Serves, with_install}
 use Rattle.depot.specs.DepotView.{DepotView, library}
@@ -22,21 +23,21 @@ plan_of-requires-clause-right g c = c.requires.right
 
 pub plan_of-requires-clause-sound : goal.plan_of-requires-clause-sound
 plan_of-requires-clause-sound g c = λ objects count told.
-    sound_at g.S.Shelf.contents g.S.Shelf.faults (record { store = c.args.store.now; state = c.args.state.now; unsettled = c.args.unsettled.now }) c.requires.good objects count told
+    sound_at g.S.Shelf.contents g.S.Shelf.faults (record { store = c.args.store.now; state = c.args.state.now; unsettled = c.args.unsettled.now; running = None }) c.requires.good objects count told
 
 pub plan_of-requires-clause-some_kept : goal.plan_of-requires-clause-some_kept
 plan_of-requires-clause-some_kept g c = c.requires.good.head
 
 pub returns-in-Err-clause-value : goal.returns-in-Err-clause-value
 returns-in-Err-clause-value g c = λ call asks updates.
-    serves_refused g.S.Shelf.contents g.S.Shelf.may_give g.S.Shelf.faults (record { store = c.args.store.now; state = c.args.state.now; unsettled = c.args.unsettled.now })
+    serves_refused g.S.Shelf.contents g.S.Shelf.may_give g.S.Shelf.faults (record { store = c.args.store.now; state = c.args.state.now; unsettled = c.args.unsettled.now; running = None })
     call c.args.moment c.args.pushed updates c.plan_of.new.store c.in-Err.ensures.kept.kept c.in-Err.why
     (λ objects told. c.in-Err.ensures.value objects (g.S.Shelf.faults c.args.store.now.shelf) told call asks updates) c.in-Err.ensures.kept.count
     (c.in-Err.ensures.any call asks updates) c.in-Err.ensures.damage
 
 pub returns-in-Err-clause-stands : goal.returns-in-Err-clause-stands
 returns-in-Err-clause-stands g c =
-    good_kept g.S.Shelf.contents g.S.Shelf.faults (record { store = c.args.store.now; state = c.args.state.now; unsettled = c.args.unsettled.now }) c.requires.good c.plan_of.new.store
+    good_kept g.S.Shelf.contents g.S.Shelf.faults (record { store = c.args.store.now; state = c.args.state.now; unsettled = c.args.unsettled.now; running = None }) c.requires.good c.plan_of.new.store
     (kept_status g.S.Shelf.contents c.args.store.now c.plan_of.new.store c.in-Err.ensures.kept.kept) c.in-Err.ensures.kept.kept.objects
 
 pub head_of-requires : goal.head_of-requires
@@ -44,10 +45,10 @@ head_of-requires g c = record { some = λ none. c.requires.good.head (sym c.slic
 
 pub returns-in-None-clause-value : goal.returns-in-None-clause-value
 returns-in-None-clause-value g c = λ call asks updates.
-    let old : DepotView g.row.S.Denot = record { store = c.args.store.now; state = c.args.state.now; unsettled = c.args.unsettled.now } in
+    let old : DepotView g.row.S.Denot = record { store = c.args.store.now; state = c.args.state.now; unsettled = c.args.unsettled.now; running = None } in
     let decides = decides_at c.args.state.now call c.args.pushed c.plan_of.new.store.index (g.S.Shelf.may_give c.plan_of.new.store.shelf) c.in-Ok.plan None c.in-None.is (c.in-Ok.ensures.any call asks updates) in
     subst (λ id. Serves g.S.Shelf.contents g.S.Shelf.may_give g.S.Shelf.faults old call c.args.moment (reply.Updated id)
-    (record { store = c.plan_of.new.store; state = c.args.state.now; unsettled = c.args.unsettled.now }))
+    (record { store = c.plan_of.new.store; state = c.args.state.now; unsettled = c.args.unsettled.now; running = None }))
     (sym (c.head_of.ensures.value ∙ ap head_of c.slice.ensures.value))
     (serves_kept g.S.Shelf.contents g.S.Shelf.may_give g.S.Shelf.faults old call c.args.moment c.args.pushed updates c.plan_of.new.store c.in-Ok.ensures.kept.kept decides.0
     (λ objects told. (plans_at (library c.args.state.now (g.S.Shelf.faults c.args.store.now.shelf) objects) c.args.moment c.args.pushed
@@ -57,7 +58,7 @@ returns-in-None-clause-value g c = λ call asks updates.
 
 pub returns-in-None-clause-stands : goal.returns-in-None-clause-stands
 returns-in-None-clause-stands g c =
-    good_kept g.S.Shelf.contents g.S.Shelf.faults (record { store = c.args.store.now; state = c.args.state.now; unsettled = c.args.unsettled.now }) c.requires.good c.plan_of.new.store
+    good_kept g.S.Shelf.contents g.S.Shelf.faults (record { store = c.args.store.now; state = c.args.state.now; unsettled = c.args.unsettled.now; running = None }) c.requires.good c.plan_of.new.store
     (kept_status g.S.Shelf.contents c.args.store.now c.plan_of.new.store c.in-Ok.ensures.kept.kept) c.in-Ok.ensures.kept.kept.objects
 
 pub carry_out-requires-clause-named : goal.carry_out-requires-clause-named
@@ -76,7 +77,7 @@ carry_out-requires-clause-ready g c = λ objects told.
 
 pub returns-in-Ok-carry_out-clause-value : goal.returns-in-Ok-carry_out-clause-value
 returns-in-Ok-carry_out-clause-value g c = λ call asks updates.
-    let old : DepotView g.row.S.Denot = record { store = c.args.store.now; state = c.args.state.now; unsettled = c.args.unsettled.now } in
+    let old : DepotView g.row.S.Denot = record { store = c.args.store.now; state = c.args.state.now; unsettled = c.args.unsettled.now; running = None } in
     let decides = decides_at c.args.state.now call c.args.pushed c.plan_of.new.store.index (g.S.Shelf.may_give c.plan_of.new.store.shelf) c.in-Ok.plan (Some c.in-Some.plan) c.in-Some.is (c.in-Ok.ensures.any call asks updates) in
     serves_done g.S.Shelf.contents g.S.Shelf.may_give g.S.Shelf.faults old call c.args.moment c.args.pushed updates c.in-Some.plan decides.0
     (λ objects told. (plans_at (library c.args.state.now (g.S.Shelf.faults c.args.store.now.shelf) objects) c.args.moment c.args.pushed
@@ -87,10 +88,11 @@ returns-in-Ok-carry_out-clause-value g c = λ call asks updates.
     c.carry_out.new.unsettled (held_in g.S.Shelf.contents c.carry_out.new.store) (Ok tt))
     (held_kept g.S.Shelf.contents c.args.store.now c.plan_of.new.store c.in-Ok.ensures.kept.kept) c.in-Ok-carry_out.ensures.value)
     c.in-Ok-carry_out.ensures.ok (c.in-Ok-carry_out.ensures.faults ∙ c.in-Ok.ensures.kept.count)
+    (λ key stray. strays_kept g.S.Shelf.contents c.args.store.now c.plan_of.new.store c.in-Ok.ensures.kept.kept.index c.in-Ok.ensures.kept.kept.shelf key (c.in-Ok-carry_out.ensures.lying key stray))
 
 pub returns-in-Ok-carry_out-clause-stands : goal.returns-in-Ok-carry_out-clause-stands
 returns-in-Ok-carry_out-clause-stands g c =
-    let old : DepotView g.row.S.Denot = record { store = c.args.store.now; state = c.args.state.now; unsettled = c.args.unsettled.now } in
+    let old : DepotView g.row.S.Denot = record { store = c.args.store.now; state = c.args.state.now; unsettled = c.args.unsettled.now; running = None } in
     let call : Call = record { secret = c.args.secret.now; act = act.Update c.args.pushed } in
     let decides = decides_at c.args.state.now call c.args.pushed c.plan_of.new.store.index (g.S.Shelf.may_give c.plan_of.new.store.shelf) c.in-Ok.plan (Some c.in-Some.plan) c.in-Some.is (c.in-Ok.ensures.any call refl refl) in
     good_done g.S.Shelf.contents g.S.Shelf.may_give g.S.Shelf.faults old call c.args.moment c.args.pushed refl c.in-Some.plan decides.0
@@ -105,10 +107,10 @@ returns-in-Ok-carry_out-clause-stands g c =
 
 pub returns-clause-value : goal.returns-clause-value
 returns-clause-value g c = λ call asks updates.
-    let old : DepotView g.row.S.Denot = record { store = c.args.store.now; state = c.args.state.now; unsettled = c.args.unsettled.now } in
+    let old : DepotView g.row.S.Denot = record { store = c.args.store.now; state = c.args.state.now; unsettled = c.args.unsettled.now; running = None } in
     let decides = decides_at c.args.state.now call c.args.pushed c.plan_of.new.store.index (g.S.Shelf.may_give c.plan_of.new.store.shelf) c.in-Ok.plan (Some c.in-Some.plan) c.in-Some.is (c.in-Ok.ensures.any call asks updates) in
     subst (λ why. Serves g.S.Shelf.contents g.S.Shelf.may_give g.S.Shelf.faults old call c.args.moment (reply.Refused why)
-    (record { store = c.carry_out.new.store; state = c.carry_out.new.state; unsettled = c.carry_out.new.unsettled })) (sym c.store_refusal.ensures.value)
+    (record { store = c.carry_out.new.store; state = c.carry_out.new.state; unsettled = c.carry_out.new.unsettled; running = None })) (sym c.store_refusal.ensures.value)
     (serves_failed g.S.Shelf.contents g.S.Shelf.may_give g.S.Shelf.faults old call c.args.moment c.args.pushed updates c.in-Some.plan decides.0
     (λ objects told. (plans_at (library c.args.state.now (g.S.Shelf.faults c.args.store.now.shelf) objects) c.args.moment c.args.pushed
     (due (library c.args.state.now (g.S.Shelf.faults c.args.store.now.shelf) objects) call) c.in-Ok.plan (Some c.in-Some.plan) c.in-Some.is
@@ -120,11 +122,12 @@ returns-clause-value g c = λ call asks updates.
     c.in-Err-carry_out.ensures.err
     (λ objects told. c.in-Err-carry_out.ensures.free objects (c.in-Ok.ensures.kept.kept.objects ∙ told))
     (subst (λ n. CountsShelf {T = ⊤} n (g.S.Shelf.faults c.carry_out.new.store.shelf) (Err c.in-Err-carry_out.fault)) c.in-Ok.ensures.kept.count c.in-Err-carry_out.ensures.faults)
-    c.in-Err-carry_out.ensures.cause)
+    c.in-Err-carry_out.ensures.cause
+    (λ free key stray. strays_kept g.S.Shelf.contents c.args.store.now c.plan_of.new.store c.in-Ok.ensures.kept.kept.index c.in-Ok.ensures.kept.kept.shelf key (c.in-Err-carry_out.ensures.lying free key stray)))
 
 pub returns-clause-stands : goal.returns-clause-stands
 returns-clause-stands g c =
-    let old : DepotView g.row.S.Denot = record { store = c.args.store.now; state = c.args.state.now; unsettled = c.args.unsettled.now } in
+    let old : DepotView g.row.S.Denot = record { store = c.args.store.now; state = c.args.state.now; unsettled = c.args.unsettled.now; running = None } in
     let call : Call = record { secret = c.args.secret.now; act = act.Update c.args.pushed } in
     let decides = decides_at c.args.state.now call c.args.pushed c.plan_of.new.store.index (g.S.Shelf.may_give c.plan_of.new.store.shelf) c.in-Ok.plan (Some c.in-Some.plan) c.in-Some.is (c.in-Ok.ensures.any call refl refl) in
     good_failed g.S.Shelf.contents g.S.Shelf.may_give g.S.Shelf.faults old call c.args.moment c.args.pushed refl c.in-Some.plan decides.0

@@ -27,6 +27,10 @@ loop-key-preserved g c =
           (listed (map.entries c.args.dirs.now)) (listed c.next.new.self) (record { key = c.in-Some.key.now; bytes = c.in-Some.bytes.now })
           (subst (λ (left : List (Key × List ℕ)). IsPutting (objects_of g.S.Shelf.contents c.args.store.now) (listed (map.entries c.args.dirs.now)) (listed left)
           (objects_of g.S.Shelf.contents c.loop-key.store)) next c.loop-key.invariant.putting) c.in-Ok.ensures.value;
+      lying = λ key stray. c.loop-key.invariant.lying key (c.in-Ok.ensures.lying key stray);
       slot = c.in-Ok.ensures.kept ∙ c.loop-key.invariant.slot;
       count = c.in-Ok.ensures.faults ∙ c.loop-key.invariant.count;
     }
+
+pub returns-in-Err-clause-lying : goal.returns-in-Err-clause-lying
+returns-in-Err-clause-lying g c free key stray = c.loop-key.invariant.lying key (c.in-Err.ensures.lying free key stray)

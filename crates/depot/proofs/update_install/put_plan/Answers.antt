@@ -3,6 +3,7 @@ use Rattle.std.specs.FinMap as map
 use Rattle.object_store.specs.StoreView.{objects_of}
 use Rattle.depot.specs.UpdatePlan.{listed, own_object}
 use Rattle.depot.proofs.UpdateInstallLemmas.{named_back, named_front, puttable_back, puttable_front, stores_then}
+use Rattle.depot.proofs.StrayLemmas.{strays_then}
 use Rattle.depot.proofs.update_install.put_plan.Goals as goal
 
 pub put_dirs-requires-clause-named : goal.put_dirs-requires-clause-named
@@ -24,3 +25,7 @@ pub returns-clause-value : goal.returns-clause-value
 returns-clause-value g c =
     stores_then (objects_of g.S.Shelf.contents c.args.store.now) (objects_of g.S.Shelf.contents c.put_dirs.new.store) (objects_of g.S.Shelf.contents c.put_text.new.store)
     (listed (map.entries c.args.plan.now.dirs)) (own_object c.args.plan.now.head c.args.plan.now.text) c.put_text.result c.in-Ok.ensures.value c.put_text.ensures.value
+
+pub returns-clause-lying : goal.returns-clause-lying
+returns-clause-lying g c =
+    strays_then g.S.Shelf.contents c.args.store.now c.put_dirs.new.store c.put_text.new.store c.put_text.result c.in-Ok.ensures.lying c.put_text.ensures.lying

@@ -1,10 +1,13 @@
 -- One who may ask is answered, and else the call is denied.
-use Rattle.std.proofs.Common.{◌≡◌, ◌∙◌, ap, sym, subst, false}
+use Rattle.std.proofs.Common.{◌≡◌, ◌∙◌, ap, refl, sym, subst, false}
 use Rattle.library_state.specs.declared.token.Token.{Token}
 use Rattle.std.specs.Prelude.{List}
 use Rattle.library_rules.specs.Calls.{token_of}
+use Rattle.library_state.specs.declared.refusal.Refusal.TheVariants as refusal
+use Rattle.library_state.specs.declared.reply.Reply.TheVariants as reply
 use Rattle.depot.specs.Answering.{permits}
 use Rattle.depot.specs.DepotView.{DepotView}
+use Rattle.depot.specs.FreshKeys.{RunsOn, told_there}
 use Rattle.depot.proofs.ServingLemmas.{denied_told}
 use Rattle.depot.proofs.depot.Depot.answer.Goals as goal
 
@@ -13,3 +16,8 @@ returns-else-is_permitted-clause-told g c =
     denied_told g.S.Shelf.contents g.S.Shelf.faults c.args.self.now c.args.call.now c.args.moment
     (subst (λ (old : DepotView g.row.S.Denot). permits (token_of old.state.tokens c.args.call.now.secret) c.args.call.now.act ≡ false) c.self.view_is
     (ap (λ (tokens : List Token). permits (token_of tokens c.args.call.now.secret) c.args.call.now.act) (sym c.slice.ensures.value) ∙ sym c.is_permitted.ensures.value ∙ c.if-is_permitted.false))
+
+pub returns-else-is_permitted-clause-fresh : goal.returns-else-is_permitted-clause-fresh
+returns-else-is_permitted-clause-fresh g c =
+    subst (λ (old : DepotView g.row.S.Denot). RunsOn old.store.index old.store.index (told_there old.store.index c.args.call.now.act (reply.Refused refusal.Denied)) old.running old.running)
+    c.self.view_is refl

@@ -1,5 +1,5 @@
 -- The days are set, or the answer is that they can't be.
-use Rattle.std.proofs.Common.{◌≡◌, true, ℤ, sym, ◌∙◌, subst, to_z-of_z}
+use Rattle.std.proofs.Common.{None, ◌≡◌, true, ℤ, sym, ◌∙◌, subst, to_z-of_z}
 use Rattle.library_state.specs.declared.refusal.Refusal.TheVariants as refusal
 use Rattle.library_state.specs.declared.reply.Reply.TheVariants as reply
 use Rattle.library_rules.specs.Calls.{token_of}
@@ -18,7 +18,7 @@ returns-then-not-is_day_count g c = record {
 
 pub invariant_of-self : goal.invariant_of-self
 invariant_of-self g c =
-    limit_good g.S.Shelf.contents g.S.Shelf.faults (record { store = c.self.inside.store; state = c.self.inside.state; unsettled = c.self.inside.unsettled }) c.self.invariant c.args.days
+    limit_good g.S.Shelf.contents g.S.Shelf.faults (record { store = c.self.inside.store; state = c.self.inside.state; unsettled = c.self.inside.unsettled; running = None }) c.self.invariant c.args.days
     (sym (simp (to_z-of_z, c.ranges.days) at c.is_day_count.ensures.value) ∙ c.if-not-is_day_count.false)
     c.set_days-set.new.store c.set_days-set.new.state c.set_days-set.new.unsettled c.set_days-set.result
     (simp (to_z-of_z, c.ranges.days) at c.set_days-set.ensures.ok) c.set_days-set.ensures.err (simp (to_z-of_z, c.ranges.days) at c.set_days-set.ensures.text) c.set_days-set.ensures.kept
@@ -27,13 +27,13 @@ pub returns : goal.returns
 returns g c = record {
   value = subst (λ (old : DepotView g.row.S.Denot). permits (token_of old.state.tokens c.args.call.now.secret) c.args.call.now.act ≡ true
       → Serves g.S.Shelf.contents g.S.Shelf.may_give g.S.Shelf.faults old c.args.call.now c.args.moment c.answer_of.result
-      (record { store = c.set_days-set.new.store; state = c.set_days-set.new.state; unsettled = c.set_days-set.new.unsettled }))
+      (record { store = c.set_days-set.new.store; state = c.set_days-set.new.state; unsettled = c.set_days-set.new.unsettled; running = None }))
       c.self.view_is
-      (λ right. subst (λ r. Serves g.S.Shelf.contents g.S.Shelf.may_give g.S.Shelf.faults (record { store = c.self.inside.store; state = c.self.inside.state; unsettled = c.self.inside.unsettled }) c.args.call.now c.args.moment r
-      (record { store = c.set_days-set.new.store; state = c.set_days-set.new.state; unsettled = c.set_days-set.new.unsettled })) (sym c.answer_of.ensures.value)
-      (limit_serves g.S.Shelf.contents g.S.Shelf.may_give g.S.Shelf.faults (record { store = c.self.inside.store; state = c.self.inside.state; unsettled = c.self.inside.unsettled }) c.args.call.now c.args.moment right c.args.days c.requires.asks
+      (λ right. subst (λ r. Serves g.S.Shelf.contents g.S.Shelf.may_give g.S.Shelf.faults (record { store = c.self.inside.store; state = c.self.inside.state; unsettled = c.self.inside.unsettled; running = None }) c.args.call.now c.args.moment r
+      (record { store = c.set_days-set.new.store; state = c.set_days-set.new.state; unsettled = c.set_days-set.new.unsettled; running = None })) (sym c.answer_of.ensures.value)
+      (limit_serves g.S.Shelf.contents g.S.Shelf.may_give g.S.Shelf.faults (record { store = c.self.inside.store; state = c.self.inside.state; unsettled = c.self.inside.unsettled; running = None }) c.args.call.now c.args.moment right c.args.days c.requires.asks
       (sym (simp (to_z-of_z, c.ranges.days) at c.is_day_count.ensures.value) ∙ c.if-not-is_day_count.false)
-      c.set_days-set.new.store c.set_days-set.new.state c.set_days-set.new.unsettled c.set_days-set.ensures.kept c.set_days-set.result
+      c.set_days-set.new.store c.set_days-set.new.state c.set_days-set.new.unsettled c.set_days-set.ensures.kept c.set_days-set.ensures.lying c.set_days-set.result
       (simp (to_z-of_z, c.ranges.days) at c.set_days-set.ensures.ok) c.set_days-set.ensures.err (simp (to_z-of_z, c.ranges.days) at c.set_days-set.ensures.text) c.set_days-set.ensures.faults))
       c.requires.right;
 }

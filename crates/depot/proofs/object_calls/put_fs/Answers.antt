@@ -1,0 +1,11 @@
+-- Bytes that are refused leave nothing.
+use Rattle.depot.proofs.object_calls.put_fs.Goals as goal
+use Rattle.depot.proofs.object_calls.put_fs.Goals.{in-Ok, in-Err-Bad, in-Err-NoMemory}
+
+pub returns-clause-lying : goal.returns-clause-lying
+returns-clause-lying g c =
+    elim c.match-read.branch [
+      | in-Ok w ↦ rw (w.result-is, w.store-is) w.store_object.ensures.lying
+      | in-Err-Bad w ↦ rw (w.result-is, w.store-is) (λ free key stray. stray)
+      | in-Err-NoMemory w ↦ rw (w.result-is, w.store-is) (λ free key stray. stray)
+    ]

@@ -1,0 +1,32 @@
+//! What a library that is kept leaves on its shelf: theorems on the definitions, with no code.
+ghost use Rattle.std.specs.Prelude.{◌≡◌, ◌==◌, if◌then◌else◌, List, ℕ, None, Option, Some};
+ghost use Rattle.ids.specs.Key.{Objects};
+ghost use Rattle.library_rules.specs.LibraryState.{IsSound, State, last_number};
+ghost use Rattle.library_rules.specs.Recovery.{StandsFor};
+ghost use Rattle.object_store.specs.Shelf.{Contents};
+ghost use Rattle.object_store.specs.StoreView.{HasNoStray, StoreView, objects_of};
+ghost use Rattle.depot.specs.DepotView.{DepotView, IsGood, state_of};
+ghost use Rattle.depot.specs.Reopening.{start_refusal};
+ghost use Rattle.depot.specs.Standing.{IsOnShelf};
+ghost use Rattle.depot.specs.declared.error.StartFault.TheVariants.{Worn};
+
+use object_store::Shelf;
+
+/// The shelf of a depot stands for its library. While the depot is unsettled it may stand for the one that the refused
+/// call would have made.
+pub fn a_shelf_stands_for_its_library<S: Shelf>()
+    ensures { (depot : DepotView S) → (held : Contents) → (s : State) → IsGood S.contents S.faults depot → S.contents depot.store.shelf ≡ Some held
+        → state_of S.contents S.faults depot ≡ Some s → IsOnShelf depot.unsettled held s }
+{}
+
+/// A shelf that stands for a sound library opens to it: nothing but the last opening number refuses it.
+pub fn a_shelf_that_stands_for_a_library_opens_to_it()
+    ensures { (s : State) → (slot : Option (List ℕ)) → (lying : Objects) → IsSound s → StandsFor slot lying s
+        → start_refusal lying slot ≡ (if s.opening == last_number then Some Worn else None) }
+{}
+
+/// Where no object lies on the shelf that the store doesn't hold, the store's objects are exactly those that lie there.
+pub fn what_lies_there_is_held_where_nothing_is_stray<S: Shelf>()
+    ensures { (store : StoreView S) → (held : Contents) → HasNoStray S.contents store → S.contents store.shelf ≡ Some held
+        → objects_of S.contents store ≡ Some held.objects }
+{}
