@@ -10,8 +10,6 @@ mod chunker;
 mod cuts;
 pub mod laws;
 mod rolling_hash;
-#[cfg(test)]
-mod tests;
 
 pub use chunker::Chunker;
 pub use cuts::Cuts;

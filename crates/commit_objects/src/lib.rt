@@ -9,8 +9,6 @@ mod commit;
 mod fault;
 mod fields;
 mod reading;
-#[cfg(test)]
-mod tests;
 mod writing;
 
 pub use crate::commit::Commit;

@@ -7,7 +7,5 @@
 mod civil_time;
 pub mod laws;
 mod naming;
-#[cfg(test)]
-mod tests;
 
 pub use naming::{ConflictFault, conflict_name, ext_at};

@@ -17,8 +17,6 @@ mod fs_object;
 pub mod laws;
 mod object_reading;
 mod parts;
-#[cfg(test)]
-mod tests;
 mod writing;
 
 pub use crate::dir_object::DirObject;

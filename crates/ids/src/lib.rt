@@ -12,8 +12,6 @@ mod key_table;
 pub mod laws;
 mod library_id;
 mod object_id;
-#[cfg(test)]
-mod tests;
 mod text;
 
 pub use crate::digits::{BadId, digits_of, is_lower_digit, read_digits};

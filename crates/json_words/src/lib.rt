@@ -16,8 +16,6 @@ mod id_writing;
 mod json_text;
 mod kept;
 mod number;
-#[cfg(test)]
-mod tests;
 
 pub use crate::answer::ReadFault;
 pub use crate::fields::{

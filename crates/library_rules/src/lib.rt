@@ -8,8 +8,6 @@
 
 mod entry;
 pub mod laws;
-#[cfg(test)]
-mod table_tests;
 mod tables;
 pub mod upload_laws;
 

@@ -20,8 +20,6 @@ mod state_lists;
 mod state_reading;
 mod state_writing;
 mod tag;
-#[cfg(test)]
-mod tests;
 mod token;
 
 pub use crate::call::{Act, Call, Op};

@@ -12,8 +12,6 @@ mod fault;
 pub mod laws;
 mod line;
 mod line_text;
-#[cfg(test)]
-mod tests;
 
 pub use crate::command::{Command, Place};
 pub use crate::command_line::{names_memory, read_command};

@@ -9,8 +9,6 @@ mod name;
 mod node;
 mod path;
 mod path_table;
-#[cfg(test)]
-mod tests;
 
 pub use name::{BadName, MAX_NAME, Name, NameFault};
 pub use node::{FileVersion, Node};

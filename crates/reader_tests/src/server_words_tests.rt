@@ -1,7 +1,7 @@
 //! Command lines and the lines that are printed, by tables.
-use crate::*;
 use ids::{Items, Key, Kind, LibId, ObjId, Text};
 use library_state::{Right, Secret, StateKey};
+use server_words::*;
 use std::alloc::{AllocError, Global};
 use std::test::Fail;
 

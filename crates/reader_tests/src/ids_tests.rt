@@ -1,5 +1,5 @@
 //! Outside vectors, and each public call once with ample memory.
-use crate::*;
+use ids::*;
 use std::test::Fail;
 
 #[test]

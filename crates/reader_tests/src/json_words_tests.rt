@@ -1,5 +1,5 @@
 //! What no clause says: which texts are JSON, and that each call answers with ample memory.
-use crate::{
+use json_words::{
     FieldFault, ReadFault, array_field, field, has_only, integer_field, number_between,
     number_field, optional_field, optional_text, parse, parse_kept, text_field, write,
 };

@@ -1,5 +1,5 @@
 //! Outside vectors, and each call once with ample memory.
-use crate::{BadCommit, Commit, CommitKey};
+use commit_objects::{BadCommit, Commit, CommitKey};
 use ids::{LibId, ObjId, Text};
 use json_words::ReadFault;
 use std::alloc::Global;

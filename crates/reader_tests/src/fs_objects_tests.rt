@@ -1,5 +1,5 @@
 //! Outside vectors, and each call once with ample memory.
-use crate::{BadFs, FsKey, FsObject};
+use fs_objects::{BadFs, FsKey, FsObject};
 use ids::ObjId;
 use json_words::ReadFault;
 use std::alloc::Global;

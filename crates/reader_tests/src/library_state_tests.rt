@@ -1,7 +1,7 @@
 //! Each public call once.
-use crate::*;
 use ids::{BadId, Items, ObjId};
 use json_words::ReadFault;
+use library_state::*;
 use std::alloc::Global;
 use std::test::Fail;
 

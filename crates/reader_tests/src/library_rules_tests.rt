@@ -1,6 +1,6 @@
 //! Each table once.
-use crate::{is_refused, refusal_of, right_needed};
 use ids::{IdList, Key, Kind, ObjId};
+use library_rules::{is_refused, refusal_of, right_needed};
 use library_state::{Act, Op, Refusal, Reply, Right};
 use object_graph::TreeFault;
 use std::test::Fail;

@@ -1,6 +1,6 @@
 //! Chunks of known bytes, whole and in pieces.
 
-use crate::{Chunker, Cuts};
+use block_chunker::{Chunker, Cuts};
 use ids::Items;
 use std::alloc::{AllocError, Global};
 use std::test::Fail;

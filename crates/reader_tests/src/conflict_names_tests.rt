@@ -1,5 +1,5 @@
 //! Names of conflict copies with ample memory.
-use crate::{ConflictFault, conflict_name, ext_at};
+use conflict_names::{ConflictFault, conflict_name, ext_at};
 use ids::Text;
 use std::alloc::Global;
 use std::test::Fail;

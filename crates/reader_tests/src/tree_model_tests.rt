@@ -1,8 +1,8 @@
 //! Names, orders of paths and tables with ample memory.
-use crate::{BadName, Name, NameFault, Path, PathTable};
 use std::alloc::Global;
 use std::cmp::Ordering;
 use std::test::Fail;
+use tree_model::{BadName, Name, NameFault, Path, PathTable};
 
 fn path(alloc: Global, names: &[&str]) -> Result<Path, NameFault> {
     let mut path = Path::root(alloc);
