@@ -42,6 +42,3 @@ pub use order::{Order, OrderFault, What, order_of};
 pub use outcome::Outcome;
 pub use reply_text::{bad_bytes, reply_bytes};
 pub use row::Row;
-
-#[cfg(test)]
-mod tests;

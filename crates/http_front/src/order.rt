@@ -229,6 +229,3 @@ fn body_fault(fault: ReadFault<u64>) -> OrderFault
         ReadFault::NoMemory => OrderFault::NoMemory,
     }
 }
-
-#[cfg(test)]
-mod tests;

@@ -267,6 +267,3 @@ fn push_close(out: &mut Vec<u8>, closes: bool) -> Result<(), AllocError>
         Ok(())
     }
 }
-
-#[cfg(test)]
-mod tests;

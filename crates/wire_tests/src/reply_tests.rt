@@ -1,6 +1,8 @@
 //! Replies byte for byte, as docs/FORMATS.md has them.
-use super::*;
-use ids::{IdList, Items, Key, Kind, LibId, ObjId};
+use http_front::{Outcome, Row, bad_bytes, reply_bytes};
+use ids::{Bytes, IdList, Items, Key, Kind, LibId, ObjId};
+use library_state::{Refusal, Reply, Tag};
+use std::alloc::Global;
 use std::process::Abort;
 use std::test::Fail;
 use tree_model::{Name, Path};

@@ -1,7 +1,7 @@
 //! Links in memory, the buffer over them, and request heads from outside.
 ghost use Rattle.std.specs.Prelude.{◌≤◌};
 
-use crate::{
+use http_front::{
     Buffer, FillFault, Link, LinkFailed, MemoryLink, MemorySink, Method, Next, Sink, next_head,
     next_plain_head,
 };

@@ -1,17 +1,38 @@
 //! Targets that name a call, and targets that don't.
-use super::*;
-use ids::{Key, Kind, ObjId, Text};
+use http_front::{Head, Method, Order, OrderFault, What, order_of};
+use ids::{Key, Kind, LibId, ObjId, Text};
+use library_state::{Op, Refusal, Secret};
+use std::alloc::Global;
 use std::test::Fail;
 
 const LIB: &str = "11111111-2222-4333-8444-555555555555";
 
 const ABC: &str = "a9993e364706816aba3e25717850c26c9cd0d89d";
 
+/// What a request without a token is read as, by its method, its target and its body.
+fn order_in(alloc: Global, method: Method, target: &str, body: &[u8]) -> Result<Order, OrderFault> {
+    let target = match Text::copy(alloc, target) {
+        Ok(target) => target,
+        Err(_) => return Err(OrderFault::NoMemory),
+    };
+    let head = Head {
+        used: 0,
+        body: 0,
+        expects: false,
+        closes: false,
+        method,
+        target,
+        token: None,
+        tag: None,
+    };
+    order_of(alloc, &head, body)
+}
+
 /// Whether a request is one for the block `ABC` of `LIB`.
 fn names_the_block(alloc: Global, method: Method, target: &str) -> Result<bool, Fail> {
     let lib = LibId::read(LIB)?;
     let id = ObjId::read(ABC)?;
-    let named = match order_in(alloc, method, target, None, b"abc") {
+    let named = match order_in(alloc, method, target, b"abc") {
         Ok(order) => order.lib == Some(lib) && asks_for(&order.what, method, id),
         Err(_) => false,
     };
@@ -44,7 +65,7 @@ fn a_block_is_named_by_library_and_id(rt: HostRuntime) -> Result<(), Fail> {
             );
         }
         for method in [Method::Post, Method::Other] {
-            let order = order_in(rt.alloc(), method, target.as_str(), None, b"abc");
+            let order = order_in(rt.alloc(), method, target.as_str(), b"abc");
             let wanted = if method == Method::Post {
                 Refusal::NoCall
             } else {
@@ -97,7 +118,7 @@ fn a_path_of_another_form_names_no_call(rt: HostRuntime) -> Result<(), Fail> {
         "http://x/repo/11111111-2222-4333-8444-555555555555/block/a9993e364706816aba3e25717850c26c9cd0d89d",
     ];
     for target in other_paths {
-        let order = order_in(rt.alloc(), Method::Get, target, None, b"");
+        let order = order_in(rt.alloc(), Method::Get, target, b"");
         assert!(rt; is_refused(&order, Refusal::NoCall), "at {target}");
     }
     Ok(())
@@ -130,7 +151,7 @@ fn a_put_is_ordered_with_its_secret_and_its_body(rt: HostRuntime) -> Result<(), 
 /// What a POST to a library is read as: the length of its list, or the place at which its body is bad.
 fn posted(alloc: Global, call: &str, body: &[u8]) -> Result<Result<usize, u64>, Fail> {
     let target = format!(in alloc; "/repo/{LIB}/{call}")?;
-    match order_in(alloc, Method::Post, target.as_str(), None, body) {
+    match order_in(alloc, Method::Post, target.as_str(), body) {
         Ok(order) => match order.what {
             What::Missing(_, ids) => Ok(Ok(ids.len())),
             What::PutFs(rows) => Ok(Ok(rows.len())),
@@ -199,12 +220,12 @@ fn a_body_of_rows_tells_where_its_first_bad_row_begins(rt: HostRuntime) -> Resul
 #[test]
 fn the_version_is_asked_of_no_library(rt: HostRuntime) -> Result<(), Fail> {
     for target in ["/protocol-version", "/protocol-version/?x=1"] {
-        match order_in(rt.alloc(), Method::Get, target, None, b"ignored") {
+        match order_in(rt.alloc(), Method::Get, target, b"ignored") {
             Ok(order) => { assert!(rt; order.lib.is_none() && matches!(order.what, What::Version)) }
             Err(_) => return Err("no order".into()),
         }
     }
-    let order = order_in(rt.alloc(), Method::Put, "/protocol-version", None, b"");
+    let order = order_in(rt.alloc(), Method::Put, "/protocol-version", b"");
     assert!(rt; is_refused(&order, Refusal::NoCall));
     Ok(())
 }
@@ -212,7 +233,7 @@ fn the_version_is_asked_of_no_library(rt: HostRuntime) -> Result<(), Fail> {
 /// What a request to the library `LIB` is read as.
 fn asked(alloc: Global, method: Method, call: &str) -> Result<Result<What, OrderFault>, Fail> {
     let target = format!(in alloc; "/repo/{LIB}/{call}")?;
-    match order_in(alloc, method, target.as_str(), None, b"ignored") {
+    match order_in(alloc, method, target.as_str(), b"ignored") {
         Ok(order) => Ok(Ok(order.what)),
         Err(fault) => Ok(Err(fault)),
     }
