@@ -17,8 +17,6 @@ mod odd_shelf;
 mod put;
 mod shelf;
 mod store;
-#[cfg(test)]
-mod tests;
 
 pub use crate::error::StoreFault;
 pub use crate::fuse_shelf::FuseShelf;

@@ -12,8 +12,6 @@ mod file_merge;
 mod merging;
 mod sides;
 mod tables;
-#[cfg(test)]
-mod tests;
 mod tree_builder;
 mod unstored;
 

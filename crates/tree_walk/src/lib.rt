@@ -12,8 +12,6 @@ mod listing;
 mod met;
 mod name_order;
 mod reading;
-#[cfg(test)]
-mod tests;
 mod trail;
 mod unread;
 mod visiting;

@@ -1,9 +1,9 @@
 //! The limits of a traversal as rows, and each public call once with ample memory.
-use crate::*;
 use ids::{Items, Key, Kind, ObjId};
 use object_store::{MemoryShelf, Store, StoreFault};
 use std::alloc::{AllocError, Global};
 use std::test::Fail;
+use tree_walk::*;
 
 type Shelved = Store<MemoryShelf>;
 

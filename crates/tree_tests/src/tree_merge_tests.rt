@@ -8,13 +8,13 @@ ghost use Rattle.ids.specs.Key.{Objects};
 ghost use Rattle.object_graph.specs.Traversal.{IsCompleteRoot};
 ghost use Rattle.object_store.specs.StoreView.{objects_of};
 
-use crate::{MergeFault, Merged, build, merge};
 use fs_objects::{FileObject, FsObject};
 use ids::{Items, Key, Kind, ObjId, Text};
 use object_graph::Entry;
 use object_store::{MemoryShelf, Shelf, Store};
 use std::alloc::Global;
 use std::test::Fail;
+use tree_merge::{MergeFault, Merged, build, merge};
 use tree_model::{Name, NameFault, Path, PathTable};
 use tree_walk::{commit_at, needs};
 

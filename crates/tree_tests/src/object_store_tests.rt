@@ -2,8 +2,8 @@
 mod shelf_rows;
 mod store_rows;
 
-use crate::*;
 use ids::{Bytes, Items, Key, Kind, ObjId};
+use object_store::*;
 use std::alloc::{AllocError, Global};
 use std::process::Abort;
 use std::test::Fail;
