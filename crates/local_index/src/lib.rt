@@ -12,8 +12,6 @@ mod index_reading;
 mod index_writing;
 mod own_ids;
 mod scan_changes;
-#[cfg(test)]
-mod tests;
 
 pub use fault::{IndexFault, IndexKey};
 pub use index::{Index, Known};

@@ -1,9 +1,9 @@
 //! Index texts and what is wrong with others, differences of scans and indexes, and each call once with ample memory.
-use crate::*;
 use block_chunker::Cuts;
 use folder_side::{Holding, MemoryFolder, Scan, scan};
 use ids::{Bytes, Items, LibId};
 use json_words::ReadFault;
+use local_index::*;
 use std::alloc::{AllocError, Global};
 use std::test::Fail;
 use tree_model::{Name, NameFault, Path};

@@ -1,0 +1,9 @@
+//! Tests of scans of folders and of indexes, over their public calls alone.
+//!
+//! They stand apart, since a crate with tests is proved twice. It has no code but its tests.
+#![tactic(auto)]
+
+#[cfg(test)]
+mod folder_side_tests;
+#[cfg(test)]
+mod local_index_tests;
