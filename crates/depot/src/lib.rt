@@ -20,8 +20,6 @@ mod object_calls;
 mod opening;
 mod reopening;
 mod state_write;
-#[cfg(test)]
-mod tests;
 mod tokens;
 mod update;
 mod update_base;

@@ -2,7 +2,7 @@
 mod answer_tests;
 mod update_tests;
 
-use crate::*;
+use depot::*;
 use ids::{Items, LibId, ObjId, Text};
 use library_state::{Right, Secret};
 use object_store::{MemoryShelf, Store, StoreFault};

@@ -1,7 +1,7 @@
 //! Commits that are pushed to a library, one after another and two at once.
 use super::{LIB, empty, made};
-use crate::*;
 use commit_objects::Commit;
+use depot::*;
 use ids::{Key, Kind, LibId, ObjId, Text};
 use library_state::{Act, Call, Refusal, Reply, Secret};
 use object_store::MemoryShelf;

@@ -1,6 +1,6 @@
 //! A library is asked, opened again, and refuses what it must.
 use super::{empty, made};
-use crate::*;
+use depot::*;
 use ids::{Bytes, IdList, Key, Kind, ObjId, Text};
 use library_state::{Act, Call, Op, Refusal, Reply, Right, Secret, StateKey};
 use object_store::MemoryShelf;
