@@ -2,6 +2,7 @@
 ghost use Rattle.std.specs.Prelude.{◌≡◌, ◌∷◌, ◌++◌, [], IfOk, OnOk, OnSome, ◌≤◌, length, slice_get, string_bytes, if◌then◌else◌};
 ghost use Rattle.std.specs.Ordering.{nat_cmp};
 ghost use Rattle.std.specs.Cmp.Lexicographic.{slice_cmp};
+ghost use Rattle.tree_model.specs.DirectorySurvival.{is_under, is_within};
 ghost use Rattle.tree_model.specs.Path.{path_cmp, slashed, parent_of};
 
 use crate::name::Name;
@@ -32,6 +33,7 @@ impl Model for Path {
 
 impl Path {
     ghost use Rattle.std.specs.Prelude.{◌≡◌, ◌∷◌, ◌++◌, [], IfOk, OnOk, OnErr, MatchOption};
+    ghost use Rattle.tree_model.specs.DirectorySurvival.{is_under, is_within};
     ghost use Rattle.tree_model.specs.Path.{IsPath, parent_of, path_text};
 
     /// The path of the root, which has no names.
@@ -103,6 +105,20 @@ impl Path {
         Ok(Text::from_string(text))
     }
 
+    /// Whether this is the path of something below the directory.
+    pub fn is_under(&self, dir: &Path) -> bool
+        ensures value { result ≡ is_under dir.now self.now }
+    {
+        stands_under(dir.names(), self.names())
+    }
+
+    /// Whether this is the directory's own path, or that of something below it.
+    pub fn is_within(&self, dir: &Path) -> bool
+        ensures value { result ≡ is_within dir.now self.now }
+    {
+        stands_within(dir.names(), self.names())
+    }
+
     /// A copy of the path.
     pub fn copy(&self, alloc: Global) -> Result<Path, AllocError>
         ensures value { IfOk result (λ path. path ≡ self.now) }
@@ -120,6 +136,30 @@ fn names_above(names: &[Name]) -> &[Name]
         names
     } else {
         &names[..names.len() - 1]
+    }
+}
+
+/// Whether a path has the names of a directory in front, and more.
+fn stands_under(dir: &[Name], path: &[Name]) -> bool
+    ensures value { result ≡ is_under dir.now path.now }
+{
+    match (dir.split_first(), path.split_first()) {
+        (Some((first, dirs)), Some((name, names))) => first == name && stands_under(dirs, names),
+        (None, Some(_)) => true,
+        (Some(_), None) => false,
+        (None, None) => false,
+    }
+}
+
+/// Whether a path has the names of a directory in front.
+fn stands_within(dir: &[Name], path: &[Name]) -> bool
+    ensures value { result ≡ is_within dir.now path.now }
+{
+    match (dir.split_first(), path.split_first()) {
+        (Some((first, dirs)), Some((name, names))) => first == name && stands_within(dirs, names),
+        (Some(_), None) => false,
+        (None, Some(_)) => true,
+        (None, None) => true,
     }
 }
 
