@@ -1,1 +1,2 @@
+pub mod DurabilityLemmas
 pub mod StandingLemmas

@@ -1,3 +1,4 @@
+pub mod Durability
 pub mod Ground
 pub mod MemoryGround
 pub mod SteadyShelf

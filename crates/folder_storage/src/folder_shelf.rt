@@ -10,29 +10,20 @@ use object_store::{Found, Shelf, ShelfFailed, Slot};
 /// A shelf over the files of one library's folder, one file a slot. It tells nothing of what it holds, and counts the
 /// calls that failed.
 ///
-/// # Layout
-///
 /// `FOLDER/LIB` holds `status`, and `commits`, `fs` and `blocks` with the files `xx/` and the other 38 digits of an
 /// object's id: our own, with Seafile's names of the kinds. A file is written as `tmp/spare` and moved to its place, so
-/// that a slot holds the old or the new whole. Folders are their owner's alone (0700), and so are files (0600).
+/// that a slot holds the old or the new whole. Folders are their owner's alone (0700), and so are files (0600). A library
+/// that is made stands in `FOLDER/LIB.new` until its first state text is durable, and then takes its name.
 ///
-/// A library that is made stands in `FOLDER/LIB.new` until its first state text is durable, and then takes its name:
-/// one that was not made to its end is not there, and is made anew.
-/// One process at a time has a library: its folder is locked (flock), and the system gives the lock up with the
-/// process. What a run that was killed left half-written is taken away when the library is opened.
+/// One process at a time has a library: the file `lock` in its folder is locked (flock), and the system gives the lock
+/// up with the process. What a run that was killed left half-written is taken away when the library is opened.
 ///
-/// # What lasts
+/// Before a state text is moved to its place, every object that was put before it, by whichever run, is made durable
+/// with each folder that names it. A sync that fails is never tried again: what it was to make durable is written anew,
+/// and an object of this run that can't be is taken away, although the call is that of another slot; then no state text
+/// is put until that object is put again. Of what no state text names, that which a loss of power left torn isn't stored.
 ///
-/// Before a state text is moved to its place, every object that was put before it is made durable: its file, then
-/// each folder that was touched; then the state text, and its folder. So after a loss of power a state text that
-/// stands names only objects that stand. An object that no state text names yet may be lost then. What such a loss
-/// leaves of it, mostly an empty file, is no object to `next`, unless its name is that of no bytes, so that it can be
-/// put again.
-///
-/// That holds for what earlier runs put, too: the first state text that a run puts takes in the objects whose files, and
-/// whose `xx` folders, were changed no earlier than 10 seconds before `status`, or all of them where there is none. It
-/// rests on file times: on times that nobody else sets, and on a clock that is not set back by more than these 10
-/// seconds between a state text and what is put after it. A library that is only read costs no sync.
+/// The order of the calls, what each stop leaves and what is trusted: docs/STORAGE.md.
 #[derive(Drop)]
 pub struct FolderShelf<F> {
     folder: LibraryFolder<F>,

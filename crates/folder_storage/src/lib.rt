@@ -10,7 +10,7 @@
 
 mod answer;
 mod counted_shelf;
-mod durable;
+mod durability;
 mod earlier;
 mod file_system;
 mod folder_ground;
@@ -22,6 +22,7 @@ mod memory_ground;
 mod opening;
 mod paths;
 mod steady_shelf;
+mod syncing;
 mod system_files;
 #[cfg(test)]
 mod tests;

@@ -1,4 +1,5 @@
 //! The folder of one library, held by this process.
+use crate::durability::first_byte;
 use crate::earlier::Earlier;
 use crate::file_system::FileSystem;
 use crate::listing::Listing;
@@ -225,11 +226,6 @@ impl<F: FileSystem + Drop> LibraryFolder<F> {
         self.listing = Some(listing);
         Ok(found)
     }
-}
-
-/// The first byte of a key's id.
-pub(crate) fn first_byte(key: &Key) -> u8 {
-    key.id.as_bytes()[0]
 }
 
 /// The first byte of an id, and 0 where there is none.

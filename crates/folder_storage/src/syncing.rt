@@ -1,55 +1,12 @@
-//! How what was put is made durable, and the state text after it.
+//! How a library's folder makes durable what was put, and the state text after it.
+use crate::durability::{Disk, Place, first_byte, put_durably};
 use crate::file_system::FileSystem;
-use crate::library_folder::{LibraryFolder, first_byte};
+use crate::library_folder::LibraryFolder;
 use crate::paths::{kind_path, listed_folder, moved_path, named_path, object_path};
 use crate::whole::is_whole;
 use ids::{Key, Kind, ObjId};
 use std::io;
 use std::io::ErrorKind;
-
-/// A folder whose names are made durable.
-#[derive(Clone, Copy, Debug, PartialEq, Eq)]
-pub(crate) enum Place {
-    /// That of a kind's objects whose ids begin with this byte.
-    Objects(Kind, u8),
-    /// That of a kind.
-    OfKind(Kind),
-}
-
-/// Makes the objects durable, each with its folder, and then puts the state text.
-pub(crate) fn put_durably<F: FileSystem + Drop>(
-    library: &mut LibraryFolder<F>,
-    keys: &[Key],
-    text: &[u8],
-) -> io::Result<()> {
-    for key in keys {
-        library.sync_object(key)?;
-    }
-    let mut last = None;
-    for key in keys {
-        let place = Place::Objects(key.kind, first_byte(key));
-        if last != Some(place) {
-            library.sync_place(place)?;
-            last = Some(place);
-        }
-    }
-    for kind in [Kind::Commit, Kind::Fs, Kind::Block] {
-        if has_kind(keys, kind) {
-            library.sync_place(Place::OfKind(kind))?;
-        }
-    }
-    library.put_text(text)
-}
-
-/// Whether a key is of this kind.
-fn has_kind(keys: &[Key], kind: Kind) -> bool {
-    for key in keys {
-        if key.kind == kind {
-            return true;
-        }
-    }
-    false
-}
 
 impl<F: FileSystem + Drop> LibraryFolder<F> {
     /// Puts the state text, after every object that was put before it was made durable, by whichever run.
@@ -64,8 +21,11 @@ impl<F: FileSystem + Drop> LibraryFolder<F> {
         if !keys.is_empty() {
             self.mark()?;
         }
+        if self.is_in_doubt {
+            self.enter_folders(keys.as_slice())?;
+        }
         self.is_synced = false;
-        let put = put_durably(self, keys.as_slice(), text);
+        let put = put_durably(self.files.alloc(), self, keys.as_slice(), text);
         if self.is_synced {
             self.unsynced.clear();
             self.commits.clear();
@@ -114,22 +74,6 @@ impl<F: FileSystem + Drop> LibraryFolder<F> {
         }
     }
 
-    /// Makes an object's file durable. One whose sync may have failed is written anew.
-    fn sync_object(&mut self, key: &Key) -> io::Result<()> {
-        let path = object_path(self.files.alloc(), self.path.as_str(), key)?;
-        if !self.is_in_doubt && self.files.sync_file(path.as_str()).is_ok() {
-            return Ok(());
-        }
-        let anew = self.write_anew(key, path.as_str());
-        match anew {
-            Ok(()) => Ok(()),
-            Err(failure) => {
-                self.give_up(key, path.as_str())?;
-                Err(after_a_change(failure))
-            }
-        }
-    }
-
     /// Writes an object anew, durably, unless it was removed. It has to read back as what was put.
     fn write_anew(&mut self, key: &Key, path: &str) -> io::Result<()> {
         let bytes = match self.files.read(path)? {
@@ -165,27 +109,23 @@ impl<F: FileSystem + Drop> LibraryFolder<F> {
         Ok(())
     }
 
-    /// Makes a folder's names durable. Where a sync failed before, a folder of objects is first entered anew.
-    fn sync_place(&mut self, place: Place) -> io::Result<()> {
-        let alloc = self.files.alloc();
-        let is_there = match place {
-            Place::Objects(kind, first) => {
-                let folder = listed_folder(alloc, self.path.as_str(), kind, first)?;
-                if self.is_in_doubt {
-                    self.enter_anew(folder.as_str())?;
-                }
-                self.files.sync_folder(folder.as_str())?;
-                true
+    /// Writes the name of each folder of these objects anew, before those names are synced.
+    fn enter_folders(&mut self, keys: &[Key]) -> io::Result<()> {
+        let mut last = None;
+        for key in keys {
+            let place = Place::Objects(key.kind, first_byte(key));
+            if last != Some(place) {
+                let folder = listed_folder(
+                    self.files.alloc(),
+                    self.path.as_str(),
+                    key.kind,
+                    first_byte(key),
+                )?;
+                self.enter_anew(folder.as_str())?;
+                last = Some(place);
             }
-            Place::OfKind(kind) => {
-                let folder = kind_path(alloc, self.path.as_str(), kind)?;
-                self.files.sync_folder(folder.as_str())?
-            }
-        };
-        if is_there {
-            return Ok(());
         }
-        Err(io::Error::from(ErrorKind::NotFound))
+        Ok(())
     }
 
     /// Moves a folder away and back, so that its name is written anew.
@@ -201,21 +141,6 @@ impl<F: FileSystem + Drop> LibraryFolder<F> {
                 self.is_adrift = true;
                 Err(after_a_change(failure))
             }
-        }
-    }
-
-    /// Puts the state text, durably. With its first one a new library's folder takes its name.
-    fn put_text(&mut self, text: &[u8]) -> io::Result<()> {
-        self.is_synced = true;
-        let status = named_path(self.files.alloc(), self.path.as_str(), "status")?;
-        self.write_spare(text, true)?;
-        let moved = self.move_spare(status.as_str());
-        if let Err(failure) = moved {
-            return Err(after_a_change(failure));
-        }
-        match self.settle() {
-            Ok(()) => Ok(()),
-            Err(failure) => Err(after_a_change(failure)),
         }
     }
 
@@ -254,6 +179,63 @@ impl<F: FileSystem + Drop> LibraryFolder<F> {
         }
         self.above = None;
         Ok(())
+    }
+}
+
+impl<F: FileSystem + Drop> Disk for LibraryFolder<F> {
+    ghost use Rattle.std.specs.Prelude.{None};
+
+    ghost steps = { λ _. None };
+
+    /// Makes an object's file durable. One whose sync may have failed is written anew.
+    fn sync_object(&mut self, key: &Key) -> io::Result<()> {
+        let path = object_path(self.files.alloc(), self.path.as_str(), key)?;
+        if !self.is_in_doubt && self.files.sync_file(path.as_str()).is_ok() {
+            return Ok(());
+        }
+        let anew = self.write_anew(key, path.as_str());
+        match anew {
+            Ok(()) => Ok(()),
+            Err(failure) => {
+                self.give_up(key, path.as_str())?;
+                Err(after_a_change(failure))
+            }
+        }
+    }
+
+    /// Makes a folder's names durable. A folder of objects that isn't there has none.
+    fn sync_place(&mut self, place: Place) -> io::Result<()> {
+        let alloc = self.files.alloc();
+        let is_there = match place {
+            Place::Objects(kind, first) => {
+                let folder = listed_folder(alloc, self.path.as_str(), kind, first)?;
+                self.files.sync_folder(folder.as_str())?;
+                true
+            }
+            Place::OfKind(kind) => {
+                let folder = kind_path(alloc, self.path.as_str(), kind)?;
+                self.files.sync_folder(folder.as_str())?
+            }
+        };
+        if is_there {
+            return Ok(());
+        }
+        Err(io::Error::from(ErrorKind::NotFound))
+    }
+
+    /// Puts the state text, durably. With its first one a new library's folder takes its name.
+    fn put_text(&mut self, text: &[u8]) -> io::Result<()> {
+        self.is_synced = true;
+        let status = named_path(self.files.alloc(), self.path.as_str(), "status")?;
+        self.write_spare(text, true)?;
+        let moved = self.move_spare(status.as_str());
+        if let Err(failure) = moved {
+            return Err(after_a_change(failure));
+        }
+        match self.settle() {
+            Ok(()) => Ok(()),
+            Err(failure) => Err(after_a_change(failure)),
+        }
     }
 }
 

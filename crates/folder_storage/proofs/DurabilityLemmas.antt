@@ -1,0 +1,116 @@
+-- What steps add to steps, and which places are among some. The key lemmas are objects-only, places-only, named-more and
+-- put-order.
+use Rattle.std.proofs.Common.{◌≡◌, ◌⊎◌, ℕ, suc, zero, ◌<◌, ◌+◌, List, [], ◌∷◌, ◌++◌, length, get_or, inl, inr, take, map, Option, None, Some, Result, Ok, Err, OnOk, OnErr, slice_index, subst, refl, sym, ◌∙◌, ap, arith}
+use Rattle.std.specs.Bool.{⊤}
+use Rattle.std.proofs.lemmas.List.{append-nil, append_assoc, map-append, take_more}
+use Rattle.ids.specs.declared.key.Key.{Key}
+use Rattle.folder_storage.specs.declared.durability.Place.{Place}
+use Rattle.folder_storage.specs.declared.durability.Place.TheVariants.{Objects, OfKind}
+use Rattle.folder_storage.specs.Durability.{AreNamedIn, AreSyncs, In, OnlySyncs, PutText, PutsDurably, Step, SyncedObject, SyncedPlace, TextComesLast, with_steps}
+
+-- nothing was done more
+pub steps-none : (told : Option (List Step)) → told ≡ with_steps told []
+steps-none None = refl
+steps-none (Some steps) = ap Some (sym (append-nil steps))
+
+-- these steps, and then those
+pub steps-more : (told : Option (List Step)) (a b : List Step) → with_steps (with_steps told a) b ≡ with_steps told (a ++ b)
+steps-more None a b = refl
+steps-more (Some steps) a b = ap Some (append_assoc steps a b)
+
+-- one more is passed
+pub passed-more : {A : Type 0} (f : A → Step) (xs : List A) (i : ℕ) (d : A) → i < length xs
+    → map f (take i xs) ++ f (get_or xs i d) ∷ [] ≡ map f (take (i + 1) xs)
+passed-more f xs i d below = sym (ap (map f) (take_more xs i d below) ∙ map-append f (take i xs) (get_or xs i d ∷ []))
+
+-- syncs are no texts
+pub objects-syncs : (keys : List Key) → AreSyncs (map SyncedObject keys)
+objects-syncs [] = _
+objects-syncs (key ∷ keys) = objects-syncs keys
+
+pub places-syncs : (places : List Place) → AreSyncs (map SyncedPlace places)
+places-syncs [] = _
+places-syncs (place ∷ places) = places-syncs places
+
+-- one of a list
+pub In-at : {A : Type 0} (xs : List A) (i : ℕ) (d : A) → i < length xs → In (get_or xs i d) xs
+In-at [] i d below = absurd (omega (arith, below))
+In-at (x ∷ xs) zero d below = inl refl
+In-at (x ∷ xs) (suc i) d below = inr (In-at xs i d (omega (arith, below)))
+
+pub In-split : {A : Type 0} (x : A) (xs ys : List A) → In x (xs ++ ys) → In x xs ⊎ In x ys
+In-split x [] ys is = inr is
+In-split x (y ∷ xs) ys (inl same) = inl (inl same)
+In-split x (y ∷ xs) ys (inr later) = elim (In-split x xs ys later) [ inl front ↦ inl (inr front) | inr back ↦ inr back ]
+
+pub In-last : {A : Type 0} (xs : List A) (x : A) → In x (xs ++ x ∷ [])
+In-last [] x = inl refl
+In-last (y ∷ xs) x = inr (In-last xs x)
+
+pub In-front : {A : Type 0} (x : A) (xs ys : List A) → In x xs → In x (xs ++ ys)
+In-front x [] ys is = absurd is
+In-front x (y ∷ xs) ys (inl same) = inl same
+In-front x (y ∷ xs) ys (inr later) = inr (In-front x xs ys later)
+
+syncs-append : (a b : List Step) → AreSyncs a → AreSyncs b → AreSyncs (a ++ b)
+syncs-append [] b first more = more
+syncs-append (SyncedObject key ∷ a) b first more = syncs-append a b first more
+syncs-append (SyncedPlace place ∷ a) b first more = syncs-append a b first more
+syncs-append (PutText text ∷ a) b first more = absurd first
+
+-- what was passed before a failure is syncs alone
+pub objects-only : (old mid new : Option (List Step)) (keys : List Key) → mid ≡ with_steps old (map SyncedObject keys) → new ≡ mid → OnlySyncs old new
+objects-only old mid new keys done same = record { syncs = map SyncedObject keys; steps = same ∙ done; no_text = objects-syncs keys }
+
+pub places-only : (old mid new : Option (List Step)) (places : List Place) → mid ≡ with_steps old (map SyncedPlace places) → new ≡ mid → OnlySyncs old new
+places-only old mid new places done same = record { syncs = map SyncedPlace places; steps = same ∙ done; no_text = places-syncs places }
+
+pub only-after : (old mid new : Option (List Step)) (keys : List Key) → mid ≡ with_steps old (map SyncedObject keys) → OnlySyncs mid new → OnlySyncs old new
+only-after old mid new keys done only = record {
+  syncs = map SyncedObject keys ++ only.syncs;
+  steps = only.steps ∙ ap (λ m. with_steps m only.syncs) done ∙ steps-more old (map SyncedObject keys) only.syncs;
+  no_text = syncs-append (map SyncedObject keys) only.syncs (objects-syncs keys) only.no_text;
+}
+
+comes-last : (old mid last new : Option (List Step)) (keys : List Key) (places : List Place) (text : List ℕ) → AreNamedIn keys places
+    → mid ≡ with_steps old (map SyncedObject keys) → last ≡ with_steps mid (map SyncedPlace places) → new ≡ with_steps last (PutText text ∷ [])
+    → TextComesLast old new keys text
+comes-last old mid last new keys places text named synced placed put = record {
+  places = places;
+  named = named;
+  steps = put ∙ ap (λ l. with_steps l (PutText text ∷ [])) (placed ∙ ap (λ m. with_steps m (map SyncedPlace places)) synced ∙ steps-more old (map SyncedObject keys) (map SyncedPlace places))
+      ∙ steps-more old (map SyncedObject keys ++ map SyncedPlace places) (PutText text ∷ [])
+      ∙ ap (with_steps old) (append_assoc (map SyncedObject keys) (map SyncedPlace places) (PutText text ∷ []));
+}
+
+only-synced : (old mid last new : Option (List Step)) (keys : List Key) (places : List Place)
+    → mid ≡ with_steps old (map SyncedObject keys) → last ≡ with_steps mid (map SyncedPlace places) → new ≡ last → OnlySyncs old new
+only-synced old mid last new keys places synced placed same = only-after old mid new keys synced (places-only mid last new places placed same)
+
+pub put-order : {E : Type 0} (old mid last new : Option (List Step)) (keys : List Key) (places : List Place) (text : List ℕ) (result : Result ⊤ E)
+    → AreNamedIn keys places → mid ≡ with_steps old (map SyncedObject keys) → last ≡ with_steps mid (map SyncedPlace places)
+    → OnOk result (new ≡ with_steps last (PutText text ∷ []))
+    → OnErr result ((new ≡ last) ⊎ (new ≡ with_steps last (PutText text ∷ []))) → PutsDurably old new keys text result
+put-order old mid last new keys places text (Ok done) named synced placed put failed = comes-last old mid last new keys places text named synced placed put
+put-order old mid last new keys places text (Err failure) named synced placed put (inl same) = inl (only-synced old mid last new keys places synced placed same)
+put-order old mid last new keys places text (Err failure) named synced placed put (inr done) = inr (comes-last old mid last new keys places text named synced placed done)
+
+named-last : (key x : Key) (byte : ℕ) (p : List Place) → byte ≡ slice_index x.id 0 → In key (x ∷ []) → In (Objects x.kind byte) p → In (OfKind x.kind) p
+    → In (Objects key.kind (slice_index key.id 0)) p × In (OfKind key.kind) p
+named-last key x byte p is (inl same) has of_kind =
+    subst (λ k. In (Objects k.kind (slice_index k.id 0)) p × In (OfKind k.kind) p) (sym same) (subst (λ b. In (Objects x.kind b) p) is has, of_kind)
+named-last key x byte p is (inr none) has of_kind = absurd none
+
+named-either : (keys : List Key) (key x : Key) (byte : ℕ) (places p q : List Place) → AreNamedIn keys places
+    → ((o : Place) → In o places → In o p) → ((o : Place) → In o p → In o q) → byte ≡ slice_index x.id 0
+    → In (Objects x.kind byte) p → In (OfKind x.kind) q → In key keys ⊎ In key (x ∷ [])
+    → In (Objects key.kind (slice_index key.id 0)) q × In (OfKind key.kind) q
+named-either keys key x byte places p q named grows more is has of_kind (inl before) = (more _ (grows _ (named key before).0), more _ (grows _ (named key before).1))
+named-either keys key x byte places p q named grows more is has of_kind (inr last) = named-last key x byte q is last (more _ has) of_kind
+
+-- the folders of one more
+pub named-more : (keys keys' : List Key) (x : Key) (byte : ℕ) (places p q : List Place) → keys' ≡ keys ++ x ∷ [] → AreNamedIn keys places
+    → ((o : Place) → In o places → In o p) → ((o : Place) → In o p → In o q) → byte ≡ slice_index x.id 0
+    → In (Objects x.kind byte) p → In (OfKind x.kind) q → AreNamedIn keys' q
+named-more keys keys' x byte places p q all named grows more is has of_kind key among =
+    named-either keys key x byte places p q named grows more is has of_kind (In-split key keys (x ∷ []) (subst (In key) all among))

@@ -1,0 +1,138 @@
+//! The order in which what was put is made durable: every object, every folder that names one, and then the state text.
+ghost use Rattle.std.specs.Prelude.{◌≡◌, ◌⊎◌, ℕ, List, [], ◌∷◌, IfErr, IfOk, IsTrue, OnErr, OnOk, Option, map, slice_index};
+ghost use Rattle.folder_storage.specs.Durability.{AreNamedIn, In, OnlySyncs, PutsDurably, PutText, Step, SyncedObject, SyncedPlace, with_steps};
+
+use ids::{Key, Kind};
+use std::alloc::{AllocError, Global};
+use std::io;
+
+/// A folder whose names are made durable.
+#[derive(Clone, Copy, Debug, PartialEq, Eq)]
+pub(crate) enum Place {
+    /// That of a kind's objects whose ids begin with this byte.
+    Objects(Kind, u8),
+    /// That of a kind.
+    OfKind(Kind),
+}
+
+/// The calls by which what was put is made durable, and a state text after it. A stand-in tells what was done.
+pub(crate) trait Disk {
+    ghost use Rattle.folder_storage.specs.Durability.{Step};
+
+    // What was done, in its order.
+    ghost steps: { Self → Option (List Step) };
+
+    /// Makes an object's file durable.
+    fn sync_object(&mut self, key: &Key) -> io::Result<()>
+        ensures ok { OnOk result (steps self.new ≡ with_steps (steps self.old) (SyncedObject key.now ∷ [])) }
+        ensures err { OnErr result (steps self.new ≡ steps self.old) };
+
+    /// Makes the names in a folder durable.
+    fn sync_place(&mut self, place: Place) -> io::Result<()>
+        ensures ok { OnOk result (steps self.new ≡ with_steps (steps self.old) (SyncedPlace place ∷ [])) }
+        ensures err { OnErr result (steps self.new ≡ steps self.old) };
+
+    /// Puts the state text, durably. After a failure it may be there.
+    fn put_text(&mut self, text: &[u8]) -> io::Result<()>
+        ensures ok { OnOk result (steps self.new ≡ with_steps (steps self.old) (PutText text.now ∷ [])) }
+        ensures err { OnErr result ((steps self.new ≡ steps self.old)
+            ⊎ (steps self.new ≡ with_steps (steps self.old) (PutText text.now ∷ []))) };
+}
+
+/// Makes the objects durable, each with the folders that name it, and then puts the state text.
+pub(crate) fn put_durably<D: Disk>(
+    alloc: Global,
+    disk: &mut D,
+    keys: &[Key],
+    text: &[u8],
+) -> io::Result<()>
+    ensures order { PutsDurably (D.steps disk.old) (D.steps disk.new) keys.now text.now result }
+{
+    let places = match places_of(alloc, keys) {
+        Ok(places) => places,
+        Err(failure) => return Err(io::Error::from(failure)),
+    };
+    if let Err(failure) = sync_objects(disk, keys) {
+        return Err(failure);
+    }
+    if let Err(failure) = sync_places(disk, places.as_slice()) {
+        return Err(failure);
+    }
+    disk.put_text(text)
+}
+
+/// Makes the objects' files durable, up to the first failure.
+fn sync_objects<D: Disk>(disk: &mut D, keys: &[Key]) -> io::Result<()>
+    ensures ok { OnOk result (D.steps disk.new ≡ with_steps (D.steps disk.old) (map SyncedObject keys.now)) }
+    ensures err { OnErr result (OnlySyncs (D.steps disk.old) (D.steps disk.new)) }
+{
+    for key in keys {
+        if let Err(failure) = disk.sync_object(key) {
+            return Err(failure);
+        }
+    }
+    Ok(())
+}
+
+/// Makes the names in the folders durable, up to the first failure.
+fn sync_places<D: Disk>(disk: &mut D, places: &[Place]) -> io::Result<()>
+    ensures ok { OnOk result (D.steps disk.new ≡ with_steps (D.steps disk.old) (map SyncedPlace places.now)) }
+    ensures err { OnErr result (OnlySyncs (D.steps disk.old) (D.steps disk.new)) }
+{
+    for place in places {
+        if let Err(failure) = disk.sync_place(*place) {
+            return Err(failure);
+        }
+    }
+    Ok(())
+}
+
+/// The folders that name these objects, once each.
+fn places_of(alloc: Global, keys: &[Key]) -> Result<Vec<Place>, AllocError>
+    ensures named { IfOk result (λ places. AreNamedIn keys.now places.items) }
+{
+    let mut places = Vec::new(alloc);
+    for key in keys {
+        add(&mut places, Place::Objects(key.kind, first_byte(key)))?;
+        add(&mut places, Place::OfKind(key.kind))?;
+    }
+    Ok(places)
+}
+
+/// Adds a place, unless it is there.
+fn add(places: &mut Vec<Place>, place: Place) -> Result<(), AllocError>
+    ensures ok { OnOk result (In place places.new.items) }
+    ensures kept { OnOk result ((other : Place) → In other places.old.items → In other places.new.items) }
+{
+    if has(places.as_slice(), place) {
+        return Ok(());
+    }
+    places.push(place)?;
+    Ok(())
+}
+
+/// Whether a place is among these.
+fn has(places: &[Place], place: Place) -> bool
+    ensures found { IsTrue result → In place places.now }
+{
+    for other in places {
+        if is_same(other, &place) {
+            return true;
+        }
+    }
+    false
+}
+
+/// Whether two places are one.
+fn is_same(one: &Place, other: &Place) -> bool
+    ensures value { IsTrue result → other.now ≡ one.now }
+{
+    *one == *other
+}
+
+/// The first byte of a key's id.
+pub(crate) fn first_byte(key: &Key) -> u8
+    ensures value { result ≡ slice_index key.now.id 0 }
+{
+    key.id.as_bytes()[0]
+}
