@@ -34,7 +34,7 @@ use Rattle.object_store.specs.Store.{IsDamage, IsOther, damage_at, damage_of, ha
 use Rattle.object_store.specs.declared.shelf.Slot.{Slot}
 use Rattle.object_store.specs.declared.error.StoreFault.TheVariants as store
 use Rattle.object_graph.proofs.Keys.{same_key, same_key-itself}
-use Rattle.depot.specs.Answering.{IsAnswered, permits}
+use Rattle.depot.specs.Answering.{AnswersBySome, permits}
 use Rattle.depot.specs.ObjectCalls.{Counts, IsFault, IsToldRefusal, SaysOr, is_counted, is_of_store}
 
 -- ---- what a call is due
@@ -55,17 +55,17 @@ due_denies s call lacks = by (token_of s.tokens call.secret) lacks
 -- ---- reads
 
 read_answers : (s : State) (call : Call) (moment : ℕ) (r : Reply) → Permits s (lone s (step.Asked call) moment r) → apply s (lone s (step.Asked call) moment r) ≡ s
-    → IsAnswered s call moment r (Some s)
+    → AnswersBySome s call moment r (Some s)
 read_answers s call moment r permitted stays = ([], record { state = s; left = refl; step = (refl, record { permits = permitted; stays = stays }) })
 
-pub denied_answers : (s : State) (call : Call) (moment : ℕ) → due s call ≡ Denies → IsAnswered s call moment (reply.Refused refusal.Denied) (Some s)
+pub denied_answers : (s : State) (call : Call) (moment : ℕ) → due s call ≡ Denies → AnswersBySome s call moment (reply.Refused refusal.Denied) (Some s)
 denied_answers s call moment is =
     read_answers s call moment (reply.Refused refusal.Denied)
     (subst (DuePermits s (lone s (step.Asked call) moment (reply.Refused refusal.Denied))) (sym is) (inl (record { reply = refl; faults = refl }), refl), refl)
     (refused_reads s call moment (reply.Refused refusal.Denied) refl)
 
 -- an answer that changes nothing
-pub says_answers : (s : State) (call : Call) (moment : ℕ) (r : Reply) → due s call ≡ Says r → step_changes moment (step.Asked call) r s ≡ s → IsAnswered s call moment r (Some s)
+pub says_answers : (s : State) (call : Call) (moment : ℕ) (r : Reply) → due s call ≡ Says r → step_changes moment (step.Asked call) r s ≡ s → AnswersBySome s call moment r (Some s)
 says_answers s call moment r is stays =
     read_answers s call moment r
     (subst (DuePermits s (lone s (step.Asked call) moment r)) (sym is) (inl (record { reply = refl; faults = refl }), refl), refl)
@@ -164,11 +164,11 @@ module _ (s : State) (call : Call) (moment : ℕ) (may_do : due s call ≢ Denie
   faulty_apply why now is counts = refused_stays s (faulty why now) call (faulty_permits why now is counts) refl refl ∙ ap (counted now) (moved_nothing s)
 
   -- a fault in the place of what is due: a read, unless the count rose
-  pub fault_answers : (r : Reply) (now : ℕ) → IsFault s.objects r → Counts s.faults now r → IsAnswered s call moment r (Some (counted now s))
+  pub fault_answers : (r : Reply) (now : ℕ) → IsFault s.objects r → Counts s.faults now r → AnswersBySome s call moment r (Some (counted now s))
   unfolding faulty
   fault_answers (reply.Refused why) now is counts = by (nat_eq now s.faults) refl
     where
-      by : (b : Bool) → nat_eq now s.faults ≡ b → IsAnswered s call moment (reply.Refused why) (Some (counted now s))
+      by : (b : Bool) → nat_eq now s.faults ≡ b → AnswersBySome s call moment (reply.Refused why) (Some (counted now s))
       by true same =
           let equal : now ≡ s.faults = eqb-true now s.faults same in (
             [],
@@ -222,7 +222,7 @@ stores_new s key bytes x None e = by (is_stored s.objects key) refl e
 
 pub stores_answers : (s : State) (call : Call) (moment : ℕ) (key : Key) (bytes : List ℕ) → call.act ≡ act.Put key bytes → s.running ≡ None
     → due s call ≡ Stores (record { key = key; bytes = bytes }) → is_stored s.objects key ≡ false
-    → IsAnswered s call moment (reply.Stored true) (Some (record s { objects = put_new s.objects (record { key = key; bytes = bytes }) }))
+    → AnswersBySome s call moment (reply.Stored true) (Some (record s { objects = put_new s.objects (record { key = key; bytes = bytes }) }))
 stores_answers s call moment key bytes acts idle is absent = (
   e ∷ [],
   record {
@@ -272,7 +272,7 @@ counted_fault objects (reply.Listed ids) e = absurd (true≢false (sym e))
 
 -- an answer that is due, or a fault, of a call that changes nothing
 pub said_answers : (s : State) (call : Call) (moment : ℕ) (said r : Reply) (now : ℕ) → due s call ≡ Says said → step_changes moment (step.Asked call) said s ≡ s
-    → SaysOr s.objects said r → Counts s.faults now r → IsAnswered s call moment r (Some (counted now s))
+    → SaysOr s.objects said r → Counts s.faults now r → AnswersBySome s call moment r (Some (counted now s))
 said_answers s call moment said r now is stays (inr fault) counts = fault_answers s call moment (λ e. says_not_denied (sym is ∙ e)) r now fault counts
   where
     says_not_denied : Says said ≡ Denies → ⊥
@@ -286,11 +286,11 @@ said_answers s call moment said r now is stays (inl same) counts = by (is_counte
     plain true e counts = absurd (true≢false e)
     plain false e counts = counts
 
-    by : (b : Bool) → is_counted r ≡ b → IsAnswered s call moment r (Some (counted now s))
+    by : (b : Bool) → is_counted r ≡ b → AnswersBySome s call moment r (Some (counted now s))
     by true e = fault_answers s call moment (λ d. says_not_denied (sym is ∙ d)) r now (counted_fault s.objects r e) counts
     by false e =
-        subst (λ n. IsAnswered s call moment r (Some (counted n s))) (sym (plain (is_counted r) e counts))
-        (subst (λ q. IsAnswered s call moment q (Some s)) (sym same) (says_answers s call moment said is stays))
+        subst (λ n. AnswersBySome s call moment r (Some (counted n s))) (sym (plain (is_counted r) e counts))
+        (subst (λ q. AnswersBySome s call moment q (Some s)) (sym same) (says_answers s call moment said is stays))
 
 -- ---- damage over any shelf
 

@@ -23,7 +23,7 @@ use Rattle.object_store.specs.Shelf.{Contents}
 use Rattle.object_graph.specs.Traversal.{is_in}
 use Rattle.object_store.specs.StoreView.{AddsNoStray, Index, StoreView, objects_of, status_of}
 use Rattle.object_store.specs.declared.shelf.Slot.{Slot as ShelfSlot}
-use Rattle.depot.specs.Answering.{IsAnswered, MayAnswer, Serves, act_decided, decided, next_by, next_state, permits, state_after, token_decided, unwritten}
+use Rattle.depot.specs.Answering.{AnswersBySome, MayAnswer, Serves, act_decided, decided, next_by, next_state, permits, state_after, token_decided, unwritten}
 use Rattle.depot.specs.DepotView.{DepotView, at_rest, library, running_library, state_of}
 use Rattle.depot.specs.FreshKeys.{RunsOn, came, told_there}
 use Rattle.depot.specs.ObjectCalls.{Counts, DoneSo, IsToldDamage, SaysOr, is_counted}
@@ -83,10 +83,10 @@ quiet_left state call moment r quiet = by (is_refused r)
 -- ---- a call that is denied
 
 pub denied_told : {S : Type 0} (contents : S → Option Contents) (faults : S → ℕ) (old : DepotView S) (call : Call) (moment : ℕ) → permits (token_of old.state.tokens call.secret) call.act ≡ false
-    → (s : State) → state_of contents faults old ≡ Some s → IsAnswered s call moment (reply.Refused refusal.Denied) (state_of contents faults old)
+    → (s : State) → state_of contents faults old ≡ Some s → AnswersBySome s call moment (reply.Refused refusal.Denied) (state_of contents faults old)
 denied_told contents faults old call moment lacks s is =
     let at = mapped_at (running_library old.state old.running (faults old.store.shelf)) (objects_of contents old.store) s is in
-    subst (IsAnswered s call moment (reply.Refused refusal.Denied)) (sym is)
+    subst (AnswersBySome s call moment (reply.Refused refusal.Denied)) (sym is)
     (denied_answers s call moment (due_denies s call (subst (λ (st : State). permits (token_of st.tokens call.secret) call.act ≡ false) at.gives lacks)))
 
 -- ---- a call that touches nothing, whether a collection runs or not
@@ -115,7 +115,7 @@ pub serves_still : {S : Type 0} (contents : S → Option Contents) (may_give : S
 serves_still contents may_give faults old call moment r is_due stays is_decided damage count left none = record {
   told = λ s told.
       let at = mapped_at (running_library old.state old.running (faults old.store.shelf)) (objects_of contents old.store) s told in
-      subst (IsAnswered s call moment r) (sym told)
+      subst (AnswersBySome s call moment r) (sym told)
       (says_answers s call moment r (is_due s (ap (λ (t : State). t.kept) (sym at.gives)) (ap (λ (t : State). t.tokens) (sym at.gives))) (stays s));
   may_come = subst (λ o. MayAnswer old.store.index (may_give old.store.shelf) call.act o r) (sym is_decided) (inl refl);
   damage = λ objects told. damage objects;
@@ -133,20 +133,20 @@ stores_not_denied x e = cc
 
 put_answers : (s : State) (call : Call) (moment : ℕ) (key : Key) (bytes : List ℕ) (o : Option Refusal) (d : Due) (r : Reply) (now : ℕ) (after : Option Objects)
     → call.act ≡ act.Put key bytes → s.running ≡ None → due s call ≡ d → put_by s key bytes o ≡ d → DoneSo s.objects d r after → Counts s.faults now r
-    → IsAnswered s call moment r (option_map (λ objects. record s { objects = objects; faults = now }) after)
+    → AnswersBySome s call moment r (option_map (λ objects. record s { objects = objects; faults = now }) after)
 put_answers s call moment key bytes o (Says said) r now after acts idle is put (says, kept) counts =
-    subst (λ a. IsAnswered s call moment r (option_map (λ objects. record s { objects = objects; faults = now }) a)) (sym kept)
+    subst (λ a. AnswersBySome s call moment r (option_map (λ objects. record s { objects = objects; faults = now }) a)) (sym kept)
     (said_answers s call moment said r now is (quiet_step s call moment said (subst (λ a. is_quiet a ≡ true) (sym acts) refl) idle) says counts)
 put_answers s call moment key bytes o (Stores x) r now after acts idle is put (inl (same, grown)) counts =
     let new = stores_new s key bytes x o put in
     let stays : now ≡ s.faults = subst (λ q. Counts s.faults now q) same counts in
-    subst (λ a. IsAnswered s call moment r (option_map (λ objects. record s { objects = objects; faults = now }) a)) (sym grown)
-    (subst (λ n. IsAnswered s call moment r (Some (record s { objects = put_new s.objects x; faults = n }))) (sym stays)
-    (subst (λ q. IsAnswered s call moment q (Some (record s { objects = put_new s.objects x }))) (sym same)
-    (subst (λ y. IsAnswered s call moment (reply.Stored true) (Some (record s { objects = put_new s.objects y }))) new.1
+    subst (λ a. AnswersBySome s call moment r (option_map (λ objects. record s { objects = objects; faults = now }) a)) (sym grown)
+    (subst (λ n. AnswersBySome s call moment r (Some (record s { objects = put_new s.objects x; faults = n }))) (sym stays)
+    (subst (λ q. AnswersBySome s call moment q (Some (record s { objects = put_new s.objects x }))) (sym same)
+    (subst (λ y. AnswersBySome s call moment (reply.Stored true) (Some (record s { objects = put_new s.objects y }))) new.1
     (stores_answers s call moment key bytes acts idle (is ∙ ap Stores (sym new.1)) new.0))))
 put_answers s call moment key bytes o (Stores x) r now after acts idle is put (inr (fault, kept)) counts =
-    subst (λ a. IsAnswered s call moment r (option_map (λ objects. record s { objects = objects; faults = now }) a)) (sym kept)
+    subst (λ a. AnswersBySome s call moment r (option_map (λ objects. record s { objects = objects; faults = now }) a)) (sym kept)
     (fault_answers s call moment (λ e. stores_not_denied x (sym is ∙ e)) r now fault counts)
 put_answers s call moment key bytes o Denies r now after acts idle is put done counts = absurd done
 put_answers s call moment key bytes o (Installs pushed) r now after acts idle is put done counts = absurd done
@@ -166,7 +166,7 @@ module _ {S : Type 0} (contents : S → Option Contents) (may_give : S → Shelf
       (may_come : MayAnswer old.store.index (may_give store.shelf) call.act (decided old.state call) r)
       (damage : (objects : Objects) → objects_of contents old.store ≡ Some objects → IsToldDamage objects r)
       (count : Counts (faults old.store.shelf) (faults store.shelf) r) (lying : is_counted r ≡ false → AddsNoStray contents old.store store) where
-    serves_by : ((s : State) → state_of contents faults (at_rest old) ≡ Some s → IsAnswered s call moment r (state_of contents faults (record { store = store; state = old.state; unsettled = old.unsettled; running = None })))
+    serves_by : ((s : State) → state_of contents faults (at_rest old) ≡ Some s → AnswersBySome s call moment r (state_of contents faults (record { store = store; state = old.state; unsettled = old.unsettled; running = None })))
         → Serves contents may_give faults (at_rest old) call moment r (record { store = store; state = old.state; unsettled = old.unsettled; running = None })
     serves_by told = record {
       told = told;
@@ -184,11 +184,11 @@ module _ {S : Type 0} (contents : S → Option Contents) (may_give : S → Shelf
         → ((objects : Objects) → objects_of contents old.store ≡ Some objects
         → (said : Reply) × (due (library old.state (faults old.store.shelf) objects) call ≡ Says said) × SaysOr objects said r)
         → Serves contents may_give faults (at_rest old) call moment r (record { store = store; state = old.state; unsettled = old.unsettled; running = None })
-    serves_said kept says = serves_by (of_told (λ s. IsAnswered s call moment r (state_of contents faults (record { store = store; state = old.state; unsettled = old.unsettled; running = None })))
+    serves_said kept says = serves_by (of_told (λ s. AnswersBySome s call moment r (state_of contents faults (record { store = store; state = old.state; unsettled = old.unsettled; running = None })))
         (λ objects told.
         let due_says = says objects told in
         let s : State = library old.state (faults old.store.shelf) objects in
-        subst (IsAnswered s call moment r) (sym (ap (option_map (library old.state (faults store.shelf))) (kept ∙ told)))
+        subst (AnswersBySome s call moment r) (sym (ap (option_map (library old.state (faults store.shelf))) (kept ∙ told)))
         (said_answers s call moment due_says.0 r (faults store.shelf) due_says.1 (quiet_step s call moment due_says.0 quiet refl) due_says.2 count)))
 
     -- a put
@@ -197,7 +197,7 @@ module _ {S : Type 0} (contents : S → Option Contents) (may_give : S → Shelf
         → (due (library old.state (faults old.store.shelf) objects) call ≡ put_due (library old.state (faults old.store.shelf) objects) key bytes)
         × DoneSo objects (put_due (library old.state (faults old.store.shelf) objects) key bytes) r (objects_of contents store))
         → Serves contents may_give faults (at_rest old) call moment r (record { store = store; state = old.state; unsettled = old.unsettled; running = None })
-    serves_put key bytes acts done = serves_by (of_told (λ s. IsAnswered s call moment r (state_of contents faults (record { store = store; state = old.state; unsettled = old.unsettled; running = None })))
+    serves_put key bytes acts done = serves_by (of_told (λ s. AnswersBySome s call moment r (state_of contents faults (record { store = store; state = old.state; unsettled = old.unsettled; running = None })))
         (λ objects told.
         let s : State = library old.state (faults old.store.shelf) objects in
         let both = done objects told in

@@ -23,7 +23,7 @@ use Rattle.object_store.specs.StoreView.{AddsNoStray, StoreView, objects_of, sta
 use Rattle.object_store.specs.declared.error.StoreFault.{StoreFault}
 use Rattle.object_store.specs.declared.error.StoreFault.TheVariants.{Taken, Wrong, Damaged, Shelf, NoMemory}
 use Rattle.object_store.specs.declared.shelf.Slot.{Slot as ShelfSlot}
-use Rattle.depot.specs.Answering.{IsAnswered, MayAnswer, MayAnswerSo, Serves, Would, decided, next_state, refused, rewritten, unwritten}
+use Rattle.depot.specs.Answering.{AnswersBySome, MayAnswer, MayAnswerSo, Serves, Would, decided, next_state, refused, rewritten, unwritten}
 use Rattle.depot.specs.Changing.{TextSo, answer_of, same, changed}
 use Rattle.depot.specs.DepotView.{at_rest, DepotView, library, state_of, IsGood}
 use Rattle.depot.specs.ObjectCalls.{Counts, IsFault, IsToldDamage, is_counted}
@@ -67,7 +67,7 @@ library_apart next present count objects apart e = apart (ap written_part e)
 
 -- ---- an answer after which the state is another
 
-entered : (s t : State) (call : Call) (moment : ℕ) (said : Reply) → due s call ≡ Says said → step_changes moment (step.Asked call) said s ≡ t → t ≢ s → IsAnswered s call moment said (Some t)
+entered : (s t : State) (call : Call) (moment : ℕ) (said : Reply) → due s call ≡ Says said → step_changes moment (step.Asked call) said s ≡ t → t ≢ s → AnswersBySome s call moment said (Some t)
 entered s t call moment said is changes apart = (
   lone s (step.Asked call) moment said ∷ [],
   record {
@@ -98,26 +98,26 @@ module _ {S : Type 0} (contents : S → Option Contents) (may_give : S → Shelf
 
   refused_by : (fault : StoreFault) → (is_free : (objects : Objects) → IsFault objects (answer_of said (Err fault)))
       → Counts (faults old.store.shelf) (faults store.shelf) (answer_of said (Err fault)) → state ≡ old.state
-      → (s : State) → state_of contents faults (at_rest old) ≡ Some s → IsAnswered s call moment (answer_of said (Err fault)) (state_of contents faults (record { store = store; state = state; unsettled = still; running = None }))
+      → (s : State) → state_of contents faults (at_rest old) ≡ Some s → AnswersBySome s call moment (answer_of said (Err fault)) (state_of contents faults (record { store = store; state = state; unsettled = still; running = None }))
   refused_by fault is_free count stays = of_told contents may_give faults old call moment
-      (λ s. IsAnswered s call moment (answer_of said (Err fault)) (state_of contents faults (record { store = store; state = state; unsettled = still; running = None }))) (λ objects told.
-      subst (IsAnswered (library old.state (faults old.store.shelf) objects) call moment (answer_of said (Err fault))) (sym (left_is old.state stays objects told))
+      (λ s. AnswersBySome s call moment (answer_of said (Err fault)) (state_of contents faults (record { store = store; state = state; unsettled = still; running = None }))) (λ objects told.
+      subst (AnswersBySome (library old.state (faults old.store.shelf) objects) call moment (answer_of said (Err fault))) (sym (left_is old.state stays objects told))
       (fault_answers (library old.state (faults old.store.shelf) objects) call moment (λ e. says_not_denied said (sym (is_due objects) ∙ e))
       (answer_of said (Err fault)) (faults store.shelf) (is_free objects) count))
 
   read_by : next ≡ old.state → faults store.shelf ≡ faults old.store.shelf → state ≡ next
-      → (s : State) → state_of contents faults (at_rest old) ≡ Some s → IsAnswered s call moment said (state_of contents faults (record { store = store; state = state; unsettled = still; running = None }))
+      → (s : State) → state_of contents faults (at_rest old) ≡ Some s → AnswersBySome s call moment said (state_of contents faults (record { store = store; state = state; unsettled = still; running = None }))
   read_by is count ok = of_told contents may_give faults old call moment
-      (λ s. IsAnswered s call moment said (state_of contents faults (record { store = store; state = state; unsettled = still; running = None }))) (λ objects told.
-      subst (IsAnswered (library old.state (faults old.store.shelf) objects) call moment said)
+      (λ s. AnswersBySome s call moment said (state_of contents faults (record { store = store; state = state; unsettled = still; running = None }))) (λ objects told.
+      subst (AnswersBySome (library old.state (faults old.store.shelf) objects) call moment said)
       (sym (left_is old.state (ok ∙ is) objects told ∙ ap (λ n. Some (library old.state n objects)) count))
       (says_answers (library old.state (faults old.store.shelf) objects) call moment said (is_due objects) (makes objects ∙ ap (λ st. library st (faults old.store.shelf) objects) is)))
 
   entered_by : next ≢ old.state → faults store.shelf ≡ faults old.store.shelf → state ≡ next
-      → (s : State) → state_of contents faults (at_rest old) ≡ Some s → IsAnswered s call moment said (state_of contents faults (record { store = store; state = state; unsettled = still; running = None }))
+      → (s : State) → state_of contents faults (at_rest old) ≡ Some s → AnswersBySome s call moment said (state_of contents faults (record { store = store; state = state; unsettled = still; running = None }))
   entered_by apart count ok = of_told contents may_give faults old call moment
-      (λ s. IsAnswered s call moment said (state_of contents faults (record { store = store; state = state; unsettled = still; running = None }))) (λ objects told.
-      subst (IsAnswered (library old.state (faults old.store.shelf) objects) call moment said)
+      (λ s. AnswersBySome s call moment said (state_of contents faults (record { store = store; state = state; unsettled = still; running = None }))) (λ objects told.
+      subst (AnswersBySome (library old.state (faults old.store.shelf) objects) call moment said)
       (sym (left_is next ok objects told ∙ ap (λ n. Some (library next n objects)) count))
       (entered (library old.state (faults old.store.shelf) objects) (library next (faults old.store.shelf) objects) call moment said (is_due objects) (makes objects)
       (library_apart next old.state (faults old.store.shelf) objects apart)))

@@ -27,7 +27,7 @@ use Rattle.object_store.proofs.StrayLemmas.{strays_kept}
 use Rattle.object_store.specs.declared.error.StoreFault.{StoreFault}
 use Rattle.object_store.specs.declared.error.StoreFault.TheVariants.{Taken, Wrong, Damaged, Shelf, NoMemory}
 use Rattle.object_store.specs.declared.shelf.Slot.{Slot as ShelfSlot}
-use Rattle.depot.specs.Answering.{IsAnswered, MayAnswer, MayAnswerSo, Serves, SlotSo, Would, decided, next_by, next_state, refused, rewritten, unwritten, with_install}
+use Rattle.depot.specs.Answering.{AnswersBySome, MayAnswer, MayAnswerSo, Serves, SlotSo, Would, decided, next_by, next_state, refused, rewritten, unwritten, with_install}
 use Rattle.depot.specs.DepotView.{at_rest, DepotView, library, state_of, Holds, IsGood}
 use Rattle.depot.specs.ObjectCalls.{Counts, IsToldDamageOf, store_refusal}
 use Rattle.depot.specs.UpdateInstall.{IsCarriedOut, IsWriteFault, LeftBehind, StoresPart, held_in, stopped, unsure, with_all}
@@ -52,7 +52,7 @@ held_kept contents old new keeps =
 -- ---- soundness
 
 -- what an answer leaves of a sound state is sound
-pub sound_answered : (s t : State) (call : Call) (moment : ℕ) (r : Reply) → IsSound s → IsAnswered s call moment r (Some t) → IsSound t
+pub sound_answered : (s t : State) (call : Call) (moment : ℕ) (r : Reply) → IsSound s → AnswersBySome s call moment r (Some t) → IsSound t
 sound_answered s t call moment r sound (changes, answers) =
     let same : answers.state ≡ t = some_same (sym answers.left) in
     subst IsSound same (sound_stands s answers.state changes sound (step_stands s (step.Asked call) moment r answers.state changes answers.step))
@@ -119,17 +119,17 @@ module _ {S : Type 0} (contents : S → Option Contents) (may_give : S → Shelf
 
   -- an answer for what is told
   told_by : (r : Reply) (new : DepotView S)
-      → ((objects : Objects) → objects_of contents old.store ≡ Some objects → IsAnswered (at objects) call moment r (state_of contents faults new))
-      → (s : State) → state_of contents faults (at_rest old) ≡ Some s → IsAnswered s call moment r (state_of contents faults new)
+      → ((objects : Objects) → objects_of contents old.store ≡ Some objects → AnswersBySome (at objects) call moment r (state_of contents faults new))
+      → (s : State) → state_of contents faults (at_rest old) ≡ Some s → AnswersBySome s call moment r (state_of contents faults new)
   told_by r new each s is =
       let found = mapped_at (library old.state (faults old.store.shelf)) (objects_of contents old.store) s is in
-      subst (λ t. IsAnswered t call moment r (state_of contents faults new)) found.gives (each found.value found.is)
+      subst (λ t. AnswersBySome t call moment r (state_of contents faults new)) found.gives (each found.value found.is)
 
   left_as : (r : Reply) (new : DepotView S) (added : List Stored) (state : LibState) (count : ℕ) (objects : Objects) → new.state ≡ state → faults new.store.shelf ≡ count
       → objects_of contents new.store ≡ with_all added (objects_of contents old.store) → objects_of contents old.store ≡ Some objects
-      → IsAnswered (at objects) call moment r (Some (library state count (with_added objects added))) → IsAnswered (at objects) call moment r (state_of contents faults (at_rest new))
+      → AnswersBySome (at objects) call moment r (Some (library state count (with_added objects added))) → AnswersBySome (at objects) call moment r (state_of contents faults (at_rest new))
   left_as r new added state count objects same counts stored told answers =
-      subst (IsAnswered (at objects) call moment r)
+      subst (AnswersBySome (at objects) call moment r)
       (sym (ap (option_map (library new.state (faults new.store.shelf))) (stored ∙ ap (with_all added) told)
       ∙ ap (λ st. Some (library st (faults new.store.shelf) (with_added objects added))) same
       ∙ ap (λ n. Some (library state n (with_added objects added))) counts)) answers
@@ -189,7 +189,7 @@ module _ {S : Type 0} (contents : S → Option Contents) (may_give : S → Shelf
     next = with_install plan.head pushed moment old.state
 
     done_told : (objects : Objects) → objects_of contents old.store ≡ Some objects
-        → IsAnswered (at objects) call moment (reply.Updated plan.head) (Some (library next (faults old.store.shelf) (with_added objects (objects_in plan))))
+        → AnswersBySome (at objects) call moment (reply.Updated plan.head) (Some (library next (faults old.store.shelf) (with_added objects (objects_in plan))))
     done_told objects told = done_answers old.state (faults old.store.shelf) objects call moment pushed updates plan new_commit (planned objects told)
 
     module _ (store : StoreView S) (state : LibState) (still : Bool) where
@@ -246,7 +246,7 @@ module _ {S : Type 0} (contents : S → Option Contents) (may_give : S → Shelf
 
         module _ (free : (objects : Objects) → objects_of contents old.store ≡ Some objects → IsTrue (is_free fault)) (count : CountsShelf {T = ⊤} (faults old.store.shelf) (faults store.shelf) (Err fault)) where
           failed_told : (objects : Objects) → objects_of contents old.store ≡ Some objects
-              → IsAnswered (at objects) call moment (reply.Refused (store_refusal fault)) (Some (library old.state (faults store.shelf) (with_added objects part.part)))
+              → AnswersBySome (at objects) call moment (reply.Refused (store_refusal fault)) (Some (library old.state (faults store.shelf) (with_added objects part.part)))
           failed_told objects told =
               stopped_answers old.state (faults old.store.shelf) objects call moment pushed updates plan part.part (store_refusal fault) (faults store.shelf) (planned objects told) part.front
               (free_told objects fault (free objects told)) (fault_counts (faults old.store.shelf) (faults store.shelf) fault count)

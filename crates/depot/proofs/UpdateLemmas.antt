@@ -25,7 +25,7 @@ use Rattle.library_state.specs.declared.reply.Reply.TheVariants as reply
 use Rattle.library_state.specs.declared.state.LibState.{LibState}
 use Rattle.object_graph.specs.Traversal.{is_in}
 use Rattle.object_graph.proofs.Keys.{same_key, same_key-itself}
-use Rattle.depot.specs.Answering.{IsAnswered, MayAnswerSo, with_install}
+use Rattle.depot.specs.Answering.{AnswersBySome, MayAnswerSo, with_install}
 use Rattle.depot.specs.DepotView.{library}
 use Rattle.depot.specs.ObjectCalls.{Counts, IsToldRefusal}
 use Rattle.depot.specs.UpdateInstall.{IsFront}
@@ -70,7 +70,7 @@ module _ (state : LibState) (count : ℕ) (objects : Objects) (call : Call) (mom
 
   -- a commit that is kept
   pub kept_answers : is_kept state.kept pushed ≡ true → due s call ≡ Says (reply.Updated (head_of state.kept))
-      → IsAnswered s call moment (reply.Updated (head_of state.kept)) (Some s)
+      → AnswersBySome s call moment (reply.Updated (head_of state.kept)) (Some s)
   kept_answers kept is =
       says_answers s call moment (reply.Updated (head_of state.kept)) is
       (ap (λ a. act_changes call.secret moment a (reply.Updated (head_of state.kept)) s) updates
@@ -78,24 +78,24 @@ module _ (state : LibState) (count : ℕ) (objects : Objects) (call : Call) (mom
 
   -- ---- a refusal before anything is stored
 
-  read_answers : (why : Refusal) → DuePermits s (lone s (step.Asked call) moment (reply.Refused why)) (due s call) → IsAnswered s call moment (reply.Refused why) (Some s)
+  read_answers : (why : Refusal) → DuePermits s (lone s (step.Asked call) moment (reply.Refused why)) (due s call) → AnswersBySome s call moment (reply.Refused why) (Some s)
   read_answers why permits = ([], record { state = s; left = refl; step = (refl, record { permits = (permits, refl); stays = refl }) })
 
   -- a merge that is refused
   merge_answers : (user base other : List ℕ) (why : Refusal) → due s call ≡ Merges user base other
-      → MergeFails s (lone s (step.Asked call) moment (reply.Refused why)) user base other why → IsAnswered s call moment (reply.Refused why) (Some s)
+      → MergeFails s (lone s (step.Asked call) moment (reply.Refused why)) user base other why → AnswersBySome s call moment (reply.Refused why) (Some s)
   merge_answers user base other why is fails =
       read_answers why (subst (DuePermits s (lone s (step.Asked call) moment (reply.Refused why))) (sym is)
       (inr (record { why = why; reply = refl; cause = fails })))
 
-  at_count : (why : Refusal) (now : ℕ) → now ≡ count → IsAnswered s call moment (reply.Refused why) (Some s) → IsAnswered s call moment (reply.Refused why) (Some (library state now objects))
-  at_count why now same answers = subst (λ n. IsAnswered s call moment (reply.Refused why) (Some (library state n objects))) (sym same) answers
+  at_count : (why : Refusal) (now : ℕ) → now ≡ count → AnswersBySome s call moment (reply.Refused why) (Some s) → AnswersBySome s call moment (reply.Refused why) (Some (library state now objects))
+  at_count why now same answers = subst (λ n. AnswersBySome s call moment (reply.Refused why) (Some (library state n objects))) (sym same) answers
 
   merges_not_denied : (user base other : List ℕ) → Merges user base other ≢ Denies
   merges_not_denied user base other e = cc
 
   merge_refused : (user base other : List ℕ) (why : Refusal) (now : ℕ) → due s call ≡ Merges user base other → MergeRefuses s moment user base other why
-      → Counts count now (reply.Refused why) → IsAnswered s call moment (reply.Refused why) (Some (library state now objects))
+      → Counts count now (reply.Refused why) → AnswersBySome s call moment (reply.Refused why) (Some (library state now objects))
   merge_refused user base other (refusal.TooLong path size) now is refuses counts =
       at_count (refusal.TooLong path size) now counts (merge_answers user base other (refusal.TooLong path size) is (refl, refl, refuses))
   merge_refused user base other (refusal.TooMany paths) now is refuses counts =
@@ -106,7 +106,7 @@ module _ (state : LibState) (count : ℕ) (objects : Objects) (call : Call) (mom
       fault_answers s call moment (λ e. merges_not_denied user base other (sym is ∙ e)) (reply.Refused why) now refuses counts
 
   pub refused_answers : (why : Refusal) (now : ℕ) → IsPlanFault s moment (due s call) why → Counts count now (reply.Refused why)
-      → IsAnswered s call moment (reply.Refused why) (Some (library state now objects))
+      → AnswersBySome s call moment (reply.Refused why) (Some (library state now objects))
   refused_answers why now fault counts = by (due s call) refl fault
     where
       says_not : (r : Reply) → Says r ≢ Denies
@@ -115,7 +115,7 @@ module _ (state : LibState) (count : ℕ) (objects : Objects) (call : Call) (mom
       installs_not : (other : List ℕ) → Installs other ≢ Denies
       installs_not other e = cc
 
-      by : (d : Due) → due s call ≡ d → IsPlanFault s moment d why → IsAnswered s call moment (reply.Refused why) (Some (library state now objects))
+      by : (d : Due) → due s call ≡ d → IsPlanFault s moment d why → AnswersBySome s call moment (reply.Refused why) (Some (library state now objects))
       by Denies is fault = absurd fault
       by (Stores x) is fault = absurd fault
       by (Says r) is (inl same) = said_answers s call moment (reply.Refused why) (reply.Refused why) now (is ∙ ap Says same) refl (inl refl) counts
@@ -146,7 +146,7 @@ module _ (state : LibState) (count : ℕ) (objects : Objects) (call : Call) (mom
       ∙ ap (λ b. counted count (if b then moved s (objects_in plan) [] else installed plan.head pushed moment (moved s (objects_in plan) []))) new
 
   pub done_answers : (plan : Plan) → is_kept state.kept pushed ≡ false → IsPlan s moment (due s call) plan
-      → IsAnswered s call moment (reply.Updated plan.head) (Some (library (with_install plan.head pushed moment state) count (with_added objects (objects_in plan))))
+      → AnswersBySome s call moment (reply.Updated plan.head) (Some (library (with_install plan.head pushed moment state) count (with_added objects (objects_in plan))))
   unfolding entry_of
   done_answers plan new is = (
     entry_of (reply.Updated plan.head) (objects_in plan) count ∷ [],
@@ -204,7 +204,7 @@ module _ (state : LibState) (count : ℕ) (objects : Objects) (call : Call) (mom
   plan_not_denied plan planned is = absurd (subst (λ d. IsPlan s moment d plan) is planned)
 
   pub stopped_answers : (plan : Plan) (part : List Stored) (why : Refusal) (now : ℕ) → IsPlan s moment (due s call) plan → IsFront part (objects_in plan)
-      → IsToldRefusal objects why → Counts count now (reply.Refused why) → IsAnswered s call moment (reply.Refused why) (Some (library state now (with_added objects part)))
+      → IsToldRefusal objects why → Counts count now (reply.Refused why) → AnswersBySome s call moment (reply.Refused why) (Some (library state now (with_added objects part)))
   unfolding entry_of
   stopped_answers plan [] why now planned front told counts = fault_answers s call moment (plan_not_denied plan planned) (reply.Refused why) now told counts
   stopped_answers plan (x ∷ part) why now planned front told counts =

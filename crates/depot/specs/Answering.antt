@@ -46,8 +46,8 @@ pub record AnswersSo (s : State) (call : Call) (moment : ℕ) (r : Reply) (chang
   pub step : StepSo s (Asked call) moment r state changes
 
 -- the same by some entries
-abbrev pub IsAnswered : State → Call → ℕ → Reply → Option State → Type 0
-IsAnswered s call moment r after = (changes : List Entry) × AnswersSo s call moment r changes after
+abbrev pub AnswersBySome : State → Call → ℕ → Reply → Option State → Type 0
+AnswersBySome s call moment r after = (changes : List Entry) × AnswersSo s call moment r changes after
 
 -- whether a token may do this
 abbrev pub permits : Option Token → Act → Bool
@@ -240,7 +240,7 @@ Would contents faults old call moment said = (s : State) → state_of contents f
 -- what a call answers and leaves
 pub record Serves {S : Type 0} (contents : S → Option Contents) (may_give : S → ShelfSlot → Option (List ℕ) → Type 0) (faults : S → ℕ) (old : DepotView S)
     (call : Call) (moment : ℕ) (r : Reply) (new : DepotView S) : Type 0 where
-  pub told : (s : State) → state_of contents faults old ≡ Some s → IsAnswered s call moment r (state_of contents faults new)
+  pub told : (s : State) → state_of contents faults old ≡ Some s → AnswersBySome s call moment r (state_of contents faults new)
   pub may_come : MayAnswer old.store.index (may_give new.store.shelf) call.act (decided old.state call) r
   pub damage : (objects : Objects) → objects_of contents old.store ≡ Some objects → IsToldDamage objects r
   pub count : Counts (faults old.store.shelf) (faults new.store.shelf) r

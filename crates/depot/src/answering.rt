@@ -5,7 +5,7 @@ ghost use Rattle.library_rules.specs.Calls.{token_of};
 ghost use Rattle.library_rules.specs.LibraryState.{State};
 ghost use Rattle.library_state.specs.Rights.{right_number};
 ghost use Rattle.object_store.specs.StoreView.{AddsNoStray, objects_of, status_of};
-ghost use Rattle.depot.specs.Answering.{IsAnswered, MayAnswer, Serves, SlotSo, Would, decided, permits, state_after};
+ghost use Rattle.depot.specs.Answering.{AnswersBySome, MayAnswer, Serves, SlotSo, Would, decided, permits, state_after};
 ghost use Rattle.depot.specs.DepotView.{IsGood, state_of};
 ghost use Rattle.depot.specs.FreshKeys.{RunsOn, told_there};
 ghost use Rattle.depot.specs.ObjectCalls.{Counts, IsToldDamage, is_counted};
@@ -24,7 +24,7 @@ impl<S: Shelf> Depot<S> {
     /// the one of the state that the call would have made.
     pub fn answer(&mut self, call: &Call, moment: u64) -> Reply
         ensures told { (s : State) → state_of S.contents S.faults self.old ≡ Some s
-            → IsAnswered s call.now moment result (state_of S.contents S.faults self.new) }
+            → AnswersBySome s call.now moment result (state_of S.contents S.faults self.new) }
         ensures stands { IsGood S.contents S.faults self.new }
 
         // Of every shelf: what the state decides, and the cause of each fault.
