@@ -1,56 +1,50 @@
 //! Outside vectors, and each call once with ample memory.
-use commit_objects::{BadCommit, Commit, CommitKey};
+use commit_objects::Commit;
 use ids::{LibId, ObjId, Text};
 use json_words::ReadFault;
 use std::alloc::Global;
 use std::test::Fail;
 
-fn fault_of(alloc: Global, text: &[u8]) -> Option<BadCommit> {
-    match Commit::read(alloc, text) {
-        Err(ReadFault::Bad(bad)) => Some(bad),
-        _ => None,
+/// Whether a text is refused with this fault, as it is printed, and this code.
+fn is_refused(alloc: Global, text: &str, wanted: &str, code: u64) -> Result<bool, Fail> {
+    match Commit::read(alloc, text.as_bytes()) {
+        Err(ReadFault::Bad(bad)) => {
+            let told = format!(in alloc; "{bad:?}")?;
+            Ok(told.as_bytes() == wanted.as_bytes() && bad.code() == code)
+        }
+        _ => Ok(false),
     }
 }
 
 // Hand-written texts; each is wrong at one place, or the earlier key counts.
+const REFUSED: [(&str, &str, u64); 7] = [
+    ("7", "NotJson", 1),
+    ("{}", "Missing(KCommitId)", 2),
+    ("{\"commit_id\":null}", "WrongType(KCommitId)", 3),
+    ("{\"commit_id\":\"\",\"root_id\":1}", "BadId(KCommitId)", 4),
+    (
+        "{\"commit_id\":\"0000000000000000000000000000000000000000\"}",
+        "BadId(KCommitId)",
+        4,
+    ),
+    (
+        "{\"commit_id\":\"cccccccccccccccccccccccccccccccccccccccc\",\"root_id\":\"0000000000000000000000000000000000000000\",\"repo_id\":\"11111111-2222-4333-8444-55555555555A\"}",
+        "BadId(KRepoId)",
+        4,
+    ),
+    (
+        "{\"commit_id\":\"cccccccccccccccccccccccccccccccccccccccc\",\"root_id\":\"0000000000000000000000000000000000000000\",\"repo_id\":\"11111111-2222-4333-8444-555555555555\",\"ctime\":1,\"conflict\":1.0}",
+        "WrongType(KConflict)",
+        3,
+    ),
+];
+
 #[test]
-fn the_first_failing_check_is_answered(rt: HostRuntime) {
-    for (text, wanted, code) in [
-        ("7", BadCommit::NotJson, 1),
-        ("{}", BadCommit::Missing(CommitKey::KCommitId), 2),
-        (
-            "{\"commit_id\":null}",
-            BadCommit::WrongType(CommitKey::KCommitId),
-            3,
-        ),
-        (
-            "{\"commit_id\":\"\",\"root_id\":1}",
-            BadCommit::BadId(CommitKey::KCommitId),
-            4,
-        ),
-        (
-            "{\"commit_id\":\"0000000000000000000000000000000000000000\"}",
-            BadCommit::BadId(CommitKey::KCommitId),
-            4,
-        ),
-        (
-            "{\"commit_id\":\"cccccccccccccccccccccccccccccccccccccccc\",\"root_id\":\"0000000000000000000000000000000000000000\",\"repo_id\":\"11111111-2222-4333-8444-55555555555A\"}",
-            BadCommit::BadId(CommitKey::KRepoId),
-            4,
-        ),
-        (
-            "{\"commit_id\":\"cccccccccccccccccccccccccccccccccccccccc\",\"root_id\":\"0000000000000000000000000000000000000000\",\"repo_id\":\"11111111-2222-4333-8444-555555555555\",\"ctime\":1,\"conflict\":1.0}",
-            BadCommit::WrongType(CommitKey::KConflict),
-            3,
-        ),
-    ] {
-        assert_eq!(rt;
-            fault_of(rt.alloc(), text.as_bytes()),
-            Some(wanted),
-            "{text}"
-        );
-        assert_eq!(rt; wanted.code(), code, "{text}");
+fn the_first_failing_check_is_answered(rt: HostRuntime) -> Result<(), Fail> {
+    for (text, wanted, code) in REFUSED {
+        assert!(rt; is_refused(rt.alloc(), text, wanted, code)?, "{text}");
     }
+    Ok(())
 }
 
 // The shortest commit, and a text as stock clients write it, with blanks and further keys.

@@ -5,31 +5,26 @@ use library_state::{Act, Op, Refusal, Reply, Right};
 use object_graph::TreeFault;
 use std::test::Fail;
 
+fn needs(act: Act, right: Right) -> bool {
+    right_needed(&act) == right
+}
+
 #[test]
-fn each_act_needs_its_right(rt: HostRuntime) -> Result<(), Fail> {
-    let alloc = rt.alloc();
+fn each_act_needs_its_right(rt: HostRuntime) {
     let id = ObjId::of(b"");
     let key = Key {
         kind: Kind::Block,
         id,
     };
-    for (case, act, right) in [
-        ("upload check", Act::Check(Op::Upload), Right::Write),
-        ("download check", Act::Check(Op::Download), Right::Read),
-        ("head", Act::Head, Right::Read),
-        ("get", Act::Get(key), Right::Read),
-        (
-            "missing",
-            Act::Missing(Kind::Fs, IdList::new(alloc)),
-            Right::Write,
-        ),
-        ("update", Act::Update(id), Right::Write),
-        ("limit", Act::Limit(30), Right::Owner),
-        ("ids", Act::Ids(id, None), Right::Read),
-    ] {
-        assert_eq!(rt; right_needed(&act), right, "{case}");
-    }
-    Ok(())
+    let absent = Act::Missing(Kind::Fs, IdList::new(rt.alloc()));
+    assert!(rt; needs(Act::Check(Op::Upload), Right::Write));
+    assert!(rt; needs(Act::Check(Op::Download), Right::Read));
+    assert!(rt; needs(Act::Head, Right::Read));
+    assert!(rt; needs(Act::Get(key), Right::Read));
+    assert!(rt; needs(absent, Right::Write));
+    assert!(rt; needs(Act::Update(id), Right::Write));
+    assert!(rt; needs(Act::Limit(30), Right::Owner));
+    assert!(rt; needs(Act::Ids(id, None), Right::Read));
 }
 
 #[test]

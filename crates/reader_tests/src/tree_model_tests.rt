@@ -1,8 +1,9 @@
 //! Names, orders of paths and tables with ample memory.
 use std::alloc::Global;
 use std::cmp::Ordering;
+use std::process::Abort;
 use std::test::Fail;
-use tree_model::{BadName, Name, NameFault, Path, PathTable};
+use tree_model::{Name, NameFault, Path, PathTable};
 
 fn path(alloc: Global, names: &[&str]) -> Result<Path, NameFault> {
     let mut path = Path::root(alloc);
@@ -13,36 +14,57 @@ fn path(alloc: Global, names: &[&str]) -> Result<Path, NameFault> {
     Ok(path)
 }
 
+/// The fault of a name, as it is printed; no text where the name is good.
+fn fault_of(alloc: Global, text: &str) -> Result<String, Fail> {
+    match Name::check(text) {
+        Err(fault) => Ok(format!(in alloc; "{fault:?}")?),
+        Ok(()) => Ok(String::new(alloc)),
+    }
+}
+
+/// Whether a name is refused with this fault, or read as it is where there is none.
+fn is_read(alloc: Global, text: &str, wanted: &str) -> Result<bool, Fail> {
+    match Name::read(alloc, text) {
+        Ok(name) => Ok(
+            wanted.is_empty() && name.as_str() == text && name.bytes() == text.as_bytes(),
+        ),
+        Err(NameFault::Bad(told)) => {
+            let told = format!(in alloc; "{told:?}")?;
+            Ok(told.as_bytes() == wanted.as_bytes())
+        }
+        Err(NameFault::NoMemory) => Ok(false),
+    }
+}
+
+fn expect_fault(rt: &(impl Abort + AllocGlobal), text: &str, wanted: &str) -> Result<(), Fail> {
+    let told = fault_of(rt.alloc(), text)?;
+    assert!(rt; told.as_bytes() == wanted.as_bytes(), "{text}");
+    assert!(rt; is_read(rt.alloc(), text, wanted)?, "{text}");
+    Ok(())
+}
+
+const FAULTS: [(&str, &str); 8] = [
+    ("a", ""),
+    ("", "Empty"),
+    ("a/b", "Forbidden(1)"),
+    ("../", "Forbidden(2)"),
+    ("\0/", "Forbidden(0)"),
+    (".", "Dots"),
+    ("..", "Dots"),
+    ("...", ""),
+];
+
 #[test]
 fn the_first_fault_of_a_name_is_told(rt: HostRuntime) -> Result<(), Fail> {
-    let alloc = rt.alloc();
-    let longest = "a".repeat(alloc, 255)?;
-    let too_long = "a".repeat(alloc, 256)?;
-    let slashed = "/".repeat(alloc, 256)?;
-    for (case, text, fault) in [
-        ("a letter", "a", None),
-        ("255 bytes", longest.as_str(), None),
-        ("256 bytes", too_long.as_str(), Some(BadName::TooLong(256))),
-        ("256 slashes", slashed.as_str(), Some(BadName::TooLong(256))),
-        ("no bytes", "", Some(BadName::Empty)),
-        ("a slash", "a/b", Some(BadName::Forbidden(1))),
-        ("a slash at the end", "../", Some(BadName::Forbidden(2))),
-        ("NUL", "\0/", Some(BadName::Forbidden(0))),
-        ("one dot", ".", Some(BadName::Dots)),
-        ("two dots", "..", Some(BadName::Dots)),
-        ("three dots", "...", None),
-    ] {
-        assert_eq!(rt; Name::check(text).err(), fault, "{case}");
-        match Name::read(alloc, text) {
-            Ok(name) => assert!(rt;
-                fault.is_none() && name.as_str() == text && name.bytes() == text.as_bytes(),
-                "{case}"
-            ),
-            Err(NameFault::Bad(told)) => assert_eq!(rt; Some(told), fault, "{case}"),
-            Err(NameFault::NoMemory) => assert!(rt; false, "{case}"),
-        }
+    for (text, wanted) in FAULTS {
+        expect_fault(&rt, text, wanted)?;
     }
-    Ok(())
+    let longest = "a".repeat(rt.alloc(), 255)?;
+    expect_fault(&rt, longest.as_str(), "")?;
+    let too_long = "a".repeat(rt.alloc(), 256)?;
+    expect_fault(&rt, too_long.as_str(), "TooLong(256)")?;
+    let slashed = "/".repeat(rt.alloc(), 256)?;
+    expect_fault(&rt, slashed.as_str(), "TooLong(256)")
 }
 
 #[test]
