@@ -13,8 +13,6 @@ mod not_done;
 mod opening;
 mod running;
 mod serving;
-#[cfg(test)]
-mod tests;
 
 pub use crate::running::run;
 pub use crate::serving::serve_link;

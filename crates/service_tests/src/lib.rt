@@ -1,7 +1,9 @@
-//! Tests of the depot, over its public calls alone.
+//! Tests of the depot and of what the server does, over their public calls alone.
 //!
 //! They stand apart, since a crate with tests is proved twice. It has no code but its tests.
 #![tactic(auto)]
 
 #[cfg(test)]
 mod depot_tests;
+#[cfg(test)]
+mod library_server_tests;

@@ -1,9 +1,9 @@
 //! Commands over libraries in memory: what is printed, and the status.
 use super::{LIB, MOMENT};
-use crate::running::run;
 use folder_storage::MemoryGround;
 use http_front::{MemoryLink, MemorySink};
 use ids::{Bytes, Items, Text};
+use library_server::run;
 use library_state::ListClock;
 use std::alloc::{AllocError, Global};
 use std::process::Abort;

@@ -1,12 +1,11 @@
 //! Worked connections, and commands over libraries in memory.
 mod commands;
-mod merges;
 mod rows;
 
-use crate::serving::serve_link;
 use depot::Depot;
 use http_front::MemoryLink;
 use ids::{Bytes, Items, LibId, Text};
+use library_server::serve_link;
 use library_state::{ListClock, Secret};
 use object_store::{MemoryShelf, Store};
 use std::alloc::Global;
