@@ -66,11 +66,15 @@ fn lines(alloc: Global, changes: &Items<Change>) -> Result<String, AllocError> {
     Ok(text)
 }
 
-/// What is wrong with a text, if anything.
-fn fault(alloc: Global, text: &str) -> Option<IndexKey> {
+/// Whether this key, as it is printed, is what is first wrong with a text; no text where nothing is.
+fn is_told(alloc: Global, text: &str, wanted: &str) -> Result<bool, Fail> {
     match Index::read(alloc, text.as_bytes()) {
-        Err(ReadFault::Bad(key)) => Some(key),
-        _ => None,
+        Err(ReadFault::Bad(key)) => {
+            let told = format!(in alloc; "{key:?}")?;
+            Ok(told.as_bytes() == wanted.as_bytes())
+        }
+        Err(ReadFault::NoMemory) => Ok(false),
+        Ok(_) => Ok(wanted.is_empty()),
     }
 }
 
@@ -91,106 +95,114 @@ fn an_index_text_is_written_back_as_itself(rt: HostRuntime) -> Result<(), Fail> 
     Ok(())
 }
 
+const FIRST_WRONG: [(&str, &str); 11] = [
+    ("[]", "Whole"),
+    ("{", "Whole"),
+    ("{}", "Version"),
+    ("{\"version\":2}", "Version"),
+    ("{\"version\":1}", "Lib"),
+    ("{\"lib\":\"x\",\"version\":1}", "Lib"),
+    (
+        "{\"lib\":\"11111111-2222-4333-8444-555555555555\",\"version\":1}",
+        "Base",
+    ),
+    (
+        "{\"base\":1,\"lib\":\"11111111-2222-4333-8444-555555555555\",\"version\":1}",
+        "Base",
+    ),
+    (
+        "{\"base\":\"0000000000000000000000000000000000000000\",\"lib\":\"11111111-2222-4333-8444-555555555555\",\"version\":1}",
+        "Base",
+    ),
+    (
+        "{\"base\":null,\"lib\":\"11111111-2222-4333-8444-555555555555\",\"version\":1}",
+        "Entries",
+    ),
+    (
+        "{\"base\":null,\"entries\":[],\"lib\":\"11111111-2222-4333-8444-555555555555\",\"more\":1,\"version\":1}",
+        "Extra",
+    ),
+];
+
 #[test]
 fn the_first_failing_check_of_a_text_is_told(rt: HostRuntime) -> Result<(), Fail> {
-    let alloc = rt.alloc();
-    for (text, expected) in [
-        ("[]", Some(IndexKey::Whole)),
-        ("{", Some(IndexKey::Whole)),
-        ("{}", Some(IndexKey::Version)),
-        ("{\"version\":2}", Some(IndexKey::Version)),
-        ("{\"version\":1}", Some(IndexKey::Lib)),
-        ("{\"lib\":\"x\",\"version\":1}", Some(IndexKey::Lib)),
-        (
-            "{\"lib\":\"11111111-2222-4333-8444-555555555555\",\"version\":1}",
-            Some(IndexKey::Base),
-        ),
-        (
-            "{\"base\":1,\"lib\":\"11111111-2222-4333-8444-555555555555\",\"version\":1}",
-            Some(IndexKey::Base),
-        ),
-        (
-            "{\"base\":\"0000000000000000000000000000000000000000\",\"lib\":\"11111111-2222-4333-8444-555555555555\",\"version\":1}",
-            Some(IndexKey::Base),
-        ),
-        (
-            "{\"base\":null,\"lib\":\"11111111-2222-4333-8444-555555555555\",\"version\":1}",
-            Some(IndexKey::Entries),
-        ),
-        (
-            "{\"base\":null,\"entries\":[],\"lib\":\"11111111-2222-4333-8444-555555555555\",\"more\":1,\"version\":1}",
-            Some(IndexKey::Extra),
-        ),
-    ] {
-        assert_eq!(rt; fault(alloc, text), expected, "{text}");
+    for (text, wanted) in FIRST_WRONG {
+        assert!(rt; is_told(rt.alloc(), text, wanted)?, "{text}");
     }
     Ok(())
 }
 
 #[test]
 fn a_number_is_no_base_whatever_the_entries_are(rt: HostRuntime) -> Result<(), Fail> {
-    assert_eq!(rt; fault(rt.alloc(), BASE_IS_1), Some(IndexKey::Base));
+    assert!(rt; is_told(rt.alloc(), BASE_IS_1, "Base")?);
     Ok(())
 }
 
+/// Entries, and whether an index has them.
+const ENTRIES: [(&str, &str); 10] = [
+    ("{\"path\":\"d\"}", ""),
+    ("{\"path\":\"d/e\"},{\"path\":\"d\"}", ""),
+    ("{\"path\":\"d/e\"}", "Entries"),
+    ("{\"path\":\"d\"},{\"path\":\"d\"}", "Entries"),
+    ("{\"path\":\"\"}", "Entries"),
+    ("{\"path\":\"/d\"}", "Entries"),
+    ("{\"path\":\"..\"}", "Entries"),
+    ("{\"path\":\"d\",\"x\":1}", "Entries"),
+    ("{}", "Entries"),
+    ("1", "Entries"),
+];
+
 #[test]
 fn entries_are_distinct_paths_in_directories(rt: HostRuntime) -> Result<(), Fail> {
-    let alloc = rt.alloc();
-    for (entries, is_good) in [
-        ("{\"path\":\"d\"}", true),
-        ("{\"path\":\"d/e\"},{\"path\":\"d\"}", true),
-        ("{\"path\":\"d/e\"}", false),
-        ("{\"path\":\"d\"},{\"path\":\"d\"}", false),
-        ("{\"path\":\"\"}", false),
-        ("{\"path\":\"/d\"}", false),
-        ("{\"path\":\"..\"}", false),
-        ("{\"path\":\"d\",\"x\":1}", false),
-        ("{}", false),
-        ("1", false),
-    ] {
-        let expected = if is_good {
-            None
-        } else {
-            Some(IndexKey::Entries)
-        };
-        assert_eq!(rt;
-            fault(alloc, index_text(alloc, entries)?.as_str()),
-            expected,
-            "{entries}"
-        );
+    for (entries, wanted) in ENTRIES {
+        let text = index_text(rt.alloc(), entries)?;
+        assert!(rt; is_told(rt.alloc(), text.as_str(), wanted)?, "{entries}");
     }
     Ok(())
 }
 
+/// Whether the scan of these paths differs so from the index of these entries.
+fn differs_so(alloc: Global, entries: &str, paths: &[&str], wanted: &str) -> Result<bool, Fail> {
+    let text = index_text(alloc, entries)?;
+    let index = match Index::read(alloc, text.as_bytes()) {
+        Ok(index) => index,
+        Err(_) => return Err(Fail::from("an index")),
+    };
+    let scan = scan_of(alloc, paths)?.ok_or("a scan")?;
+    let told = lines(alloc, &changes(alloc, &scan, &index)?)?;
+    Ok(told.as_bytes() == wanted.as_bytes())
+}
+
+/// A file whose own text is that of `abc`.
+const SAME: &str =
+    "{\"id\":\"0000000000000000000000000000000000000000\",\"mode\":33188,\"modifier\":\"me\",\"mtime\":5,\"own\":\"f94650066818ed77bd0283d828bd992667a2d5ad\",\"path\":\"a\",\"size\":99}";
+
+/// The same file under another id of its own.
+const OTHER: &str =
+    "{\"id\":\"0000000000000000000000000000000000000000\",\"mode\":33188,\"modifier\":\"me\",\"mtime\":5,\"own\":\"0000000000000000000000000000000000000000\",\"path\":\"a\",\"size\":3}";
+
+/// A directory with a file.
+const BELOW: &str =
+    "{\"path\":\"d\"},{\"id\":\"0000000000000000000000000000000000000000\",\"mode\":33188,\"modifier\":\"me\",\"mtime\":5,\"own\":\"0000000000000000000000000000000000000000\",\"path\":\"d/a\",\"size\":0}";
+
 // The id of the file `abc` is the SHA-1 of its object's 88 bytes.
 #[test]
 fn changes_are_told_in_byte_order_of_path(rt: HostRuntime) -> Result<(), Fail> {
-    let alloc = rt.alloc();
-    let same =
-        "{\"id\":\"0000000000000000000000000000000000000000\",\"mode\":33188,\"modifier\":\"me\",\"mtime\":5,\"own\":\"f94650066818ed77bd0283d828bd992667a2d5ad\",\"path\":\"a\",\"size\":99}";
-    let other =
-        "{\"id\":\"0000000000000000000000000000000000000000\",\"mode\":33188,\"modifier\":\"me\",\"mtime\":5,\"own\":\"0000000000000000000000000000000000000000\",\"path\":\"a\",\"size\":3}";
-    let below =
-        "{\"path\":\"d\"},{\"id\":\"0000000000000000000000000000000000000000\",\"mode\":33188,\"modifier\":\"me\",\"mtime\":5,\"own\":\"0000000000000000000000000000000000000000\",\"path\":\"d/a\",\"size\":0}";
     for (entries, paths, expected) in [
         ("", ["a"].as_slice(), "a added\n"),
-        (below, ["d/"].as_slice(), "d/a gone\n"),
-        (other, ["a/"].as_slice(), "a changed\n"),
-        (other, ["a"].as_slice(), "a changed\n"),
-        (same, ["a"].as_slice(), ""),
-        (same, ["a", "b/"].as_slice(), "b added\n"),
+        (BELOW, ["d/"].as_slice(), "d/a gone\n"),
+        (OTHER, ["a/"].as_slice(), "a changed\n"),
+        (OTHER, ["a"].as_slice(), "a changed\n"),
+        (SAME, ["a"].as_slice(), ""),
+        (SAME, ["a", "b/"].as_slice(), "b added\n"),
         (
-            below,
+            BELOW,
             ["d-e", "d/", "d/b"].as_slice(),
             "d-e added\nd/a gone\nd/b added\n",
         ),
     ] {
-        let text = index_text(alloc, entries)?;
-        let index = Index::read(alloc, text.as_bytes()).ok().ok_or("an index")?;
-        let scan = scan_of(alloc, paths)?.ok_or("a scan")?;
-        assert_eq!(rt;
-            lines(alloc, &changes(alloc, &scan, &index)?)?.as_str(),
-            expected,
+        assert!(rt;
+            differs_so(rt.alloc(), entries, paths, expected)?,
             "{entries}"
         );
     }
