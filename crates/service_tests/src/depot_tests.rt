@@ -4,7 +4,7 @@ mod update_tests;
 
 use depot::*;
 use ids::{Items, LibId, ObjId, Text};
-use library_state::{Right, Secret};
+use library_state::{Act, Call, Reply, Right, Secret};
 use object_store::{MemoryShelf, Store, StoreFault};
 use std::alloc::Global;
 use std::test::Fail;
@@ -39,6 +39,20 @@ fn made(
     Ok(Depot::make(alloc, store, lib, &name, &user, secret, 7))
 }
 
+/// The library of the tests, over a shelf whose calls of these numbers fail.
+fn library_on(alloc: Global, fails: &[u64]) -> Result<Depot<MemoryShelf>, Fail> {
+    match made(alloc, empty(alloc, fails)?)? {
+        Ok(depot) => Ok(depot),
+        Err(_) => Err(Fail::from("refused")),
+    }
+}
+
+/// What its owner is answered at moment 9.
+fn asked(depot: &mut Depot<MemoryShelf>, act: Act) -> Reply {
+    let secret = Some(Secret::from_bytes([170; 20]));
+    depot.answer(&Call { secret, act }, 9)
+}
+
 fn id(digits: &str) -> Result<ObjId, Fail> {
     match ObjId::read(digits) {
         Ok(id) => Ok(id),
@@ -49,7 +63,7 @@ fn id(digits: &str) -> Result<ObjId, Fail> {
 #[test]
 fn a_new_library_stands_at_its_opening_commit(rt: HostRuntime) -> Result<(), Fail> {
     let alloc = rt.alloc();
-    let depot = made(alloc, empty(alloc, &[])?)?.ok().ok_or("refused")?;
+    let depot = library_on(alloc, &[])?;
     assert!(rt; depot.head() == id(OPENING)?);
     assert_eq!(rt; depot.opening(), 1);
     assert_eq!(rt; depot.lib().digits().as_slice(), LIB.as_bytes());
@@ -65,7 +79,7 @@ fn a_new_library_stands_at_its_opening_commit(rt: HostRuntime) -> Result<(), Fai
 #[test]
 fn a_library_is_made_once(rt: HostRuntime) -> Result<(), Fail> {
     let alloc = rt.alloc();
-    let depot = made(alloc, empty(alloc, &[])?)?.ok().ok_or("refused")?;
+    let depot = library_on(alloc, &[])?;
     let again = made(alloc, depot.close())?;
     match &again {
         Err(refused) => assert!(rt; refused.1 == MakeFault::HasState),
@@ -77,7 +91,7 @@ fn a_library_is_made_once(rt: HostRuntime) -> Result<(), Fail> {
 #[test]
 fn a_secret_is_given_once(rt: HostRuntime) -> Result<(), Fail> {
     let alloc = rt.alloc();
-    let mut depot = made(alloc, empty(alloc, &[])?)?.ok().ok_or("refused")?;
+    let mut depot = library_on(alloc, &[])?;
     let user = Text::copy(alloc, "bob@x.org")?;
     let secret = Secret::from_bytes([187; 20]);
     assert!(rt; depot.add_token(&user, secret, Right::Write).is_ok());
@@ -89,7 +103,7 @@ fn a_secret_is_given_once(rt: HostRuntime) -> Result<(), Fail> {
 #[test]
 fn a_token_that_was_not_written_is_added_again(rt: HostRuntime) -> Result<(), Fail> {
     let alloc = rt.alloc();
-    let mut depot = made(alloc, empty(alloc, &[6])?)?.ok().ok_or("refused")?;
+    let mut depot = library_on(alloc, &[6])?;
     let user = Text::copy(alloc, "bob@x.org")?;
     let secret = Secret::from_bytes([187; 20]);
     assert!(rt;

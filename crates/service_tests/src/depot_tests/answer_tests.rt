@@ -1,25 +1,9 @@
 //! A library is asked, opened again, and refuses what it must.
-use super::{empty, made};
+use super::{asked, empty, library_on};
 use depot::*;
 use ids::{Bytes, IdList, Key, Kind, ObjId, Text};
 use library_state::{Act, Call, Op, Refusal, Reply, Right, Secret, StateKey};
-use object_store::MemoryShelf;
-use std::alloc::Global;
 use std::test::Fail;
-
-/// The library of the tests.
-fn library(alloc: Global) -> Result<Depot<MemoryShelf>, Fail> {
-    match made(alloc, empty(alloc, &[])?)? {
-        Ok(depot) => Ok(depot),
-        Err(_) => Err(Fail::from("refused")),
-    }
-}
-
-/// What its owner is answered at moment 9.
-fn asked(depot: &mut Depot<MemoryShelf>, act: Act) -> Reply {
-    let secret = Some(Secret::from_bytes([170; 20]));
-    depot.answer(&Call { secret, act }, 9)
-}
 
 /// A state text that differs in its days, which are past the limit.
 const LONG: &str =
@@ -54,7 +38,7 @@ fn days_past_the_limit_are_no_state(rt: HostRuntime) -> Result<(), Fail> {
 #[test]
 fn a_library_is_opened_again(rt: HostRuntime) -> Result<(), Fail> {
     let alloc = rt.alloc();
-    let depot = library(alloc)?;
+    let depot = library_on(alloc, &[])?;
     match Depot::start(alloc, depot.close()) {
         Ok(again) => {
             assert_eq!(rt; again.opening(), 2);
@@ -67,7 +51,7 @@ fn a_library_is_opened_again(rt: HostRuntime) -> Result<(), Fail> {
 #[test]
 fn an_unknown_secret_is_denied(rt: HostRuntime) -> Result<(), Fail> {
     let alloc = rt.alloc();
-    let mut depot = library(alloc)?;
+    let mut depot = library_on(alloc, &[])?;
     let secret = Some(Secret::from_bytes([187; 20]));
     match depot.answer(
         &Call {
@@ -85,7 +69,7 @@ fn an_unknown_secret_is_denied(rt: HostRuntime) -> Result<(), Fail> {
 #[test]
 fn a_token_of_right_r_may_not_put(rt: HostRuntime) -> Result<(), Fail> {
     let alloc = rt.alloc();
-    let mut depot = library(alloc)?;
+    let mut depot = library_on(alloc, &[])?;
     let user = Text::copy(alloc, "bob@x.org")?;
     let secret = Secret::from_bytes([187; 20]);
     assert!(rt; depot.add_token(&user, secret, Right::Read).is_ok());
@@ -103,7 +87,7 @@ fn a_token_of_right_r_may_not_put(rt: HostRuntime) -> Result<(), Fail> {
 #[test]
 fn an_upload_check_and_the_head_are_answered(rt: HostRuntime) -> Result<(), Fail> {
     let alloc = rt.alloc();
-    let mut depot = library(alloc)?;
+    let mut depot = library_on(alloc, &[])?;
     match asked(&mut depot, Act::Check(Op::Upload)) {
         Reply::Checked => {}
         _ => return Err(Fail::from("not checked")),
@@ -118,7 +102,7 @@ fn an_upload_check_and_the_head_are_answered(rt: HostRuntime) -> Result<(), Fail
 #[test]
 fn days_are_set_within_the_limit(rt: HostRuntime) -> Result<(), Fail> {
     let alloc = rt.alloc();
-    let mut depot = library(alloc)?;
+    let mut depot = library_on(alloc, &[])?;
     match asked(&mut depot, Act::Limit(30)) {
         Reply::Limited => {}
         _ => return Err(Fail::from("not set")),
@@ -133,7 +117,7 @@ fn days_are_set_within_the_limit(rt: HostRuntime) -> Result<(), Fail> {
 #[test]
 fn forty_zeros_are_never_missing(rt: HostRuntime) -> Result<(), Fail> {
     let alloc = rt.alloc();
-    let mut depot = library(alloc)?;
+    let mut depot = library_on(alloc, &[])?;
     let mut ids = IdList::new(alloc);
     ids.push(ObjId::NIL)?;
     ids.push(ObjId::NIL)?;
@@ -151,7 +135,7 @@ const DIRECTORY: &str =
 #[test]
 fn a_directory_that_was_put_is_not_missing(rt: HostRuntime) -> Result<(), Fail> {
     let alloc = rt.alloc();
-    let mut depot = library(alloc)?;
+    let mut depot = library_on(alloc, &[])?;
     let id = ObjId::of(DIRECTORY.as_bytes());
     let key = Key { kind: Kind::Fs, id };
     match asked(
@@ -173,7 +157,7 @@ fn a_directory_that_was_put_is_not_missing(rt: HostRuntime) -> Result<(), Fail> 
 #[test]
 fn a_block_that_was_put_is_given(rt: HostRuntime) -> Result<(), Fail> {
     let alloc = rt.alloc();
-    let mut depot = library(alloc)?;
+    let mut depot = library_on(alloc, &[])?;
     let key = Key {
         kind: Kind::Block,
         id: ObjId::of(b"abc"),
@@ -192,7 +176,7 @@ fn a_block_that_was_put_is_given(rt: HostRuntime) -> Result<(), Fail> {
 #[test]
 fn the_first_commit_needs_no_files(rt: HostRuntime) -> Result<(), Fail> {
     let alloc = rt.alloc();
-    let mut depot = library(alloc)?;
+    let mut depot = library_on(alloc, &[])?;
     let head = depot.head();
     match asked(&mut depot, Act::Ids(head, None)) {
         Reply::Listed(ids) => assert_eq!(rt; ids.len(), 0),

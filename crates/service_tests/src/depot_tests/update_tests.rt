@@ -1,26 +1,12 @@
 //! Commits that are pushed to a library, one after another and two at once.
-use super::{LIB, empty, made};
+use super::{LIB, asked, library_on};
 use commit_objects::Commit;
 use depot::*;
 use ids::{Key, Kind, LibId, ObjId, Text};
-use library_state::{Act, Call, Refusal, Reply, Secret};
+use library_state::{Act, Refusal, Reply};
 use object_store::MemoryShelf;
 use std::alloc::Global;
 use std::test::Fail;
-
-/// The library of the tests.
-fn library(alloc: Global) -> Result<Depot<MemoryShelf>, Fail> {
-    match made(alloc, empty(alloc, &[])?)? {
-        Ok(depot) => Ok(depot),
-        Err(_) => Err(Fail::from("refused")),
-    }
-}
-
-/// What its owner is answered at moment 9.
-fn asked(depot: &mut Depot<MemoryShelf>, act: Act) -> Reply {
-    let secret = Some(Secret::from_bytes([170; 20]));
-    depot.answer(&Call { secret, act }, 9)
-}
 
 /// A commit with this root over a parent, made at a moment and put.
 fn put_commit(
@@ -63,7 +49,7 @@ fn refused(depot: &mut Depot<MemoryShelf>, commit: ObjId) -> Result<Refusal, Fai
 #[test]
 fn a_commit_that_is_pushed_over_the_head_is_the_head(rt: HostRuntime) -> Result<(), Fail> {
     let alloc = rt.alloc();
-    let mut depot = library(alloc)?;
+    let mut depot = library_on(alloc, &[])?;
     let opening = depot.head();
     let pushed = put_commit(alloc, &mut depot, ObjId::NIL, Some(opening), 8)?;
     assert!(rt; updated(&mut depot, pushed)? == pushed);
@@ -75,7 +61,7 @@ fn a_commit_that_is_pushed_over_the_head_is_the_head(rt: HostRuntime) -> Result<
 #[test]
 fn two_commits_over_one_base_are_merged(rt: HostRuntime) -> Result<(), Fail> {
     let alloc = rt.alloc();
-    let mut depot = library(alloc)?;
+    let mut depot = library_on(alloc, &[])?;
     let opening = depot.head();
     let first = put_commit(alloc, &mut depot, ObjId::NIL, Some(opening), 8)?;
     let second = put_commit(alloc, &mut depot, ObjId::NIL, Some(opening), 9)?;
@@ -90,7 +76,7 @@ fn two_commits_over_one_base_are_merged(rt: HostRuntime) -> Result<(), Fail> {
 #[test]
 fn an_update_without_its_root_is_incomplete(rt: HostRuntime) -> Result<(), Fail> {
     let alloc = rt.alloc();
-    let mut depot = library(alloc)?;
+    let mut depot = library_on(alloc, &[])?;
     let opening = depot.head();
     let pushed = put_commit(alloc, &mut depot, opening, Some(opening), 8)?;
     let missing = Key {
@@ -105,7 +91,7 @@ fn an_update_without_its_root_is_incomplete(rt: HostRuntime) -> Result<(), Fail>
 #[test]
 fn a_commit_without_a_parent_is_unrelated(rt: HostRuntime) -> Result<(), Fail> {
     let alloc = rt.alloc();
-    let mut depot = library(alloc)?;
+    let mut depot = library_on(alloc, &[])?;
     let pushed = put_commit(alloc, &mut depot, ObjId::NIL, None, 8)?;
     assert!(rt; refused(&mut depot, pushed)? == Refusal::Unrelated(0));
     Ok(())
