@@ -5,3 +5,4 @@ pub mod FolderLemmas
 pub mod ListingLemmas
 pub mod SortedEntries
 pub mod VisibleTreeLemmas
+pub mod LeftLemmas

@@ -4,7 +4,6 @@ use Rattle.sha1.specs.Sha1.{sha1}
 use Rattle.block_chunker.specs.declared.cuts.Cuts.{Cuts}
 use Rattle.block_chunker.specs.ChunkBoundaries.{chunks_of}
 use Rattle.block_chunker.specs.ChunkerProgress.{start_of, after_piece, finished_by}
-use Rattle.folder_side.specs.declared.error.FolderFault.TheVariants as folder
 use Rattle.folder_side.specs.declared.file_reader.ReadFault.{ReadFault}
 use Rattle.folder_side.specs.declared.file_reader.ReadFault.TheVariants.{Folder, TooBig, NoMemory}
 use Rattle.folder_side.specs.declared.file_reader.FileRead.{FileRead}
@@ -24,12 +23,11 @@ pub record ReadsFile (cuts : Cuts) (bytes : List ℕ) (file : FileRead) : Type 0
 
 -- a file that is too big has more bytes than the limit
 abbrev pub PassesLimit : List ℕ → ReadFault → Type 0
-PassesLimit bytes (Folder e) = Unit {0}
+PassesLimit bytes Folder = Unit {0}
 PassesLimit bytes TooBig = 274877906944 < length bytes
 PassesLimit bytes NoMemory = Unit {0}
 
 abbrev pub is_read_failure : ReadFault → Bool
-is_read_failure (Folder folder.Folder) = true
-is_read_failure (Folder folder.NoMemory) = false
+is_read_failure Folder = true
 is_read_failure TooBig = false
 is_read_failure NoMemory = false

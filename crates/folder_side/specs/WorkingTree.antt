@@ -1,5 +1,5 @@
 -- The visible tree of a folder, its stuck directories, and what a checkout leaves. Our own. Read held_at, then left_at.
-use Rattle.std.specs.Prelude.{◌≡◌, ℕ, ◌&&◌, ◌||◌, Bool, if◌then◌else◌, List, length, nat_lt, Option, Some, None, option_and_then}
+use Rattle.std.specs.Prelude.{◌≡◌, ◌↔◌, ℕ, ◌&&◌, ◌||◌, Bool, if◌then◌else◌, List, length, nat_lt, Option, Some, None, option_and_then}
 use Rattle.std.specs.Option.{option_map}
 use Rattle.std.specs.List.{filter_map, list_any}
 use Rattle.std.specs.FinMap as map
@@ -13,7 +13,7 @@ use Rattle.folder_side.specs.declared.holding.Holding.{Holding}
 use Rattle.folder_side.specs.declared.holding.Holding.TheVariants.{Dir, File, Other}
 use Rattle.folder_side.specs.declared.scan_report.Seen.{Seen}
 use Rattle.folder_side.specs.declared.scan_report.Seen.TheVariants as seen
-use Rattle.folder_side.specs.Folder.{Contents, at, is_other, is_dir}
+use Rattle.folder_side.specs.Folder.{Contents, at, is_other, is_dir, nameless_at}
 use Rattle.folder_side.specs.ScanReport.{block_names}
 
 -- a directory or a file by its bytes alone
@@ -51,6 +51,11 @@ is_stuck c dir =
     && (list_any (λ entry. is_under dir entry.0 && is_other entry.1) (map.entries c.paths)
     || list_any (λ entry. is_within dir entry.0 && nat_lt 0 entry.1) (map.entries c.nameless))
 
+-- one folder has the same entries as another, but for its files and directories
+pub record KeepsHidden (old new : Contents) : Type 0 where
+  pub others : (path : PathV) → (at new path ≡ Some Other) ↔ (at old path ≡ Some Other)
+  pub nameless : (dir : PathV) → nameless_at new dir ≡ nameless_at old dir
+
 -- where a tree is checked out the stuck directories stay beside its paths
 abbrev pub with_stuck : Bool → Option PlainNode → Option PlainNode
 with_stuck stuck (Some here) = Some here
@@ -64,12 +69,12 @@ abbrev pub HoldsLeft : Tree → Contents → Contents → Type 0
 HoldsLeft tree old new = (path : PathV) → held_at new path ≡ left_at tree old path
 
 -- the stuck directories that a tree lacks, in byte order of path
+abbrev pub lacked : Option Node → PathV → Option PathV
+lacked None path = Some path
+lacked (Some here) path = None
+
 abbrev pub lacks : Tree → Contents → PathV × Holding → Option PathV
 lacks tree c entry = if is_stuck c entry.0 then lacked (map.get tree entry.0) entry.0 else None
-  where
-    lacked : Option Node → PathV → Option PathV
-    lacked None path = Some path
-    lacked (Some here) path = None
 
 abbrev pub held_list : Tree → Contents → List PathV
 held_list tree c = filter_map (lacks tree c) (map.entries c.paths)

@@ -6,7 +6,7 @@ ghost use Rattle.sha1.specs.Sha1.{sha1};
 ghost use Rattle.block_chunker.specs.ChunkBoundaries.{last_chunk};
 ghost use Rattle.block_chunker.specs.ChunkerProgress.{after_piece, finished_by};
 ghost use Rattle.folder_side.specs.declared.holding.Holding.TheVariants.{File};
-ghost use Rattle.folder_side.specs.Folder.{Contents, at};
+ghost use Rattle.folder_side.specs.Folder.{Contents, at, is_folder_fault};
 ghost use Rattle.folder_side.specs.FileRead.{IsBehind, ReadsFile, PassesLimit, is_read_failure};
 
 use crate::error::FolderFault;
@@ -22,9 +22,11 @@ const MAX_FILE: u64 = 274_877_906_944;
 /// Why a file was not read to its end.
 #[derive(Clone, Copy)]
 pub enum ReadFault {
-    Folder(FolderFault),
+    /// The folder failed. Its count of faults rose in this call.
+    Folder,
     /// It has more than 274,877,906,944 bytes.
     TooBig,
+    /// There was no memory.
     NoMemory,
 }
 
@@ -160,7 +162,7 @@ pub(crate) fn read_rest<F: Folder>(
     while place <= MAX_FILE {
         let count = match folder.read(file, place, buffer) {
             Ok(count) => count,
-            Err(fault) => return Err(ReadFault::Folder(fault)),
+            Err(fault) => return Err(read_fault(fault)),
         };
         if count == 0 {
             return match end_file(chunker, names, place) {
@@ -175,4 +177,15 @@ pub(crate) fn read_rest<F: Folder>(
         place += count as u64;
     }
     Err(ReadFault::TooBig)
+}
+
+/// The fault of a reading where a call of the folder failed.
+fn read_fault(fault: FolderFault) -> ReadFault
+    ensures value { (bytes : List ℕ) → PassesLimit bytes result }
+    ensures faults { is_read_failure result ≡ is_folder_fault fault }
+{
+    match fault {
+        FolderFault::Folder => ReadFault::Folder,
+        FolderFault::NoMemory => ReadFault::NoMemory,
+    }
 }

@@ -74,7 +74,7 @@ pub trait Folder {
         ensures faults { FolderFails (faults self.old) (faults self.new) result };
 
     /// Moves the spare to a path in a directory, in place of a file that is there; anything else there is a
-    /// fault, and so it is where there is no spare.
+    /// fault, and so it is where there is no spare. Of a folder that doesn't tell what it holds no clause says so.
     fn spare_move(&mut self, file: &Path) -> Result<(), FolderFault>
         ensures ok { (bytes : List ℕ) → spare self.old ≡ Some bytes →
             Changes (with_file file.now bytes) (told self.old) (told self.new) result }

@@ -228,7 +228,7 @@ fn file_fault(fault: ReadFault, path: Path) -> ScanFault
     ensures faults { is_scan_failure result ≡ is_read_failure fault }
 {
     match fault {
-        ReadFault::Folder(fault) => scan_fault(fault),
+        ReadFault::Folder => ScanFault::Folder,
         ReadFault::TooBig => ScanFault::TooBig(path),
         ReadFault::NoMemory => ScanFault::NoMemory,
     }

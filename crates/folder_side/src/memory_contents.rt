@@ -239,24 +239,12 @@ fn name_in<'a>(dir: &[Name], path: &'a [Name]) -> Option<&'a Name>
     }
 }
 
-/// Whether a path lies under a directory.
-fn is_under(dir: &[Name], path: &[Name]) -> bool
-    ensures value { result ≡ is_under dir.now path.now }
-{
-    match (dir.split_first(), path.split_first()) {
-        (Some((first, dirs)), Some((name, names))) => first == name && is_under(dirs, names),
-        (None, Some(_)) => true,
-        (Some(_), None) => false,
-        (None, None) => false,
-    }
-}
-
 /// Whether a table has a path under a directory.
 fn has_under(paths: &PathTable<Holding>, dir: &Path) -> bool
     ensures value { result ≡ list_any (λ entry. is_under dir.now entry.0) (map.entries paths.now) }
 {
     for (path, _) in paths.iter() {
-        if is_under(dir.names(), path.names()) {
+        if path.is_under(dir) {
             return true;
         }
     }

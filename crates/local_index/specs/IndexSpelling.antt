@@ -1,4 +1,4 @@
--- The one text of an index: compact JSON with sorted keys, entries in byte order of path. docs/FORMATS.md, "Index texts".
+-- The one text of an index: compact JSON with sorted keys, entries in byte order of path. docs/FORMATS.md, "Index text".
 -- Read text_of, then IsProper.
 use Rattle.std.specs.Prelude.{◌≡◌, ◌≢◌, ℕ, ℤ, List, [], map, true, codes, Option, Some, None, ⊤}
 use Rattle.std.specs.FinMap as fin

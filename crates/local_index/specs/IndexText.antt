@@ -1,4 +1,4 @@
--- What the bytes of an index text are read as, or the first failing check. docs/FORMATS.md, "Index texts".
+-- What the bytes of an index text are read as, or the first failing check. docs/FORMATS.md, "Index text".
 -- Read index_of first.
 use Rattle.std.specs.Prelude.{ℕ, ◌==◌, ◌^◌, ◌-◌, not, Bool, true, false, List, [], ◌∷◌, codes, if◌then◌else◌, Option, Some, None, is_some, Result, Ok, Err, ⊤}
 use Rattle.std.specs.Option.{is_none}

@@ -23,3 +23,6 @@ loop-place-preserved g c = record {
       let part = IsPart-at _ bytes c.read.new.into c.loop-place.place c.in-Ok.count a (c.in-Ok.ensures.value c' (c.loop-place.invariant.told ∙ t)) in
       IsBehind-more c.args.reading.chunker.cuts bytes c.read.new.into c.loop-place.place c.in-Ok.count c.loop-place.chunker _ c.loop-place.names _ (c.loop-place.invariant.behind c' bytes t a h) part c.in-Ok-take_piece.ensures.ok c.in-Ok-take_piece.ensures.named;
 }
+
+pub returns-in-Err-clause-refused : goal.returns-in-Err-clause-refused
+returns-in-Err-clause-refused g c = λ c' bytes t a h. c.read_fault.ensures.value bytes
