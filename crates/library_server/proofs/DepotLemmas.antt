@@ -2,9 +2,8 @@
 use Rattle.std.proofs.Common.{◌≡◌, ℕ, Bool, true, false, cond, List, Option, None, Some, option_map, refl, sym, ap, subst, ◌∙◌}
 use Rattle.std.specs.Prelude.{is_some, unwrap_or}
 use Rattle.std.specs.FinMap as map
-use Rattle.ids.specs.Key.{Objects}
 use Rattle.depot.specs.DepotView.{DepotView, Holds, IsGood, library, state_of}
-use Rattle.folder_storage.specs.Ground.{Kept, Standing, Standings}
+use Rattle.folder_storage.specs.Ground.{Standing, Standings}
 use Rattle.library_rules.proofs.Reopened.{stands_by_its_objects}
 use Rattle.library_rules.specs.LibraryState.{State}
 use Rattle.library_rules.specs.Recovery.{StandsFor, written_part}
@@ -12,7 +11,7 @@ use Rattle.library_state.specs.StateSpelling.{text_of}
 use Rattle.object_graph.specs.Unchanged.{Keeps}
 use Rattle.object_store.proofs.MapLemmas.{get-retained}
 use Rattle.object_store.specs.Shelf.{Contents}
-use Rattle.object_store.specs.StoreView.{Index, indexed, objects_of, status_of}
+use Rattle.object_store.specs.StoreView.{Index, indexed}
 use Rattle.library_server.specs.Standing.{ComesBack, StandsAs}
 
 pub some_same : {A : Type 0} (a b : A) → ◌≡◌ {A = Option A} (Some a) (Some b) → a ≡ b

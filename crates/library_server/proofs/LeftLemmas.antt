@@ -1,6 +1,6 @@
--- What a shelf holds on which a library was not made, or from which none was opened. The key lemmas are left_unmade and
--- left_unopened.
-use Rattle.std.proofs.Common.{◌≡◌, ℕ, inl, inr, Bool, true, false, List, Option, None, Some, option_map, refl, sym, ap, subst, ◌∙◌}
+-- What a shelf holds on which a library was not made, or from which none was opened. The key lemmas are left_unmade,
+-- left_unopened and left_kept.
+use Rattle.std.proofs.Common.{◌≡◌, ℕ, inl, inr, Bool, true, false, List, Option, Some, option_map, refl, sym, ap, subst, ◌∙◌}
 use Rattle.std.specs.Prelude.{◌⊎◌}
 use Rattle.depot.specs.Opening.{LeftUnmade, LeftUnmadeBy, begun, stored, untouched}
 use Rattle.depot.specs.Reopening.{LeftUnopened, LeftUnopenedBy, next_opening, raised, untouched as unraised}
@@ -18,9 +18,11 @@ use Rattle.object_store.specs.Shelf.{Contents}
 use Rattle.object_store.specs.StoreView.{StoreView, indexed, objects_of, status_of}
 use Rattle.object_store.specs.Store.{is_of_shelf}
 use Rattle.object_store.specs.declared.error.StoreFault.{StoreFault}
-use Rattle.library_server.specs.LibraryOpening.{LeavesOpened}
+use Rattle.library_server.specs.LibraryOpening.{LeavesOpened, LeavesShelf, LeftUnstarted}
 use Rattle.library_server.specs.Making.{LeavesText, first_of}
 use Rattle.library_server.specs.declared.making.NewLibrary.{NewLibrary}
+use Rattle.library_server.specs.declared.not_done.NotStarted.{NotStarted}
+use Rattle.library_server.specs.declared.not_done.NotStarted.TheVariants as unstarted
 use Rattle.library_server.proofs.DepotLemmas.{indexed_lies, mapped_from, some_same}
 
 module _ {S : Type 0} (contents : S → Option Contents) where
@@ -93,3 +95,18 @@ module _ {S : Type 0} (contents : S → Option Contents) where
 -- what stays as it is
 pub keeps_all : (objects : Objects) → Keeps objects objects
 keeps_all objects = record { kept = λ key bytes there. there }
+
+-- a shelf that was left so stands there with what it then held
+pub left_kept : (why : NotStarted) (held : Contents) (now : Option Contents) → LeavesShelf why held now → (h : Contents) × (now ≡ Some h) × LeavesShelf why held (Some h)
+left_kept (unstarted.Fault why) held now left = (left.0, left.1, (left.0, refl, left.2, left.3))
+left_kept unstarted.Other held now left = (held, left, refl)
+
+-- a shelf from which nothing but its text was read holds what it held
+pub left_checked : (why : NotStarted) (held : Contents) (now : Option Contents) → now ≡ Some held → LeavesShelf why held now
+left_checked (unstarted.Fault why) held now same = (held, same, keeps_all held.objects, inl refl)
+left_checked unstarted.Other held now same = same
+
+pub left_unstarted : {S : Type 0} (contents : S → Option Contents) (given store : StoreView S) (held : Contents) (why : NotStarted) → LeftUnstarted contents given store why
+    → status_of contents given ≡ Some held.status → objects_of contents store ≡ Some held.objects → LeavesShelf why held (contents store.shelf)
+left_unstarted contents given store held (unstarted.Fault why) left at objects = left_unopened contents given store held why left at objects
+left_unstarted contents given store held unstarted.Other left at objects = absurd left

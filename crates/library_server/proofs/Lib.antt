@@ -1,5 +1,8 @@
 pub mod StandingLemmas
 pub mod DepotLemmas
 pub mod LeftLemmas
+pub mod OpeningLemmas
+pub mod NamesLemmas
 pub mod TokenLemmas
+pub mod WholeLemmas
 pub mod RunLemmas

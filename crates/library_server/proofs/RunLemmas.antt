@@ -1,5 +1,5 @@
 -- What the top call printed, and its status. The key lemmas are runs_printed and runs_usage.
-use Rattle.std.proofs.Common.{◌≡◌, ℕ, List, Option, None, Some, Result, Ok, Err, refl, sym, ap, subst, ◌∙◌, arith}
+use Rattle.std.proofs.Common.{◌≡◌, ℕ, List, Option, Some, Result, Ok, Err, refl, sym, ap, subst, ◌∙◌, arith}
 use Rattle.std.specs.Prelude.{IfErr, IfOk, ⊤}
 use Rattle.std.specs.Io.KnownBytes.{append_known}
 use Rattle.library_rules.specs.Creation.{opening_commit}
@@ -11,15 +11,15 @@ use Rattle.server_words.specs.declared.command.Command.{Command}
 use Rattle.server_words.specs.declared.command.Command.TheVariants.{Create, Token, Inetd, Help, Version, Usage}
 use Rattle.server_words.specs.declared.fault.Fault.{Fault}
 use Rattle.server_words.specs.declared.fault.Fault.TheVariants as fault
-use Rattle.server_words.specs.declared.line.Line.{Line}
 use Rattle.server_words.specs.declared.line.Line.TheVariants as line
 use Rattle.worker_server.specs.declared.served.Served.{Served}
 use Rattle.worker_server.specs.declared.served.Served.TheVariants as served
-use Rattle.library_server.specs.Connections.{LinkView, ServesOpened, ServesPlace, opened, other, served as was_served, status_of, unopened}
+use Rattle.library_server.specs.Connections.{LinkView, ServesOpened, opened, status_of, unopened}
 use Rattle.library_server.specs.Lines.{fault_of_not_added, fault_of_not_made, fault_of_not_opened}
 use Rattle.server_words.specs.declared.command.Place.{Place}
 use Rattle.library_server.specs.Adding.{IsNotAdded, is_unadded_counted}
 use Rattle.library_server.specs.Making.{IsNotMade, RoseWhere, is_unmade_counted}
+use Rattle.library_server.specs.declared.adding.NewToken.{NewToken}
 use Rattle.library_server.specs.declared.making.NewLibrary.{NewLibrary}
 use Rattle.library_server.specs.Runs.{IsAdded, IsCreated, Printed, PrintsSo, RunsSo, SinkView, added_line, adds, created_line, creates, help_printed, in_part, line_printed, printed_of, prints, serves, unread, version_printed, whole}
 use Rattle.library_server.specs.Standing.{GroundView}
@@ -88,10 +88,9 @@ usage_alone Version printed e two = absurd (zero_two (sym (ap (λ z. z.status) (
 usage_alone Usage printed e two = (refl, ap (λ z. z.text) (unwrapped (line_printed line.Usage) printed e))
 
 module _ {S : Type 0} (contents : S → Option Contents) (may_give : S → Slot → Option (List ℕ) → Type 0) (faults : S → ℕ) (shows : ℕ → Type 0) where
-  no_service : (lib : List ℕ) (depot after : DepotView S) (before now : LinkView) (status : ℕ)
-      → ServesOpened contents may_give faults lib shows depot after before now status → status ≡ 2 → ⊥
-  no_service lib depot after before now status (was_served same how session ran count is) two = no_end how (sym is ∙ two)
-  no_service lib depot after before now status (other apart same left one) two = cc
+  no_service : (depot after : DepotView S) (before now : LinkView) (status : ℕ)
+      → ServesOpened contents may_give faults shows depot after before now status → status ≡ 2 → ⊥
+  no_service depot after before now status service two = no_end service.how (sym service.status_is ∙ two)
 
   -- the status 2 comes with the usage line alone
   pub runs_usage : (command : Command) (old new : GroundView) (before now : LinkView) (out_before out_now : SinkView) (status : ℕ)
@@ -101,8 +100,8 @@ module _ {S : Type 0} (contents : S → Option Contents) (may_give : S → Slot 
       absurd (no_print (line_printed (created_line lib made.created)) out_before out_now status made.prints (no_creation lib made.created) two)
   runs_usage command old new before now out_before out_now status (adds place lib token is added left) two =
       absurd (no_print (line_printed (added_line added.added)) out_before out_now status added.prints (no_addition added.added) two)
-  runs_usage command old new before now out_before out_now status (serves place lib is (opened depot after opens service good back) out) two =
-      absurd (no_service lib depot after before now status service two)
+  runs_usage command old new before now out_before out_now status (serves place lib is (opened depot after state opens service good back) out) two =
+      absurd (no_service depot after before now status service two)
   runs_usage command old new before now out_before out_now status (serves place lib is (unopened why refused code left) out) two =
       absurd (no_fault (fault_of_not_opened why) (sym code ∙ two))
   runs_usage command old new before now out_before out_now status (prints printed is (whole put kept code) same left) two =
@@ -120,11 +119,11 @@ module _ {S : Type 0} (may_give : S → Slot → Option (List ℕ) → Type 0) w
   created_so new moment before now (Ok head) is cause count = is
   created_so new moment before now (Err why) is cause count = (cause, count)
 
-  pub added_so : (place : Place) (lib : List ℕ) (shows : ℕ → Type 0) (before now : ℕ) (added : Result ⊤ NotAdded)
-      → IfErr added (IsNotAdded may_give place lib shows) → IfErr added (λ why. RoseWhere (is_unadded_counted why) before now)
-      → IsAdded may_give place lib shows before now added
-  added_so place lib shows before now (Ok done) cause count = tt
-  added_so place lib shows before now (Err why) cause count = (cause, count)
+  pub added_so : (place : Place) (lib : List ℕ) (shows : ℕ → Type 0) (new : NewToken) (before now : ℕ) (added : Result ⊤ NotAdded)
+      → IfErr added (IsNotAdded may_give place lib shows new) → IfErr added (λ why. RoseWhere (is_unadded_counted why) before now)
+      → IsAdded may_give place lib shows new before now added
+  added_so place lib shows new before now (Ok done) cause count = tt
+  added_so place lib shows new before now (Err why) cause count = (cause, count)
 
 -- a text that was put is the one of its name
 pub printed_as : (printed : Printed) (text : List ℕ) (before now : SinkView) (status : ℕ) → text ≡ printed.text

@@ -1,14 +1,9 @@
 -- What was handed out and came back, and counts that rose. The key lemmas are comes_back, stands_again and rose_given.
-use Rattle.std.proofs.Common.{◌≡◌, ◌≢◌, ℕ, ◌+◌, ◌-◌, ◌^◌, ◌<◌, ◌≤◌, Bool, true, false, List, Option, None, Some, option_map, Result, Ok, Err, refl, sym, ap, subst, ◌∙◌, arith}
-use Rattle.std.specs.Prelude.{min, IsTrue, ⊤}
-use Rattle.std.specs.Bool.{MatchBool}
-use Rattle.std.specs.FinMap as map
-use Rattle.ids.specs.FaultCount.{FailsBy, Rose}
-use Rattle.ids.specs.Key.{Objects}
-use Rattle.ids.specs.declared.key.Key.{Key}
+use Rattle.std.proofs.Common.{◌≡◌, ℕ, ◌+◌, ◌-◌, ◌^◌, ◌≤◌, List, Option, Some, option_map, Result, Ok, Err, ap, ◌∙◌, arith}
+use Rattle.std.specs.Prelude.{min}
+use Rattle.ids.specs.FaultCount.{Rose}
 use Rattle.folder_storage.specs.Ground.{ChangesStanding, HandedOut, Kept, StandAsBefore, Standing, Standings, TakesBack, count_sum}
 use Rattle.object_store.specs.Shelf.{Contents}
-use Rattle.library_server.specs.Making.{RoseWhere}
 use Rattle.library_server.specs.Standing.{ComesBack, HandsOutOr, Returned, untouched, came_back}
 
 -- what was handed out and taken back came back

@@ -1,14 +1,13 @@
 -- A token that a library refuses, and how the library then stands. The key lemma is refuses_token, at the end.
-use Rattle.std.proofs.Common.{◌≡◌, ℕ, ◌≤◌, ◌<◌, Bool, true, false, cond, inl, inr, List, length, Option, None, Some, option_map, Result, Ok, Err, refl, sym, ap, subst, ◌∙◌, leb-true}
-use Rattle.std.specs.Prelude.{◌⊎◌, IfSome, IsTrue, nat_le, unwrap_or, ⊤}
+use Rattle.std.proofs.Common.{◌≡◌, ℕ, Bool, true, false, cond, inl, inr, length, Option, None, Some, option_map, Err, refl, sym, ap, subst, ◌∙◌, leb-true}
+use Rattle.std.specs.Prelude.{◌⊎◌, IfSome, IsTrue, nat_le, ⊤}
 use Rattle.ids.specs.Outcome.{RefusesAs}
 use Rattle.library_state.specs.StateSpelling.{text_of}
 use Rattle.library_state.specs.Tokens.{is_taken}
 use Rattle.library_state.specs.declared.state.LibState.{LibState}
-use Rattle.library_state.specs.declared.token.Token.{Token}
 use Rattle.depot.specs.DepotView.{DepotView, Holds, IsGood, library, state_of}
 use Rattle.depot.specs.Tokens.{is_token_free, store_answer, token_refusal, with_new_token}
-use Rattle.depot.specs.Writing.{LeftOpen, RewritesSo, Slot, again, nothing, open_next, open_present, settled, settles, written}
+use Rattle.depot.specs.Writing.{LeftOpen, RewritesSo, Slot, again, nothing, open_next, open_present, settled, settles}
 use Rattle.depot.specs.declared.error.TokenFault.{TokenFault}
 use Rattle.depot.specs.declared.error.TokenFault.TheVariants as token
 use Rattle.library_rules.specs.LibraryState.{State}
@@ -22,7 +21,7 @@ use Rattle.object_graph.specs.Unchanged.{Keeps}
 use Rattle.folder_storage.specs.Ground.{Kept, Standing}
 use Rattle.library_server.proofs.DepotLemmas.{indexed_lies, mapped_from, shelf_told, some_same, stands_again, state_is}
 use Rattle.library_server.specs.Standing.{StandsAs}
-use Rattle.library_server.specs.Adding.{StandsWithText, RefusesToken, with_new}
+use Rattle.library_server.specs.Adding.{IsTokenRefused, StandsWithText, RefusesToken, with_new}
 use Rattle.library_server.specs.declared.adding.NewToken.{NewToken}
 
 -- the refusal that is due says which
@@ -68,10 +67,20 @@ said : (is : TokenFault) (due : Option TokenFault) → (due ≡ Some is) ⊎ IsT
 said is due (inl e) free = e
 said is due (inr f) free = absurd (never (subst IsTrue free f))
 
-freed : (why : StoreFault) (taken full : Bool)
+pub freed : (why : StoreFault) (taken full : Bool)
     → ◌⊎◌ (◌≡◌ {A = Option TokenFault} (cond taken (Some token.SecretTaken) (cond full (Some token.Full) None)) (Some (token.Store why))) (IsTrue (is_free why)) → IsTrue (is_free why)
 freed why taken full (inl e) = absurd (free_last taken full why e)
 freed why taken full (inr f) = f
+
+-- the state that was opened refuses the token
+pub token_refused : (state : LibState) (new : NewToken) (why : TokenFault) → RefusesAs {T = ⊤} is_token_free (Err why) (token_refusal state.tokens new.secret)
+    → IsTokenRefused state new why
+token_refused state new token.SecretTaken refused =
+    taken_first (is_taken state.tokens new.secret) (nat_le 1000 (length state.tokens)) (said token.SecretTaken _ refused refl)
+token_refused state new token.Full refused =
+    let full = full_next (is_taken state.tokens new.secret) (nat_le 1000 (length state.tokens)) (said token.Full _ refused refl) in
+    (full.0, leb-true 1000 (length state.tokens) full.1)
+token_refused state new (token.Store why) refused = freed why (is_taken state.tokens new.secret) (nat_le 1000 (length state.tokens)) refused
 
 module _ {S : Type 0} (contents : S → Option Contents) (faults : S → ℕ) where
   -- the state of a depot whose shelf holds this

@@ -1,5 +1,5 @@
 -- The command that adds a token. Our own. Read AddsSo first.
-use Rattle.std.specs.Prelude.{◌≡◌, ◌≤◌, ◌⊎◌, ℕ, Bool, true, false, List, length, Option, None, Some, IsTrue, Result, Ok, Err, ⊤}
+use Rattle.std.specs.Prelude.{◌≡◌, ◌≤◌, ◌⊎◌, ℕ, Bool, true, false, List, length, Option, Some, IsTrue, Result, Ok, Err, ⊤}
 use Rattle.library_state.specs.Tokens.{is_taken}
 use Rattle.depot.specs.Tokens.{is_token_counted}
 use Rattle.depot.specs.declared.error.TokenFault.{TokenFault}
@@ -9,12 +9,13 @@ use Rattle.library_rules.specs.Creation.{with_token}
 use Rattle.library_rules.specs.LibraryState.{State}
 use Rattle.library_rules.specs.Recovery.{written_part}
 use Rattle.library_state.specs.StateSpelling.{text_of}
+use Rattle.library_state.specs.declared.state.LibState.{LibState}
 use Rattle.object_graph.specs.Unchanged.{Keeps}
 use Rattle.object_store.specs.Shelf.{Contents}
 use Rattle.object_store.specs.Store.{is_free, is_of_shelf}
 use Rattle.object_store.specs.declared.shelf.Slot.{Slot}
 use Rattle.server_words.specs.declared.command.Place.{Place}
-use Rattle.library_server.specs.LibraryOpening.{IsNotOpened, OpensTo, RefusesOpening, is_unopened_counted}
+use Rattle.library_server.specs.LibraryOpening.{IsNotOpened, IsOpenedState, OpensTo, RefusesOpening, is_unopened_counted}
 use Rattle.library_server.specs.Standing.{StandsAs}
 use Rattle.library_server.specs.declared.adding.NewToken.{NewToken}
 use Rattle.library_server.specs.declared.not_done.NotAdded.{NotAdded}
@@ -45,10 +46,16 @@ AddsSo place lib shows new standing (Ok done) after = (s : State) × OpensTo pla
 AddsSo place lib shows new standing (Err (unadded.Refused why)) after = (s : State) × OpensTo place lib shows standing s × RefusesToken new s why after
 AddsSo place lib shows new standing (Err (unadded.Unopened why)) after = RefusesOpening place lib shows standing why after
 
+-- why a token is refused by the state that was opened: another token has its secret, or there are 1,000
+abbrev pub IsTokenRefused : LibState → NewToken → TokenFault → Type 0
+IsTokenRefused state new token.SecretTaken = is_taken state.tokens new.secret ≡ true
+IsTokenRefused state new token.Full = (is_taken state.tokens new.secret ≡ false) × (1000 ≤ length state.tokens)
+IsTokenRefused state new (token.Store why) = IsTrue (is_free why)
+
 -- the cause of each refusal, over any ground
-abbrev pub IsNotAdded : {S : Type 0} → (S → Slot → Option (List ℕ) → Type 0) → Place → List ℕ → (ℕ → Type 0) → NotAdded → Type 0
-IsNotAdded may_give place lib shows (unadded.Unopened why) = IsNotOpened may_give place lib shows why
-IsNotAdded may_give place lib shows (unadded.Refused why) = ⊤
+abbrev pub IsNotAdded : {S : Type 0} → (S → Slot → Option (List ℕ) → Type 0) → Place → List ℕ → (ℕ → Type 0) → NewToken → NotAdded → Type 0
+IsNotAdded may_give place lib shows new (unadded.Unopened why) = IsNotOpened may_give place lib shows why
+IsNotAdded may_give place lib shows new (unadded.Refused why) = (state : LibState) × IsOpenedState may_give place lib shows state × IsTokenRefused state new why
 
 -- the failure that the storage counts
 abbrev pub is_unadded_counted : NotAdded → Bool

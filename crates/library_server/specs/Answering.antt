@@ -1,13 +1,17 @@
 -- What the library that is served alone answers to a call. Our own. Read AnswersOn first.
-use Rattle.std.specs.Prelude.{◌≡◌, ◌≢◌, ℕ, false, List, [], Option, ⊤}
+use Rattle.std.specs.Prelude.{◌≡◌, ◌≢◌, ℕ, Bool, true, false, List, [], Option, Some, ⊤}
+use Rattle.ids.specs.Key.{Objects}
 use Rattle.depot.specs.Answering.{Serves, permits}
 use Rattle.depot.specs.DepotView.{DepotView, IsGood}
 use Rattle.library_rules.specs.Calls.{token_of}
 use Rattle.library_state.specs.declared.call.Call.{Call}
+use Rattle.library_state.specs.declared.refusal.Refusal.{Refusal}
 use Rattle.library_state.specs.declared.refusal.Refusal.TheVariants as refusal
 use Rattle.library_state.specs.declared.reply.Reply.{Reply}
 use Rattle.library_state.specs.declared.reply.Reply.TheVariants as reply
 use Rattle.object_store.specs.Shelf.{Contents}
+use Rattle.object_store.specs.Store.{HasNames}
+use Rattle.object_store.specs.StoreView.{objects_of}
 use Rattle.object_store.specs.declared.shelf.Slot.{Slot}
 use Rattle.worker_server.specs.declared.host.Answer.{Answer}
 
@@ -19,12 +23,36 @@ pub record IsAnswered {S : Type 0} (contents : S → Option Contents) (may_give 
   pub denied : permits (token_of old.state.tokens call.secret) call.act ≡ false → r ≡ reply.Refused refusal.Denied
   pub good : IsGood contents faults new
 
+-- ---- storage that never fails
+
+-- a refusal by the storage: it failed, or what it gave is damaged
+abbrev pub is_of_storage : Refusal → Bool
+is_of_storage refusal.Store = true
+is_of_storage (refusal.Damaged want got) = true
+is_of_storage other = false
+
+abbrev pub is_storage_reply : Reply → Bool
+is_storage_reply (reply.Refused why) = is_of_storage why
+is_storage_reply other = false
+
+-- no shelf of this kind ever counted a fault, so none of their calls fails
+abbrev pub NeverFails : {S : Type 0} → (S → ℕ) → Type 0
+NeverFails {S} faults = (shelf : S) → faults shelf ≡ 0
+
+-- each object of the library lies under its own name, and its shelf tells so
+abbrev pub NamesIn : {S : Type 0} → (S → Option Contents) → DepotView S → Type 0
+NamesIn contents depot = (objects : Objects) × (objects_of contents depot.store ≡ Some objects) × HasNames objects
+
+-- ---- all of it
+
 -- a call on a library, asked at a moment: the library that is served answers it, and there is no other. It keeps no record
--- of operations and no count of changes
+-- of operations and no count of changes. Where the storage never fails and objects lie under their own names, no answer is a
+-- refusal by the storage, and so they lie afterwards
 pub record AnswersOn {S : Type 0} (contents : S → Option Contents) (may_give : S → Slot → Option (List ℕ) → Type 0) (faults : S → ℕ)
     (old : DepotView S) (lib : List ℕ) (call : Call) (moment : ℕ) (answer : Answer) (lines : List ⊤) (new : DepotView S) : Type 0 where
   pub here : lib ≡ old.state.lib → IsAnswered contents may_give faults old call moment answer.reply new
   pub elsewhere : lib ≢ old.state.lib → (answer.reply ≡ reply.Refused refusal.NoLibrary) × (new ≡ old)
+  pub whole : NeverFails faults → NamesIn contents old → (is_storage_reply answer.reply ≡ false) × NamesIn contents new
   pub no_lines : lines ≡ []
   pub opening : answer.opening ≡ 0
   pub place : answer.place ≡ 0

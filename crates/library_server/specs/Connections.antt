@@ -1,5 +1,5 @@
 -- The command that serves one connection, and its status. Our own. Read ServesPlace first, at the end.
-use Rattle.std.specs.Prelude.{◌≡◌, ◌≢◌, ℕ, List, Option, Some, IsTrue, ⊤, Ok}
+use Rattle.std.specs.Prelude.{◌≡◌, ℕ, List, Option, Some, ⊤}
 use Rattle.depot.specs.DepotView.{DepotView, IsGood, state_of}
 use Rattle.folder_storage.specs.Ground.{Standing}
 use Rattle.library_rules.specs.LibraryState.{State}
@@ -13,7 +13,7 @@ use Rattle.worker_server.specs.ServedConnection.{CountsEnd, Session}
 use Rattle.worker_server.specs.declared.served.Served.{Served}
 use Rattle.worker_server.specs.declared.served.Served.TheVariants.{Ended, Limit, Cut, Refused, ReadFault, WriteFault, NoMemory}
 use Rattle.library_server.specs.Answering.{AnswersOn}
-use Rattle.library_server.specs.LibraryOpening.{IsNotOpened, OpensTo, RefusesOpening, is_unopened_counted}
+use Rattle.library_server.specs.LibraryOpening.{IsNotOpened, IsOpenedState, OpensTo, RefusesOpening, is_unopened_counted}
 use Rattle.library_server.specs.Lines.{fault_of_not_opened}
 use Rattle.library_server.specs.Making.{RoseWhere}
 use Rattle.library_server.specs.Standing.{ComesBack, GroundView, Returned}
@@ -35,18 +35,15 @@ status_of ReadFault = 1
 status_of WriteFault = 1
 status_of NoMemory = 3
 
--- one connection with a library that was opened: it is the one that was named, and the connection's end gives the status;
--- or it is another, and the link is left alone
-pub data ServesOpened {S : Type 0} (contents : S → Option Contents) (may_give : S → Slot → Option (List ℕ) → Type 0) (faults : S → ℕ)
-    (lib : List ℕ) (shows : ℕ → Type 0) (depot after : DepotView S) (before now : LinkView) (status : ℕ) : Type 0 where
-  served : lib ≡ depot.state.lib → (how : Served)
-      → ((input : List ℕ) → before.left ≡ Some input
-      → Session (AtAMoment shows (AnswersOn contents may_give faults)) input before.given now.given depot after how)
-      → ((calls : List (Told ⊤)) × Ran (AtAMoment shows (AnswersOn contents may_give faults)) depot calls after)
-      → CountsEnd before.faults now.faults how → status ≡ status_of how
-      → ServesOpened contents may_give faults lib shows depot after before now status
-  other : lib ≢ depot.state.lib → after ≡ depot → now ≡ before → status ≡ 1
-      → ServesOpened contents may_give faults lib shows depot after before now status
+-- one connection with a library that was opened; the connection's end gives the status
+pub record ServesOpened {S : Type 0} (contents : S → Option Contents) (may_give : S → Slot → Option (List ℕ) → Type 0) (faults : S → ℕ)
+    (shows : ℕ → Type 0) (depot after : DepotView S) (before now : LinkView) (status : ℕ) : Type 0 where
+  pub how : Served
+  pub session : (input : List ℕ) → before.left ≡ Some input
+      → Session (AtAMoment shows (AnswersOn contents may_give faults)) input before.given now.given depot after how
+  pub ran : (calls : List (Told ⊤)) × Ran (AtAMoment shows (AnswersOn contents may_give faults)) depot calls after
+  pub count : CountsEnd before.faults now.faults how
+  pub status_is : status ≡ status_of how
 
 -- why no library was opened: the refusal, its cause, and that the storage's count rose where it failed
 pub record IsUnopened {S : Type 0} (contents : S → Option Contents) (may_give : S → Slot → Option (List ℕ) → Type 0)
@@ -56,13 +53,13 @@ pub record IsUnopened {S : Type 0} (contents : S → Option Contents) (may_give 
   pub count : RoseWhere (is_unopened_counted why) old.faults new.faults
   pub back : Returned contents old.stands new.stands (place_text place) lib
 
--- one connection with the library that a command names: it was opened, served and is back, with what its shelf then holds,
--- from which it can be opened again; or it was not opened, which gives the status, and the link is left alone
+-- one connection with the library that a command names, and with no other: it was opened, served and is back, with what its
+-- shelf then holds; or it was not opened, which gives the status, and the link is left alone
 pub data ServesPlace {S : Type 0} (contents : S → Option Contents) (may_give : S → Slot → Option (List ℕ) → Type 0) (faults : S → ℕ)
     (place : Place) (lib : List ℕ) (shows : ℕ → Type 0) (old new : GroundView) (before now : LinkView) (status : ℕ) : Type 0 where
-  opened : (depot after : DepotView S)
+  opened : (depot after : DepotView S) → IsOpenedState may_give place lib shows depot.state
       → ((standing : Standing) → old.stands (place_text place) lib ≡ Some standing → (s : State) × (state_of contents faults depot ≡ Some s) × OpensTo place lib shows standing s)
-      → ServesOpened contents may_give faults lib shows depot after before now status
+      → ServesOpened contents may_give faults shows depot after before now status
       → IsGood contents faults after → ComesBack old.stands new.stands (place_text place) lib (contents after.store.shelf)
       → ServesPlace contents may_give faults place lib shows old new before now status
   unopened : (why : NotOpened) → IsUnopened contents may_give place lib shows old new why

@@ -1,9 +1,11 @@
 pub mod Lines
 pub mod Standing
+pub mod Answering
+pub mod Whole
 pub mod Making
 pub mod LibraryOpening
 pub mod Creating
 pub mod Adding
-pub mod Answering
 pub mod Connections
 pub mod Runs
+pub mod WholeRuns

@@ -1,24 +1,31 @@
--- A library that a command opens, and why it doesn't. Our own. Read OpensTo first, then OpensSo and IsNotOpened.
-use Rattle.std.specs.Prelude.{◌≡◌, ◌⊎◌, ℕ, Bool, true, false, List, ◌++◌, [], ◌∷◌, Option, None, Some, IsTrue, Result, Ok, Err, codes, replicate, ⊤}
+-- A library that a command opens, and why it doesn't. Our own. Read OpensTo first, then opening_refusal, OpensSo and
+-- IsNotOpened.
+use Rattle.std.specs.Prelude.{◌≡◌, ◌≢◌, ◌⊎◌, ℕ, Bool, false, if◌then◌else◌, List, Option, None, Some, option_map, IsTrue, Result, Ok, Err, codes, replicate, ⊤}
+use Rattle.std.specs.Str.{bytes_eq}
+use Rattle.ids.specs.Key.{Objects}
 use Rattle.library_state.specs.StateText.{state_of as read_state}
 use Rattle.library_state.specs.StateSpelling.{text_of}
 use Rattle.library_state.specs.declared.state.LibState.{LibState}
+use Rattle.library_state.specs.declared.state_fault.StateKey.{StateKey}
 use Rattle.object_graph.specs.Unchanged.{Keeps}
 use Rattle.depot.specs.DepotView.{DepotView, library, state_of}
-use Rattle.depot.specs.Reopening.{IsStartFault, next_opening, StartsAs, is_start_counted, start_refusal}
+use Rattle.depot.specs.Reopening.{IsGiven, IsNextOf, IsStartFault, IsStartFree, LeftUnopenedBy, next_opening, is_start_counted, state_refusal}
 use Rattle.depot.specs.declared.error.StartFault.{StartFault}
+use Rattle.depot.specs.declared.error.StartFault.TheVariants as start
 use Rattle.folder_storage.specs.Ground.{Absent, Kept, Standing}
 use Rattle.library_rules.specs.LibraryState.{State}
 use Rattle.library_rules.specs.Recovery.{opened}
 use Rattle.object_store.specs.Shelf.{Contents, is_counted}
+use Rattle.object_store.specs.StoreView.{StoreView}
 use Rattle.object_store.specs.declared.shelf.Slot.{Slot}
-use Rattle.server_words.specs.Spelling.{place_text}
 use Rattle.server_words.specs.declared.command.Place.{Place}
 use Rattle.server_words.specs.declared.command.Place.TheVariants.{Memory, Folder}
-use Rattle.library_server.specs.Making.{IsNotMade, RefusesNew, is_unmade_counted, library_of}
+use Rattle.library_server.specs.Making.{IsNotMade, RefusesNew, first_of, is_unmade_counted, library_of}
 use Rattle.library_server.specs.declared.making.NewLibrary.{NewLibrary}
 use Rattle.library_server.specs.declared.not_done.NotOpened.{NotOpened}
 use Rattle.library_server.specs.declared.not_done.NotOpened.TheVariants as unopened
+use Rattle.library_server.specs.declared.not_done.NotStarted.{NotStarted}
+use Rattle.library_server.specs.declared.not_done.NotStarted.TheVariants as unstarted
 
 -- what a command that names a library in memory makes first where there is none: its user is `me`, with a secret of
 -- forty `a`
@@ -34,26 +41,89 @@ abbrev pub IsFolder : Place → Type 0
 IsFolder Memory = ⊥
 IsFolder (Folder path) = ⊤
 
--- the library that is opened from such contents: that of the text, with all objects that lie there, no collection
--- running, and the next opening number
-pub record IsOpenedFrom (held : Contents) (s : State) : Type 0 where
+-- the library of this id that is opened from such contents: that of the text, with all objects that lie there, no
+-- collection running, and the next opening number
+pub record IsOpenedFrom (lib : List ℕ) (held : Contents) (s : State) : Type 0 where
   pub text : List ℕ
   pub found : LibState
   pub count : ℕ
   pub there : held.status ≡ Some text
   pub reads : read_state text ≡ Ok found
+  pub named : found.lib ≡ lib
   pub state : s ≡ opened held.objects count (library found count held.objects)
 
 -- such a library was opened
-abbrev pub OpensFrom : {S : Type 0} → (S → Option Contents) → (S → ℕ) → Contents → DepotView S → Type 0
-OpensFrom contents faults held depot = (s : State) × (state_of contents faults depot ≡ Some s) × IsOpenedFrom held s
+abbrev pub OpensFrom : {S : Type 0} → (S → Option Contents) → (S → ℕ) → List ℕ → Contents → DepotView S → Type 0
+OpensFrom contents faults lib held depot = (s : State) × (state_of contents faults depot ≡ Some s) × IsOpenedFrom lib held s
 
 -- the library that a command opens, as it stands: the one that is kept there, opened once more; or, in memory where there
 -- is none, one that is new, which is used as it was made
 pub data OpensTo (place : Place) (lib : List ℕ) (shows : ℕ → Type 0) (standing : Standing) (s : State) : Type 0 where
-  reopened : (held : Contents) → standing ≡ Kept held → IsOpenedFrom held s → OpensTo place lib shows standing s
+  reopened : (held : Contents) → standing ≡ Kept held → IsOpenedFrom lib held s → OpensTo place lib shows standing s
   made : IsMemory place → standing ≡ Absent → (moment count : ℕ) → shows moment → s ≡ library_of (memory_library lib) moment count
       → OpensTo place lib shows standing s
+
+-- the same of the state alone, over any ground: that of a text of the named library which a shelf may give, with the next
+-- opening number; or, in memory, that of the new library
+pub data IsOpenedState {S : Type 0} (may_give : S → Slot → Option (List ℕ) → Type 0) (place : Place) (lib : List ℕ) (shows : ℕ → Type 0) (state : LibState)
+    : Type 0 where
+  of_text : (shelf : S) → IsNextOf (may_give shelf) state → state.lib ≡ lib → IsOpenedState may_give place lib shows state
+  of_new : IsMemory place → (moment : ℕ) → shows moment → state ≡ first_of (memory_library lib) moment → IsOpenedState may_give place lib shows state
+
+-- ---- why no library is opened
+
+-- a library's state isn't opened under this id: it is another's, or it can't be opened
+abbrev pub named_refusal : List ℕ → Objects → LibState → Option NotStarted
+named_refusal lib objects state =
+    if bytes_eq state.lib lib then option_map unstarted.Fault (state_refusal objects state)
+    else Some unstarted.Other
+
+abbrev pub read_refusal : List ℕ → Objects → Result LibState StateKey → Option NotStarted
+read_refusal lib objects (Err key) = Some (unstarted.Fault (start.BadState key))
+read_refusal lib objects (Ok state) = named_refusal lib objects state
+
+-- why what lies on a shelf isn't opened under this id: there is no text, it is no state text, it is another library's, or
+-- its state can't be opened
+abbrev pub opening_refusal : List ℕ → Objects → Option (List ℕ) → Option NotStarted
+opening_refusal lib objects None = Some (unstarted.Fault start.NoState)
+opening_refusal lib objects (Some text) = read_refusal lib objects (read_state text)
+
+-- the faults that may come in any other's place
+abbrev pub IsUnstartedFree : Objects → NotStarted → Type 0
+IsUnstartedFree objects (unstarted.Fault fault) = IsStartFree objects fault
+IsUnstartedFree objects unstarted.Other = ⊥
+
+-- over told contents: the refusal is the one that is due, or a free one, and none comes where none is due
+abbrev pub IsDueOpening : List ℕ → Objects → Option (List ℕ) → NotStarted → Type 0
+IsDueOpening lib objects status why = (opening_refusal lib objects status ≡ Some why) ⊎ IsUnstartedFree objects why
+
+abbrev pub OpensAs : {T : Type 0} → List ℕ → Objects → Option (List ℕ) → Result T NotStarted → Type 0
+OpensAs lib objects status (Ok x) = opening_refusal lib objects status ≡ None
+OpensAs lib objects status (Err why) = IsDueOpening lib objects status why
+
+-- the text is that of this library
+pub record IsTextOf (lib : List ℕ) (status : Option (List ℕ)) : Type 0 where
+  pub text : List ℕ
+  pub found : LibState
+  pub there : status ≡ Some text
+  pub reads : read_state text ≡ Ok found
+  pub named : found.lib ≡ lib
+
+-- the shelf may give the text of another library
+pub record GivesOther (may_give : Slot → Option (List ℕ) → Type 0) (lib : List ℕ) : Type 0 where
+  pub state : LibState
+  pub given : IsGiven may_give state
+  pub other : state.lib ≢ lib
+
+-- the cause of each refusal, over any shelf; that of another library may have been given by the shelf as it was before
+abbrev pub IsNotStarted : {S : Type 0} → (S → Slot → Option (List ℕ) → Type 0) → S → List ℕ → NotStarted → Type 0
+IsNotStarted may_give shelf lib (unstarted.Fault why) = IsStartFault (may_give shelf) why
+IsNotStarted {S} may_give shelf lib unstarted.Other = (before : S) × GivesOther (may_give before) lib
+
+-- the failure that the storage counts
+abbrev pub is_unstarted_counted : NotStarted → Bool
+is_unstarted_counted (unstarted.Fault why) = is_start_counted why
+is_unstarted_counted unstarted.Other = false
 
 -- what lies in the slot where a library could not be opened: what lay there, or, where the storage failed, the text with the
 -- next opening number
@@ -65,8 +135,18 @@ MayRaise why held h = (h.status ≡ held.status)
 abbrev pub LeavesOpened : StartFault → Contents → Option Contents → Type 0
 LeavesOpened why held now = (h : Contents) × (now ≡ Some h) × Keeps held.objects h.objects × MayRaise why held h
 
-abbrev pub LeavesKept : StartFault → Contents → Option Standing → Type 0
-LeavesKept why held after = (h : Contents) × (after ≡ Some (Kept h)) × Keeps held.objects h.objects × MayRaise why held h
+-- another library stays as it is
+abbrev pub LeavesShelf : NotStarted → Contents → Option Contents → Type 0
+LeavesShelf (unstarted.Fault why) held now = LeavesOpened why held now
+LeavesShelf unstarted.Other held now = now ≡ Some held
+
+-- the same of a store; where the text is the named library's the refusal is not that of another
+abbrev pub LeftUnstarted : {S : Type 0} → (S → Option Contents) → (given store : StoreView S) → NotStarted → Type 0
+LeftUnstarted contents given store (unstarted.Fault why) = LeftUnopenedBy contents given store why
+LeftUnstarted contents given store unstarted.Other = ⊥
+
+abbrev pub LeavesKept : NotStarted → Contents → Option Standing → Type 0
+LeavesKept why held after = (h : Contents) × (after ≡ Some (Kept h)) × LeavesShelf why held (Some h)
 
 -- over told libraries, as one stood before and stands after, why none is opened. A failure of the storage and want of
 -- memory may come in any other's place
@@ -74,7 +154,7 @@ abbrev pub RefusesOpening : Place → List ℕ → (ℕ → Type 0) → Standing
 RefusesOpening place lib shows standing (unopened.Storage failed) after = after ≡ Some standing
 RefusesOpening place lib shows standing unopened.Absent after = IsFolder place × (standing ≡ Absent) × (after ≡ Some standing)
 RefusesOpening place lib shows standing (unopened.Refused why) after =
-    (held : Contents) × (standing ≡ Kept held) × StartsAs {T = ⊤} held.objects (start_refusal held.objects held.status) (Err why) × LeavesKept why held after
+    (held : Contents) × (standing ≡ Kept held) × IsDueOpening lib held.objects held.status why × LeavesKept why held after
 RefusesOpening place lib shows standing (unopened.Unmade why) after =
     IsMemory place × (standing ≡ Absent) × (moment : ℕ) × shows moment × RefusesNew (memory_library lib) moment standing why after
 
@@ -87,12 +167,12 @@ OpensSo contents faults place lib shows standing (Err why) after = RefusesOpenin
 abbrev pub IsNotOpened : {S : Type 0} → (S → Slot → Option (List ℕ) → Type 0) → Place → List ℕ → (ℕ → Type 0) → NotOpened → Type 0
 IsNotOpened may_give place lib shows (unopened.Storage failed) = ⊤
 IsNotOpened may_give place lib shows unopened.Absent = IsFolder place
-IsNotOpened {S} may_give place lib shows (unopened.Refused why) = (shelf : S) × IsStartFault (may_give shelf) why
+IsNotOpened {S} may_give place lib shows (unopened.Refused why) = (shelf : S) × IsNotStarted may_give shelf lib why
 IsNotOpened may_give place lib shows (unopened.Unmade why) = IsMemory place × (moment : ℕ) × shows moment × IsNotMade may_give (memory_library lib) moment why
 
 -- the failure that the storage counts
 abbrev pub is_unopened_counted : NotOpened → Bool
 is_unopened_counted (unopened.Storage failed) = is_counted failed
 is_unopened_counted unopened.Absent = false
-is_unopened_counted (unopened.Refused why) = is_start_counted why
+is_unopened_counted (unopened.Refused why) = is_unstarted_counted why
 is_unopened_counted (unopened.Unmade why) = is_unmade_counted why

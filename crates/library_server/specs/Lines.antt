@@ -1,11 +1,13 @@
 -- The fault that is printed where a command was not done. Our own. Read fault_of_not_opened first, and the words of
 -- each fault in server_words.
+use Rattle.std.specs.Prelude.{Bool, true, false}
 use Rattle.depot.specs.declared.error.MakeFault.{MakeFault}
 use Rattle.depot.specs.declared.error.MakeFault.TheVariants as make
 use Rattle.depot.specs.declared.error.StartFault.{StartFault}
 use Rattle.depot.specs.declared.error.StartFault.TheVariants as start
 use Rattle.depot.specs.declared.error.TokenFault.{TokenFault}
 use Rattle.depot.specs.declared.error.TokenFault.TheVariants as token
+use Rattle.library_state.specs.declared.state_fault.StateKey.TheVariants as state
 use Rattle.object_graph.specs.declared.fault.TreeFault.{TreeFault}
 use Rattle.object_graph.specs.declared.fault.TreeFault.TheVariants as tree
 use Rattle.object_store.specs.declared.error.StoreFault.{StoreFault}
@@ -20,6 +22,8 @@ use Rattle.library_server.specs.declared.not_done.NotMade.{NotMade}
 use Rattle.library_server.specs.declared.not_done.NotMade.TheVariants as made
 use Rattle.library_server.specs.declared.not_done.NotOpened.{NotOpened}
 use Rattle.library_server.specs.declared.not_done.NotOpened.TheVariants as opened
+use Rattle.library_server.specs.declared.not_done.NotStarted.{NotStarted}
+use Rattle.library_server.specs.declared.not_done.NotStarted.TheVariants as unstarted
 
 abbrev pub fault_of_shelf : ShelfFailed → Fault
 fault_of_shelf shelf.Shelf = fault.Store
@@ -58,6 +62,11 @@ fault_of_token token.SecretTaken = fault.SecretTaken
 fault_of_token token.Full = fault.TokensFull
 fault_of_token (token.Store why) = fault_of_store why
 
+-- of another library's state text the check of the library's id is told
+abbrev pub fault_of_not_started : NotStarted → Fault
+fault_of_not_started (unstarted.Fault why) = fault_of_start why
+fault_of_not_started unstarted.Other = fault.BadState state.Lib
+
 -- why a library was not made, was not opened, and why a token was not added, as it is printed
 abbrev pub fault_of_not_made : NotMade → Fault
 fault_of_not_made (made.Storage failed) = fault_of_shelf failed
@@ -67,9 +76,15 @@ fault_of_not_made (made.Refused why) = fault_of_make why
 abbrev pub fault_of_not_opened : NotOpened → Fault
 fault_of_not_opened (opened.Storage failed) = fault_of_shelf failed
 fault_of_not_opened opened.Absent = fault.NoLibrary
-fault_of_not_opened (opened.Refused why) = fault_of_start why
+fault_of_not_opened (opened.Refused why) = fault_of_not_started why
 fault_of_not_opened (opened.Unmade why) = fault_of_not_made why
 
 abbrev pub fault_of_not_added : NotAdded → Fault
 fault_of_not_added (added.Unopened why) = fault_of_not_opened why
 fault_of_not_added (added.Refused why) = fault_of_token why
+
+-- the faults of the storage: it failed, or what it gave is damaged
+abbrev pub is_storage_fault : Fault → Bool
+is_storage_fault fault.Store = true
+is_storage_fault (fault.Damaged id) = true
+is_storage_fault other = false

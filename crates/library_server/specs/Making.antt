@@ -1,5 +1,5 @@
 -- A library that is made where there is none. Our own. Read MakesSo first, then IsNotMade.
-use Rattle.std.specs.Prelude.{◌≡◌, ◌≢◌, ◌⊎◌, ℕ, Bool, true, false, List, Option, None, Some, IsTrue, Result, Ok, Err, ⊤}
+use Rattle.std.specs.Prelude.{◌≡◌, ◌≢◌, ◌⊎◌, ℕ, Bool, false, List, Option, None, Some, IsTrue, Result, Ok, Err, ⊤}
 use Rattle.std.specs.FinMap as map
 use Rattle.ids.specs.FaultCount.{Rose}
 use Rattle.ids.specs.Key.{Objects}

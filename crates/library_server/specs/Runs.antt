@@ -2,7 +2,7 @@
 use Rattle.std.specs.Prelude.{◌≡◌, ℕ, List, Option, None, Some, Result, Ok, Err, ⊤}
 use Rattle.std.specs.Io.KnownBytes.{append_known}
 use Rattle.ids.specs.FaultCount.{Rose}
-use Rattle.folder_storage.specs.Ground.{StandAsBefore, Standing}
+use Rattle.folder_storage.specs.Ground.{Standing}
 use Rattle.http_front.specs.Link.{GivesFront}
 use Rattle.library_rules.specs.Creation.{opening_commit}
 use Rattle.object_store.specs.Shelf.{Contents}
@@ -78,9 +78,9 @@ abbrev pub IsCreated : {S : Type 0} → (S → Slot → Option (List ℕ) → Ty
 IsCreated may_give new moment before now (Ok head) = head ≡ (opening_commit new.lib new.user moment).id
 IsCreated may_give new moment before now (Err why) = IsNotMade may_give new moment why × RoseWhere (is_unmade_counted why) before now
 
-abbrev pub IsAdded : {S : Type 0} → (S → Slot → Option (List ℕ) → Type 0) → Place → List ℕ → (ℕ → Type 0) → ℕ → ℕ → Result ⊤ NotAdded → Type 0
-IsAdded may_give place lib shows before now (Ok done) = ⊤
-IsAdded may_give place lib shows before now (Err why) = IsNotAdded may_give place lib shows why × RoseWhere (is_unadded_counted why) before now
+abbrev pub IsAdded : {S : Type 0} → (S → Slot → Option (List ℕ) → Type 0) → Place → List ℕ → (ℕ → Type 0) → NewToken → ℕ → ℕ → Result ⊤ NotAdded → Type 0
+IsAdded may_give place lib shows new before now (Ok done) = ⊤
+IsAdded may_give place lib shows new before now (Err why) = IsNotAdded may_give place lib shows new why × RoseWhere (is_unadded_counted why) before now
 
 -- a library was made at a moment of the clock, or not, and the line tells it
 pub record CreatesLibrary {S : Type 0} (contents : S → Option Contents) (may_give : S → Slot → Option (List ℕ) → Type 0) (shows : ℕ → Type 0)
@@ -100,7 +100,7 @@ pub record AddsToken {S : Type 0} (contents : S → Option Contents) (may_give :
   pub added : Result ⊤ NotAdded
   pub told : (standing : Standing) → old.stands (place_text place) lib ≡ Some standing
       → AddsSo place lib shows new standing added (now.stands (place_text place) lib)
-  pub is : IsAdded may_give place lib shows old.faults now.faults added
+  pub is : IsAdded may_give place lib shows new old.faults now.faults added
   pub back : Returned contents old.stands now.stands (place_text place) lib
   pub prints : PrintsSo (line_printed (added_line added)) before after status
 

@@ -1,6 +1,6 @@
 -- What a command does to the place where libraries are kept: a library is handed out, and comes back. Our own.
 -- Read Returned first, then StandsAs. Read before: Ground of folder_storage.
-use Rattle.std.specs.Prelude.{◌≡◌, ℕ, List, Option, None, Some, Result, Ok, Err}
+use Rattle.std.specs.Prelude.{◌≡◌, ℕ, List, Option, Some, Result, Ok, Err}
 use Rattle.object_store.specs.Shelf.{Contents}
 use Rattle.folder_storage.specs.Ground.{ChangesStanding, HandedOut, Kept, StandAsBefore, Standing, Standings}
 use Rattle.library_rules.specs.LibraryState.{State}

@@ -3,8 +3,11 @@ ghost use Rattle.std.specs.Prelude.{◌≡◌, ◌≤◌, ℕ, IfErr, Option, So
 ghost use Rattle.folder_storage.specs.Ground.{Standing};
 ghost use Rattle.server_words.specs.Spelling.{place_text};
 ghost use Rattle.library_server.specs.Adding.{AddsSo, IsNotAdded, is_unadded_counted};
+ghost use Rattle.library_server.specs.Answering.{NeverFails};
+ghost use Rattle.library_server.specs.Lines.{fault_of_not_added};
 ghost use Rattle.library_server.specs.Making.{RoseWhere};
 ghost use Rattle.library_server.specs.Standing.{Returned};
+ghost use Rattle.library_server.specs.Whole.{IsWhole, NotOfStorage};
 
 use crate::not_done::NotAdded;
 use crate::opening::{bring_back, folder_word, open_library};
@@ -35,8 +38,10 @@ pub(crate) fn add_token<G: Ground, C: Clock>(
     ensures told { (standing : Standing) → G.stands libraries.old (place_text place.now) lib ≡ Some standing
         → AddsSo place.now lib (C.shows clock.now) token.now standing result (G.stands libraries.new (place_text place.now) lib) }
     ensures back { Returned G.S.contents (G.stands libraries.old) (G.stands libraries.new) (place_text place.now) lib }
-    ensures cause { IfErr result (IsNotAdded G.S.may_give place.now lib (C.shows clock.now)) }
+    ensures cause { IfErr result (IsNotAdded G.S.may_give place.now lib (C.shows clock.now) token.now) }
     ensures faults { IfErr result (λ why. RoseWhere (is_unadded_counted why) (G.faults libraries.old) (G.faults libraries.new)) }
+    ensures whole { NeverFails G.S.faults → (standing : Standing) → G.stands libraries.old (place_text place.now) lib ≡ Some standing → IsWhole standing
+        → NotOfStorage fault_of_not_added result }
 {
     let mut depot = match open_library(alloc, libraries, place, lib, clock) {
         Ok(depot) => depot,

@@ -2,9 +2,12 @@
 ghost use Rattle.std.specs.Prelude.{◌≡◌, ◌≤◌, ℕ, List, IfErr, IfOk, Option, Some, length};
 ghost use Rattle.folder_storage.specs.Ground.{Standing};
 ghost use Rattle.library_rules.specs.Creation.{opening_commit};
+ghost use Rattle.library_server.specs.Answering.{NeverFails};
 ghost use Rattle.library_server.specs.Creating.{CreatesSo};
+ghost use Rattle.library_server.specs.Lines.{fault_of_not_made};
 ghost use Rattle.library_server.specs.Making.{IsNotMade, RoseWhere, is_unmade_counted};
 ghost use Rattle.library_server.specs.Standing.{Returned};
+ghost use Rattle.library_server.specs.Whole.{IsWhole, NotOfStorage};
 
 use crate::making::{NewLibrary, make_library};
 use crate::not_done::NotMade;
@@ -29,6 +32,8 @@ pub(crate) fn create<G: Ground>(
     ensures back { Returned G.S.contents (G.stands libraries.old) (G.stands libraries.new) folder.now new.now.lib }
     ensures cause { IfErr result (IsNotMade G.S.may_give new.now moment) }
     ensures faults { IfErr result (λ why. RoseWhere (is_unmade_counted why) (G.faults libraries.old) (G.faults libraries.new)) }
+    ensures whole { NeverFails G.S.faults → (standing : Standing) → G.stands libraries.old folder.now new.now.lib ≡ Some standing → IsWhole standing
+        → NotOfStorage fault_of_not_made result }
 {
     match make_library(alloc, libraries, folder, new, moment) {
         Ok(depot) => {

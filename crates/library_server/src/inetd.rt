@@ -1,8 +1,12 @@
 //! The command that serves one connection.
-ghost use Rattle.std.specs.Prelude.{◌≡◌};
+ghost use Rattle.std.specs.Prelude.{◌≡◌, Some};
+ghost use Rattle.folder_storage.specs.Ground.{Standing};
 ghost use Rattle.server_words.specs.Spelling.{place_text};
+ghost use Rattle.library_server.specs.Answering.{NeverFails};
 ghost use Rattle.library_server.specs.Connections.{LinkView, ServesOpened, ServesPlace, status_of};
 ghost use Rattle.library_server.specs.Standing.{GroundView};
+ghost use Rattle.library_server.specs.Whole.{IsWhole};
+ghost use Rattle.library_server.specs.WholeRuns.{ServesWhole};
 
 use crate::opening::{bring_back, folder_word, open_library};
 use crate::serving::serve_link;
@@ -30,31 +34,31 @@ pub(crate) fn inetd<G: Ground, L: Link, C: Clock>(
         (record { stands = G.stands libraries.new; faults = G.faults libraries.new })
         (record { left = L.left link.old; given = L.given link.old; faults = L.faults link.old })
         (record { left = L.left link.new; given = L.given link.new; faults = L.faults link.new }) result }
+    ensures whole { NeverFails G.S.faults → (standing : Standing) → G.stands libraries.old (place_text place.now) lib ≡ Some standing → IsWhole standing
+        → ServesWhole G.S.contents G.S.may_give G.S.faults (C.shows clock.now)
+        (record { left = L.left link.old; given = L.given link.old; faults = L.faults link.old })
+        (record { left = L.left link.new; given = L.given link.new; faults = L.faults link.new }) result }
 {
     let mut depot = match open_library(alloc, libraries, place, lib, clock) {
         Ok(depot) => depot,
         Err(fault) => return Line::Fault(fault.fault()).status(),
     };
-    let status = serve_opened(alloc, &mut depot, lib, link, clock);
+    let status = serve_opened(alloc, &mut depot, link, clock);
     bring_back(libraries, folder_word(place), lib, depot);
     status
 }
 
-/// Serves one connection with a library that was opened, unless it is another than the one that was named.
+/// Serves one connection with a library that was opened.
 fn serve_opened<S: Shelf, L: Link, C: Clock>(
     alloc: Global,
     depot: &mut Depot<S>,
-    lib: LibId,
     link: &mut L,
     clock: &C,
 ) -> u8
-    ensures serves { ServesOpened S.contents S.may_give S.faults lib (C.shows clock.now) depot.old depot.new
+    ensures serves { ServesOpened S.contents S.may_give S.faults (C.shows clock.now) depot.old depot.new
         (record { left = L.left link.old; given = L.given link.old; faults = L.faults link.old })
         (record { left = L.left link.new; given = L.given link.new; faults = L.faults link.new }) result }
 {
-    if lib != depot.lib() {
-        return 1;
-    }
     status_of(serve_link(alloc, depot, link, clock))
 }
 

@@ -1,6 +1,6 @@
 //! What the server program does: it makes libraries, adds tokens to them, and serves one connection.
 //!
-//! Shown upward: `run`, the server's top call, and `serve_link`, the promise of one connection, over any shelf, link, clock
+//! Shown upward: `run`, the server's top call, with `run_in_memory`, and `serve_link`, the promise of one connection, over any shelf, link, clock
 //! and place of libraries. Definitions: specs/, read Answering, then Runs and what it cites.
 //! It opens no real stream, file or clock: those stand in the program above.
 #![tactic(auto)]
@@ -14,5 +14,5 @@ mod opening;
 mod running;
 mod serving;
 
-pub use crate::running::run;
+pub use crate::running::{run, run_in_memory};
 pub use crate::serving::serve_link;

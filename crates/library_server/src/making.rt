@@ -7,8 +7,11 @@ ghost use Rattle.folder_storage.specs.Ground.{Standing};
 ghost use Rattle.library_rules.specs.Creation.{created, opening_commit, opening_object};
 ghost use Rattle.object_store.specs.Shelf.{Contents};
 ghost use Rattle.object_store.specs.Store.{put_refusal};
+ghost use Rattle.library_server.specs.Answering.{NeverFails};
+ghost use Rattle.library_server.specs.Lines.{fault_of_not_made};
 ghost use Rattle.library_server.specs.Making.{IsNew, IsNotMade, LeavesText, MakesSo, RoseWhere, is_unmade_counted};
 ghost use Rattle.library_server.specs.Standing.{HandsOutOr};
+ghost use Rattle.library_server.specs.Whole.{IsWhole, OutWhole};
 
 use crate::not_done::NotMade;
 use depot::{Depot, MakeFault};
@@ -46,6 +49,8 @@ pub(crate) fn make_library<G: Ground>(
     ensures back { HandsOutOr G.S.contents (G.stands libraries.old) (G.stands libraries.new) folder.now new.now.lib result }
     ensures cause { IfErr result (IsNotMade G.S.may_give new.now moment) }
     ensures faults { IfErr result (λ why. RoseWhere (is_unmade_counted why) (G.faults libraries.old) (G.faults libraries.new)) }
+    ensures whole { NeverFails G.S.faults → (standing : Standing) → G.stands libraries.old folder.now new.now.lib ≡ Some standing → IsWhole standing
+        → OutWhole fault_of_not_made G.S.contents result }
     ensures good { IfOk result (IsGood G.S.contents G.S.faults) }
     ensures count { OnOk result (G.faults libraries.new ≡ G.faults libraries.old) }
 {

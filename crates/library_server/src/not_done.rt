@@ -1,8 +1,9 @@
 //! Why a command was not done, and the line that tells it.
 ghost use Rattle.std.specs.Prelude.{◌≡◌};
-ghost use Rattle.library_server.specs.Lines.{fault_of_make, fault_of_not_added, fault_of_not_made, fault_of_not_opened, fault_of_shelf, fault_of_start, fault_of_store, fault_of_token, fault_of_tree};
+ghost use Rattle.library_server.specs.Lines.{fault_of_make, fault_of_not_added, fault_of_not_made, fault_of_not_opened, fault_of_not_started, fault_of_shelf, fault_of_start, fault_of_store, fault_of_token, fault_of_tree};
 
 use depot::{MakeFault, StartFault, TokenFault};
+use library_state::StateKey;
 use object_graph::TreeFault;
 use object_store::{ShelfFailed, StoreFault};
 use server_words::Fault;
@@ -18,6 +19,15 @@ pub enum NotMade {
     Refused(MakeFault),
 }
 
+/// Why what lies on a library's shelf was not opened.
+#[derive(Debug, Drop)]
+pub enum NotStarted {
+    /// It could not be opened.
+    Fault(StartFault),
+    /// It is another library than the one that was named.
+    Other,
+}
+
 /// Why a library was not opened.
 #[derive(Debug, Drop)]
 pub enum NotOpened {
@@ -26,7 +36,7 @@ pub enum NotOpened {
     /// The library is not there.
     Absent,
     /// It could not be opened from its shelf.
-    Refused(StartFault),
+    Refused(NotStarted),
     /// The library, which was not there and is in memory, was not made.
     Unmade(NotMade),
 }
@@ -61,7 +71,7 @@ impl NotOpened {
         match self {
             NotOpened::Storage(failed) => fault_of_shelf(failed),
             NotOpened::Absent => Fault::NoLibrary,
-            NotOpened::Refused(fault) => fault_of_start(fault),
+            NotOpened::Refused(why) => fault_of_not_started(why),
             NotOpened::Unmade(fault) => fault.fault(),
         }
     }
@@ -122,6 +132,16 @@ fn fault_of_start(fault: StartFault) -> Fault
         StartFault::Worn => Fault::Worn,
         StartFault::Walk(fault) => fault_of_tree(&fault),
         StartFault::Store(fault) => fault_of_store(fault),
+    }
+}
+
+/// Of another library's state text the check of the library's id is told.
+fn fault_of_not_started(why: NotStarted) -> Fault
+    ensures value { result ≡ fault_of_not_started why }
+{
+    match why {
+        NotStarted::Fault(fault) => fault_of_start(fault),
+        NotStarted::Other => Fault::BadState(StateKey::Lib),
     }
 }
 

@@ -1,18 +1,23 @@
 //! How a command opens the library that it names.
 ghost use Rattle.std.specs.Prelude.{◌≡◌, ℕ, List, IfOk, IfErr, OnOk, Option, Some, Err, ⊤, false, codes};
 ghost use Rattle.ids.specs.FaultCount.{FailsBy};
+ghost use Rattle.ids.specs.Key.{Objects};
 ghost use Rattle.depot.specs.DepotView.{IsGood, state_of};
-ghost use Rattle.depot.specs.Reopening.{IsStartFault, StartsAs, is_start_counted, start_refusal, without_store};
+ghost use Rattle.depot.specs.Reopening.{IsNextOf, OpensTold, without_store};
 ghost use Rattle.folder_storage.specs.Ground.{Absent, Standing, TakesBack, count_sum};
 ghost use Rattle.object_store.specs.Shelf.{Contents};
+ghost use Rattle.object_store.specs.StoreView.{Keeps, objects_of, status_of};
 ghost use Rattle.server_words.specs.Spelling.{place_text};
-ghost use Rattle.library_server.specs.LibraryOpening.{IsMemory, IsNotOpened, LeavesOpened, OpensFrom, OpensSo, is_unopened_counted, memory_library};
+ghost use Rattle.library_server.specs.Answering.{NeverFails};
+ghost use Rattle.library_server.specs.LibraryOpening.{IsDueOpening, IsMemory, IsNotOpened, IsNotStarted, IsOpenedState, IsTextOf, LeavesShelf, LeftUnstarted, OpensAs, OpensFrom, OpensSo, is_unopened_counted, is_unstarted_counted, memory_library};
+ghost use Rattle.library_server.specs.Lines.{fault_of_not_opened};
 ghost use Rattle.library_server.specs.Making.{RoseWhere};
 ghost use Rattle.library_server.specs.Standing.{HandsOutOr};
+ghost use Rattle.library_server.specs.Whole.{IsWhole, OutWhole};
 
 use crate::making::{NewLibrary, make_library};
-use crate::not_done::{NotMade, NotOpened};
-use depot::{Depot, StartFault};
+use crate::not_done::{NotMade, NotOpened, NotStarted};
+use depot::{Depot, StartFault, read_state};
 use folder_storage::Ground;
 use ids::{LibId, Text};
 use library_state::{Clock, Secret};
@@ -31,7 +36,7 @@ pub(crate) fn folder_word(place: &Place) -> &str
 }
 
 /// Opens the library that a command names. One that is not there is made first where its place is memory, and then used
-/// as it was made.
+/// as it was made. What lies there and is another library is not opened, and nothing is written.
 ///
 /// After a refusal what was handed out is back.
 pub(crate) fn open_library<G: Ground, C: Clock>(
@@ -41,12 +46,15 @@ pub(crate) fn open_library<G: Ground, C: Clock>(
     lib: LibId,
     clock: &C,
 ) -> Result<Depot<G::S>, NotOpened>
+    ensures given { IfOk result (λ depot. IsOpenedState G.S.may_give place.now lib (C.shows clock.now) depot.state) }
     ensures settled { IfOk result (λ depot. depot.unsettled ≡ false) }
     ensures told { (standing : Standing) → G.stands libraries.old (place_text place.now) lib ≡ Some standing
         → OpensSo G.S.contents G.S.faults place.now lib (C.shows clock.now) standing result (G.stands libraries.new (place_text place.now) lib) }
     ensures back { HandsOutOr G.S.contents (G.stands libraries.old) (G.stands libraries.new) (place_text place.now) lib result }
     ensures cause { IfErr result (IsNotOpened G.S.may_give place.now lib (C.shows clock.now)) }
     ensures faults { IfErr result (λ why. RoseWhere (is_unopened_counted why) (G.faults libraries.old) (G.faults libraries.new)) }
+    ensures whole { NeverFails G.S.faults → (standing : Standing) → G.stands libraries.old (place_text place.now) lib ≡ Some standing → IsWhole standing
+        → OutWhole fault_of_not_opened G.S.contents result }
     ensures good { IfOk result (IsGood G.S.contents G.S.faults) }
     ensures count { OnOk result (G.faults libraries.new ≡ G.faults libraries.old) }
 {
@@ -56,11 +64,11 @@ pub(crate) fn open_library<G: Ground, C: Clock>(
         Ok(None) => return open_absent(alloc, libraries, place, lib, clock),
         Err(failed) => return Err(NotOpened::Storage(failed)),
     };
-    match open_on(alloc, shelf) {
+    match open_on(alloc, shelf, &lib) {
         Ok(depot) => Ok(depot),
-        Err((shelf, fault)) => {
+        Err((shelf, why)) => {
             libraries.give_back(folder, lib, shelf);
-            Err(NotOpened::Refused(fault))
+            Err(NotOpened::Refused(why))
         }
     }
 }
@@ -82,12 +90,14 @@ fn open_absent<G: Ground, C: Clock>(
     lib: LibId,
     clock: &C,
 ) -> Result<Depot<G::S>, NotOpened>
+    ensures given { IfOk result (λ depot. IsOpenedState G.S.may_give place.now lib (C.shows clock.now) depot.state) }
     ensures settled { IfOk result (λ depot. depot.unsettled ≡ false) }
     ensures told { G.stands libraries.old (place_text place.now) lib ≡ Some Absent
         → OpensSo G.S.contents G.S.faults place.now lib (C.shows clock.now) Absent result (G.stands libraries.new (place_text place.now) lib) }
     ensures back { HandsOutOr G.S.contents (G.stands libraries.old) (G.stands libraries.new) (place_text place.now) lib result }
     ensures cause { IfErr result (IsNotOpened G.S.may_give place.now lib (C.shows clock.now)) }
     ensures faults { IfErr result (λ why. RoseWhere (is_unopened_counted why) (G.faults libraries.old) (G.faults libraries.new)) }
+    ensures whole { NeverFails G.S.faults → G.stands libraries.old (place_text place.now) lib ≡ Some Absent → OutWhole fault_of_not_opened G.S.contents result }
     ensures good { IfOk result (IsGood G.S.contents G.S.faults) }
     ensures count { OnOk result (G.faults libraries.new ≡ G.faults libraries.old) }
 {
@@ -104,12 +114,14 @@ fn make_in_memory<G: Ground, C: Clock>(
     lib: LibId,
     clock: &C,
 ) -> Result<Depot<G::S>, NotOpened>
+    ensures given { IfOk result (λ depot. IsOpenedState G.S.may_give Place.Memory lib (C.shows clock.now) depot.state) }
     ensures settled { IfOk result (λ depot. depot.unsettled ≡ false) }
     ensures told { G.stands libraries.old (codes ":memory:") lib ≡ Some Absent
         → OpensSo G.S.contents G.S.faults Place.Memory lib (C.shows clock.now) Absent result (G.stands libraries.new (codes ":memory:") lib) }
     ensures back { HandsOutOr G.S.contents (G.stands libraries.old) (G.stands libraries.new) (codes ":memory:") lib result }
     ensures cause { IfErr result (IsNotOpened G.S.may_give Place.Memory lib (C.shows clock.now)) }
     ensures faults { IfErr result (λ why. RoseWhere (is_unopened_counted why) (G.faults libraries.old) (G.faults libraries.new)) }
+    ensures whole { NeverFails G.S.faults → G.stands libraries.old (codes ":memory:") lib ≡ Some Absent → OutWhole fault_of_not_opened G.S.contents result }
     ensures good { IfOk result (IsGood G.S.contents G.S.faults) }
     ensures count { OnOk result (G.faults libraries.new ≡ G.faults libraries.old) }
 {
@@ -138,23 +150,79 @@ fn memory_library(alloc: Global, lib: LibId) -> Result<NewLibrary, AllocError>
     })
 }
 
-/// Opens the library of a shelf. After a refusal the shelf is given back.
-fn open_on<S: Shelf>(alloc: Global, shelf: S) -> Result<Depot<S>, (S, StartFault)>
+/// Opens the library of a shelf, which is this one. After a refusal the shelf is given back.
+fn open_on<S: Shelf>(alloc: Global, shelf: S, lib: &LibId) -> Result<Depot<S>, (S, NotStarted)>
     ensures settled { IfOk result (λ depot. depot.unsettled ≡ false) }
+    ensures named { IfOk result (λ depot. depot.state.lib ≡ lib.now) }
+    ensures given { IfOk result (λ depot. (before : S) × IsNextOf (S.may_give before) depot.state) }
     ensures good { IfOk result (IsGood S.contents S.faults) }
-    ensures told { (held : Contents) → S.contents shelf ≡ Some held → IfOk result (OpensFrom S.contents S.faults held) }
-    ensures refused { (held : Contents) → S.contents shelf ≡ Some held
-        → StartsAs held.objects (start_refusal held.objects held.status) (without_store result) }
-    ensures left { (held : Contents) → S.contents shelf ≡ Some held → IfErr result (λ refused. LeavesOpened refused.1 held (S.contents refused.0)) }
-    ensures cause { IfErr result (λ refused. IsStartFault (S.may_give refused.0) refused.1) }
-    ensures faults { IfErr result (λ refused. FailsBy {T = ⊤} is_start_counted (S.faults shelf) (S.faults refused.0) (Err refused.1)) }
+    ensures told { (held : Contents) → S.contents shelf ≡ Some held → IfOk result (OpensFrom S.contents S.faults lib.now held) }
+    ensures refused { (held : Contents) → S.contents shelf ≡ Some held → OpensAs lib.now held.objects held.status (without_store result) }
+    ensures left { (held : Contents) → S.contents shelf ≡ Some held → IfErr result (λ refused. LeavesShelf refused.1 held (S.contents refused.0)) }
+    ensures cause { IfErr result (λ refused. IsNotStarted S.may_give refused.0 lib.now refused.1) }
+    ensures faults { IfErr result (λ refused. FailsBy {T = ⊤} is_unstarted_counted (S.faults shelf) (S.faults refused.0) (Err refused.1)) }
 {
-    let store = match Store::start(alloc, shelf) {
+    let mut store = match Store::start(alloc, shelf) {
         Ok(store) => store,
-        Err((shelf, fault)) => return Err((shelf, StartFault::Store(fault))),
+        Err((shelf, fault)) => return Err((shelf, NotStarted::Fault(StartFault::Store(fault)))),
     };
-    match Depot::start(alloc, store) {
+    match check_named(alloc, &mut store, lib) {
+        Ok(()) => {}
+        Err(why) => return Err((store.end(), why)),
+    }
+    match start_named(alloc, store, lib) {
         Ok(depot) => Ok(depot),
-        Err((store, fault)) => Err((store.end(), fault)),
+        Err((store, why)) => Err((store.end(), why)),
+    }
+}
+
+/// Refuses a store whose state text is another library's, or none. It writes nothing.
+fn check_named<S: Shelf>(alloc: Global, store: &mut Store<S>, lib: &LibId) -> Result<(), NotStarted>
+    ensures named { (status : Option (List ℕ)) → status_of S.contents store.old ≡ Some status → IfOk result (λ done. IsTextOf lib.now status) }
+    ensures kept { Keeps S.contents store.old store.new }
+    ensures refused { (objects : Objects) → (status : Option (List ℕ)) → status_of S.contents store.old ≡ Some status
+        → IfErr result (IsDueOpening lib.now objects status) }
+    ensures cause { IfErr result (IsNotStarted S.may_give store.new.shelf lib.now) }
+    ensures faults { FailsBy is_unstarted_counted (S.faults store.old.shelf) (S.faults store.new.shelf) result }
+{
+    match read_state(alloc, store) {
+        Ok(state) => {
+            if state.lib != *lib {
+                return Err(NotStarted::Other);
+            }
+            Ok(())
+        }
+        Err(fault) => Err(NotStarted::Fault(fault)),
+    }
+}
+
+/// Opens the library of a store, unless it is another one.
+fn start_named<S: Shelf>(
+    alloc: Global,
+    store: Store<S>,
+    lib: &LibId,
+) -> Result<Depot<S>, (Store<S>, NotStarted)>
+    ensures settled { IfOk result (λ depot. depot.unsettled ≡ false) }
+    ensures named { IfOk result (λ depot. depot.state.lib ≡ lib.now) }
+    ensures given { IfOk result (λ depot. (before : S) × IsNextOf (S.may_give before) depot.state) }
+    ensures good { IfOk result (IsGood S.contents S.faults) }
+    ensures told { (objects : Objects) → objects_of S.contents store ≡ Some objects → IfOk result (OpensTold S.contents S.faults store objects) }
+    ensures refused { (objects : Objects) → (status : Option (List ℕ)) → objects_of S.contents store ≡ Some objects → status_of S.contents store ≡ Some status
+        → IsTextOf lib.now status → OpensAs lib.now objects status (without_store result) }
+    ensures left { (status : Option (List ℕ)) → status_of S.contents store ≡ Some status → IsTextOf lib.now status
+        → IfErr result (λ refused. LeftUnstarted S.contents store refused.0 refused.1) }
+    ensures kept { IfErr result (λ refused. objects_of S.contents refused.0 ≡ objects_of S.contents store) }
+    ensures cause { IfErr result (λ refused. IsNotStarted S.may_give refused.0.shelf lib.now refused.1) }
+    ensures faults { IfErr result (λ refused. FailsBy {T = ⊤} is_unstarted_counted (S.faults store.shelf) (S.faults refused.0.shelf) (Err refused.1)) }
+{
+    match Depot::start(alloc, store) {
+        Ok(depot) => {
+            // Storage that gives one text and then another.
+            if depot.lib() != *lib {
+                return Err((depot.close(), NotStarted::Other));
+            }
+            Ok(depot)
+        }
+        Err((store, fault)) => Err((store, NotStarted::Fault(fault))),
     }
 }

@@ -1,12 +1,18 @@
 //! The server's top call.
-ghost use Rattle.std.specs.Prelude.{◌≡◌, ◌≤◌, length};
+ghost use Rattle.std.specs.Prelude.{◌≡◌, ◌≤◌, length, Some};
 ghost use Rattle.std.specs.Io.KnownBytes.{append_known};
 ghost use Rattle.server_words.specs.CommandLine.{NamesFit, command_of};
 ghost use Rattle.server_words.specs.Lines.{line_text};
 ghost use Rattle.server_words.specs.declared.line.Line.TheVariants as lines;
+ghost use Rattle.folder_storage.specs.Ground.{Standing};
+ghost use Rattle.server_words.specs.Spelling.{place_text};
+ghost use Rattle.library_server.specs.Answering.{NeverFails};
 ghost use Rattle.library_server.specs.Connections.{LinkView};
 ghost use Rattle.library_server.specs.Runs.{AddsToken, CreatesLibrary, PrintsSo, RunsSo, SinkView, added_line, created_line, help_printed, line_printed, version_printed};
 ghost use Rattle.library_server.specs.Standing.{GroundView};
+ghost use Rattle.object_store.specs.Shelf.{Contents};
+ghost use Rattle.library_server.specs.Whole.{AreWhole, IsWhole, empty_ground, holds_in};
+ghost use Rattle.library_server.specs.WholeRuns.{RunsWhole, TellsWhole};
 
 use crate::adding::{NewToken, add_token};
 use crate::creating::create;
@@ -14,7 +20,7 @@ use crate::inetd::inetd;
 use crate::making::NewLibrary;
 use crate::not_done::{NotAdded, NotMade};
 use crate::opening::folder_word;
-use folder_storage::Ground;
+use folder_storage::{Ground, MemoryGround};
 use http_front::{Link, Sink};
 use ids::{LibId, ObjId, Text};
 use library_state::Clock;
@@ -49,6 +55,13 @@ pub fn run<G: Ground, L: Link, C: Clock, O: Sink, R>(
         (record { given = O.given out.old; faults = O.faults out.old })
         (record { given = O.given out.new; faults = O.faults out.new }) result }
 
+    // Over storage that never fails, in which each object lies under its own name, no line and no reply is a fault of it.
+    ensures whole { NeverFails G.S.faults → AreWhole (G.stands libraries.old) → RunsWhole G.S.contents G.S.may_give G.S.faults (C.shows clock.now) (command_of words.now)
+        (record { left = L.left link.old; given = L.given link.old; faults = L.faults link.old })
+        (record { left = L.left link.new; given = L.given link.new; faults = L.faults link.new })
+        (record { given = O.given out.old; faults = O.faults out.old })
+        (record { given = O.given out.new; faults = O.faults out.new }) result }
+
     // 2 comes with a written usage line alone.
     ensures usage { result ≡ 2
         → (command_of words.now ≡ Command.Usage) × (O.given out.new ≡ append_known (O.given out.old) (line_text lines.Usage)) }
@@ -58,6 +71,31 @@ pub fn run<G: Ground, L: Link, C: Clock, O: Sink, R>(
         Ok(command) => perform(alloc, command, libraries, link, clock, out),
         Err(_) => 3,
     }
+}
+
+/// Runs the command that the words are over libraries in memory, of which none is there at first and none is left, and
+/// gives its status. Their storage never fails: no line tells a fault of it, and no reply of a connection is one.
+pub fn run_in_memory<L: Link, C: Clock, O: Sink, R>(
+    rt: &R,
+    alloc: Global,
+    words: &[Text],
+    link: &mut L,
+    clock: &C,
+    out: &mut O,
+) -> u8
+    ensures runs { (after : GroundView) × RunsSo {S = Contents} Some holds_in (λ shelf. 0) (C.shows clock.now) (command_of words.now) empty_ground after
+        (record { left = L.left link.old; given = L.given link.old; faults = L.faults link.old })
+        (record { left = L.left link.new; given = L.given link.new; faults = L.faults link.new })
+        (record { given = O.given out.old; faults = O.faults out.old })
+        (record { given = O.given out.new; faults = O.faults out.new }) result }
+    ensures whole { RunsWhole {S = Contents} Some holds_in (λ shelf. 0) (C.shows clock.now) (command_of words.now)
+        (record { left = L.left link.old; given = L.given link.old; faults = L.faults link.old })
+        (record { left = L.left link.new; given = L.given link.new; faults = L.faults link.new })
+        (record { given = O.given out.old; faults = O.faults out.old })
+        (record { given = O.given out.new; faults = O.faults out.new }) result }
+{
+    let mut libraries = MemoryGround::new(alloc);
+    run(rt, alloc, words, &mut libraries, link, clock, out)
 }
 
 /// Does what a command asks for.
@@ -73,6 +111,11 @@ fn perform<G: Ground, L: Link, C: Clock, O: Sink>(
     ensures runs { RunsSo G.S.contents G.S.may_give G.S.faults (C.shows clock.now) command
         (record { stands = G.stands libraries.old; faults = G.faults libraries.old })
         (record { stands = G.stands libraries.new; faults = G.faults libraries.new })
+        (record { left = L.left link.old; given = L.given link.old; faults = L.faults link.old })
+        (record { left = L.left link.new; given = L.given link.new; faults = L.faults link.new })
+        (record { given = O.given out.old; faults = O.faults out.old })
+        (record { given = O.given out.new; faults = O.faults out.new }) result }
+    ensures whole { NeverFails G.S.faults → AreWhole (G.stands libraries.old) → RunsWhole G.S.contents G.S.may_give G.S.faults (C.shows clock.now) command
         (record { left = L.left link.old; given = L.given link.old; faults = L.faults link.old })
         (record { left = L.left link.new; given = L.given link.new; faults = L.faults link.new })
         (record { given = O.given out.old; faults = O.faults out.old })
@@ -131,6 +174,9 @@ fn create_printed<G: Ground, C: Clock, O: Sink>(
         (record { stands = G.stands libraries.new; faults = G.faults libraries.new })
         (record { given = O.given out.old; faults = O.faults out.old })
         (record { given = O.given out.new; faults = O.faults out.new }) result }
+    ensures whole { NeverFails G.S.faults → (standing : Standing) → G.stands libraries.old (place_text place.now) new.now.lib ≡ Some standing → IsWhole standing
+        → TellsWhole (record { given = O.given out.old; faults = O.faults out.old })
+        (record { given = O.given out.new; faults = O.faults out.new }) result }
 {
     let created = create(alloc, libraries, folder_word(place), new, clock.now());
     print_line(out, created_line(new.lib, created))
@@ -161,6 +207,9 @@ fn add_printed<G: Ground, C: Clock, O: Sink>(
         (record { stands = G.stands libraries.old; faults = G.faults libraries.old })
         (record { stands = G.stands libraries.new; faults = G.faults libraries.new })
         (record { given = O.given out.old; faults = O.faults out.old })
+        (record { given = O.given out.new; faults = O.faults out.new }) result }
+    ensures whole { NeverFails G.S.faults → (standing : Standing) → G.stands libraries.old (place_text place.now) lib ≡ Some standing → IsWhole standing
+        → TellsWhole (record { given = O.given out.old; faults = O.faults out.old })
         (record { given = O.given out.new; faults = O.faults out.new }) result }
 {
     let added = add_token(alloc, libraries, place, lib, new, clock);

@@ -1,9 +1,9 @@
 //! One connection with a library that answers alone.
-ghost use Rattle.std.specs.Prelude.{◌≡◌, ◌≢◌, ℕ, List, Some, ⊤};
+ghost use Rattle.std.specs.Prelude.{◌≡◌, ◌≢◌, ℕ, List, Some, ⊤, false};
 ghost use Rattle.ids.specs.FaultCount.{Rose};
 ghost use Rattle.worker_server.specs.Calls.{AtAMoment, Told, Ran};
 ghost use Rattle.worker_server.specs.ServedConnection.{CountsEnd, Session};
-ghost use Rattle.library_server.specs.Answering.{AnswersOn, IsAnswered};
+ghost use Rattle.library_server.specs.Answering.{AnswersOn, IsAnswered, NamesIn, NeverFails, is_storage_reply};
 
 use depot::Depot;
 use http_front::Link;
@@ -55,6 +55,7 @@ impl<S: Shelf, C: Clock> Host for Alone<'_, S, C> {
 fn answer<S: Shelf>(depot: &mut Depot<S>, lib: LibId, call: &Call, moment: u64) -> Reply
     ensures here { lib ≡ depot.old.state.lib → IsAnswered S.contents S.may_give S.faults depot.old call.now moment result depot.new }
     ensures elsewhere { lib ≢ depot.old.state.lib → (result ≡ Reply.Refused Refusal.NoLibrary) × (depot.new ≡ depot.old) }
+    ensures whole { NeverFails S.faults → NamesIn S.contents depot.old → (is_storage_reply result ≡ false) × NamesIn S.contents depot.new }
 {
     if lib != depot.lib() {
         return Reply::Refused(Refusal::NoLibrary);

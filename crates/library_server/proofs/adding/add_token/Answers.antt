@@ -1,9 +1,12 @@
 -- The library that was opened comes back, with the token or without it.
-use Rattle.std.proofs.Common.{◌∙◌, ap}
 use Rattle.library_server.specs.Standing.{came_back}
 use Rattle.library_server.proofs.DepotLemmas.{stands_back}
-use Rattle.library_server.proofs.StandingLemmas.{comes_back, rose_given}
-use Rattle.library_server.proofs.TokenLemmas.{refuses_token}
+use Rattle.library_server.proofs.StandingLemmas.{comes_back}
+use Rattle.library_server.proofs.TokenLemmas.{refuses_token, token_refused}
+use Rattle.std.proofs.Common.{Err}
+use Rattle.std.specs.Prelude.{⊤}
+use Rattle.depot.specs.Tokens.{is_token_counted}
+use Rattle.library_server.proofs.WholeLemmas.{steady_count, token_whole}
 use Rattle.library_server.proofs.adding.add_token.Goals as goal
 
 pub returns-in-Ok-add_token-clause-told : goal.returns-in-Ok-add_token-clause-told
@@ -34,3 +37,12 @@ returns-in-Err-add_token-clause-told g c = λ standing there.
 pub returns-in-Err-add_token-clause-back : goal.returns-in-Err-add_token-clause-back
 returns-in-Err-add_token-clause-back g c =
     came_back c.add_token.new.self.store.shelf (comes_back _ _ _ _ _ _ c.in-Ok.ensures.back (rw c.folder_word-in-Err-add_token.ensures.value at c.bring_back-in-Err-add_token.ensures.ok))
+
+pub returns-in-Err-add_token-clause-whole : goal.returns-in-Err-add_token-clause-whole
+returns-in-Err-add_token-clause-whole g c = λ steady standing there whole.
+    token_whole c.in-Ok.depot.state.tokens c.args.token.now.secret c.in-Err-add_token.fault c.in-Err-add_token.ensures.refused
+    (steady_count {T = ⊤} is_token_counted _ _ (Err c.in-Err-add_token.fault) (steady _) (steady _) c.in-Err-add_token.ensures.faults)
+
+pub returns-in-Err-add_token-clause-cause : goal.returns-in-Err-add_token-clause-cause
+returns-in-Err-add_token-clause-cause g c =
+    (c.in-Ok.depot.state, c.in-Ok.ensures.given, token_refused c.in-Ok.depot.state c.args.token.now c.in-Err-add_token.fault c.in-Err-add_token.ensures.refused)

@@ -1,15 +1,13 @@
--- The library is the one that was named.
-use Rattle.std.proofs.Common.{◌≡◌, Bool, true, false, not, refl, sym, ◌∙◌}
-use Rattle.std.proofs.lemmas.Slice.Eq.{bytes_eq-Decides}
-use Rattle.library_server.specs.Connections.{served}
+-- The connection is that of serve_link.
 use Rattle.library_server.proofs.inetd.serve_opened.Goals as goal
-
-not_other : (b : Bool) → false ≡ not b → b ≡ true
-not_other true e = refl
-not_other false e = absurd (cc)
 
 pub returns : goal.returns
 returns g c = record {
-  serves = served ((bytes_eq-Decides _ _).0 (not_other _ c.if-ne.ensures) ∙ c.lib.ensures.value) c.serve_link.result c.serve_link.ensures.session c.serve_link.ensures.ran
-      c.serve_link.ensures.faults c.status_of.ensures.value;
+  serves = record {
+    how = c.serve_link.result;
+    session = c.serve_link.ensures.session;
+    ran = c.serve_link.ensures.ran;
+    count = c.serve_link.ensures.faults;
+    status_is = c.status_of.ensures.value;
+  };
 }

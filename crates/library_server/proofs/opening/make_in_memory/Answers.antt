@@ -1,7 +1,7 @@
 -- The library that was made is the one of memory.
 use Rattle.std.proofs.Common.{refl}
 use Rattle.folder_storage.specs.Ground.{Absent}
-use Rattle.library_server.specs.LibraryOpening.{made, memory_library}
+use Rattle.library_server.specs.LibraryOpening.{made, memory_library, of_new}
 use Rattle.library_server.specs.Making.{library_of}
 use Rattle.library_server.proofs.opening.make_in_memory.Goals as goal
 
@@ -9,3 +9,13 @@ pub returns-in-Ok-make_library-clause-told : goal.returns-in-Ok-make_library-cla
 returns-in-Ok-make_library-clause-told g c = λ absent.
     let new = (rw c.in-Ok.ensures.value at c.in-Ok-make_library.ensures.told) Absent absent in
     (library_of (memory_library c.args.lib) c.now.result new.1, new.2, made tt refl c.now.result new.1 c.now.ensures.value refl)
+
+pub returns-in-Ok-make_library-clause-whole : goal.returns-in-Ok-make_library-clause-whole
+returns-in-Ok-make_library-clause-whole g c = λ steady absent. (rw c.in-Ok.ensures.value at c.in-Ok-make_library.ensures.whole) steady Absent absent tt
+
+pub returns-clause-whole : goal.returns-clause-whole
+returns-clause-whole g c = λ steady absent. (rw c.in-Ok.ensures.value at c.in-Err-make_library.ensures.whole) steady Absent absent tt
+
+pub returns-in-Ok-make_library-clause-given : goal.returns-in-Ok-make_library-clause-given
+returns-in-Ok-make_library-clause-given g c =
+    of_new tt c.now.result c.now.ensures.value (rw c.in-Ok.ensures.value at c.in-Ok-make_library.ensures.value).0

@@ -2,7 +2,14 @@
 use Rattle.std.proofs.Common.{◌∙◌}
 use Rattle.library_server.specs.LibraryOpening.{reopened}
 use Rattle.library_server.specs.Standing.{came_back}
+use Rattle.library_server.proofs.LeftLemmas.{left_kept}
+use Rattle.library_server.proofs.OpeningLemmas.{opened_state}
 use Rattle.library_server.proofs.StandingLemmas.{comes_back, hands_after}
+use Rattle.std.proofs.Common.{Err, Some, ap, subst}
+use Rattle.std.specs.Prelude.{⊤}
+use Rattle.library_server.specs.LibraryOpening.{is_unstarted_counted}
+use Rattle.library_server.specs.Whole.{IsWhole}
+use Rattle.library_server.proofs.WholeLemmas.{names_of, opened_names, started_whole, steady_count, want_whole, whole_in}
 use Rattle.library_server.proofs.opening.open_library.Goals as goal
 
 pub returns-in-Ok-None-clause-back : goal.returns-in-Ok-None-clause-back
@@ -22,7 +29,8 @@ returns-in-Err-open_on-clause-told g c = λ standing there.
     (rw c.in-Ok-Some.field-0-is at (rw c.folder_word-folder.ensures.value at c.in-Ok-Some.ensures.ok))
     (rw c.folder_word-folder.ensures.value at c.give_back.ensures.ok) in
     let left = c.in-Err-open_on.ensures.left found.0 found.2 in
-    (found.0, found.1, c.in-Err-open_on.ensures.refused found.0 found.2, (left.0, back.here standing left.0 there left.1, left.2, left.3))
+    let kept = left_kept c.in-Err-open_on.why found.0 _ left in
+    (found.0, found.1, c.in-Err-open_on.ensures.refused found.0 found.2, (kept.0, back.here standing kept.0 there kept.1, kept.2))
 
 pub returns-in-Err-open_on-clause-back : goal.returns-in-Err-open_on-clause-back
 returns-in-Err-open_on-clause-back g c =
@@ -32,3 +40,28 @@ returns-in-Err-open_on-clause-back g c =
 
 pub returns-in-Err-clause-told : goal.returns-in-Err-clause-told
 returns-in-Err-clause-told g c = λ standing there. c.in-Err.ensures.err _ _ ∙ there
+
+pub returns-in-Ok-clause-given : goal.returns-in-Ok-clause-given
+returns-in-Ok-clause-given g c = opened_state g.G.S.Shelf.may_give _ _ _ _ c.in-Ok.ensures.given c.in-Ok.ensures.named
+
+pub returns-in-Ok-None-clause-whole : goal.returns-in-Ok-None-clause-whole
+returns-in-Ok-None-clause-whole g c = λ steady standing there whole.
+    let absent = (rw c.in-Ok-None.field-0-is at (rw c.folder_word-folder.ensures.value at c.in-Ok-None.ensures.found)) standing there in
+    c.open_absent.ensures.whole steady ((rw c.in-Ok-None.field-0-is at c.in-Ok-None.ensures.ok) _ _ ∙ there ∙ ap Some absent)
+
+pub returns-in-Err-clause-whole : goal.returns-in-Err-clause-whole
+returns-in-Err-clause-whole g c = λ steady standing there whole.
+    want_whole c.in-Err.failed ((rw c.folder_word-folder.ensures.value at c.in-Err.ensures.there) standing there (whole_in standing whole))
+
+pub returns-in-Ok-clause-whole : goal.returns-in-Ok-clause-whole
+returns-in-Ok-clause-whole g c = λ steady standing there whole.
+    let found = (rw c.in-Ok-Some.field-0-is at (rw c.folder_word-folder.ensures.value at c.in-Ok-Some.ensures.found)) standing there in
+    let opens = c.in-Ok.ensures.told found.0 found.2 in
+    names_of g.G.S.Shelf.contents g.G.S.Shelf.faults c.in-Ok.depot opens.0 opens.1 (opened_names c.args.lib found.0 opens.0 opens.2 (subst IsWhole found.1 whole))
+
+pub returns-in-Err-open_on-clause-whole : goal.returns-in-Err-open_on-clause-whole
+returns-in-Err-open_on-clause-whole g c = λ steady standing there whole.
+    let found = (rw c.in-Ok-Some.field-0-is at (rw c.folder_word-folder.ensures.value at c.in-Ok-Some.ensures.found)) standing there in
+    started_whole c.args.lib found.0.objects found.0.status c.in-Err-open_on.why (subst IsWhole found.1 whole)
+    (steady_count {T = ⊤} is_unstarted_counted _ _ (Err c.in-Err-open_on.why) (steady _) (steady _) c.in-Err-open_on.ensures.faults)
+    (c.in-Err-open_on.ensures.refused found.0 found.2)

@@ -1,32 +1,61 @@
--- The library that is opened is that of the shelf's text, with all that lies there.
-use Rattle.std.proofs.Common.{◌∙◌, ap, inl, refl, option_map}
+-- The library that is opened is that of the shelf's text, with all that lies there, and the one that was named.
+use Rattle.std.proofs.Common.{◌∙◌, ap, inl, option_map, refl}
 use Rattle.depot.specs.DepotView.{library}
 use Rattle.library_rules.specs.Recovery.{opened}
 use Rattle.object_store.specs.Shelf.{Contents}
-use Rattle.library_server.proofs.LeftLemmas.{keeps_all, left_unopened}
+use Rattle.library_server.proofs.LeftLemmas.{keeps_all, left_checked, left_unstarted}
+use Rattle.library_server.proofs.OpeningLemmas.{found_named}
 use Rattle.library_server.proofs.opening.open_on.Goals as goal
 
-pub returns-in-Ok-start-clause-told : goal.returns-in-Ok-start-clause-told
-returns-in-Ok-start-clause-told g c = λ held there.
-    let opens = c.in-Ok-start.ensures.told held.objects (c.in-Ok.ensures.ok.objects ∙ ap (option_map (λ (h : Contents). h.objects)) there) in
-    let count = g.S.Shelf.faults c.in-Ok.store.shelf in (
+pub returns-in-Ok-start_named-clause-told : goal.returns-in-Ok-start_named-clause-told
+returns-in-Ok-start_named-clause-told g c = λ held there.
+    let objects = c.in-Ok-check_named.ensures.kept.objects ∙ (c.in-Ok.ensures.ok.objects ∙ ap (option_map (λ (h : Contents). h.objects)) there) in
+    let status = ap (option_map (λ (h : Contents). h.status)) (c.in-Ok-check_named.ensures.kept.shelf ∙ (c.in-Ok.ensures.ok.shelf ∙ there)) in
+    let opens = c.in-Ok-start_named.ensures.told held.objects objects in
+    let count = g.S.Shelf.faults c.check_named.new.store.shelf in (
       opened held.objects count (library opens.found count held.objects),
       opens.state,
       record {
         text = opens.is_found.text;
         found = opens.found;
         count = count;
-        there = opens.is_found.told held.status (ap (option_map (λ (h : Contents). h.status)) (c.in-Ok.ensures.ok.shelf ∙ there));
+        there = opens.is_found.told held.status status;
         reads = opens.is_found.reads;
+        named = found_named c.args.lib.now held.status (c.in-Ok-check_named.ensures.named held.status (ap (option_map (λ (h : Contents). h.status)) (c.in-Ok.ensures.ok.shelf ∙ there)))
+            opens.is_found.text opens.found (opens.is_found.told held.status status) opens.is_found.reads;
         state = refl;
       },
     )
 
+pub returns-in-Ok-start_named-clause-refused : goal.returns-in-Ok-start_named-clause-refused
+returns-in-Ok-start_named-clause-refused g c = λ held there.
+    let objects = c.in-Ok-check_named.ensures.kept.objects ∙ (c.in-Ok.ensures.ok.objects ∙ ap (option_map (λ (h : Contents). h.objects)) there) in
+    let before = ap (option_map (λ (h : Contents). h.status)) (c.in-Ok.ensures.ok.shelf ∙ there) in
+    let status = ap (option_map (λ (h : Contents). h.status)) (c.in-Ok-check_named.ensures.kept.shelf ∙ (c.in-Ok.ensures.ok.shelf ∙ there)) in
+    c.in-Ok-start_named.ensures.refused held.objects held.status objects status (c.in-Ok-check_named.ensures.named held.status before)
+
+pub returns-in-Err-start_named-clause-refused : goal.returns-in-Err-start_named-clause-refused
+returns-in-Err-start_named-clause-refused g c = λ held there.
+    let objects = c.in-Ok-check_named.ensures.kept.objects ∙ (c.in-Ok.ensures.ok.objects ∙ ap (option_map (λ (h : Contents). h.objects)) there) in
+    let before = ap (option_map (λ (h : Contents). h.status)) (c.in-Ok.ensures.ok.shelf ∙ there) in
+    let status = ap (option_map (λ (h : Contents). h.status)) (c.in-Ok-check_named.ensures.kept.shelf ∙ (c.in-Ok.ensures.ok.shelf ∙ there)) in
+    c.in-Err-start_named.ensures.refused held.objects held.status objects status (c.in-Ok-check_named.ensures.named held.status before)
+
+pub returns-in-Err-check_named-clause-refused : goal.returns-in-Err-check_named-clause-refused
+returns-in-Err-check_named-clause-refused g c = λ held there.
+    c.in-Err-check_named.ensures.refused held.objects held.status (ap (option_map (λ (h : Contents). h.status)) (c.in-Ok.ensures.ok.shelf ∙ there))
+
 pub returns-in-Err-clause-left : goal.returns-in-Err-clause-left
 returns-in-Err-clause-left g c = λ held there. (held, c.in-Err.ensures.err ∙ there, keeps_all held.objects, inl refl)
 
-pub returns-in-Err-start-clause-left : goal.returns-in-Err-start-clause-left
-returns-in-Err-start-clause-left g c = λ held there.
-    rw c.end.ensures.value (left_unopened g.S.Shelf.contents c.in-Ok.store c.in-Err-start.store held c.in-Err-start.fault c.in-Err-start.ensures.err
-    (ap (option_map (λ (h : Contents). h.status)) (c.in-Ok.ensures.ok.shelf ∙ there))
-    (c.in-Err-start.ensures.kept ∙ (c.in-Ok.ensures.ok.objects ∙ ap (option_map (λ (h : Contents). h.objects)) there)))
+pub returns-in-Err-check_named-clause-left : goal.returns-in-Err-check_named-clause-left
+returns-in-Err-check_named-clause-left g c = λ held there.
+    rw c.end.ensures.value (left_checked c.in-Err-check_named.why held _ (c.in-Err-check_named.ensures.kept.shelf ∙ (c.in-Ok.ensures.ok.shelf ∙ there)))
+
+pub returns-in-Err-start_named-clause-left : goal.returns-in-Err-start_named-clause-left
+returns-in-Err-start_named-clause-left g c = λ held there.
+    let objects = c.in-Ok-check_named.ensures.kept.objects ∙ (c.in-Ok.ensures.ok.objects ∙ ap (option_map (λ (h : Contents). h.objects)) there) in
+    let before = ap (option_map (λ (h : Contents). h.status)) (c.in-Ok.ensures.ok.shelf ∙ there) in
+    let status = ap (option_map (λ (h : Contents). h.status)) (c.in-Ok-check_named.ensures.kept.shelf ∙ (c.in-Ok.ensures.ok.shelf ∙ there)) in
+    rw c.end-in-Err-start_named.ensures.value (left_unstarted g.S.Shelf.contents c.check_named.new.store c.in-Err-start_named.store held c.in-Err-start_named.why
+    (c.in-Err-start_named.ensures.left held.status status (c.in-Ok-check_named.ensures.named held.status before)) status (c.in-Err-start_named.ensures.kept ∙ objects))

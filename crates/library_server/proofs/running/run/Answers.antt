@@ -1,5 +1,7 @@
 -- The words are read as a command, which is done.
+use Rattle.std.proofs.Common.{refl}
 use Rattle.library_server.proofs.RunLemmas.{runs_usage}
+use Rattle.library_server.specs.WholeRuns.{nothing_read}
 use Rattle.library_server.proofs.running.run.Goals as goal
 
 pub returns-in-Ok-clause-runs : goal.returns-in-Ok-clause-runs
@@ -9,3 +11,9 @@ pub returns-in-Ok-clause-usage : goal.returns-in-Ok-clause-usage
 returns-in-Ok-clause-usage g c =
     runs_usage g.G.S.Shelf.contents g.G.S.Shelf.may_give g.G.S.Shelf.faults (g.C.Clock.shows c.args.clock.now) _ _ _ _ _ _ _ _
     (rw c.in-Ok.ensures.value at c.perform.ensures.runs)
+
+pub returns-in-Ok-clause-whole : goal.returns-in-Ok-clause-whole
+returns-in-Ok-clause-whole g c = rw c.in-Ok.ensures.value at c.perform.ensures.whole
+
+pub returns-in-Err-clause-whole : goal.returns-in-Err-clause-whole
+returns-in-Err-clause-whole g c = λ steady all. nothing_read refl

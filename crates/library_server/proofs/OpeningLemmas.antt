@@ -1,0 +1,122 @@
+-- The library that a shelf's text is of, and the refusal that is due. The key lemmas are started_due, faulted,
+-- no_other and opened_state.
+use Rattle.std.proofs.Common.{◌≡◌, ◌≢◌, ℕ, Bool, true, false, cond, not, inl, inr, List, Option, None, Some, option_map, Result, Ok, Err, refl, sym, ap, subst, ◌∙◌, ◌==◌}
+use Rattle.std.specs.Str.{bytes_eq}
+use Rattle.std.proofs.lemmas.Bool.{false_from_ne_true}
+use Rattle.std.proofs.lemmas.Slice.Eq.{bytes_eq-Decides}
+use Rattle.ids.specs.Key.{Objects}
+use Rattle.depot.specs.Reopening.{IsDueOr, IsNextOf, IsOpened, IsTextFault, first_incomplete, next_opening, start_refusal, text_refusal}
+use Rattle.depot.specs.declared.error.StartFault.{StartFault}
+use Rattle.depot.specs.declared.error.StartFault.TheVariants as start
+use Rattle.library_rules.specs.LibraryState.{kept_commits, last_number}
+use Rattle.library_state.specs.StateText.{state_of as read_state}
+use Rattle.library_state.specs.declared.state.LibState.{LibState}
+use Rattle.library_state.specs.declared.state_fault.StateKey.{StateKey}
+use Rattle.object_graph.specs.declared.fault.TreeFault.{TreeFault}
+use Rattle.object_store.specs.Shelf.{Contents}
+use Rattle.object_store.specs.StoreView.{StoreView, status_of}
+use Rattle.object_store.specs.declared.shelf.Slot.{Slot}
+use Rattle.server_words.specs.declared.command.Place.{Place}
+use Rattle.library_server.specs.LibraryOpening.{GivesOther, IsDueOpening, IsOpenedState, IsTextOf, of_text, opening_refusal, read_refusal}
+use Rattle.library_server.specs.declared.not_done.NotStarted.TheVariants as unstarted
+
+-- another id
+pub other_id : (a b : List ℕ) → a ≢ b → bytes_eq a b ≡ false
+other_id a b other = false_from_ne_true (bytes_eq a b) (λ t. other ((bytes_eq-Decides a b).0 t))
+
+-- a text that is the library's is opened as it is, or refused as it is
+due_named : (lib : List ℕ) (objects : Objects) (text : List ℕ) (found : LibState) → read_state text ≡ Ok found → found.lib ≡ lib
+    → opening_refusal lib objects (Some text) ≡ option_map unstarted.Fault (start_refusal objects (Some text))
+due_named lib objects text found reads named = rw (reads, (bytes_eq-Decides found.lib lib).1 named) refl
+
+pub started_due : (lib : List ℕ) (objects : Objects) (status : Option (List ℕ)) → IsTextOf lib status
+    → opening_refusal lib objects status ≡ option_map unstarted.Fault (start_refusal objects status)
+started_due lib objects status is =
+    ap (opening_refusal lib objects) is.there ∙ due_named lib objects is.text is.found is.reads is.named ∙ ap (λ s. option_map unstarted.Fault (start_refusal objects s)) (sym is.there)
+
+pub started_fault : (lib : List ℕ) (objects : Objects) (status : Option (List ℕ)) (fault : StartFault) → IsTextOf lib status
+    → IsDueOr objects (start_refusal objects status) fault → IsDueOpening lib objects status (unstarted.Fault fault)
+started_fault lib objects status fault is (inl due) = inl (started_due lib objects status is ∙ ap (option_map unstarted.Fault) due)
+started_fault lib objects status fault is (inr free) = inr free
+
+pub started_none : (lib : List ℕ) (objects : Objects) (status : Option (List ℕ)) → IsTextOf lib status → start_refusal objects status ≡ None
+    → opening_refusal lib objects status ≡ None
+started_none lib objects status is due = started_due lib objects status is ∙ ap (option_map unstarted.Fault) due
+
+-- the state that was opened is that of a text of the library that was named
+pub opened_state : {S : Type 0} (may_give : S → Slot → Option (List ℕ) → Type 0) (place : Place) (lib : List ℕ) (shows : ℕ → Type 0) (state : LibState)
+    → ((before : S) × IsNextOf (may_give before) state) → state.lib ≡ lib → IsOpenedState may_give place lib shows state
+opened_state may_give place lib shows state given named = of_text given.0 given.1 named
+
+ok_same : (a b : LibState) → ◌≡◌ {A = Result LibState StateKey} (Ok a) (Ok b) → a ≡ b
+ok_same a b e = cc
+
+some_text : (a b : List ℕ) → ◌≡◌ {A = Option (List ℕ)} (Some a) (Some b) → a ≡ b
+some_text a b e = cc
+
+-- what is read again from the text of the named library is of that library
+pub found_named : (lib : List ℕ) (status : Option (List ℕ)) → IsTextOf lib status → (text : List ℕ) (found : LibState) → status ≡ Some text
+    → read_state text ≡ Ok found → found.lib ≡ lib
+found_named lib status is text found there reads =
+    let same : is.text ≡ text = some_text is.text text (sym is.there ∙ there) in
+    let one : is.found ≡ found = ok_same is.found found (sym is.reads ∙ ap read_state same ∙ reads) in
+    sym (ap (λ (z : LibState). z.lib) one) ∙ is.named
+
+-- ---- another library
+
+not_other : (b : Bool) → false ≡ not b → b ≡ true
+not_other true e = refl
+not_other false e = absurd (cc)
+
+not_same : (b : Bool) → true ≡ not b → b ≡ true → ⊥
+not_same true e t = cc
+not_same false e t = cc
+
+pub is_same : (a b : List ℕ) → false ≡ not (bytes_eq a b) → a ≡ b
+is_same a b e = (bytes_eq-Decides a b).0 (not_other (bytes_eq a b) e)
+
+pub is_other : (a b : List ℕ) → true ≡ not (bytes_eq a b) → a ≢ b
+is_other a b e same = not_same (bytes_eq a b) e ((bytes_eq-Decides a b).1 same)
+
+pub other_due : (lib : List ℕ) (objects : Objects) (status : Option (List ℕ)) (text : List ℕ) (found : LibState) → status ≡ Some text → read_state text ≡ Ok found
+    → found.lib ≢ lib → opening_refusal lib objects status ≡ Some unstarted.Other
+other_due lib objects status text found there reads other = ap (opening_refusal lib objects) there ∙ at
+  where
+    at : opening_refusal lib objects (Some text) ≡ Some unstarted.Other
+    at = rw (reads, other_id found.lib lib other) refl
+
+-- ---- a fault of the text alone
+
+start_same : (a b : StartFault) → ◌≡◌ {A = Option StartFault} (Some a) (Some b) → a ≡ b
+start_same a b e = cc
+
+state_fault : (b : Bool) (o : Option TreeFault) (fault : StartFault) → IsTextFault fault → cond b (Some start.Worn) (option_map start.Walk o) ≡ Some fault → ⊥
+state_fault true o fault is e = subst IsTextFault (sym (start_same start.Worn fault e)) is
+state_fault false None fault is e = cc
+state_fault false (Some why) fault is e = subst IsTextFault (sym (start_same (start.Walk why) fault e)) is
+
+text_fault : (lib : List ℕ) (objects : Objects) (r : Result LibState StateKey) (fault : StartFault) → IsTextFault fault → text_refusal objects r ≡ Some fault
+    → read_refusal lib objects r ≡ Some (unstarted.Fault fault)
+text_fault lib objects (Err key) fault is e = ap (option_map unstarted.Fault) e
+text_fault lib objects (Ok state) fault is e = absurd (state_fault (state.opening == last_number) (first_incomplete objects (kept_commits state.kept)) fault is e)
+
+pub faulted : (lib : List ℕ) (objects : Objects) (status : Option (List ℕ)) (fault : StartFault) → IsTextFault fault
+    → IsDueOr objects (start_refusal objects status) fault → IsDueOpening lib objects status (unstarted.Fault fault)
+faulted lib objects None fault is (inl e) = inl (ap (option_map unstarted.Fault) e)
+faulted lib objects (Some text) fault is (inl e) = inl (text_fault lib objects (read_state text) fault is e)
+faulted lib objects status fault is (inr free) = inr free
+
+-- ---- a library that was opened
+
+next_lib : (state found : LibState) → state ≡ next_opening found → state.lib ≡ found.lib
+next_lib state found next = ap (λ (z : LibState). z.lib) next
+
+pub gives_other : (may_give : Slot → Option (List ℕ) → Type 0) (lib : List ℕ) (state : LibState) → IsNextOf may_give state → state.lib ≢ lib → GivesOther may_give lib
+gives_other may_give lib state is other = record { state = is.found; given = is.given; other = λ same. other (next_lib state is.found is.next ∙ same) }
+
+-- what was opened from the text of the named library is that library
+pub no_other : {S : Type 0} (contents : S → Option Contents) (faults : S → ℕ) (given store : StoreView S) (state : LibState) (lib : List ℕ) (status : Option (List ℕ))
+    → IsOpened contents faults given store state → status_of contents given ≡ Some status → IsTextOf lib status → state.lib ≢ lib → ⊥
+no_other contents faults given store state lib status opened at is other =
+    other (next_lib state opened.found opened.is_next
+    ∙ found_named lib status is opened.is_found.text opened.found (opened.is_found.told status at) opened.is_found.reads)

@@ -1,0 +1,14 @@
+-- A new place in memory has no library, and no shelf of it ever counts a fault.
+use Rattle.std.proofs.Common.{refl}
+use Rattle.folder_storage.specs.Ground.{Absent}
+use Rattle.folder_storage.specs.MemoryGround.{standings}
+use Rattle.library_server.proofs.running.run_in_memory.Goals as goal
+
+pub returns : goal.returns
+returns g c = record {
+  runs = (
+    record { stands = standings c.run.new.libraries.libraries.items; faults = c.run.new.libraries.faults },
+    rw c.new-libraries.ensures.value at (rw c.new-libraries.ensures.faults at c.run.ensures.runs),
+  );
+  whole = (rw c.new-libraries.ensures.value at c.run.ensures.whole) (λ shelf. refl) (λ folder lib. (Absent, refl, tt));
+}
