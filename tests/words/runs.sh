@@ -98,6 +98,11 @@ path_of() (
     printf 'folder/%s/%s/%.2s/%s\n' "$LIB" "$of" "$2" "${2#??}"
 )
 
+# age PATH: the file of an object, and the folder that it lies in, are older than the library's text, which so vouches for it.
+age() {
+    touch -t 202601010000 "$1" "${1%/*}"
+}
+
 # holds KIND ID..: exactly these objects of the kind lie in the folder, each with the bytes that the row kept under it.
 holds() (
     kind=$1
