@@ -83,7 +83,7 @@ hang_up() {
             ! cmp -s wanted got || break
         done
     fi
-    same "$ran" wanted got
+    same "$ran, which ended with status $status" wanted got
     [ "$status" = "$1" ] || fail "$ran: status $status, and not $1: $(cat -v complaint)"
     [ ! -s complaint ] || fail "$ran: it wrote to standard error: $(cat -v complaint)"
 }
