@@ -1,4 +1,5 @@
 pub mod Durability
 pub mod Ground
+pub mod Listing
 pub mod MemoryGround
 pub mod SteadyShelf

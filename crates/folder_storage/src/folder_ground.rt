@@ -35,6 +35,15 @@ impl<R> FolderGround<SystemFiles<R>> {
     }
 }
 
+impl<F> FolderGround<F> {
+    /// A ground over these files, which may stand in for the system's, with no faults.
+    pub fn over(files: F) -> FolderGround<F>
+        ensures faults { result.faults ≡ 0 }
+    {
+        FolderGround { files, faults: 0 }
+    }
+}
+
 impl<F: FileSystem + Drop> Ground for FolderGround<F> {
     ghost use Rattle.std.specs.Prelude.{None};
 

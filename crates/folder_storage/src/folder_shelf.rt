@@ -37,6 +37,11 @@ impl<F> FolderShelf<F> {
     {
         FolderShelf { folder, faults: 0 }
     }
+
+    /// The files that it stands on, as its calls left them.
+    pub fn files(&self) -> &F {
+        &self.folder.files
+    }
 }
 
 impl<F: FileSystem + Drop> Shelf for FolderShelf<F> {

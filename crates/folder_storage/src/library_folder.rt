@@ -1,4 +1,6 @@
 //! The folder of one library, held by this process.
+ghost use Rattle.folder_storage.specs.Listing.{IsForgotten, IsForgottenAt};
+
 use crate::durability::first_byte;
 use crate::earlier::Earlier;
 use crate::file_system::FileSystem;
@@ -127,10 +129,18 @@ impl<F: FileSystem + Drop> LibraryFolder<F> {
         named_path(self.files.alloc(), self.path.as_str(), "tmp/spare")
     }
 
-    /// Moves the object that was written beside into its slot.
-    pub(crate) fn move_in(&mut self, key: &Key, bytes: &[u8]) -> io::Result<()> {
-        // First, since a move that fails may have been done.
+    /// Moves the object that was written beside into its slot. Its folder is listed anew, since a move that fails may
+    /// have been done.
+    pub(crate) fn move_in(&mut self, key: &Key, bytes: &[u8]) -> io::Result<()>
+        ensures forgotten { IsForgotten self.new.listing key.now }
+    {
+        let moved = self.move_object(key, bytes);
         self.forget_listing(key);
+        moved
+    }
+
+    /// Moves the object that was written beside into its slot, whose folder is made where it isn't there.
+    fn move_object(&mut self, key: &Key, bytes: &[u8]) -> io::Result<()> {
         self.note_put(key, bytes)?;
         let path = object_path(self.files.alloc(), self.path.as_str(), key)?;
         let folder = listed_folder(
@@ -171,22 +181,32 @@ impl<F: FileSystem + Drop> LibraryFolder<F> {
         Ok(slot_path(self.files.alloc(), self.path.as_str(), slot)?)
     }
 
-    /// Takes away the file of a slot, if it is there.
-    pub(crate) fn remove(&mut self, slot: &Slot, path: &str) -> io::Result<()> {
+    /// Takes away the file of a slot, if it is there. The folder that it lies in is listed anew.
+    pub(crate) fn remove(&mut self, slot: &Slot, path: &str) -> io::Result<()>
+        ensures forgotten { IsForgottenAt self.new.listing slot.now }
+    {
+        let removed = self.take_away(path);
         if let Slot::Object(key) = slot {
+            if removed.is_ok() {
+                self.find_again(key);
+            }
             self.forget_listing(key);
         }
+        removed
+    }
+
+    /// Takes away the file at this path, if it is there.
+    fn take_away(&mut self, path: &str) -> io::Result<()> {
         if !self.files.remove_file(path)? {
             self.check()?;
-        }
-        if let Slot::Object(key) = slot {
-            self.find_again(key);
         }
         Ok(())
     }
 
     /// Forgets what was listed of the folder that an object lies in.
-    pub(crate) fn forget_listing(&mut self, key: &Key) {
+    pub(crate) fn forget_listing(&mut self, key: &Key)
+        ensures forgotten { IsForgotten self.new.listing key.now }
+    {
         let is_stale = match &self.listing {
             Some(listing) => listing.is_of(key.kind, first_byte(key)),
             None => false,

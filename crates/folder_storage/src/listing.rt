@@ -1,17 +1,20 @@
 //! The objects of one folder, in the order of their ids.
+ghost use Rattle.std.specs.Prelude.{◌≡◌, ◌↔◌, IsTrue};
+ghost use Rattle.folder_storage.specs.Listing.{FindsListed, IsFoundUnder, key_of};
+
 use crate::file_system::{FileKind, FileSystem};
 use crate::paths::named_path;
-use ids::{Key, Kind, ObjId};
+use ids::{Key, KeyTable, Kind, ObjId};
 use object_store::Found;
 use std::alloc::{AllocError, Global};
 use std::io;
 
-/// The objects of a kind whose ids begin with one byte.
+/// The objects of a kind whose ids begin with one byte, with the numbers of their bytes.
 #[derive(Drop)]
 pub(crate) struct Listing {
-    kind: Kind,
-    first: u8,
-    objects: Vec<Found>,
+    pub(crate) kind: Kind,
+    pub(crate) first: u8,
+    pub(crate) sizes: KeyTable<u64>,
 }
 
 impl Listing {
@@ -24,38 +27,61 @@ impl Listing {
         first: u8,
         torn: &[Key],
     ) -> io::Result<Listing> {
-        let mut objects = Vec::new(files.alloc());
+        let mut sizes = KeyTable::new(files.alloc());
         let names = match files.list(path)? {
             Some(names) => names,
             None => Vec::new(files.alloc()),
         };
         for name in &names {
             if let Some(found) = found_at(files, path, first, name.as_str())? {
-                if !is_torn(torn, kind, &found) {
-                    objects.push(found)?;
+                let key = Key { kind, id: found.id };
+                if torn.binary_search(&key).is_err() {
+                    let _ = sizes.insert(key, found.size)?;
                 }
             }
         }
-        objects.sort_by_key(|found| found.id)?;
-        Ok(Listing {
-            kind,
-            first,
-            objects,
-        })
+        Ok(Listing { kind, first, sizes })
     }
 
     /// Whether it lists the objects of this kind whose ids begin with `first`.
-    pub(crate) fn is_of(&self, kind: Kind, first: u8) -> bool {
+    pub(crate) fn is_of(&self, kind: Kind, first: u8) -> bool
+        ensures value { IsTrue result ↔ ((self.now.kind ≡ kind) × (self.now.first ≡ first)) }
+    {
         self.kind == kind && self.first == first
     }
 
-    /// The first object whose id is above `after`.
-    pub(crate) fn next(&self, after: &Option<ObjId>) -> Option<Found> {
-        let place = match after {
-            Some(after) => self.objects.partition_point(|found| found.id <= *after),
-            None => 0,
-        };
-        self.objects.get(place).copied()
+    /// The object with the least id above `after`, or with the least of all.
+    pub(crate) fn next(&self, after: &Option<ObjId>) -> Option<Found>
+        ensures value { FindsListed self.now.sizes self.now.kind after.now result }
+    {
+        let above = key_above(self.kind, after);
+        match self.sizes.next(above) {
+            Some(key) => found_under(&self.sizes, &key),
+            None => None,
+        }
+    }
+}
+
+/// The key of a kind with this id, if there is one.
+fn key_above(kind: Kind, after: &Option<ObjId>) -> Option<Key>
+    ensures value { result ≡ key_of kind after.now }
+{
+    match after {
+        Some(id) => Some(Key { kind, id: *id }),
+        None => None,
+    }
+}
+
+/// What is listed under a key.
+fn found_under(sizes: &KeyTable<u64>, key: &Key) -> Option<Found>
+    ensures value { IsFoundUnder sizes.now key.now result }
+{
+    match sizes.get(key) {
+        Some(size) => Some(Found {
+            id: key.id,
+            size: *size,
+        }),
+        None => None,
     }
 }
 
@@ -80,12 +106,6 @@ fn found_at<F: FileSystem>(
         }
         _ => Ok(None),
     }
-}
-
-/// Whether the object is among these, which are sorted.
-fn is_torn(torn: &[Key], kind: Kind, found: &Found) -> bool {
-    let key = Key { kind, id: found.id };
-    torn.binary_search(&key).is_ok()
 }
 
 /// Whether a file of this size is what a loss of power left of an object: it is empty, and its name is not that of no

@@ -196,6 +196,8 @@ impl<F: FileSystem + Drop> Disk for LibraryFolder<F> {
         let anew = self.write_anew(key, path.as_str());
         match anew {
             Ok(()) => Ok(()),
+            // It stays in doubt, and is written anew with the next text.
+            Err(failure) if failure.kind() == ErrorKind::OutOfMemory => Err(failure),
             Err(failure) => {
                 self.give_up(key, path.as_str())?;
                 Err(after_a_change(failure))
