@@ -7,13 +7,13 @@ use Rattle.ids.specs.ObjectId.{nil}
 use Rattle.serde_json.specs.Data.{Data, number, string, unsigned}
 use Rattle.serde_json.specs.Find.{get}
 use Rattle.json_words.specs.Fields.{is_object}
-use Rattle.json_words.specs.IdText.{object_id_of, library_id_of}
+use Rattle.json_words.specs.IdText.{object_id_of, library_id_of, id_data}
 use Rattle.json_words.specs.JsonText.{json_of}
 use Rattle.json_words.proofs.FoundLemmas.{number_field-found, text_field-found, optional_text-found, optional_text-null, optional_field-absent, optional_field-number, bytes_eq-apart}
 use Rattle.commit_objects.specs.Commit.{stored_id_of, id_at, stored_id_at, library_id_at, parent_at, text_at, flag_in, conflict_at, commit_in, commit_of}
 use Rattle.commit_objects.specs.CommitKey.{key_text}
 use Rattle.commit_objects.specs.Proper.{IsProper}
-use Rattle.commit_objects.specs.Spelling.{id_data, parent_data, library_data, members_with, commit_with, data_of}
+use Rattle.commit_objects.specs.Spelling.{parent_data, library_data, members_with, commit_with, data_of}
 use Rattle.commit_objects.specs.Typed.{IsTyped}
 use Rattle.commit_objects.specs.declared.commit.Commit.{Commit}
 use Rattle.commit_objects.specs.declared.fault.CommitKey.{CommitKey}

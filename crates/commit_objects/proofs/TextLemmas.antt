@@ -2,7 +2,8 @@
 use Rattle.std.proofs.Common.{◌≡◌, ◌≤◌, ℕ, List, Bool, true, false, Option, Some, None, refl, arith}
 use Rattle.serde_json.specs.Data.{Members, depth, members_depth}
 use Rattle.serde_json.specs.Written.{has_float, members_have_float}
-use Rattle.commit_objects.specs.Spelling.{id_data, parent_data, library_data, members_with, commit_with, data_of}
+use Rattle.json_words.specs.IdText.{id_data}
+use Rattle.commit_objects.specs.Spelling.{parent_data, library_data, members_with, commit_with, data_of}
 use Rattle.commit_objects.specs.declared.commit.Commit.{Commit}
 
 no_float_parent : (parent : Option (List ℕ)) → has_float (parent_data parent) ≡ false

@@ -1,15 +1,12 @@
 -- The one text of a commit: compact JSON with sorted keys. docs/FORMATS.md, "Commits". Read text_of first.
 use Rattle.std.specs.Prelude.{ℕ, Bool, true, false, List, codes, Option, Some, None}
-use Rattle.hex.specs.Hex.{encode_lower}
 use Rattle.uuid.specs.Text.{hyphenated_text, lower}
 use Rattle.serde_json.specs.Data.{Data, Members, null, number, string, object, unsigned, member, no_members}
 use Rattle.serde_json.specs.Written.{compact_text}
+use Rattle.json_words.specs.IdText.{id_data}
 use Rattle.commit_objects.specs.declared.commit.Commit.{Commit}
 
--- an id as its digits, and null for none
-abbrev pub id_data : List ℕ → Data
-id_data id = string (encode_lower id)
-
+-- null for no parent
 abbrev pub parent_data : Option (List ℕ) → Data
 parent_data None = null
 parent_data (Some id) = id_data id

@@ -1,8 +1,7 @@
 //! Writing of commits.
-ghost use Rattle.std.specs.Prelude.{◌≡◌, true, false, IfOk, OnOk, IfSome, Some};
-ghost use Rattle.hex.specs.Hex.{encode_lower};
+ghost use Rattle.std.specs.Prelude.{◌≡◌, true, false, IfOk, OnOk, IfSome};
 ghost use Rattle.serde_json.specs.View.{view};
-ghost use Rattle.json_words.specs.IdText.{object_id_of};
+ghost use Rattle.json_words.specs.IdText.{IsId};
 ghost use Rattle.commit_objects.specs.Spelling.{data_of, parent_data, members_with, commit_with};
 ghost use Rattle.commit_objects.specs.Typed.{IsTyped};
 
@@ -59,7 +58,7 @@ pub fn commit_value(alloc: Global, commit: &Commit) -> Result<Value, AllocError>
 /// The text of a parent's id, or null for none.
 pub fn parent_value(alloc: Global, parent: &Option<ObjId>) -> Result<Value, AllocError>
     ensures value { IfOk result (λ value. view value ≡ parent_data parent.now) }
-    ensures reads_back { IfSome parent.now (λ id. object_id_of (encode_lower id) ≡ Some id) }
+    ensures reads_back { IfSome parent.now IsId }
 {
     match parent {
         Some(id) => id_value(alloc, id),

@@ -17,7 +17,8 @@ use Rattle.fs_objects.specs.FsKey.{key_text}
 use Rattle.fs_objects.specs.FsObject.{object_in}
 use Rattle.fs_objects.specs.Mode.{is_file_mode, is_directory_mode}
 use Rattle.fs_objects.specs.Proper.{IsProperEntry}
-use Rattle.fs_objects.specs.Spelling.{id_data, file_entry_with, directory_entry_with, entry_data, directory_with}
+use Rattle.json_words.specs.IdText.{id_data}
+use Rattle.fs_objects.specs.Spelling.{file_entry_with, directory_entry_with, entry_data, directory_with}
 use Rattle.fs_objects.specs.Typed.{IsTyped}
 use Rattle.fs_objects.specs.declared.dirent.Dirent.{Dirent}
 use Rattle.fs_objects.specs.declared.fault.FsKey.TheVariants.{KDirents, KId, KMode, KMtime, KName, KModifier, KSize}

@@ -15,8 +15,8 @@ use Rattle.fs_objects.specs.File.{block_of, file_of}
 use Rattle.fs_objects.specs.FsKey.{key_text}
 use Rattle.fs_objects.specs.FsObject.{type_of, right_version, object_in, fs_of}
 use Rattle.fs_objects.specs.Directory.{directory_of}
-use Rattle.fs_objects.specs.Spelling.{id_data, file_with, file_data}
-use Rattle.fs_objects.specs.Typed.{IsId}
+use Rattle.json_words.specs.IdText.{id_data, IsId}
+use Rattle.fs_objects.specs.Spelling.{file_with, file_data}
 use Rattle.fs_objects.specs.declared.dirent.Dirent.{Dirent}
 use Rattle.fs_objects.specs.declared.fault.FsKey.TheVariants.{KType, KVersion, KBlockIds, KSize}
 use Rattle.fs_objects.specs.declared.file_object.FileObject.{FileObject}

@@ -1,7 +1,6 @@
 pub mod DirectoryLemmas
 pub mod EntryLemmas
 pub mod NameSetLemmas
-pub mod RestLemmas
 pub mod PlacingLemmas
 pub mod OrderLemmas
 pub mod TextLemmas

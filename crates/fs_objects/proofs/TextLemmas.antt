@@ -5,7 +5,8 @@ use Rattle.serde_json.specs.Find.{is_float, of_integer}
 use Rattle.serde_json.specs.View.{items_of}
 use Rattle.serde_json.specs.Written.{has_float, items_have_float}
 use Rattle.fs_objects.specs.Mode.{is_file_mode}
-use Rattle.fs_objects.specs.Spelling.{id_data, file_with, file_data, file_entry_with, directory_entry_with, entry_data, directory_with}
+use Rattle.json_words.specs.IdText.{id_data}
+use Rattle.fs_objects.specs.Spelling.{file_with, file_data, file_entry_with, directory_entry_with, entry_data, directory_with}
 use Rattle.fs_objects.specs.declared.dirent.Dirent.{Dirent}
 use Rattle.fs_objects.specs.declared.file_object.FileObject.{FileObject}
 

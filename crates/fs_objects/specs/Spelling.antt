@@ -6,20 +6,16 @@ use Rattle.std.specs.Cmp.Lexicographic.{slice_cmp}
 use Rattle.std.specs.List.Sorted.{IsPermutation}
 use Rattle.std.specs.Map.{values_of}
 use Rattle.std.specs.Ordering.{nat_cmp}
-use Rattle.hex.specs.Hex.{encode_lower}
 use Rattle.serde_json.specs.Data.{Data, number, string, array, object, unsigned, member, no_members}
 use Rattle.serde_json.specs.Find.{of_integer}
 use Rattle.serde_json.specs.View.{items_of}
 use Rattle.serde_json.specs.Written.{compact_text}
+use Rattle.json_words.specs.IdText.{id_data}
 use Rattle.fs_objects.specs.Mode.{is_file_mode}
 use Rattle.fs_objects.specs.declared.dirent.Dirent.{Dirent}
 use Rattle.fs_objects.specs.declared.file_object.FileObject.{FileObject}
 use Rattle.fs_objects.specs.declared.fs_object.FsObject.{FsObject}
 use Rattle.fs_objects.specs.declared.fs_object.FsObject.TheVariants.{File, Dir}
-
--- an id as its digits
-abbrev pub id_data : List ℕ → Data
-id_data id = string (encode_lower id)
 
 -- a file, of which the blocks are given as values
 unfoldable pub file_with : List Data → ℕ → Data

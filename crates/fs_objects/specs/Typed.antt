@@ -1,14 +1,9 @@
--- For private clauses: what the types of the program tell of an entry and of a block's id. Read IsTyped first.
-use Rattle.std.specs.Prelude.{◌≡◌, ℕ, ◌<◌, ◌^◌, List, FitsSigned, Some, None}
+-- For private clauses: what the types of the program tell of an entry. Read IsTyped first.
+use Rattle.std.specs.Prelude.{◌≡◌, ◌<◌, ◌^◌, FitsSigned, None}
 use Rattle.std.specs.Int.{w64}
-use Rattle.hex.specs.Hex.{encode_lower}
 use Rattle.tree_model.specs.Name.{name_fault}
-use Rattle.json_words.specs.IdText.{object_id_of}
+use Rattle.json_words.specs.IdText.{IsId}
 use Rattle.fs_objects.specs.declared.dirent.Dirent.{Dirent}
-
--- the digits of an id are read as it
-abbrev pub IsId : List ℕ → Type 0
-IsId id = object_id_of (encode_lower id) ≡ Some id
 
 -- the id is an id, the name a name, and the numbers are within their types
 pub record IsTyped (entry : Dirent) : Type 0 where

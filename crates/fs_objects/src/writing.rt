@@ -3,8 +3,9 @@ ghost use Rattle.std.specs.Prelude.{◌≡◌, [], map, reverse, All, IfOk, OnOk
 ghost use Rattle.std.specs.BTreeMap.{values};
 ghost use Rattle.serde_json.specs.View.{view, items_view};
 ghost use Rattle.fs_objects.specs.Placing.{shown, seen};
-ghost use Rattle.fs_objects.specs.Spelling.{id_data, file_with, file_data, file_entry_with, directory_entry_with, entry_data, directory_with, placed, in_written_order};
-ghost use Rattle.fs_objects.specs.Typed.{IsId, IsTyped};
+ghost use Rattle.json_words.specs.IdText.{id_data, IsId};
+ghost use Rattle.fs_objects.specs.Spelling.{file_with, file_data, file_entry_with, directory_entry_with, entry_data, directory_with, placed, in_written_order};
+ghost use Rattle.fs_objects.specs.Typed.{IsTyped};
 
 use crate::dirent::Dirent;
 use crate::fields::is_file_mode;

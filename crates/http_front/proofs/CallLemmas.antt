@@ -12,10 +12,9 @@ use Rattle.std.proofs.lemmas.List.Splits.{join_with_byte-slice_split, slice_spli
 use Rattle.std.specs.Cmp.Lexicographic.{same_text}
 use Rattle.std.specs.List.{join_with_byte}
 use Rattle.std.specs.Option.{option_and_then}
-use Rattle.std.specs.Result.{result_ok}
 use Rattle.std.specs.Str.{bytes_eq}
-use Rattle.hex.specs.Hex.{IsBytes, decode_of, encode_lower}
-use Rattle.uuid.specs.Text.{hyphenated_text, is_hyphen_place, lower, parsed}
+use Rattle.hex.specs.Hex.{IsBytes, encode_lower}
+use Rattle.uuid.specs.Text.{hyphenated_text, is_hyphen_place, lower}
 use Rattle.ids.specs.declared.key.Key.{Key}
 use Rattle.ids.specs.declared.key.Kind.{Kind}
 use Rattle.ids.specs.declared.key.Kind.TheVariants.{Commit, Fs, Block}
@@ -24,21 +23,18 @@ use Rattle.ids.specs.Form.{Form, IsOf}
 use Rattle.ids.specs.LibraryId.{library_form}
 use Rattle.ids.proofs.DigitsLemmas as digits
 use Rattle.ids.proofs.LibraryText as library
-use Rattle.http_front.specs.IdText.{has_form, id_of, lib_of}
-use Rattle.http_front.specs.KindWord.{kind_word}
+use Rattle.json_words.specs.IdText.{library_id_of, object_id_of}
+use Rattle.ids.specs.Kind.{kind_word}
 use Rattle.http_front.specs.Route.{IsCall, IsLibrary, IsNamed, IsPathKind, head_method, head_route, kind_of, library_route, method_in, named_route, object_route, pair_route, parts_in, path_in, path_route, repo_route, route_of, top_route, under, version_route, word_route}
 use Rattle.http_front.specs.Target.{parts, path_of}
 use Rattle.http_front.specs.declared.method.Method.{Method}
 use Rattle.http_front.specs.declared.method.Method.TheVariants as method
 use Rattle.http_front.specs.declared.route.Route.{Route}
 use Rattle.http_front.specs.declared.route.Route.TheVariants.{Version, Check, Head, Update, Get, Put, CheckFs, CheckBlocks, PutFs, GetFs, Ids}
-use Rattle.http_front.proofs.IdLemmas.{IsOf-has_form, has_form-IsOf}
+use Rattle.json_words.proofs.IdLemmas.{has_form-IsOf}
+use Rattle.http_front.proofs.NamedIds.{id_bytes, id_text, if_some, lib_text, library_bytes}
 
 -- ---- what is read is the text of what it names
-
-if_some : {A : Type 0} (b : Bool) (o : Option A) (r : A) → cond b o None ≡ Some r → (b ≡ true) × (o ≡ Some r)
-if_some true o r e = (refl, e)
-if_some false o r e = let bad : ⊥ = cc in absurd bad
 
 and_some : {A : Type 0} (f : A → Option Route) (o : Option A) (r : Route) → option_and_then f o ≡ Some r → (x : A) × (o ≡ Some x) × (f x ≡ Some r)
 and_some f None r e = let bad : ⊥ = cc in absurd bad
@@ -58,71 +54,64 @@ kind_text word kind e = elim (kind_picked (bytes_eq word (codes "block")) Block 
     if_kind true k kind e = let same : k ≡ kind = cc in (refl, same)
     if_kind false k kind e = let bad : ⊥ = cc in absurd bad
 
-id_text : (text : List ℕ) (id : List ℕ) → id_of text ≡ Some id → text ≡ encode_lower id
-unfolding id_of
-id_text text id e =
-    let is = if_some (has_form digits_form text) (result_ok (decode_of text)) id e in
-    let form = IsOf-has_form digits_form text is.0 in
-    let read : result_ok (decode_of text) ≡ Some (digits.bytes_of text) = ap result_ok (digits.decode_of-digits text form) in
-    let same : digits.bytes_of text ≡ id = cc (read, is.1) in
-    sym (digits.encode_lower-digits text form) ∙ ap encode_lower same
+-- ---- a kind that a path can name
 
-lib_text : (text : List ℕ) (lib : List ℕ) → lib_of text ≡ Some lib → text ≡ hyphenated_text lower lib
-unfolding lib_of
-lib_text text lib e =
-    let is = if_some (has_form library_form text) (parsed text) lib e in
-    let form = IsOf-has_form library_form text is.0 in
-    let read : Some (library.bytes_of text) ≡ parsed text = library.parsed-library text form in
-    let same : library.bytes_of text ≡ lib = cc (read, is.1) in
-    library.hyphenated-library text form ∙ ap (hyphenated_text lower) same
+path_kind : (word : List ℕ) (kind : Kind) → kind_of word ≡ Some kind → IsPathKind kind
+path_kind word kind e = path_kind_at (bytes_eq word (codes "block")) (bytes_eq word (codes "commit")) kind e
+  where
+    path_kind_at : (b c : Bool) (kind : Kind) → cond b (Some Block) (cond c (Some Commit) None) ≡ Some kind → IsPathKind kind
+    path_kind_at true c kind e = let same : Block ≡ kind = cc in subst IsPathKind same tt
+    path_kind_at false true kind e = let same : Commit ≡ kind = cc in subst IsPathKind same tt
+    path_kind_at false false kind e = let bad : ⊥ = cc in absurd bad
 
--- a path's parts that name a call: its own
+-- a path's parts that name a call: those of a call
 record IsPathOf (m : Method) (q : List (List ℕ)) (route : Route) : Type 0 where
   method_is : m ≡ method_in route
   parts_are : q ≡ parts_in route
+  call_is : IsCall route
 
 -- one of several, or the rest of them
 picked : (b : Bool) (r : Route) (o : Option Route) (route : Route) → cond b (Some r) o ≡ Some route → ((b ≡ true) × (r ≡ route)) ⊎ (o ≡ Some route)
 picked true r o route e = let same : r ≡ route = cc in inl (refl, same)
 picked false r o route e = inr e
 
-object_named : (m : Method) (lib : List ℕ) (key : Key) (route : Route) → object_route m lib key ≡ Some route → IsPathOf m (under lib (kind_word key.kind ∷ encode_lower key.id ∷ [])) route
-object_named method.Get lib key route e =
+object_named : (m : Method) (lib : List ℕ) (key : Key) (route : Route) → IsNamed lib key → object_route m lib key ≡ Some route → IsPathOf m (under lib (kind_word key.kind ∷ encode_lower key.id ∷ [])) route
+object_named method.Get lib key route named e =
     let same : Get lib key ≡ route = cc in
-    subst (λ (r : Route). IsPathOf method.Get (under lib (kind_word key.kind ∷ encode_lower key.id ∷ [])) r) same (record { method_is = refl; parts_are = refl })
-object_named method.Put lib key route e =
+    subst (λ (r : Route). IsPathOf method.Get (under lib (kind_word key.kind ∷ encode_lower key.id ∷ [])) r) same (record { method_is = refl; parts_are = refl; call_is = named })
+object_named method.Put lib key route named e =
     let same : Put lib key ≡ route = cc in
-    subst (λ (r : Route). IsPathOf method.Put (under lib (kind_word key.kind ∷ encode_lower key.id ∷ [])) r) same (record { method_is = refl; parts_are = refl })
-object_named method.Post lib key route e = let bad : ⊥ = cc in absurd bad
-object_named method.Other lib key route e = let bad : ⊥ = cc in absurd bad
+    subst (λ (r : Route). IsPathOf method.Put (under lib (kind_word key.kind ∷ encode_lower key.id ∷ [])) r) same (record { method_is = refl; parts_are = refl; call_is = named })
+object_named method.Post lib key route named e = let bad : ⊥ = cc in absurd bad
+object_named method.Other lib key route named e = let bad : ⊥ = cc in absurd bad
 
 -- a word that is that of a call
-word_is : (m : Method) (lib word own : List ℕ) (r route : Route) → m ≡ method_in r → under lib (own ∷ []) ≡ parts_in r → bytes_eq word own ≡ true → r ≡ route
+word_is : (m : Method) (lib word own : List ℕ) (r route : Route) → m ≡ method_in r → under lib (own ∷ []) ≡ parts_in r → IsCall r → bytes_eq word own ≡ true → r ≡ route
     → IsPathOf m (under lib (word ∷ [])) route
-word_is m lib word own r route asks parts_are is same =
+word_is m lib word own r route asks parts_are call is same =
     subst (λ (q : Route). IsPathOf m (under lib (word ∷ [])) q) same
-    (record { method_is = asks; parts_are = ap (λ (w : List ℕ). under lib (w ∷ [])) (same_text word own (sym is)) ∙ parts_are })
+    (record { method_is = asks; parts_are = ap (λ (w : List ℕ). under lib (w ∷ [])) (same_text word own (sym is)) ∙ parts_are; call_is = call })
 
-word_named : (m : Method) (lib word : List ℕ) (route : Route) → word_route m lib word ≡ Some route → IsPathOf m (under lib (word ∷ [])) route
-word_named method.Put lib word route e = let bad : ⊥ = cc in absurd bad
-word_named method.Other lib word route e = let bad : ⊥ = cc in absurd bad
-word_named method.Get lib word route e =
+word_named : (m : Method) (lib word : List ℕ) (route : Route) → IsLibrary lib → word_route m lib word ≡ Some route → IsPathOf m (under lib (word ∷ [])) route
+word_named method.Put lib word route sized e = let bad : ⊥ = cc in absurd bad
+word_named method.Other lib word route sized e = let bad : ⊥ = cc in absurd bad
+word_named method.Get lib word route sized e =
     elim (picked (bytes_eq word (codes "permission-check")) (Check lib) _ route e) [
-      | inl is ↦ word_is method.Get lib word (codes "permission-check") (Check lib) route refl refl is.0 is.1
+      | inl is ↦ word_is method.Get lib word (codes "permission-check") (Check lib) route refl refl sized is.0 is.1
       | inr e ↦ elim (picked (bytes_eq word (codes "fs-id-list")) (Ids lib) _ route e) [
-        | inl is ↦ word_is method.Get lib word (codes "fs-id-list") (Ids lib) route refl refl is.0 is.1
+        | inl is ↦ word_is method.Get lib word (codes "fs-id-list") (Ids lib) route refl refl sized is.0 is.1
         | inr e ↦ let bad : ⊥ = cc in absurd bad
       ]
     ]
-word_named method.Post lib word route e =
+word_named method.Post lib word route sized e =
     elim (picked (bytes_eq word (codes "check-fs")) (CheckFs lib) _ route e) [
-      | inl is ↦ word_is method.Post lib word (codes "check-fs") (CheckFs lib) route refl refl is.0 is.1
+      | inl is ↦ word_is method.Post lib word (codes "check-fs") (CheckFs lib) route refl refl sized is.0 is.1
       | inr e ↦ elim (picked (bytes_eq word (codes "check-blocks")) (CheckBlocks lib) _ route e) [
-        | inl is ↦ word_is method.Post lib word (codes "check-blocks") (CheckBlocks lib) route refl refl is.0 is.1
+        | inl is ↦ word_is method.Post lib word (codes "check-blocks") (CheckBlocks lib) route refl refl sized is.0 is.1
         | inr e ↦ elim (picked (bytes_eq word (codes "recv-fs")) (PutFs lib) _ route e) [
-          | inl is ↦ word_is method.Post lib word (codes "recv-fs") (PutFs lib) route refl refl is.0 is.1
+          | inl is ↦ word_is method.Post lib word (codes "recv-fs") (PutFs lib) route refl refl sized is.0 is.1
           | inr e ↦ elim (picked (bytes_eq word (codes "pack-fs")) (GetFs lib) _ route e) [
-            | inl is ↦ word_is method.Post lib word (codes "pack-fs") (GetFs lib) route refl refl is.0 is.1
+            | inl is ↦ word_is method.Post lib word (codes "pack-fs") (GetFs lib) route refl refl sized is.0 is.1
             | inr e ↦ let bad : ⊥ = cc in absurd bad
           ]
         ]
@@ -134,25 +123,29 @@ word_named method.Post lib word route e =
 abbrev head_parts : List ℕ → List (List ℕ)
 head_parts lib = under lib (codes "commit" ∷ codes "HEAD" ∷ [])
 
-head_named : (m : Method) (lib : List ℕ) (route : Route) → head_method m lib ≡ Some route → IsPathOf m (head_parts lib) route
-head_named method.Get lib route e =
+head_named : (m : Method) (lib : List ℕ) (route : Route) → IsLibrary lib → head_method m lib ≡ Some route → IsPathOf m (head_parts lib) route
+head_named method.Get lib route sized e =
     let same : Head lib ≡ route = cc in
-    subst (λ (r : Route). IsPathOf method.Get (head_parts lib) r) same (record { method_is = refl; parts_are = refl })
-head_named method.Put lib route e =
+    subst (λ (r : Route). IsPathOf method.Get (head_parts lib) r) same (record { method_is = refl; parts_are = refl; call_is = sized })
+head_named method.Put lib route sized e =
     let same : Update lib ≡ route = cc in
-    subst (λ (r : Route). IsPathOf method.Put (head_parts lib) r) same (record { method_is = refl; parts_are = refl })
-head_named method.Post lib route e = let bad : ⊥ = cc in absurd bad
-head_named method.Other lib route e = let bad : ⊥ = cc in absurd bad
+    subst (λ (r : Route). IsPathOf method.Put (head_parts lib) r) same (record { method_is = refl; parts_are = refl; call_is = sized })
+head_named method.Post lib route sized e = let bad : ⊥ = cc in absurd bad
+head_named method.Other lib route sized e = let bad : ⊥ = cc in absurd bad
 
 -- a kind of object and an id
-named_is : (m : Method) (lib word text : List ℕ) (route : Route) → named_route m lib word text ≡ Some route → IsPathOf m (under lib (word ∷ text ∷ [])) route
-named_is m lib word text route e =
-    let kind = and_some (λ k. option_and_then (λ id. object_route m lib (record { kind = k; id = id })) (id_of text)) (kind_of word) route e in
-    let id = and_some (λ i. object_route m lib (record { kind = kind.0; id = i })) (id_of text) route kind.2 in
-    let own = object_named m lib (record { kind = kind.0; id = id.0 }) route id.2 in
+named_is : (m : Method) (lib word text : List ℕ) (route : Route) → IsLibrary lib → named_route m lib word text ≡ Some route → IsPathOf m (under lib (word ∷ text ∷ [])) route
+named_is m lib word text route sized e =
+    let kind = and_some (λ k. option_and_then (λ id. object_route m lib (record { kind = k; id = id })) (object_id_of text)) (kind_of word) route e in
+    let id = and_some (λ i. object_route m lib (record { kind = kind.0; id = i })) (object_id_of text) route kind.2 in
+    let bytes = id_bytes text id.0 id.1 in
+    let named : IsNamed lib (record { kind = kind.0; id = id.0 }) =
+    record { lib_is = sized; id_size = bytes.0; id_bytes = bytes.1; kind = path_kind word kind.0 kind.1 } in
+    let own = object_named m lib (record { kind = kind.0; id = id.0 }) route named id.2 in
     record {
       method_is = own.method_is;
       parts_are = (λ i. under lib (kind_text word kind.0 kind.1 i ∷ id_text text id.0 id.1 i ∷ [])) ∙ own.parts_are;
+      call_is = own.call_is;
     }
 
 -- one or the other
@@ -160,33 +153,34 @@ either : (b : Bool) (o p : Option Route) (route : Route) → cond b o p ≡ Some
 either true o p route e = inl (refl, e)
 either false o p route e = inr e
 
-pair_named : (m : Method) (lib word text : List ℕ) (route : Route) → pair_route m lib word text ≡ Some route → IsPathOf m (under lib (word ∷ text ∷ [])) route
-pair_named m lib word text route e =
+pair_named : (m : Method) (lib word text : List ℕ) (route : Route) → IsLibrary lib → pair_route m lib word text ≡ Some route → IsPathOf m (under lib (word ∷ text ∷ [])) route
+pair_named m lib word text route sized e =
     elim (either (bytes_eq text (codes "HEAD")) (head_route m lib word) (named_route m lib word text) route e) [
       | inl is ↦
           let commit = if_some (bytes_eq word (codes "commit")) (head_method m lib) route is.1 in
-          let own = head_named m lib route commit.1 in
+          let own = head_named m lib route sized commit.1 in
           record {
             method_is = own.method_is;
             parts_are = (λ i. under lib (same_text word (codes "commit") (sym commit.0) i ∷ same_text text (codes "HEAD") (sym is.0) i ∷ [])) ∙ own.parts_are;
+            call_is = own.call_is;
           }
-      | inr e ↦ named_is m lib word text route e
+      | inr e ↦ named_is m lib word text route sized e
     ]
 
-library_path : (m : Method) (name lib : List ℕ) (q : List (List ℕ)) (route : Route) → name ≡ hyphenated_text lower lib → library_route m lib q ≡ Some route
+library_path : (m : Method) (name lib : List ℕ) (q : List (List ℕ)) (route : Route) → IsLibrary lib → name ≡ hyphenated_text lower lib → library_route m lib q ≡ Some route
     → IsPathOf m ([] ∷ codes "repo" ∷ name ∷ q) route
-library_path m name lib [] route is e = let bad : ⊥ = cc in absurd bad
-library_path m name lib (word ∷ []) route is e =
-    subst (λ (n : List ℕ). IsPathOf m ([] ∷ codes "repo" ∷ n ∷ word ∷ []) route) (sym is) (word_named m lib word route e)
-library_path m name lib (word ∷ text ∷ x ∷ more) route is e = let bad : ⊥ = cc in absurd bad
-library_path m name lib (word ∷ text ∷ []) route is e =
-    subst (λ (n : List ℕ). IsPathOf m ([] ∷ codes "repo" ∷ n ∷ word ∷ text ∷ []) route) (sym is) (pair_named m lib word text route e)
+library_path m name lib [] route sized is e = let bad : ⊥ = cc in absurd bad
+library_path m name lib (word ∷ []) route sized is e =
+    subst (λ (n : List ℕ). IsPathOf m ([] ∷ codes "repo" ∷ n ∷ word ∷ []) route) (sym is) (word_named m lib word route sized e)
+library_path m name lib (word ∷ text ∷ x ∷ more) route sized is e = let bad : ⊥ = cc in absurd bad
+library_path m name lib (word ∷ text ∷ []) route sized is e =
+    subst (λ (n : List ℕ). IsPathOf m ([] ∷ codes "repo" ∷ n ∷ word ∷ text ∷ []) route) (sym is) (pair_named m lib word text route sized e)
 
 repo_path : (m : Method) (q : List (List ℕ)) (route : Route) → repo_route m q ≡ Some route → IsPathOf m ([] ∷ codes "repo" ∷ q) route
 repo_path m [] route e = let bad : ⊥ = cc in absurd bad
 repo_path m (name ∷ rest) route e =
-    let lib = and_some (λ l. library_route m l rest) (lib_of name) route e in
-    library_path m name lib.0 rest route (lib_text name lib.0 lib.1) lib.2
+    let lib = and_some (λ l. library_route m l rest) (library_id_of name) route e in
+    library_path m name lib.0 rest route (library_bytes name lib.0 lib.1) (lib_text name lib.0 lib.1) lib.2
 
 version_path : (m : Method) (word : List ℕ) (route : Route) → version_route m word ≡ Some route → IsPathOf m ([] ∷ word ∷ []) route
 version_path method.Put word route e = let bad : ⊥ = cc in absurd bad
@@ -196,7 +190,7 @@ version_path method.Get word route e =
     let is = if_some (bytes_eq word (codes "protocol-version")) (Some Version) route e in
     let same : Version ≡ route = cc (is.1) in
     subst (λ (r : Route). IsPathOf method.Get ([] ∷ word ∷ []) r) same
-    (record { method_is = refl; parts_are = ap (λ (w : List ℕ). [] ∷ w ∷ []) (same_text word (codes "protocol-version") (sym is.0)) })
+    (record { method_is = refl; parts_are = ap (λ (w : List ℕ). [] ∷ w ∷ []) (same_text word (codes "protocol-version") (sym is.0)); call_is = tt })
 
 top_path : (m : Method) (q : List (List ℕ)) (route : Route) → top_route m q ≡ Some route → IsPathOf m ([] ∷ q) route
 top_path m [] route e = let bad : ⊥ = cc in absurd bad
@@ -224,6 +218,11 @@ named_by_path m target route e =
     let is = whole_path m (parts (path_of target)) route e in
     (is.method_is, sym (join_with_byte-slice_split 47 (path_of target)) ∙ ap (join_with_byte 47) is.parts_are)
 
+-- and is one of the table
+pub names_a_call : (m : Method) (target : List ℕ) (route : Route) → route_of m target ≡ Some route → IsCall route
+unfolding route_of
+names_a_call m target route e = (whole_path m (parts (path_of target)) route e).call_is
+
 -- ---- the text of what is named is read so
 
 no_slash_in : (form : Form) (text : List ℕ) → IsOf form text → ((k : ℕ) → form.allows k 47 ≡ false) → All (λ c. nat_eq c 47 ≡ false) text
@@ -236,8 +235,8 @@ never_in_library : (b : Bool) → cond b (nat_eq 47 45) (is_lower_digit 47) ≡ 
 never_in_library true = refl
 never_in_library false = refl
 
-pub lib_reads : (lib : List ℕ) → length lib ≡ 16 → All (λ byte. byte < 256) lib → lib_of (hyphenated_text lower lib) ≡ Some lib
-unfolding lib_of
+pub lib_reads : (lib : List ℕ) → length lib ≡ 16 → All (λ byte. byte < 256) lib → library_id_of (hyphenated_text lower lib) ≡ Some lib
+unfolding library_id_of
 lib_reads lib size bytes = rw (has_form-IsOf library_form (hyphenated_text lower lib) (library.IsOf-hyphenated lib)) (sym (parses_hyphenated lower lib (inl refl) size bytes))
 
 are_bytes : (id : List ℕ) → All (λ byte. byte < 256) id → IsBytes id
@@ -246,8 +245,8 @@ are_bytes id bytes i = elim (cases_lt i (length id)) [
   | inr past ↦ rw (get_or_past id i 0 past) (lit< tt)
 ]
 
-pub id_reads : (id : List ℕ) → length id ≡ 20 → All (λ byte. byte < 256) id → id_of (encode_lower id) ≡ Some id
-unfolding id_of
+pub id_reads : (id : List ℕ) → length id ≡ 20 → All (λ byte. byte < 256) id → object_id_of (encode_lower id) ≡ Some id
+unfolding object_id_of
 id_reads id size bytes = rw (has_form-IsOf digits_form (encode_lower id) (digits.IsOf-encode_lower id size bytes), decode_of-encode_lower id (are_bytes id bytes))
 
 -- ---- parts without a slash, joined by slashes, are cut into the same parts

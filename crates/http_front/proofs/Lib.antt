@@ -4,7 +4,6 @@ pub mod CallQueryLemmas
 pub mod ElementLemmas
 pub mod FieldLemmas
 pub mod HeadLemmas
-pub mod IdLemmas
 pub mod IdTokenLemmas
 pub mod MemoryLinkLemmas
 pub mod NumberLemmas
@@ -18,3 +17,4 @@ pub mod TagLemmas
 pub mod TargetFrontLemmas
 pub mod TargetLemmas
 pub mod TokenLemmas
+pub mod NamedIds

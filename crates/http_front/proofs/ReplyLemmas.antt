@@ -7,7 +7,8 @@ use Rattle.serde_json.specs.Find.{is_float, of_integer}
 use Rattle.serde_json.specs.View.{view, items_of}
 use Rattle.serde_json.specs.Written.{compact_text, has_float, items_have_float}
 use Rattle.serde_json.specs.declared.value.Value.{Value}
-use Rattle.http_front.specs.IdArray.{array_text, id_data}
+use Rattle.json_words.specs.IdText.{id_data}
+use Rattle.http_front.specs.IdArray.{array_text}
 use Rattle.library_state.specs.declared.refusal.Refusal.{Refusal}
 use Rattle.library_state.specs.declared.refusal.Refusal.TheVariants as refusal
 use Rattle.http_front.specs.RefusalText.{refused_body, refused_data}

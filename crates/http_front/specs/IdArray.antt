@@ -1,14 +1,13 @@
 -- Bodies that are a JSON array (RFC 8259) of ids, each as its 40 digits. Our own, after Seafile's sync calls.
 -- Read ids_of first.
 use Rattle.std.specs.Prelude.{ℕ, List, map, Result}
-use Rattle.hex.specs.Hex.{encode_lower}
-use Rattle.serde_json.specs.Data.{Data, array, string}
+use Rattle.serde_json.specs.Data.{Data, array}
 use Rattle.serde_json.specs.Find.{as_array}
 use Rattle.serde_json.specs.View.{items_of}
 use Rattle.serde_json.specs.Written.{compact_text}
 use Rattle.json_words.specs.Check.{◌>>=◌, each, ok_or}
 use Rattle.json_words.specs.Fields.{list_of}
-use Rattle.json_words.specs.IdText.{id_in}
+use Rattle.json_words.specs.IdText.{id_data, id_in}
 use Rattle.json_words.specs.JsonText.{json_of}
 
 -- an item is the text of an id
@@ -26,10 +25,6 @@ unfoldable pub ids_of : List ℕ → Result (List (List ℕ)) ℕ
 ids_of body = do
   d ← ok_or (json_of body) 0
   ids_of_value d
-
--- an id as its digits
-abbrev pub id_data : List ℕ → Data
-id_data id = string (encode_lower id)
 
 -- the compact text of an array of ids
 unfoldable pub array_text : List (List ℕ) → List ℕ

@@ -4,9 +4,7 @@ pub mod CallQuery
 pub mod EntityTag
 pub mod Fields
 pub mod IdArray
-pub mod IdText
 pub mod IdTokens
-pub mod KindWord
 pub mod Link
 pub mod MemoryLink
 pub mod NextHead

@@ -9,7 +9,7 @@ use Rattle.std.specs.Str.{bytes_eq}
 use Rattle.std.specs.Borrow.{Bor}
 use Rattle.library_state.specs.declared.call.Op.{Op}
 use Rattle.library_state.specs.declared.call.Op.TheVariants.{Upload, Download}
-use Rattle.http_front.specs.IdText.{id_of}
+use Rattle.json_words.specs.IdText.{object_id_of}
 
 -- what follows the first `?`, or nothing where there is none
 abbrev pub query_of : List ℕ → List ℕ
@@ -59,7 +59,7 @@ op_asked query = option_and_then op_of (only (values_of (codes "op") query))
 
 -- the id that the one value of this name is
 unfoldable pub id_asked : List ℕ → List ℕ → Option (List ℕ)
-id_asked name query = option_and_then id_of (only (values_of name query))
+id_asked name query = option_and_then object_id_of (only (values_of name query))
 
 -- an id that may be left out: there is none where the query has no value of its name
 abbrev pub if_there : List (List ℕ) → Option (List ℕ) → Option (Option (List ℕ))

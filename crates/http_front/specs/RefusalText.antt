@@ -10,7 +10,7 @@ use Rattle.tree_model.specs.Path.{PathV, path_text}
 use Rattle.ids.specs.declared.key.Key.{Key}
 use Rattle.library_state.specs.declared.refusal.Refusal.{Refusal}
 use Rattle.library_state.specs.declared.refusal.Refusal.TheVariants as refusal
-use Rattle.http_front.specs.KindWord.{kind_word}
+use Rattle.ids.specs.Kind.{kind_word}
 use Rattle.http_front.specs.declared.status.Status.{Status}
 use Rattle.http_front.specs.declared.status.Status.TheVariants as status
 

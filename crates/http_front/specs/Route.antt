@@ -24,8 +24,8 @@ use Rattle.ids.specs.declared.key.Kind.{Kind}
 use Rattle.ids.specs.declared.key.Kind.TheVariants.{Commit, Fs, Block}
 use Rattle.hex.specs.Hex.{encode_lower}
 use Rattle.uuid.specs.Text.{hyphenated_text, lower}
-use Rattle.http_front.specs.IdText.{id_of, lib_of}
-use Rattle.http_front.specs.KindWord.{kind_word}
+use Rattle.json_words.specs.IdText.{library_id_of, object_id_of}
+use Rattle.ids.specs.Kind.{kind_word}
 use Rattle.http_front.specs.Target.{parts_of}
 use Rattle.http_front.specs.declared.method.Method.{Method}
 use Rattle.http_front.specs.declared.method.Method.TheVariants as method
@@ -60,7 +60,7 @@ head_route m lib word = if bytes_eq word (codes "commit") then head_method m lib
 -- what a kind of object and an id name
 abbrev pub named_route : Method → List ℕ → List ℕ → List ℕ → Option Route
 named_route m lib word name =
-    option_and_then (λ kind. option_and_then (λ id. object_route m lib (record { kind = kind; id = id })) (id_of name)) (kind_of word)
+    option_and_then (λ kind. option_and_then (λ id. object_route m lib (record { kind = kind; id = id })) (object_id_of name)) (kind_of word)
 
 -- what follows `/repo/LIB/`, where it is two words. `HEAD` is no id
 abbrev pub pair_route : Method → List ℕ → List ℕ → List ℕ → Option Route
@@ -90,7 +90,7 @@ library_route m lib (word ∷ name ∷ x ∷ more) = None
 
 -- what follows `/repo/`: a library
 abbrev pub repo_route : Method → List (List ℕ) → Option Route
-repo_route m (name ∷ rest) = option_and_then (λ lib. library_route m lib rest) (lib_of name)
+repo_route m (name ∷ rest) = option_and_then (λ lib. library_route m lib rest) (library_id_of name)
 repo_route m [] = None
 
 -- what stands alone behind the first slash

@@ -9,7 +9,8 @@ ghost use Rattle.serde_json.specs.Data.{array};
 ghost use Rattle.serde_json.specs.View.{view, items_of};
 ghost use Rattle.serde_json.specs.Written.{compact_text, has_float};
 ghost use Rattle.json_words.specs.Answer.{Answers};
-ghost use Rattle.http_front.specs.IdArray.{array_text, id_data, ids_of};
+ghost use Rattle.json_words.specs.IdText.{id_data};
+ghost use Rattle.http_front.specs.IdArray.{array_text, ids_of};
 ghost use Rattle.http_front.specs.IdTokens.{ids_behind, ids_in_tokens, with_id};
 
 use ids::{IdList, ObjId};

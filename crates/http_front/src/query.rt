@@ -2,8 +2,8 @@
 ghost use Rattle.std.specs.Prelude.{◌≡◌, codes, option_copied};
 ghost use Rattle.http_front.specs.Query.{client_asked, id_asked, only, op_asked, op_of, query_of, value_in, values_from, values_of};
 
-use crate::route::id_of;
 use ids::ObjId;
+use json_words::object_id;
 use library_state::Op;
 
 /// The query of a target: what follows its first `?`. It is empty where there is none.
@@ -45,7 +45,7 @@ pub(crate) fn id_asked(name: &str, query: &str) -> Option<ObjId>
     ensures { result ≡ id_asked name.now query.now }
 {
     match only_value(name, query) {
-        Some(text) => id_of(text),
+        Some(text) => object_id(text),
         None => None,
     }
 }

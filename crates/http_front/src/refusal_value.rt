@@ -2,10 +2,9 @@
 ghost use Rattle.std.specs.Prelude.{◌≡◌, codes, IfOk};
 ghost use Rattle.serde_json.specs.Data.{number, unsigned, string, object, member, no_members};
 ghost use Rattle.serde_json.specs.View.{view};
-ghost use Rattle.http_front.specs.KindWord.{kind_word};
 ghost use Rattle.http_front.specs.RefusalText.{at_data, because, code_data, count_data, damaged_data, days_data, got_data, id_data, id_or_null, key_data, lib_data, long_data, path_data, reason_data, stale_data};
 
-use ids::{Key, Kind, LibId, ObjId};
+use ids::{Key, LibId, ObjId};
 use json_words::{id_value, library_id_value};
 use serde_json::{Value, json};
 use std::alloc::{AllocError, Global};
@@ -61,12 +60,7 @@ fn lib_member(alloc: Global, lib: Value, reason: &str) -> Result<Value, AllocErr
 pub fn key_value(alloc: Global, key: &Key, reason: &str) -> Result<Value, AllocError>
     ensures { IfOk result (λ value. view value ≡ key_data key.now reason.now) }
 {
-    key_members(
-        alloc,
-        id_value(alloc, &key.id)?,
-        kind_word(key.kind),
-        reason,
-    )
+    key_members(alloc, id_value(alloc, &key.id)?, key.kind.word(), reason)
 }
 
 fn key_members(alloc: Global, id: Value, kind: &str, reason: &str) -> Result<Value, AllocError>
@@ -163,14 +157,4 @@ fn damaged_members(alloc: Global, got: Value, want: Value) -> Result<Value, Allo
         (member (codes "reason") (string (codes "damaged")) (member (codes "want") (view want) no_members)))) }
 {
     json!(in alloc; {"got": got, "reason": "damaged", "want": want})
-}
-
-fn kind_word(kind: Kind) -> &'static str
-    ensures { result.now ≡ kind_word kind }
-{
-    match kind {
-        Kind::Commit => "commit",
-        Kind::Fs => "fs",
-        Kind::Block => "block",
-    }
 }

@@ -1,12 +1,12 @@
 //! The calls that a method and a path name.
 ghost use Rattle.std.specs.Prelude.{◌≡◌};
-ghost use Rattle.http_front.specs.IdText.{id_of, lib_of};
 ghost use Rattle.http_front.specs.Route.{head_route, kind_of, library_route, named_route, object_route, pair_route, path_route, repo_route, route_of, top_route, version_route, word_route};
 ghost use Rattle.http_front.specs.Target.{parts};
 
 use crate::method::Method;
 use crate::target::path_of;
-use ids::{Key, Kind, LibId, ObjId};
+use ids::{Key, Kind, LibId};
+use json_words::{library_id, object_id};
 
 /// A call that a method and a path name, with the names that stand in the path.
 #[derive(Debug, Drop)]
@@ -94,7 +94,7 @@ fn repo_route(method: Method, path: &str) -> Option<Route>
     ensures { result ≡ repo_route method (parts path.now) }
 {
     match path.split_once('/') {
-        Some((name, rest)) => match lib_of(name) {
+        Some((name, rest)) => match library_id(name) {
             Some(lib) => library_route(method, lib, rest),
             None => None,
         },
@@ -185,7 +185,7 @@ fn named_route(method: Method, lib: LibId, word: &str, name: &str) -> Option<Rou
     ensures { result ≡ named_route method lib word.now name.now }
 {
     let kind = kind_of(word)?;
-    let id = id_of(name)?;
+    let id = object_id(name)?;
     object_route(method, lib, Key { kind, id })
 }
 
@@ -209,17 +209,4 @@ fn kind_of(word: &str) -> Option<Kind>
         return Some(Kind::Commit);
     }
     None
-}
-
-/// The id that a text is.
-pub(crate) fn id_of(text: &str) -> Option<ObjId>
-    ensures { result ≡ id_of text.now }
-{
-    ObjId::read(text).ok()
-}
-
-fn lib_of(text: &str) -> Option<LibId>
-    ensures { result ≡ lib_of text.now }
-{
-    LibId::read(text).ok()
 }

@@ -73,6 +73,17 @@ length-bytes_of [] even = refl
 length-bytes_of (a ∷ []) even = absurd (omega arith)
 length-bytes_of (a ∷ b ∷ rest) even = omega (arith, length-bytes_of rest (omega arith))
 
+pub bytes_of-bytes : (s : List ℕ) → AllPass is_lower_digit s → All (λ byte. byte < 256) (bytes_of s)
+unfolding bytes_of
+bytes_of-bytes [] h = All-nil (λ byte. byte < 256)
+bytes_of-bytes (a ∷ []) h = All-nil (λ byte. byte < 256)
+bytes_of-bytes (a ∷ b ∷ rest) h =
+    let tail = All-tail holds a (b ∷ rest) h in
+    let high = value_of-small a (All-head holds a (b ∷ rest) h) in
+    let low = value_of-small b (All-head holds b rest tail) in
+    let small : value_of a * 16 + value_of b < 256 = omega (arith, high, low) in
+    All-cons (λ byte. byte < 256) (value_of a * 16 + value_of b) (bytes_of rest) small (bytes_of-bytes rest (All-tail holds b rest tail))
+
 pub decode_pairs-lower : (i : ℕ) (s : List ℕ) → length s % 2 ≡ 0 → AllPass is_lower_digit s → decode_pairs i s ≡ Ok (bytes_of s)
 unfolding bytes_of decode_pairs
 decode_pairs-lower i [] even h = refl

@@ -1,9 +1,10 @@
 -- The lower-case hyphenated form and the bytes that it stands for. The key lemmas are parsed-library, hyphenated-library
 -- and IsOf-hyphenated.
-use Rattle.std.proofs.Common.{◌≡◌, ℕ, ◌+◌, ◌*◌, ◌/◌, ◌%◌, ◌<◌, ◌==◌, inl, inr, Bool, true, false, if◌then◌else◌, List, length, slice_index, Some, refl, sym, ap, ◌∙◌, arith}
+use Rattle.std.proofs.Common.{◌≡◌, ℕ, ◌+◌, ◌*◌, ◌/◌, ◌%◌, ◌<◌, ◌==◌, inl, inr, Bool, true, false, if◌then◌else◌, List, length, slice_index, Some, refl, sym, ap, ◌∙◌, arith, All}
 use Rattle.std.proofs.lemmas.Bool.{eqb-true, cases_eq}
 use Rattle.std.proofs.lemmas.Bool.Decides.{nat_tests}
 use Rattle.std.proofs.lemmas.List.{get_or_default}
+use Rattle.std.proofs.lemmas.List.Elements.{All-from_get_or}
 use Rattle.uuid.specs.Text.{by_index, byte_of_digits, digit_place, digits_of, has_hyphens, hex_digit, hyphen_place, hyphenated_text, is_hex_digit, is_hyphen_place, lower, nibble, parsed, parsed_hyphenated, value_of}
 use Rattle.uuid.proofs.TextLemmas.{by_index_at, by_index_length, by_index_same, hyphens_pass, nibble_small, simple_some}
 use Rattle.ids.specs.Digits.{is_lower_digit}
@@ -62,6 +63,22 @@ parsed-library text is =
     (λ k h. is_hex_digit-lower (slice_index (digits_of text) k) (lower_at text k is h)) (λ i d h. by_index_at 16 (byte_of_digits (digits_of text)) i d h) in
     let whole : parsed text ≡ parsed_hyphenated text = rw size refl in
     simple ∙ hyphens_pass text size hyphens ∙ sym whole
+
+-- they are sixteen bytes
+pub length-bytes_of : (text : List ℕ) → length (bytes_of text) ≡ 16
+unfolding bytes_of
+length-bytes_of text = by_index_length 16 _
+
+pub bytes_of-bytes : (text : List ℕ) → IsOf library_form text → All (λ byte. byte < 256) (bytes_of text)
+unfolding bytes_of
+bytes_of-bytes text is = All-from_get_or (λ byte. byte < 256) (bytes_of text) 0 (λ i inside.
+    let hex : List ℕ = digits_of text in
+    let below : i < 16 = omega (arith, inside, by_index_length 16 (byte_of_digits hex)) in
+    let byte : slice_index (bytes_of text) i ≡ value_of (slice_index hex (2 * i)) * 16 + value_of (slice_index hex (2 * i + 1)) =
+    by_index_at 16 (byte_of_digits hex) i 0 below in
+    let high : value_of (slice_index hex (2 * i)) < 16 = value_of-small (slice_index hex (2 * i)) (lower_at text (2 * i) is (omega arith)) in
+    let low : value_of (slice_index hex (2 * i + 1)) < 16 = value_of-small (slice_index hex (2 * i + 1)) (lower_at text (2 * i + 1) is (omega arith)) in
+    omega (arith, byte, high, low))
 
 -- the half of a byte at a place is the value of the digit there
 nibble-bytes_of : (text : List ℕ) (j : ℕ) → IsOf library_form text → j < 32 → nibble (bytes_of text) j ≡ value_of (slice_index (digits_of text) j)

@@ -30,6 +30,23 @@ pub type IdList = Items<ObjId>;
 /// A list of keys.
 pub type KeyList = Items<Key>;
 
+impl Kind {
+    ghost use Rattle.std.specs.Prelude.{◌≤◌, length};
+    ghost use Rattle.ids.specs.Kind.{kind_word};
+
+    /// The word for the kind, in paths, bodies and lines.
+    pub fn word(self) -> &'static str
+        ensures value { result.now ≡ kind_word self }
+        ensures few { length result.now ≤ 6 }
+    {
+        match self {
+            Kind::Commit => "commit",
+            Kind::Fs => "fs",
+            Kind::Block => "block",
+        }
+    }
+}
+
 impl Ord for Kind {
     ghost use Rattle.ids.specs.Kind.{kind_place};
 

@@ -6,5 +6,6 @@ pub mod IdLemmas
 pub mod FoundLemmas
 pub mod ConvertedLemmas
 pub mod FrontLemmas
+pub mod RestLemmas
 pub mod KeptLemmas
 pub mod WrittenLemmas

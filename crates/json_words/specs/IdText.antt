@@ -1,15 +1,15 @@
 -- The ids that texts and JSON values are, as functions: what `ObjId::read` and `LibId::read` accept.
--- Read has_form, then object_id_of.
-use Rattle.std.specs.Prelude.{ℕ, suc, ◌==◌, ◌&&◌, Bool, true, List, [], ◌∷◌, length, if◌then◌else◌, Option, Some, None, option_and_then, Result}
+-- Read has_form, then object_id_of; id_data writes what it reads.
+use Rattle.std.specs.Prelude.{◌≡◌, ℕ, suc, ◌==◌, ◌&&◌, Bool, true, List, [], ◌∷◌, length, if◌then◌else◌, Option, Some, None, option_and_then, Result}
 use Rattle.std.specs.Result.{result_ok}
 use Rattle.std.specs.Str.{bytes_eq}
-use Rattle.hex.specs.Hex.{decode_of}
+use Rattle.hex.specs.Hex.{decode_of, encode_lower}
 use Rattle.uuid.specs.Text.{parsed}
 use Rattle.ids.specs.Digits.{digits_form}
 use Rattle.ids.specs.Form.{Form}
 use Rattle.ids.specs.LibraryId.{library_form}
 use Rattle.ids.specs.ObjectId.{nil}
-use Rattle.serde_json.specs.Data.{Data}
+use Rattle.serde_json.specs.Data.{Data, string}
 use Rattle.serde_json.specs.Find.{as_str}
 use Rattle.json_words.specs.Check.{◌>>=◌, ok_or}
 use Rattle.json_words.specs.Fields.{field}
@@ -44,6 +44,14 @@ id_in d = option_and_then object_id_of (as_str d)
 -- the id other than forty zeros that a value is the text of
 unfoldable pub stored_id_in : Data → Option (List ℕ)
 stored_id_in d = option_and_then unless_nil (id_in d)
+
+-- an id or a secret as its digits
+abbrev pub id_data : List ℕ → Data
+id_data id = string (encode_lower id)
+
+-- an id or a secret that its digits are read as
+abbrev pub IsId : List ℕ → Type 0
+IsId id = object_id_of (encode_lower id) ≡ Some id
 
 -- a field that is the text of an id
 unfoldable pub id_field : List ℕ → Data → Result (List ℕ) FieldFault

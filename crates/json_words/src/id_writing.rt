@@ -1,10 +1,9 @@
 //! The texts of ids as JSON values.
 ghost use Rattle.std.specs.Prelude.{◌≡◌, Some, IfOk, IsUtf8};
-ghost use Rattle.hex.specs.Hex.{encode_lower};
 ghost use Rattle.uuid.specs.Text.{hyphenated_text, lower};
 ghost use Rattle.serde_json.specs.Data.{string};
 ghost use Rattle.serde_json.specs.View.{view};
-ghost use Rattle.json_words.specs.IdText.{object_id_of, library_id_of};
+ghost use Rattle.json_words.specs.IdText.{IsId, id_data, library_id_of};
 
 use ids::{LibId, ObjId};
 use serde_json::Value;
@@ -13,8 +12,8 @@ use std::str::from_utf8;
 
 /// The text of an id, its 40 lower-case hexadecimal digits.
 pub fn id_value(alloc: Global, id: &ObjId) -> Result<Value, AllocError>
-    ensures value { IfOk result (λ value. view value ≡ string (encode_lower id.now)) }
-    ensures reads_back { object_id_of (encode_lower id.now) ≡ Some id.now }
+    ensures value { IfOk result (λ value. view value ≡ id_data id.now) }
+    ensures reads_back { IsId id.now }
 {
     let digits = id.digits();
     text_value(alloc, &digits)

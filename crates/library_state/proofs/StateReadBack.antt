@@ -16,15 +16,15 @@ use Rattle.serde_json.specs.Find.{get, of_integer}
 use Rattle.serde_json.specs.View.{items_of}
 use Rattle.json_words.specs.Check.{each}
 use Rattle.json_words.specs.Fields.{is_object, has_only}
-use Rattle.json_words.specs.IdText.{library_id_of}
+use Rattle.json_words.specs.IdText.{library_id_of, id_data, IsId}
 use Rattle.json_words.specs.JsonText.{json_of}
 use Rattle.json_words.proofs.FoundLemmas.{number_field-found, number_between-found, integer_field-found, text_field-found, array_field-found, stored_id_in-found}
 use Rattle.library_state.specs.ProperState.{IsProper, IsProperInstall, IsProperToken, AreProperTokens}
 use Rattle.library_state.specs.Rights.{right_text, right_of}
-use Rattle.library_state.specs.StateSpelling.{id_data, install_with, install_data, token_with, token_data, state_with, state_data}
+use Rattle.library_state.specs.StateSpelling.{install_with, install_data, token_with, token_data, state_with, state_data}
 use Rattle.library_state.specs.StateText.{last_number, right_version, collection_in, is_day_count, days_in, stored_id_field, install_of, kept_in, library_in, name_in, opening_in, user_in, right_in, secret_in, parts_of, token_of, tokens_after, tokens_in, state_keys, state_of}
 use Rattle.library_state.specs.Tokens.{secrets_of, is_taken}
-use Rattle.library_state.specs.TypedState.{IsId, IsTyped, IsTypedInstall, IsTypedToken}
+use Rattle.library_state.specs.TypedState.{IsTyped, IsTypedInstall, IsTypedToken}
 use Rattle.library_state.specs.declared.history.Install.{Install}
 use Rattle.library_state.specs.declared.right.Right.{Right}
 use Rattle.library_state.specs.declared.right.Right.TheVariants.{Read, Write, Owner}

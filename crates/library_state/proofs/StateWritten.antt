@@ -1,5 +1,5 @@
 -- The text of a state is read as the state. The key lemma is state_of-text_of.
-use Rattle.std.proofs.Common.{◌≡◌, ◌≤◌, ◌<◌, ◌^◌, ℕ, ℤ, pos, negsuc, List, codes, [], ◌∷◌, map, true, false, cond, Bool, ◌==◌, nat_le, inl, inr, All, IsUtf8, Ok, refl, arith, length, get_or}
+use Rattle.std.proofs.Common.{◌≡◌, ◌≤◌, ◌<◌, ◌^◌, ℕ, ℤ, pos, negsuc, List, codes, [], ◌∷◌, map, true, false, cond, Bool, ◌==◌, nat_le, inl, inr, IsUtf8, Ok, refl, arith, length, get_or}
 use Rattle.std.proofs.lemmas.Bool.{and_parts, leb-true, eqb-true, cases_lt}
 use Rattle.std.proofs.lemmas.Bool.Decides.{nat_tests}
 use Rattle.std.proofs.lemmas.List.{get_or_past}

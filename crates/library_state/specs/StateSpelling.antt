@@ -1,19 +1,15 @@
 -- The one text of a state: compact JSON with sorted keys. docs/FORMATS.md, "State text". Read text_of first.
 use Rattle.std.specs.Prelude.{ℕ, ℤ, List, map, codes}
-use Rattle.hex.specs.Hex.{encode_lower}
 use Rattle.uuid.specs.Text.{hyphenated_text, lower}
 use Rattle.serde_json.specs.Data.{Data, number, string, array, object, unsigned, member, no_members}
 use Rattle.serde_json.specs.Find.{of_integer}
 use Rattle.serde_json.specs.View.{items_of}
 use Rattle.serde_json.specs.Written.{compact_text}
+use Rattle.json_words.specs.IdText.{id_data}
 use Rattle.library_state.specs.Rights.{right_text}
 use Rattle.library_state.specs.declared.history.Install.{Install}
 use Rattle.library_state.specs.declared.state.LibState.{LibState}
 use Rattle.library_state.specs.declared.token.Token.{Token}
-
--- an id or a secret as its digits
-abbrev pub id_data : List ℕ → Data
-id_data id = string (encode_lower id)
 
 -- a head update, of which the ids are given as values
 unfoldable pub install_with : ℕ → Data → Data → Data

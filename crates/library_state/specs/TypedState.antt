@@ -1,17 +1,12 @@
 -- What the types of the program tell of a state: that ids are ids and texts are texts, and that numbers are within their
 -- types. Our own. Read IsTyped first.
-use Rattle.std.specs.Prelude.{◌≡◌, ℕ, ◌<◌, ◌^◌, List, All, FitsSigned, IsUtf8, Some}
+use Rattle.std.specs.Prelude.{◌≡◌, ◌<◌, ◌^◌, All, FitsSigned, IsUtf8, Some}
 use Rattle.std.specs.Int.{w64}
-use Rattle.hex.specs.Hex.{encode_lower}
 use Rattle.uuid.specs.Text.{hyphenated_text, lower}
-use Rattle.json_words.specs.IdText.{object_id_of, library_id_of}
+use Rattle.json_words.specs.IdText.{IsId, library_id_of}
 use Rattle.library_state.specs.declared.history.Install.{Install}
 use Rattle.library_state.specs.declared.state.LibState.{LibState}
 use Rattle.library_state.specs.declared.token.Token.{Token}
-
--- the digits of an id are read as it
-abbrev pub IsId : List ℕ → Type 0
-IsId id = object_id_of (encode_lower id) ≡ Some id
 
 pub record IsTypedInstall (install : Install) : Type 0 where
   pub head : IsId install.head

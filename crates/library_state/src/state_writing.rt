@@ -1,8 +1,9 @@
 //! Writing of state texts.
 ghost use Rattle.std.specs.Prelude.{◌≡◌, map, All, IfOk, OnOk};
 ghost use Rattle.serde_json.specs.View.{view};
-ghost use Rattle.library_state.specs.StateSpelling.{id_data, install_with, install_data, token_with, token_data, state_with, state_data};
-ghost use Rattle.library_state.specs.TypedState.{IsId, IsTyped, IsTypedInstall, IsTypedToken};
+ghost use Rattle.json_words.specs.IdText.{id_data, IsId};
+ghost use Rattle.library_state.specs.StateSpelling.{install_with, install_data, token_with, token_data, state_with, state_data};
+ghost use Rattle.library_state.specs.TypedState.{IsTyped, IsTypedInstall, IsTypedToken};
 
 use crate::history::Install;
 use crate::secret::Secret;

@@ -10,7 +10,7 @@ use Rattle.serde_json.specs.Find.{get, of_integer}
 use Rattle.serde_json.specs.View.{items_of}
 use Rattle.fs_objects.specs.Mode.{is_file_mode}
 use Rattle.json_words.specs.Fields.{is_object, has_only}
-use Rattle.json_words.specs.IdText.{library_id_of}
+use Rattle.json_words.specs.IdText.{library_id_of, id_data}
 use Rattle.json_words.specs.JsonText.{json_of}
 use Rattle.json_words.proofs.FoundLemmas.{number_field-found, number_between-found, integer_field-found, text_field-found, array_field-found, id_field-found, stored_id_in-found}
 use Rattle.tree_model.specs.Path.{PathV, IsPath, path_cmp, path_text, parent_of}
@@ -19,7 +19,7 @@ use Rattle.tree_model.proofs.Listed.{same_path, same_path-true, same_path-apart}
 use Rattle.tree_model.proofs.Moving.{In}
 use Rattle.folder_side.proofs.SortedEntries.{IsBefore, Rises, Rises-entries, found_of, missed, less_apart_back}
 use Rattle.local_index.specs.IndexText.{KnownPaths, path_in, mode_in, file_keys, file_in, known_in, with_entry, with_entries, is_dir_in, all_stand, entries_in, right_version, library_in, base_in, index_keys, index_in, index_of}
-use Rattle.local_index.specs.IndexSpelling.{directory_with, file_with, id_data, known_data, entry_data, base_data, index_with, index_data, HasFileMode, IsProper}
+use Rattle.local_index.specs.IndexSpelling.{directory_with, file_with, known_data, entry_data, base_data, index_with, index_data, HasFileMode, IsProper}
 use Rattle.local_index.specs.Reading.{IsSound}
 use Rattle.local_index.specs.Typed.{IsTyped, IsTypedKnown, IsTypedFile, IsTypedBase}
 use Rattle.local_index.specs.declared.index.Index.{Index}

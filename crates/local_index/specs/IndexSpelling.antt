@@ -2,13 +2,13 @@
 -- Read text_of, then IsProper.
 use Rattle.std.specs.Prelude.{◌≡◌, ◌≢◌, ℕ, ℤ, List, [], map, true, codes, Option, Some, None, ⊤}
 use Rattle.std.specs.FinMap as fin
-use Rattle.hex.specs.Hex.{encode_lower}
 use Rattle.uuid.specs.Text.{hyphenated_text, lower}
 use Rattle.ids.specs.ObjectId.{nil}
 use Rattle.serde_json.specs.Data.{Data, null, number, string, array, object, unsigned, member, no_members}
 use Rattle.serde_json.specs.Find.{of_integer}
 use Rattle.serde_json.specs.View.{items_of}
 use Rattle.serde_json.specs.Written.{compact_text}
+use Rattle.json_words.specs.IdText.{id_data}
 use Rattle.fs_objects.specs.Mode.{is_file_mode}
 use Rattle.tree_model.specs.Path.{PathV, path_text}
 use Rattle.local_index.specs.IndexText.{all_stand}
@@ -30,9 +30,6 @@ file_with id mode modifier mtime own path size =
     (member (codes "own") own
     (member (codes "path") (string path)
     (member (codes "size") (number (unsigned size)) no_members)))))))
-
-abbrev pub id_data : List ℕ → Data
-id_data id = string (encode_lower id)
 
 abbrev pub known_data : PathV → Known → Data
 known_data path Dir = directory_with (path_text path)

@@ -1,15 +1,10 @@
 -- For private clauses: what the types of the program tell of an entry. Read IsTyped first.
-use Rattle.std.specs.Prelude.{◌≡◌, ℕ, ◌<◌, ◌^◌, List, FitsSigned, Option, None, Some, ⊤}
+use Rattle.std.specs.Prelude.{ℕ, ◌<◌, ◌^◌, List, FitsSigned, Option, None, Some, ⊤}
 use Rattle.std.specs.Int.{w64}
-use Rattle.hex.specs.Hex.{encode_lower}
-use Rattle.json_words.specs.IdText.{object_id_of}
+use Rattle.json_words.specs.IdText.{IsId}
 use Rattle.tree_model.specs.Path.{PathV, IsPath}
 use Rattle.local_index.specs.declared.index.Known.{Known}
 use Rattle.local_index.specs.declared.index.Known.TheVariants.{Dir, File}
-
--- the digits of an id are read as it
-abbrev pub IsId : List ℕ → Type 0
-IsId id = object_id_of (encode_lower id) ≡ Some id
 
 abbrev pub IsTypedBase : Option (List ℕ) → Type 0
 IsTypedBase None = ⊤

@@ -4,8 +4,7 @@ use Rattle.std.specs.Prelude.{ℕ, List, [], ◌∷◌, ◌++◌, codes}
 use Rattle.hex.specs.Hex.{encode_lower}
 use Rattle.uuid.specs.Text.{hyphenated_text, lower}
 use Rattle.ids.specs.declared.key.Key.{Key}
-use Rattle.ids.specs.declared.key.Kind.{Kind}
-use Rattle.ids.specs.declared.key.Kind.TheVariants.{Commit, Fs, Block}
+use Rattle.ids.specs.Kind.{kind_word}
 use Rattle.library_state.specs.declared.state_fault.StateKey.{StateKey}
 use Rattle.library_state.specs.declared.state_fault.StateKey.TheVariants as state
 use Rattle.server_words.specs.declared.fault.Fault.{Fault}
@@ -16,12 +15,6 @@ use Rattle.server_words.specs.declared.line.Line.TheVariants as line
 -- words and a line feed
 abbrev pub printed : List ℕ → List ℕ
 printed words = words ++ 10 ∷ []
-
--- the kind of an object, as it is printed
-abbrev pub kind_word : Kind → List ℕ
-kind_word Commit = codes "commit"
-kind_word Fs = codes "fs"
-kind_word Block = codes "block"
 
 -- the check that fails, by its name
 abbrev pub state_key_word : StateKey → List ℕ

@@ -1,10 +1,10 @@
 //! The lines that are printed, and the status of a command that prints one.
 ghost use Rattle.std.specs.Prelude.{◌≡◌, ◌+◌, ◌≤◌, ◌++◌, length};
-ghost use Rattle.server_words.specs.Lines.{bad_state_words, created_words, fault_status, fault_words, help_text, kind_word, line_text, line_words, state_key_word, status_of, version_text, with_id, with_key};
+ghost use Rattle.server_words.specs.Lines.{bad_state_words, created_words, fault_status, fault_words, help_text, line_text, line_words, state_key_word, status_of, version_text, with_id, with_key};
 
 use crate::fault::Fault;
 use crate::line_text::LineText;
-use ids::{Key, Kind, LibId, ObjId};
+use ids::{Key, LibId, ObjId};
 use library_state::StateKey;
 
 /// A line that is printed.
@@ -125,20 +125,8 @@ fn push_key(text: &mut LineText, words: &[u8], key: &Key)
     ensures bound { length text.new ≤ 127 }
 {
     text.push(words);
-    text.push(kind_word(key.kind));
+    text.push(key.kind.word().as_bytes());
     push_id(text, b" ", &key.id);
-}
-
-/// The kind of an object.
-fn kind_word(kind: Kind) -> &'static [u8]
-    ensures value { result.now ≡ kind_word kind }
-    ensures bound { length result.now ≤ 6 }
-{
-    match kind {
-        Kind::Commit => b"commit",
-        Kind::Fs => b"fs",
-        Kind::Block => b"block",
-    }
 }
 
 /// Appends that a state text is bad, and the check that fails.

@@ -13,7 +13,7 @@ use Rattle.fs_objects.specs.Reading.{HasNames}
 use Rattle.fs_objects.specs.declared.dirent.Dirent.{Dirent}
 use Rattle.fs_objects.specs.declared.fault.BadFs.{BadFs}
 use Rattle.fs_objects.proofs.DirectoryLemmas.{entries_after-ok, entries_after-err, entry_of-taken, IsDistinct-names_push}
-use Rattle.fs_objects.proofs.RestLemmas.{Reads, Reads-start, Reads-more, Reads-bad, Reads-end, Reads-rest, Reads-none}
+use Rattle.json_words.proofs.RestLemmas.{Reads, Reads-start, Reads-more, Reads-bad, Reads-end, Reads-rest, Reads-none}
 use Rattle.fs_objects.proofs.directory_reading.entries_behind.Goals as goal
 
 -- behind an item that is no entry, its fault is the answer

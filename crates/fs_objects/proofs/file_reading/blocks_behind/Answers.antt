@@ -13,7 +13,7 @@ use Rattle.json_words.proofs.EachLemmas.{each_after, each_after-start, each_afte
 use Rattle.fs_objects.specs.File.{block_of}
 use Rattle.fs_objects.specs.declared.fault.BadFs.TheVariants.{WrongType}
 use Rattle.fs_objects.specs.declared.fault.FsKey.TheVariants.{KBlockIds}
-use Rattle.fs_objects.proofs.RestLemmas.{Reads, Reads-start, Reads-more, Reads-bad, Reads-end, Reads-rest, Reads-none}
+use Rattle.json_words.proofs.RestLemmas.{Reads, Reads-start, Reads-more, Reads-bad, Reads-end, Reads-rest, Reads-none}
 use Rattle.fs_objects.proofs.file_reading.blocks_behind.Goals as goal
 
 block_is : (d : Data) (found : Option (List ℕ)) → found ≡ stored_id_in d → block_of d ≡ ok_or found (WrongType KBlockIds)

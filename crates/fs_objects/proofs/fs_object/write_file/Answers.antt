@@ -7,8 +7,8 @@ use Rattle.serde_json.specs.View.{view}
 use Rattle.serde_json.specs.Written.{compact_text, has_float}
 use Rattle.json_words.specs.JsonText.{json_of}
 use Rattle.fs_objects.specs.FsObject.{fs_of}
-use Rattle.fs_objects.specs.Spelling.{id_data, file_with, file_data}
-use Rattle.fs_objects.specs.Typed.{IsId}
+use Rattle.json_words.specs.IdText.{id_data, IsId}
+use Rattle.fs_objects.specs.Spelling.{file_with, file_data}
 use Rattle.fs_objects.specs.declared.fs_object.FsObject.TheVariants.{File}
 use Rattle.fs_objects.proofs.FileReadBack.{fs_of-known, object_in-file_data, is_object-file_data}
 use Rattle.fs_objects.proofs.TextLemmas.{has_float-file_data, depth-file_data}

@@ -3,8 +3,7 @@ use Rattle.std.proofs.Common.{◌∷◌, ◌++◌, [], All, List, ℕ, map, take
 use Rattle.std.proofs.lemmas.List.{take_more, map-append}
 use Rattle.std.proofs.lemmas.List.Elements.{All-push}
 use Rattle.serde_json.specs.View.{view}
-use Rattle.fs_objects.specs.Spelling.{id_data}
-use Rattle.fs_objects.specs.Typed.{IsId}
+use Rattle.json_words.specs.IdText.{id_data, IsId}
 use Rattle.fs_objects.proofs.writing.block_values.Goals as goal
 
 pub loop-id-preserved : goal.loop-id-preserved

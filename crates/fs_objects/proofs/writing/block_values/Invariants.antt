@@ -1,8 +1,7 @@
 -- The values so far are those of the blocks so far.
 use Rattle.std.proofs.Common.{◌≡◌, All, map, take}
 use Rattle.serde_json.specs.View.{view}
-use Rattle.fs_objects.specs.Spelling.{id_data}
-use Rattle.fs_objects.specs.Typed.{IsId}
+use Rattle.json_words.specs.IdText.{id_data, IsId}
 use Rattle.fs_objects.proofs.writing.block_values.Given as goal
 
 abbrev pub invariant-loop-id : goal.invariant-loop-id
