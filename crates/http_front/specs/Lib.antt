@@ -1,4 +1,3 @@
-pub mod BodyLimit
 pub mod Buffer
 pub mod CallQuery
 pub mod EntityTag

@@ -1,6 +1,6 @@
 -- What the head of a request asks for, and what speaks against it before its body is read. The grammar
 -- of heads is httparse's (RFC 9112, sections 2 to 5); which heads are refused is our own choice among
--- what RFC 9112 and RFC 9110 permit. Read first: Fields, BodyLimit; here: judge, at the end.
+-- what RFC 9112 and RFC 9110 permit. Read first: Fields, Route; here: judge, at the end.
 use Rattle.std.specs.Prelude.{ℕ, Bool, true, false, ◌&&◌, ◌||◌, not, ◌==◌, nat_lt, nat_le, Option, None, Some, Result, Ok, Err, List, length, map, if◌then◌else◌, codes}
 use Rattle.std.specs.List.{list_any, list_all}
 use Rattle.std.specs.Str.{bytes_eq}
@@ -9,7 +9,7 @@ use Rattle.std.specs.Char.{is_ascii_digit}
 use Rattle.httparse.specs.Grammar.{RequestHead}
 use Rattle.httparse.specs.Spans.{name_and_value}
 use Rattle.http_front.specs.Fields.{FieldList, Found, absent, once, again, values_of, found, is_absent, is_once, is_word, has_element}
-use Rattle.http_front.specs.BodyLimit.{limit_of}
+use Rattle.http_front.specs.Route.{limit_of}
 use Rattle.http_front.specs.declared.method.Method.{Method}
 use Rattle.http_front.specs.declared.method.Method.TheVariants.{Get, Put, Post, Other}
 

@@ -115,6 +115,41 @@ path_route m [] = None
 unfoldable pub route_of : Method → List ℕ → Option Route
 route_of m target = path_route m (parts_of target)
 
+-- ---- how long a body may be
+
+-- the most bytes of a body where no row says otherwise
+abbrev pub usual_limit : ℕ
+usual_limit = 33554432
+
+-- the most bytes of an object that is to be stored
+abbrev pub object_limit : Kind → ℕ
+object_limit Commit = 1048576
+object_limit Fs = usual_limit
+object_limit Block = 16777216
+
+-- the most bytes of the body of a call: those of an object, of files and directories, and of every other call
+abbrev pub route_limit : Route → ℕ
+route_limit Version = usual_limit
+route_limit (Check lib) = usual_limit
+route_limit (Head lib) = usual_limit
+route_limit (Update lib) = usual_limit
+route_limit (Get lib key) = usual_limit
+route_limit (Put lib key) = object_limit key.kind
+route_limit (CheckFs lib) = usual_limit
+route_limit (CheckBlocks lib) = usual_limit
+route_limit (PutFs lib) = 67108864
+route_limit (GetFs lib) = usual_limit
+route_limit (Ids lib) = usual_limit
+
+-- the same where no call is named
+abbrev pub limit_at : Option Route → ℕ
+limit_at None = usual_limit
+limit_at (Some route) = route_limit route
+
+-- the most bytes that the body of a request may have, by its method and path alone
+unfoldable pub limit_of : Method → List ℕ → ℕ
+limit_of m target = limit_at (route_of m target)
+
 -- ---- the other way round: the method and the path of a call
 
 abbrev pub method_in : Route → Method

@@ -4,13 +4,13 @@ ghost use Rattle.std.specs.Char.{is_ascii_digit};
 ghost use Rattle.std.specs.List.{list_all};
 ghost use Rattle.std.specs.Str.Parse.{digits_value};
 ghost use Rattle.httparse.specs.Spans.{IsHeaderWithin};
-ghost use Rattle.http_front.specs.BodyLimit.{limit_of};
 ghost use Rattle.http_front.specs.Fields.{fields_at};
 ghost use Rattle.http_front.specs.RequestHead.{body_length, has_coding, has_host, judged, method_of, number_in};
+ghost use Rattle.http_front.specs.Route.{limit_of};
 
-use crate::body_limit::body_limit;
 use crate::fields::{Seen, look_for};
 use crate::method::Method;
+use crate::route::body_limit;
 use httparse::spans::HeaderSpan;
 
 /// The method of that name, which is case-sensitive (RFC 9110, section 9.1).

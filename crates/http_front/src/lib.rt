@@ -5,7 +5,6 @@
 //! laws.rt. It answers no call itself.
 #![tactic(auto)]
 
-mod body_limit;
 mod buffer;
 mod entity_tag;
 mod expectation;

@@ -1,6 +1,6 @@
 //! The calls that a method and a path name.
 ghost use Rattle.std.specs.Prelude.{◌≡◌};
-ghost use Rattle.http_front.specs.Route.{head_route, kind_of, library_route, named_route, object_route, pair_route, path_route, repo_route, route_of, top_route, version_route, word_route};
+ghost use Rattle.http_front.specs.Route.{head_route, kind_of, library_route, limit_of, named_route, object_limit, object_route, pair_route, path_route, route_limit, repo_route, route_of, top_route, version_route, word_route};
 ghost use Rattle.http_front.specs.Target.{parts};
 
 use crate::method::Method;
@@ -42,6 +42,50 @@ pub fn route_of(method: Method, target: &str) -> Option<Route>
     ensures value { result ≡ route_of method target.now }
 {
     path_route(method, path_of(target))
+}
+
+/// The most bytes of a body where no row says otherwise.
+const USUAL_LIMIT: u64 = 33_554_432;
+
+/// The most bytes that the body of a request may have, by its method and path alone.
+#[tactic(auto, unfolding(crate::specs::Route::limit_of))]
+pub(crate) fn body_limit(method: Method, target: &str) -> u64
+    ensures { result ≡ limit_of method target.now }
+{
+    match route_of(method, target) {
+        Some(route) => route_limit(&route),
+        None => USUAL_LIMIT,
+    }
+}
+
+/// The most bytes of the body of a call.
+fn route_limit(route: &Route) -> u64
+    ensures { result ≡ route_limit route.now }
+{
+    match route {
+        Route::Put(_, key) => object_limit(key.kind),
+        Route::PutFs(_) => 67_108_864,
+        Route::Version
+        | Route::Check(_)
+        | Route::Head(_)
+        | Route::Update(_)
+        | Route::Get(_, _)
+        | Route::CheckFs(_)
+        | Route::CheckBlocks(_)
+        | Route::GetFs(_)
+        | Route::Ids(_) => USUAL_LIMIT,
+    }
+}
+
+/// The most bytes of an object that is to be stored.
+fn object_limit(kind: Kind) -> u64
+    ensures { result ≡ object_limit kind }
+{
+    match kind {
+        Kind::Commit => 1_048_576,
+        Kind::Fs => USUAL_LIMIT,
+        Kind::Block => 16_777_216,
+    }
 }
 
 /// A path begins with a slash.

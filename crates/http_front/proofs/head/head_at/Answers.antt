@@ -1,5 +1,5 @@
 use Rattle.std.proofs.Common.{◌∙◌, sym, ap, refl}
-use Rattle.http_front.specs.BodyLimit.{limit_of}
+use Rattle.http_front.specs.Route.{limit_of}
 use Rattle.http_front.specs.Fields.{fields_at}
 use Rattle.http_front.specs.RequestHead.{judged, judged_by, has_coding, body_length, has_host, method_of}
 use Rattle.http_front.proofs.head.head_at.Goals as goal
