@@ -26,6 +26,12 @@ pub fn a_request_names_a_call_by_its_method_and_path()
         → (method ≡ method_in route) × (path_of target ≡ path_in route) }
 {}
 
+/// What a request names is a call of the table: its library has 16 bytes, and its object is a commit or a block with an
+/// id of 20 bytes.
+pub fn a_request_names_a_call_of_the_table_alone()
+    ensures { (method : Method) (target : List ℕ) (route : Route) → route_of method target ≡ Some route → IsCall route }
+{}
+
 /// A call's own method and path name it.
 pub fn a_call_is_named_by_its_own_method_and_path()
     ensures { (target : List ℕ) (route : Route) → IsCall route → path_of target ≡ path_in route
