@@ -6,9 +6,10 @@
 mod adapters;
 
 use crate::adapters::{StandardLink, StandardSink, SystemClock};
-use folder_storage::{FolderGround, Ground, MemoryGround};
+use folder_storage::FolderGround;
 use ids::{Items, Text};
-use library_server::run;
+use library_server::{run, run_in_memory};
+use server_words::names_memory;
 use std::alloc::{AllocError, Global};
 use std::env;
 use std::io::ErrorKind;
@@ -16,40 +17,34 @@ use std::process::ExitCode;
 use std::rt::Env;
 
 fn main(rt: HostRuntime) -> ExitCode {
-    let words = match words_of(&rt, rt.alloc()) {
-        Ok(words) => words,
-        Err(_) => return ExitCode::from(3u8),
-    };
-    if names_memory(words.slice()) {
-        return ExitCode::from(run_on(&rt, words.slice(), &mut MemoryGround::new(rt.alloc())));
-    }
-    match rt.clone() {
-        Ok(files) => ExitCode::from(run_on(&rt, words.slice(), &mut FolderGround::new(files))),
+    match words_of(&rt, rt.alloc()) {
+        Ok(words) => ExitCode::from(run_words(&rt, words.slice())),
         Err(_) => ExitCode::from(3u8),
     }
 }
 
-/// Whether the second word is that of the place in memory. Every command that names a place has it there.
-fn names_memory(words: &[Text]) -> bool {
-    match words {
-        [_, folder, ..] => folder.slice() == ":memory:",
-        _ => false,
-    }
-}
-
-/// Runs the command over standard input and output and the system's clock.
-fn run_on<G: Ground>(rt: &HostRuntime, words: &[Text], libraries: &mut G) -> u8 {
+/// Runs the command over standard input and output and the system's clock, in memory where its words name that, and else
+/// in folders.
+fn run_words(rt: &HostRuntime, words: &[Text]) -> u8 {
     let clock = match rt.clone() {
-        Ok(rt) => SystemClock::new(rt),
+        Ok(times) => SystemClock::new(times),
+        Err(_) => return 3,
+    };
+    let files = match rt.clone() {
+        Ok(files) => files,
         Err(_) => return 3,
     };
     let mut link = StandardLink::new(rt.stdin(), rt.stdout());
     let mut out = StandardSink::new(rt.stdout());
+    if names_memory(words) {
+        return run_in_memory(rt, rt.alloc(), words, &mut link, &clock, &mut out);
+    }
+    let mut libraries = FolderGround::new(files);
     run(
         rt,
         rt.alloc(),
         words,
-        libraries,
+        &mut libraries,
         &mut link,
         &clock,
         &mut out,
