@@ -2,12 +2,12 @@
 use Rattle.std.proofs.Common.{◌≡◌, ℕ, Bool, true, false, cond, List, Option, None, Some, option_map, refl, sym, ap, subst, ◌∙◌}
 use Rattle.std.specs.Prelude.{is_some, unwrap_or}
 use Rattle.std.specs.FinMap as map
-use Rattle.depot.specs.DepotView.{DepotView, Holds, IsGood, library, state_of}
+use Rattle.depot.specs.DepotView.{DepotView, IsGood, running_library, state_of}
+use Rattle.depot.specs.Standing.{IsOnShelf}
+use Rattle.depot.proofs.StandingLemmas.{on_shelf}
 use Rattle.folder_storage.specs.Ground.{Standing, Standings}
-use Rattle.library_rules.proofs.Reopened.{stands_by_its_objects}
 use Rattle.library_rules.specs.LibraryState.{State}
-use Rattle.library_rules.specs.Recovery.{StandsFor, written_part}
-use Rattle.library_state.specs.StateSpelling.{text_of}
+use Rattle.library_rules.specs.Recovery.{StandsFor}
 use Rattle.object_graph.specs.Unchanged.{Keeps}
 use Rattle.object_store.proofs.MapLemmas.{get-retained}
 use Rattle.object_store.specs.Shelf.{Contents}
@@ -38,25 +38,18 @@ mapped_some f g None c e = absurd (cc)
 module _ {S : Type 0} (contents : S → Option Contents) (faults : S → ℕ) where
   -- where the state is told, the shelf tells what it holds
   pub shelf_told : (depot : DepotView S) (s : State) → state_of contents faults depot ≡ Some s → (held : Contents) × (contents depot.store.shelf ≡ Some held)
-  shelf_told depot s told = mapped_some (indexed depot.store.index) (library depot.state (faults depot.store.shelf)) (contents depot.store.shelf) s told
+  shelf_told depot s told = mapped_some (indexed depot.store.index) (running_library depot.state depot.running (faults depot.store.shelf)) (contents depot.store.shelf) s told
 
   pub state_is : (depot : DepotView S) (held : Contents) (s : State) → contents depot.store.shelf ≡ Some held → state_of contents faults depot ≡ Some s
-      → s ≡ library depot.state (faults depot.store.shelf) (indexed depot.store.index held)
+      → s ≡ running_library depot.state depot.running (faults depot.store.shelf) (indexed depot.store.index held)
   state_is depot held s there told =
-      some_same s (library depot.state (faults depot.store.shelf) (indexed depot.store.index held))
-      (sym told ∙ ap (λ o. option_map (library depot.state (faults depot.store.shelf)) (option_map (indexed depot.store.index) o)) there)
+      some_same s (running_library depot.state depot.running (faults depot.store.shelf) (indexed depot.store.index held))
+      (sym told ∙ ap (λ o. option_map (running_library depot.state depot.running (faults depot.store.shelf)) (option_map (indexed depot.store.index) o)) there)
 
   -- the shelf of a settled depot stands for its state
   pub stands_again : (depot : DepotView S) (held : Contents) (s : State) → IsGood contents faults depot → depot.unsettled ≡ false
       → state_of contents faults depot ≡ Some s → contents depot.store.shelf ≡ Some held → StandsFor held.status held.objects s
-  stands_again depot held s good settled told there =
-      let is = state_is depot held s there told in
-      let holds : Holds depot.unsettled depot.state (indexed depot.store.index held) held.status =
-      good.text (indexed depot.store.index held) held.status (ap (option_map (indexed depot.store.index)) there) (ap (option_map (λ (c : Contents). c.status)) there) in
-      let text : held.status ≡ Some (text_of depot.state) = subst (λ b. Holds b depot.state (indexed depot.store.index held) held.status) settled holds in
-      stands_by_its_objects s held.status held.objects (good.sound s told)
-      (text ∙ ap (λ (z : State). Some (text_of (written_part z))) (sym is))
-      (subst (λ (z : State). Keeps z.objects held.objects) (sym is) (indexed_lies depot.store.index held))
+  stands_again depot held s good settled told there = subst (λ b. IsOnShelf b held s) settled (on_shelf contents faults depot held s good there told)
 
   -- a library that came back with a settled depot's shelf stands for its state
   pub stands_back : (depot : DepotView S) (s : State) (old new : Standings) (folder lib : List ℕ) (standing : Standing)

@@ -37,7 +37,7 @@ module _ {S : Type 0} (contents : S → Option Contents) where
       → status_of contents given ≡ Some held.status → (status_of contents store ≡ Some held.status) ⊎ (status_of contents store ≡ Some (Some (text_of first)))
   unmade_slot given store x first held (untouched objects status) at = inl (status ∙ at)
   unmade_slot given store x first held (stored objects status) at = inl (status ∙ at)
-  unmade_slot given store x first held (begun objects status) at = inr (status ∙ ap (written first) at)
+  unmade_slot given store x first held (begun objects status) at = inr (status.text ∙ ap (written first) at)
 
   kept_slot : (new : NewLibrary) (moment : ℕ) (why : MakeFault) (store : StoreView S) (held : Contents) → status_of contents store ≡ Some held.status
       → LeavesText new moment why held (contents store.shelf)
@@ -77,7 +77,7 @@ module _ {S : Type 0} (contents : S → Option Contents) where
   raised_slot given store held fault false is_counted left kept at objects = unraised_slot given store held (start.Store fault) (kept refl) at objects
   raised_slot given store held fault true is_counted (unraised status) kept at objects = unraised_slot given store held (start.Store fault) status at objects
   raised_slot given store held fault true is_counted (raised found is status) kept at objects =
-      let slot = slot_told store (Some (text_of (next_opening found))) (status ∙ ap (written (next_opening found)) at) in (
+      let slot = slot_told store (Some (text_of (next_opening found))) (status.text ∙ ap (written (next_opening found)) at) in (
         slot.0,
         slot.1,
         lies store held.objects slot.0 slot.1 objects,

@@ -5,7 +5,7 @@ use Rattle.ids.specs.Outcome.{RefusesAs}
 use Rattle.library_state.specs.StateSpelling.{text_of}
 use Rattle.library_state.specs.Tokens.{is_taken}
 use Rattle.library_state.specs.declared.state.LibState.{LibState}
-use Rattle.depot.specs.DepotView.{DepotView, Holds, IsGood, library, state_of}
+use Rattle.depot.specs.DepotView.{DepotView, Holds, IsGood, running_library, state_of}
 use Rattle.depot.specs.Tokens.{is_token_free, store_answer, token_refusal, with_new_token}
 use Rattle.depot.specs.Writing.{LeftOpen, RewritesSo, Slot, again, nothing, open_next, open_present, settled, settles}
 use Rattle.depot.specs.declared.error.TokenFault.{TokenFault}
@@ -48,7 +48,7 @@ slot_after present next still new (nothing same is) = inl is
 slot_after present next still new (again same was is) = inl is
 slot_after present next still new (settles same is) = inl is
 slot_after present next still new (open_present same is) = inl is
-slot_after present next still new (open_next same is) = inr (refl, is)
+slot_after present next still new (open_next same is) = inr (refl, is.text)
 
 rewritten_slot : (present next : LibState) (still : Bool) (new : Slot) (why : StoreFault) → IsTrue (is_free why)
     → RewritesSo false present next (Some (Some (text_of present))) still new (Err why)
@@ -85,7 +85,7 @@ token_refused state new (token.Store why) refused = freed why (is_taken state.to
 module _ {S : Type 0} (contents : S → Option Contents) (faults : S → ℕ) where
   -- the state of a depot whose shelf holds this
   abbrev state_on : DepotView S → Contents → State
-  state_on depot held = library depot.state (faults depot.store.shelf) (indexed depot.store.index held)
+  state_on depot held = running_library depot.state depot.running (faults depot.store.shelf) (indexed depot.store.index held)
 
   -- nothing was written
   same_stands : (old now : DepotView S) (held : Contents) (after : Option Standing) → IsGood contents faults old → old.unsettled ≡ false
@@ -95,7 +95,7 @@ module _ {S : Type 0} (contents : S → Option Contents) (faults : S → ℕ) wh
     held = held;
     there = back held (ap (λ (d : DepotView S). contents d.store.shelf) same ∙ there);
     stands = stands_again contents faults old held (state_on old held) good settled
-        (ap (λ o. option_map (library old.state (faults old.store.shelf)) (option_map (indexed old.store.index) o)) there) there;
+        (ap (λ o. option_map (running_library old.state old.running (faults old.store.shelf)) (option_map (indexed old.store.index) o)) there) there;
   }
 
   present_text : (old : DepotView S) (held : Contents) → IsGood contents faults old → old.unsettled ≡ false → contents old.store.shelf ≡ Some held

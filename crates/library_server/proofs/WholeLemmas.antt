@@ -9,8 +9,8 @@ use Rattle.ids.specs.Key.{Objects, key_cmp}
 use Rattle.ids.specs.ObjectId.{nil}
 use Rattle.ids.specs.Outcome.{RefusesAs}
 use Rattle.ids.specs.declared.key.Key.{Key}
-use Rattle.depot.specs.Answering.{AnswersSo}
-use Rattle.depot.specs.DepotView.{DepotView, library, state_of}
+use Rattle.depot.specs.Answering.{AnswersBySome}
+use Rattle.depot.specs.DepotView.{DepotView, running_library, state_of}
 use Rattle.depot.specs.ObjectCalls.{Counts, IsToldDamage}
 use Rattle.depot.specs.Opening.{is_make_counted, is_make_free, make_refusal}
 use Rattle.depot.specs.Reopening.{first_incomplete, state_refusal}
@@ -88,25 +88,25 @@ module _ {S : Type 0} (contents : S → Option Contents) (faults : S → ℕ) wh
   -- where a depot stands for a state, its objects are the state's
   pub names_of : (depot : DepotView S) (s : State) → state_of contents faults depot ≡ Some s → HasNames s.objects → NamesIn contents depot
   names_of depot s told names =
-      let found = mapped_from (library depot.state (faults depot.store.shelf)) (objects_of contents depot.store) s told in
-      let same : library depot.state (faults depot.store.shelf) found.0 ≡ s =
-      some_same (library depot.state (faults depot.store.shelf) found.0) s
-      (sym (ap (option_map (library depot.state (faults depot.store.shelf))) found.1) ∙ told) in
+      let found = mapped_from (running_library depot.state depot.running (faults depot.store.shelf)) (objects_of contents depot.store) s told in
+      let same : running_library depot.state depot.running (faults depot.store.shelf) found.0 ≡ s =
+      some_same (running_library depot.state depot.running (faults depot.store.shelf) found.0) s
+      (sym (ap (option_map (running_library depot.state depot.running (faults depot.store.shelf))) found.1) ∙ told) in
       (found.0, found.1, subst (λ (z : State). HasNames z.objects) (sym same) names)
 
   pub answers_whole : (old new : DepotView S) (call : Call) (moment : ℕ) (r : Reply)
-      → ((s : State) → state_of contents faults old ≡ Some s → AnswersSo s call moment r (state_of contents faults new))
+      → ((s : State) → state_of contents faults old ≡ Some s → AnswersBySome s call moment r (state_of contents faults new))
       → ((objects : Objects) → objects_of contents old.store ≡ Some objects → IsToldDamage objects r)
       → Counts (faults old.store.shelf) (faults new.store.shelf) r → NeverFails faults → NamesIn contents old
       → (is_storage_reply r ≡ false) × NamesIn contents new
   answers_whole old new call moment r told damaged count steady names =
       let objects = names.0 in
-      let before = library old.state (faults old.store.shelf) objects in
-      let answers = told before (ap (option_map (library old.state (faults old.store.shelf))) names.1) in (
+      let before = running_library old.state old.running (faults old.store.shelf) objects in
+      let answers = told before (ap (option_map (running_library old.state old.running (faults old.store.shelf))) names.1) in (
         reply_whole objects r names.2
             (subst (λ n. Counts 0 n r) (steady new.store.shelf) (subst (λ n. Counts n (faults new.store.shelf) r) (steady old.store.shelf) count))
             (damaged objects names.1),
-        names_of new answers.state answers.left (names_stepped before call moment r answers.state answers.changes answers.step names.2),
+        names_of new answers.1.state answers.1.left (names_stepped before call moment r answers.1.state answers.0 answers.1.step names.2),
       )
 
 -- ---- making
