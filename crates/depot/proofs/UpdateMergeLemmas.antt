@@ -142,7 +142,7 @@ module _ (state : LibState) (count : ℕ) (objects : Objects) (moment : ℕ) (us
 
   merged_directory : (tree : Tree) (bytes : List ℕ) → IsDirectoryIn objects tree bytes → IsMergedDirectory s tree (record { key = fs_key (sha1 bytes); bytes = bytes })
   merged_directory tree bytes within = record {
-    object = record { entries = within.entries; reads = within.reads; named = refl };
+    object = record { entries = within.entries; some = within.some; reads = within.reads; named = refl };
     within = record { path = within.path; is_dir = within.is_dir; nodes = within.nodes };
   }
 
@@ -198,7 +198,7 @@ module _ (state : LibState) (count : ℕ) (objects : Objects) (moment : ℕ) (us
     dirs_made = listed_all IsDirectoryObject result.made (λ key bytes there. by key bytes (own key bytes there)
         (some_trees (IsDirectoryObject (record { key = fs_key (sha1 bytes); bytes = bytes })) (λ sides b h p.
         let dir = (each sides b h p).dirs key bytes there in
-        record { entries = dir.entries; reads = dir.reads; named = refl })))
+        record { entries = dir.entries; some = dir.some; reads = dir.reads; named = refl })))
       where
         by : (key : Key) (bytes : List ℕ) → IsOwnName key bytes → IsDirectoryObject (record { key = fs_key (sha1 bytes); bytes = bytes }) → IsDirectoryObject (record { key = key; bytes = bytes })
         by key bytes named dir =

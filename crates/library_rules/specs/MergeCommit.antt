@@ -57,9 +57,10 @@ OfTrees s base pushed P =
 abbrev pub merge_commit : State → ℕ → (user pushed root : List ℕ) → Bool → Commit
 merge_commit s moment user pushed root conflict = made s.lib root (Some (head_of s.kept)) (Some pushed) user (codes "Auto merge by system") moment conflict
 
--- a directory object, under its own name
+-- a directory object, under its own name. It has an entry: an empty directory has no object
 pub record IsDirectoryObject (x : Stored) : Type 0 where
   pub entries : List Dirent
+  pub some : entries ≢ []
   pub reads : fs_of x.bytes ≡ Ok (fs.Dir entries)
   pub named : x.key ≡ fs_key (sha1 x.bytes)
 
