@@ -19,7 +19,7 @@ use Rattle.conflict_names.specs.Naming.{naming}
 use Rattle.library_rules.specs.Calls.{other_bytes}
 use Rattle.library_rules.specs.Changes.{keys_added, with_added}
 use Rattle.library_rules.specs.LibraryState.{State, head_of, is_stored}
-use Rattle.library_rules.specs.MergeCommit.{Clash, Clashes, ClashesAt, IsCommitObject, IsDirectoryObject, IsMade, IsMergedDirectory, IsTreeAt, Makes, OfTrees, RootTree, has_conflict, merge_of, zeros, stored, another}
+use Rattle.library_rules.specs.MergeCommit.{Clash, Clashes, ClashesAt, IsCommitObject, IsDirectoryObject, IsMade, IsMergedDirectory, IsNilWhereNoPath, IsTreeAt, Makes, OfTrees, RootTree, has_conflict, merge_of, zeros, stored, another}
 use Rattle.library_rules.specs.declared.entry.Stored.{Stored}
 use Rattle.library_rules.proofs.Histories.{commit_visited}
 use Rattle.library_rules.proofs.Keeping.{grown}
@@ -143,7 +143,7 @@ module _ (state : LibState) (count : ℕ) (objects : Objects) (moment : ℕ) (us
   merged_directory : (tree : Tree) (bytes : List ℕ) → IsDirectoryIn objects tree bytes → IsMergedDirectory s tree (record { key = fs_key (sha1 bytes); bytes = bytes })
   merged_directory tree bytes within = record {
     object = record { entries = within.entries; some = within.some; reads = within.reads; named = refl };
-    within = record { path = within.path; is_dir = within.is_dir; nodes = within.nodes };
+    within = record { path = within.path; is_dir = within.is_dir; nodes = within.nodes; zeros = within.zeros };
   }
 
   clash_of : (tree : Tree) (bytes : List ℕ) → CannotStore objects tree (sha1 bytes) bytes → Clash s tree (record { key = fs_key (sha1 bytes); bytes = bytes })
@@ -271,6 +271,12 @@ module _ (state : LibState) (count : ℕ) (objects : Objects) (moment : ℕ) (us
     has_copies_is : (sides : Sides) → IsMerged objects sides result → has_copies result ≡ has_conflict sides
     has_copies_is sides is = ap (λ places. not (length places == 0)) is.conflicts ∙ copies_is (conflicts naming sides)
 
+    tree_same : (m : merged.Merge) (t u : Tree) → m ≡ merged.MergedTree t → m ≡ merged.MergedTree u → t ≡ u
+    tree_same m t u e f = cc
+
+    root_zeros : (sides : Sides) → IsMerged objects sides result → (t : Tree) → merge_of sides ≡ merged.MergedTree t → IsNilWhereNoPath t result.root
+    root_zeros sides is t at = subst (λ u. IsNilWhereNoPath u result.root) (tree_same (merge_of sides) is.tree t is.is at) is.zeros
+
     -- all objects that are stored then
     abbrev more : Option (List ℕ) → Objects
     more text = with_added objects (added text)
@@ -285,6 +291,7 @@ module _ (state : LibState) (count : ℕ) (objects : Objects) (moment : ℕ) (us
       tree = of_trees (λ sides. (t : Tree) × (merge_of sides ≡ merged.MergedTree t) × IsTreeOf (more text) result.root t) (λ sides b h p.
           let made = each sides b h p in
           (made.tree, made.is, made.root (more text) (grown objects (added text)) (keeps_made text is)));
+      zeros = of_trees (λ sides. (t : Tree) → merge_of sides ≡ merged.MergedTree t → IsNilWhereNoPath t result.root) (λ sides b h p t is_merge. root_zeros sides (each sides b h p) t is_merge);
       told = of_trees (λ sides. has_copies result ≡ has_conflict sides) (λ sides b h p. has_copies_is sides (each sides b h p));
       needed = all_join (λ (x : Stored). is_in (needs (more text) commit.id) x.key ≡ true) dirs (own_object commit.id text)
           (listed_all (λ x. is_in (needs (more text) commit.id) x.key ≡ true) result.made (λ key bytes there.

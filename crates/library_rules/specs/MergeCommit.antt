@@ -1,15 +1,17 @@
 -- What an update makes that merges a pushed commit into the head. Our own. Read OfTrees, then Makes and Clashes.
-use Rattle.std.specs.Prelude.{◌≡◌, ◌≢◌, ◌⊎◌, ℕ, Bool, true, false, List, [], ◌∷◌, ◌++◌, codes, Some, option_map, Result, Ok, Err}
+use Rattle.std.specs.Prelude.{◌≡◌, ◌≢◌, ◌⊎◌, ◌↔◌, ℕ, Bool, true, false, List, [], ◌∷◌, ◌++◌, codes, Some, None, option_map, Result, Ok, Err}
 use Rattle.std.specs.FinMap as map
 use Rattle.std.specs.List.{AllByRecursion, Contains, IsDistinct}
 use Rattle.std.specs.Ordering.{eq_by_cmp}
 use Rattle.sha1.specs.Sha1.{sha1}
 use Rattle.ids.specs.Key.{Objects, key_cmp}
+use Rattle.ids.specs.ObjectId.{nil}
 use Rattle.commit_objects.specs.Made.{made}
 use Rattle.commit_objects.specs.Spelling.{text_of}
 use Rattle.commit_objects.specs.declared.commit.Commit.{Commit}
 use Rattle.conflict_names.specs.Naming.{naming}
 use Rattle.fs_objects.specs.FsObject.{fs_of}
+use Rattle.fs_objects.specs.Mode.{is_directory_mode}
 use Rattle.fs_objects.specs.declared.dirent.Dirent.{Dirent}
 use Rattle.fs_objects.specs.declared.fs_object.FsObject.TheVariants as fs
 use Rattle.object_graph.specs.Objects.{commit_at, commit_key, fs_key, is_nil, entry_named, entry_of, node_of, IsTreeOf}
@@ -73,6 +75,10 @@ pub record IsCommitObject (s : State) (moment : ℕ) (user pushed root : List �
 abbrev pub IsMade : State → ℕ → (user pushed root : List ℕ) → Bool → Stored → Type 0
 IsMade s moment user pushed root conflict x = IsDirectoryObject x ⊎ IsCommitObject s moment user pushed root conflict x
 
+-- a root is forty zeros exactly where its tree has no path
+abbrev pub IsNilWhereNoPath : Tree → List ℕ → Type 0
+IsNilWhereNoPath tree root = (root ≡ nil) ↔ ((path : PathV) → map.get tree path ≡ None)
+
 -- the new head is a complete commit whose tree is the merge, told as a conflict where a conflict name was given; the
 -- objects that come with it are those that it needs and that weren't stored, each once and under its own name
 pub record Makes (s : State) (moment : ℕ) (user base pushed new : List ℕ) (added : List Stored) : Type 0 where
@@ -81,6 +87,7 @@ pub record Makes (s : State) (moment : ℕ) (user base pushed new : List ℕ) (a
   pub is_commit : commit_at (with_added s.objects added) new ≡ Ok (merge_commit s moment user pushed root conflict)
   pub complete : IsComplete (with_added s.objects added) new
   pub tree : OfTrees s base pushed (λ sides. (t : Tree) × (merge_of sides ≡ MergedTree t) × IsTreeOf (with_added s.objects added) root t)
+  pub zeros : OfTrees s base pushed (λ sides. (t : Tree) → merge_of sides ≡ MergedTree t → IsNilWhereNoPath t root)
   pub told : OfTrees s base pushed (λ sides. conflict ≡ has_conflict sides)
   pub needed : AllByRecursion (λ x. is_in (needs (with_added s.objects added) new) x.key ≡ true) added
   pub were_gone : AllByRecursion (λ x. is_stored s.objects x.key ≡ false) added
@@ -97,12 +104,17 @@ pub record Partly (s : State) (moment : ℕ) (user base pushed : List ℕ) (adde
 
 -- ---- objects that can't be stored
 
+-- a directory's id is forty zeros exactly where the tree has nothing in it
+abbrev pub IsNilWhereNone : Tree → PathV → List ℕ → Type 0
+IsNilWhereNone tree dir id = (id ≡ nil) ↔ ((name : List ℕ) → map.get tree (dir ++ name ∷ []) ≡ None)
+
 -- a directory of a tree lists these entries: the tree has, under each name below some path, what the entry of that
 -- name stands for
 pub record IsDirectoryOf (objects : Objects) (tree : Tree) (entries : List Dirent) : Type 0 where
   pub path : PathV
   pub is_dir : (path ≡ []) ⊎ (has_dir tree path ≡ true)
   pub nodes : (name : List ℕ) → map.get tree (path ++ name ∷ []) ≡ option_map (λ e. node_of objects (entry_of e)) (entry_named name entries)
+  pub zeros : (name : List ℕ) (e : Dirent) → entry_named name entries ≡ Some e → is_directory_mode e.mode ≡ true → IsNilWhereNone tree (path ++ name ∷ []) e.id
 
 -- the object of a directory of the merged tree
 pub record IsMergedDirectory (s : State) (tree : Tree) (x : Stored) : Type 0 where
