@@ -1,2 +1,3 @@
 pub mod DurabilityLemmas
+pub mod PathLemmas
 pub mod StandingLemmas

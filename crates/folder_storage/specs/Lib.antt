@@ -2,4 +2,5 @@ pub mod Durability
 pub mod Ground
 pub mod Listing
 pub mod MemoryGround
+pub mod Paths
 pub mod SteadyShelf

@@ -16,6 +16,7 @@ mod file_system;
 mod folder_ground;
 mod folder_shelf;
 mod ground;
+pub mod laws;
 mod library_folder;
 mod listing;
 mod memory_ground;

@@ -1,9 +1,10 @@
 //! The objects of one folder, in the order of their ids.
-ghost use Rattle.std.specs.Prelude.{◌≡◌, ◌↔◌, IsTrue};
+ghost use Rattle.std.specs.Prelude.{◌≡◌, ◌↔◌, IfOk, IsTrue};
 ghost use Rattle.folder_storage.specs.Listing.{FindsListed, IsFoundUnder, key_of};
+ghost use Rattle.folder_storage.specs.Paths.{IsNamed, IsReadAs};
 
 use crate::file_system::{FileKind, FileSystem};
-use crate::paths::named_path;
+use crate::paths::{byte_digits, named_path, push_ascii};
 use ids::{Key, KeyTable, Kind, ObjId};
 use object_store::Found;
 use std::alloc::{AllocError, Global};
@@ -115,7 +116,21 @@ fn is_lost(id: &ObjId, size: u64) -> bool {
 }
 
 /// The id whose first byte this is and whose other 38 digits are the name.
-pub(crate) fn id_of(alloc: Global, first: u8, name: &str) -> Result<Option<ObjId>, AllocError> {
-    let digits = format!(in alloc; "{first:02x}{name}")?;
-    Ok(ObjId::read(digits.as_str()).ok())
+pub(crate) fn id_of(alloc: Global, first: u8, name: &str) -> Result<Option<ObjId>, AllocError>
+    ensures value { IfOk result (IsNamed first name.now) }
+{
+    let mut digits = String::with_capacity(alloc, name.len().saturating_add(2))?;
+    push_ascii(&mut digits, &byte_digits(first))?;
+    digits.push_str(name)?;
+    Ok(id_read(digits.as_str()))
+}
+
+/// The id whose 40 digits a text is.
+fn id_read(text: &str) -> Option<ObjId>
+    ensures value { IsReadAs text.now result }
+{
+    match ObjId::read(text) {
+        Ok(id) => Some(id),
+        Err(_) => None,
+    }
 }

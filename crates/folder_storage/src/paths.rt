@@ -1,7 +1,17 @@
-//! The paths of a library's folder and of what lies in it.
+//! The paths of a library's folder and of what lies in it. Definitions: specs/Paths.antt.
+ghost use Rattle.std.specs.Prelude.{◌≡◌, ◌++◌, ◌<◌, ◌∷◌, [], All, IfOk, OnOk, codes};
+ghost use Rattle.std.specs.String.{string_bytes};
+ghost use Rattle.hex.specs.Hex.{encode_lower};
+ghost use Rattle.object_store.specs.declared.shelf.Slot.TheVariants.{Object};
+ghost use Rattle.folder_storage.specs.Paths.{kind_folder, listed_text, slot_text, under};
+
+use crate::durability::first_byte;
 use ids::{Key, Kind, LibId};
 use object_store::Slot;
 use std::alloc::{AllocError, Global};
+
+/// The digits of a byte's halves.
+const DIGITS: &[u8; 16] = b"0123456789abcdef";
 
 /// How many digits of an id name the folder that its object lies in.
 const FOLDER_DIGITS: usize = 2;
@@ -21,7 +31,9 @@ pub(crate) fn draft_path(alloc: Global, folder: &str, lib: &LibId) -> Result<Str
 }
 
 /// The path of a slot's file.
-pub(crate) fn slot_path(alloc: Global, library: &str, slot: &Slot) -> Result<String, AllocError> {
+pub(crate) fn slot_path(alloc: Global, library: &str, slot: &Slot) -> Result<String, AllocError>
+    ensures value { IfOk result (λ path. string_bytes path ≡ slot_text library.now slot.now) }
+{
     match slot {
         Slot::Object(key) => object_path(alloc, library, key),
         Slot::Status => named_path(alloc, library, "status"),
@@ -37,12 +49,12 @@ pub(crate) fn moved_path(alloc: Global, folder: &str) -> Result<String, AllocErr
 }
 
 /// The path of an object's file: `KIND/xx/` and the other 38 digits of its id.
-pub(crate) fn object_path(alloc: Global, library: &str, key: &Key) -> Result<String, AllocError> {
+pub(crate) fn object_path(alloc: Global, library: &str, key: &Key) -> Result<String, AllocError>
+    ensures value { IfOk result (λ path. string_bytes path ≡ slot_text library.now (Object key.now)) }
+{
     let digits = key.id.digits();
-    let mut path = kind_path(alloc, library, key.kind)?;
-    path.push('/')?;
-    push_ascii(&mut path, &digits[..FOLDER_DIGITS])?;
-    path.push('/')?;
+    let mut path = listed_folder(alloc, library, key.kind, first_byte(key))?;
+    path.push_str("/")?;
     push_ascii(&mut path, &digits[FOLDER_DIGITS..])?;
     Ok(path)
 }
@@ -53,24 +65,35 @@ pub(crate) fn listed_folder(
     library: &str,
     kind: Kind,
     first: u8,
-) -> Result<String, AllocError> {
-    format!(in alloc; "{library}/{}/{first:02x}", kind_folder(kind))
+) -> Result<String, AllocError>
+    ensures value { IfOk result (λ path. string_bytes path ≡ listed_text library.now kind first) }
+{
+    let mut path = kind_path(alloc, library, kind)?;
+    path.push_str("/")?;
+    push_ascii(&mut path, &byte_digits(first))?;
+    Ok(path)
 }
 
 /// The path of the folder of a kind.
-pub(crate) fn kind_path(alloc: Global, library: &str, kind: Kind) -> Result<String, AllocError> {
+pub(crate) fn kind_path(alloc: Global, library: &str, kind: Kind) -> Result<String, AllocError>
+    ensures value { IfOk result (λ path. string_bytes path ≡ under library.now (kind_folder kind)) }
+{
     named_path(alloc, library, kind_folder(kind))
 }
 
 /// The path of something with a fixed name in a library's folder.
-pub(crate) fn named_path(alloc: Global, library: &str, name: &str) -> Result<String, AllocError> {
+pub(crate) fn named_path(alloc: Global, library: &str, name: &str) -> Result<String, AllocError>
+    ensures value { IfOk result (λ path. string_bytes path ≡ under library.now name.now) }
+{
     let mut path = below(alloc, library)?;
     path.push_str(name)?;
     Ok(path)
 }
 
 /// The folder of a kind, as Seafile's server names it.
-pub(crate) fn kind_folder(kind: Kind) -> &'static str {
+pub(crate) fn kind_folder(kind: Kind) -> &'static str
+    ensures value { result.now ≡ kind_folder kind }
+{
     match kind {
         Kind::Commit => "commits",
         Kind::Fs => "fs",
@@ -79,15 +102,29 @@ pub(crate) fn kind_folder(kind: Kind) -> &'static str {
 }
 
 /// A folder's path with a slash, and room for what comes after it.
-fn below(alloc: Global, folder: &str) -> Result<String, AllocError> {
+fn below(alloc: Global, folder: &str) -> Result<String, AllocError>
+    ensures value { IfOk result (λ path. string_bytes path ≡ folder.now ++ codes "/") }
+{
     let mut path = String::with_capacity(alloc, folder.len().saturating_add(64))?;
     path.push_str(folder)?;
     path.push('/')?;
     Ok(path)
 }
 
+/// The two digits of a byte.
+pub(crate) fn byte_digits(byte: u8) -> [u8; 2]
+    ensures value { result ≡ encode_lower (byte ∷ []) }
+{
+    [
+        DIGITS[usize::from(byte / 16)],
+        DIGITS[usize::from(byte % 16)],
+    ]
+}
+
 /// Appends characters that are all ASCII.
-fn push_ascii(path: &mut String, bytes: &[u8]) -> Result<(), AllocError> {
+pub(crate) fn push_ascii(path: &mut String, bytes: &[u8]) -> Result<(), AllocError>
+    ensures ok { OnOk result (All (λ byte. byte < 128) bytes.now → string_bytes path.new ≡ string_bytes path.old ++ bytes.now) }
+{
     for byte in bytes {
         path.push(char::from(*byte))?;
     }
