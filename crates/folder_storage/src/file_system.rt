@@ -16,7 +16,7 @@ pub enum FileKind {
 pub struct FileFacts {
     pub kind: FileKind,
     pub size: u64,
-    /// When it was changed last, in seconds.
+    /// When it was changed last, in nanoseconds since 1970 began in UTC; as far as 64 bits go.
     pub changed: i64,
 }
 

@@ -74,8 +74,12 @@ impl<F: FileSystem + Drop> LibraryFolder<F> {
         }
     }
 
-    /// Whether the folder is still there: where a file isn't, this tells an empty slot from a lost folder.
+    /// Whether the folder is still there: where a file isn't, this tells an empty slot from a lost folder. While a folder's
+    /// own name is in doubt, what isn't there tells nothing.
     fn check(&mut self) -> io::Result<()> {
+        if self.is_adrift {
+            return Err(io::Error::from(ErrorKind::Other));
+        }
         match self.files.look_through(self.path.as_str())? {
             Some(_) => Ok(()),
             None => Err(io::Error::from(ErrorKind::NotFound)),
@@ -152,14 +156,15 @@ impl<F: FileSystem + Drop> LibraryFolder<F> {
         if self.files.look(folder.as_str())?.is_none() {
             self.files.make_folder(folder.as_str())?;
         }
-        self.move_spare(path.as_str())
+        self.move_spare(path.as_str())?;
+        take_out(&mut self.earlier.torn, key);
+        Ok(())
     }
 
     /// Notes an object that is put by this run.
     fn note_put(&mut self, key: &Key, bytes: &[u8]) -> Result<(), AllocError> {
         self.unsynced.push(*key)?;
         take_out(&mut self.earlier.whole, key);
-        take_out(&mut self.earlier.torn, key);
         self.find_again(key);
         if key.kind == Kind::Commit {
             let sum = ObjId::of(bytes);

@@ -26,9 +26,7 @@ pub(crate) fn find_library<F: FileSystem + Drop>(
     make_ready(&mut files, path.as_str())?;
     let mark = named_path(files.alloc(), path.as_str(), "syncing")?;
     let is_marked = files.look(mark.as_str())?.is_some();
-    if is_marked {
-        bring_back(&mut files, path.as_str())?;
-    }
+    bring_back(&mut files, path.as_str())?;
     let earlier = earlier_objects(&mut files, path.as_str())?;
     let above = String::from_str(files.alloc(), folder)?;
     let mut library = LibraryFolder::new(files, path, above, earlier);

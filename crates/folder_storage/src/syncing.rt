@@ -16,6 +16,7 @@ impl<F: FileSystem + Drop> LibraryFolder<F> {
         if self.is_adrift || self.lost.is_some() {
             return Err(io::Error::from(ErrorKind::Other));
         }
+        self.clear_torn()?;
         self.seek_unsynced()?;
         let keys = self.unsynced.clone()?;
         if !keys.is_empty() {
@@ -29,6 +30,7 @@ impl<F: FileSystem + Drop> LibraryFolder<F> {
         if self.is_synced {
             self.unsynced.clear();
             self.commits.clear();
+            self.earlier.near.clear();
             self.earlier.whole.clear();
         }
         self.is_in_doubt = !self.is_synced;
@@ -38,9 +40,34 @@ impl<F: FileSystem + Drop> LibraryFolder<F> {
         put
     }
 
+    /// Takes away, durably, what earlier runs left torn: the next state text is younger, and would vouch for it. No text
+    /// that stands names it.
+    fn clear_torn(&mut self) -> io::Result<()> {
+        let torn = self.earlier.torn.clone()?;
+        for key in &torn {
+            let path = object_path(self.files.alloc(), self.path.as_str(), key)?;
+            let folder = listed_folder(
+                self.files.alloc(),
+                self.path.as_str(),
+                key.kind,
+                first_byte(key),
+            )?;
+            self.files.remove_file(path.as_str())?;
+            if let Err(failure) = self.files.sync_folder(folder.as_str()) {
+                self.is_adrift = true;
+                return Err(failure);
+            }
+        }
+        self.earlier.torn.clear();
+        Ok(())
+    }
+
     /// Takes what earlier runs put among the objects that are to be made durable, once in this run, and sorts them.
     pub(crate) fn seek_unsynced(&mut self) -> io::Result<()> {
         if !self.has_earlier {
+            for key in &self.earlier.near {
+                self.unsynced.push(*key)?;
+            }
             for key in &self.earlier.whole {
                 self.unsynced.push(*key)?;
             }
@@ -52,10 +79,14 @@ impl<F: FileSystem + Drop> LibraryFolder<F> {
     }
 
     /// Leaves a mark before the first sync: a run that finds it trusts no sync of what that mark's run put. Where a sync
-    /// failed before, the mark itself is made durable.
+    /// failed before, the mark is left anew, and made durable.
     fn mark(&mut self) -> io::Result<()> {
+        let mark = named_path(self.files.alloc(), self.path.as_str(), "syncing")?;
+        if self.is_in_doubt {
+            self.files.remove_file(mark.as_str())?;
+            self.is_marked = false;
+        }
         if !self.is_marked {
-            let mark = named_path(self.files.alloc(), self.path.as_str(), "syncing")?;
             self.files.write(mark.as_str(), b"", false)?;
             self.is_marked = true;
         }
@@ -81,10 +112,18 @@ impl<F: FileSystem + Drop> LibraryFolder<F> {
             None => return Ok(()),
         };
         if !self.is_as_put(key, bytes.as_slice()) {
-            return Err(io::Error::from(ErrorKind::InvalidData));
+            return self.unless_near(key);
         }
         self.write_spare(bytes.as_slice(), true)?;
         self.move_spare(path)
+    }
+
+    /// An object that a state text vouches for stays as it is where it is damaged: whoever asks for it is told.
+    fn unless_near(&self, key: &Key) -> io::Result<()> {
+        if self.earlier.near.binary_search(key).is_ok() {
+            return Ok(());
+        }
+        Err(io::Error::from(ErrorKind::InvalidData))
     }
 
     /// Whether the bytes are those that were put under the key.
@@ -100,7 +139,9 @@ impl<F: FileSystem + Drop> LibraryFolder<F> {
     /// Takes away an object of this run that could not be made durable. One that an earlier run put stays, since a state
     /// text that stands may name it.
     fn give_up(&mut self, key: &Key, path: &str) -> io::Result<()> {
-        if self.earlier.whole.binary_search(key).is_ok() {
+        if self.earlier.whole.binary_search(key).is_ok()
+            || self.earlier.near.binary_search(key).is_ok()
+        {
             return Ok(());
         }
         self.lost = Some(*key);
@@ -134,8 +175,13 @@ impl<F: FileSystem + Drop> LibraryFolder<F> {
             return Ok(());
         }
         let moved = moved_path(self.files.alloc(), folder)?;
-        self.files.rename(folder, moved.as_str())?;
-        match self.files.rename(moved.as_str(), folder) {
+        let away = self.files.rename(folder, moved.as_str());
+        let done = match away {
+            Ok(()) => self.files.rename(moved.as_str(), folder),
+            // It may have been done.
+            Err(failure) => Err(failure),
+        };
+        match done {
             Ok(()) => Ok(()),
             Err(failure) => {
                 self.is_adrift = true;

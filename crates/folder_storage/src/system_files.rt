@@ -171,7 +171,10 @@ fn facts_of(metadata: &Metadata) -> FileFacts {
     FileFacts {
         kind,
         size: metadata.len(),
-        changed: metadata.mtime(),
+        changed: metadata
+            .mtime()
+            .saturating_mul(1_000_000_000)
+            .saturating_add(metadata.mtime_nsec()),
     }
 }
 
