@@ -17,7 +17,7 @@ use Rattle.worker_server.specs.declared.served.Served.TheVariants as served
 use Rattle.library_server.specs.Connections.{LinkView, ServesOpened, opened, status_of, unopened}
 use Rattle.library_server.specs.Lines.{fault_of_not_added, fault_of_not_made, fault_of_not_opened}
 use Rattle.server_words.specs.declared.command.Place.{Place}
-use Rattle.library_server.specs.Adding.{IsNotAdded, is_unadded_counted}
+use Rattle.library_server.specs.Adding.{IsAddedTo, IsNotAdded, is_unadded_counted}
 use Rattle.library_server.specs.Making.{IsNotMade, RoseWhere, is_unmade_counted}
 use Rattle.library_server.specs.declared.adding.NewToken.{NewToken}
 use Rattle.library_server.specs.declared.making.NewLibrary.{NewLibrary}
@@ -120,10 +120,10 @@ module _ {S : Type 0} (may_give : S → Slot → Option (List ℕ) → Type 0) w
   created_so new moment before now (Err why) is cause count = (cause, count)
 
   pub added_so : (place : Place) (lib : List ℕ) (shows : ℕ → Type 0) (new : NewToken) (before now : ℕ) (added : Result ⊤ NotAdded)
-      → IfErr added (IsNotAdded may_give place lib shows new) → IfErr added (λ why. RoseWhere (is_unadded_counted why) before now)
+      → IfOk added (λ done. IsAddedTo may_give place lib shows new) → IfErr added (IsNotAdded may_give place lib shows new) → IfErr added (λ why. RoseWhere (is_unadded_counted why) before now)
       → IsAdded may_give place lib shows new before now added
-  added_so place lib shows new before now (Ok done) cause count = tt
-  added_so place lib shows new before now (Err why) cause count = (cause, count)
+  added_so place lib shows new before now (Ok done) given cause count = given
+  added_so place lib shows new before now (Err why) given cause count = (cause, count)
 
 -- a text that was put is the one of its name
 pub printed_as : (printed : Printed) (text : List ℕ) (before now : SinkView) (status : ℕ) → text ≡ printed.text

@@ -1,7 +1,7 @@
 -- The command that adds a token. Our own. Read AddsSo first.
-use Rattle.std.specs.Prelude.{◌≡◌, ◌≤◌, ◌⊎◌, ℕ, Bool, true, false, List, length, Option, Some, IsTrue, Result, Ok, Err, ⊤}
+use Rattle.std.specs.Prelude.{◌≡◌, ◌≤◌, ◌⊎◌, ℕ, Bool, true, false, List, length, Option, None, Some, IsTrue, Result, Ok, Err, ⊤}
 use Rattle.library_state.specs.Tokens.{is_taken}
-use Rattle.depot.specs.Tokens.{is_token_counted}
+use Rattle.depot.specs.Tokens.{is_token_counted, token_refusal}
 use Rattle.depot.specs.declared.error.TokenFault.{TokenFault}
 use Rattle.depot.specs.declared.error.TokenFault.TheVariants as token
 use Rattle.folder_storage.specs.Ground.{Kept, Standing}
@@ -51,6 +51,10 @@ abbrev pub IsTokenRefused : LibState → NewToken → TokenFault → Type 0
 IsTokenRefused state new token.SecretTaken = is_taken state.tokens new.secret ≡ true
 IsTokenRefused state new token.Full = (is_taken state.tokens new.secret ≡ false) × (1000 ≤ length state.tokens)
 IsTokenRefused state new (token.Store why) = IsTrue (is_free why)
+
+-- over any ground, what a token was added to: the library that was opened, which doesn't refuse it
+abbrev pub IsAddedTo : {S : Type 0} → (S → Slot → Option (List ℕ) → Type 0) → Place → List ℕ → (ℕ → Type 0) → NewToken → Type 0
+IsAddedTo may_give place lib shows new = (state : LibState) × IsOpenedState may_give place lib shows state × (token_refusal state.tokens new.secret ≡ None)
 
 -- the cause of each refusal, over any ground
 abbrev pub IsNotAdded : {S : Type 0} → (S → Slot → Option (List ℕ) → Type 0) → Place → List ℕ → (ℕ → Type 0) → NewToken → NotAdded → Type 0

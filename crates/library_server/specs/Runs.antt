@@ -14,7 +14,7 @@ use Rattle.server_words.specs.declared.command.Command.TheVariants.{Create, Toke
 use Rattle.server_words.specs.declared.command.Place.{Place}
 use Rattle.server_words.specs.declared.line.Line.{Line}
 use Rattle.server_words.specs.declared.line.Line.TheVariants as line
-use Rattle.library_server.specs.Adding.{AddsSo, IsNotAdded, is_unadded_counted}
+use Rattle.library_server.specs.Adding.{AddsSo, IsAddedTo, IsNotAdded, is_unadded_counted}
 use Rattle.library_server.specs.Connections.{LinkView, ServesPlace}
 use Rattle.library_server.specs.Creating.{CreatesSo}
 use Rattle.library_server.specs.Lines.{fault_of_not_added, fault_of_not_made}
@@ -73,13 +73,14 @@ abbrev pub added_line : Result ⊤ NotAdded → Line
 added_line (Ok done) = line.TokenAdded
 added_line (Err why) = line.Fault (fault_of_not_added why)
 
--- a line that tells of a new library names its opening commit; one that tells a refusal has its cause
+-- a line that tells of a new library names its opening commit; one that tells of a token comes where a library of the name
+-- asked for was opened; and one that tells a refusal has its cause
 abbrev pub IsCreated : {S : Type 0} → (S → Slot → Option (List ℕ) → Type 0) → NewLibrary → ℕ → ℕ → ℕ → Result (List ℕ) NotMade → Type 0
 IsCreated may_give new moment before now (Ok head) = head ≡ (opening_commit new.lib new.user moment).id
 IsCreated may_give new moment before now (Err why) = IsNotMade may_give new moment why × RoseWhere (is_unmade_counted why) before now
 
 abbrev pub IsAdded : {S : Type 0} → (S → Slot → Option (List ℕ) → Type 0) → Place → List ℕ → (ℕ → Type 0) → NewToken → ℕ → ℕ → Result ⊤ NotAdded → Type 0
-IsAdded may_give place lib shows new before now (Ok done) = ⊤
+IsAdded may_give place lib shows new before now (Ok done) = IsAddedTo may_give place lib shows new
 IsAdded may_give place lib shows new before now (Err why) = IsNotAdded may_give place lib shows new why × RoseWhere (is_unadded_counted why) before now
 
 -- a library was made at a moment of the clock, or not, and the line tells it

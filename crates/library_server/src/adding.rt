@@ -1,8 +1,8 @@
 //! The command that adds a token to a library.
-ghost use Rattle.std.specs.Prelude.{◌≡◌, ◌≤◌, ℕ, IfErr, Option, Some, length};
+ghost use Rattle.std.specs.Prelude.{◌≡◌, ◌≤◌, ℕ, IfErr, IfOk, Option, Some, length};
 ghost use Rattle.folder_storage.specs.Ground.{Standing};
 ghost use Rattle.server_words.specs.Spelling.{place_text};
-ghost use Rattle.library_server.specs.Adding.{AddsSo, IsNotAdded, is_unadded_counted};
+ghost use Rattle.library_server.specs.Adding.{AddsSo, IsAddedTo, IsNotAdded, is_unadded_counted};
 ghost use Rattle.library_server.specs.Answering.{NeverFails};
 ghost use Rattle.library_server.specs.Lines.{fault_of_not_added};
 ghost use Rattle.library_server.specs.Making.{RoseWhere};
@@ -38,6 +38,7 @@ pub(crate) fn add_token<G: Ground, C: Clock>(
     ensures told { (standing : Standing) → G.stands libraries.old (place_text place.now) lib ≡ Some standing
         → AddsSo place.now lib (C.shows clock.now) token.now standing result (G.stands libraries.new (place_text place.now) lib) }
     ensures back { Returned G.S.contents (G.stands libraries.old) (G.stands libraries.new) (place_text place.now) lib }
+    ensures given { IfOk result (λ done. IsAddedTo G.S.may_give place.now lib (C.shows clock.now) token.now) }
     ensures cause { IfErr result (IsNotAdded G.S.may_give place.now lib (C.shows clock.now) token.now) }
     ensures faults { IfErr result (λ why. RoseWhere (is_unadded_counted why) (G.faults libraries.old) (G.faults libraries.new)) }
     ensures whole { NeverFails G.S.faults → (standing : Standing) → G.stands libraries.old (place_text place.now) lib ≡ Some standing → IsWhole standing

@@ -29,15 +29,13 @@ pub(crate) fn inetd<G: Ground, L: Link, C: Clock>(
     link: &mut L,
     clock: &C,
 ) -> u8
-    ensures serves { ServesPlace G.S.contents G.S.may_give G.S.faults place.now lib (C.shows clock.now)
+    ensures serves { (service : ServesPlace G.S.contents G.S.may_give G.S.faults place.now lib (C.shows clock.now)
         (record { stands = G.stands libraries.old; faults = G.faults libraries.old })
         (record { stands = G.stands libraries.new; faults = G.faults libraries.new })
         (record { left = L.left link.old; given = L.given link.old; faults = L.faults link.old })
-        (record { left = L.left link.new; given = L.given link.new; faults = L.faults link.new }) result }
-    ensures whole { NeverFails G.S.faults → (standing : Standing) → G.stands libraries.old (place_text place.now) lib ≡ Some standing → IsWhole standing
-        → ServesWhole G.S.contents G.S.may_give G.S.faults (C.shows clock.now)
-        (record { left = L.left link.old; given = L.given link.old; faults = L.faults link.old })
-        (record { left = L.left link.new; given = L.given link.new; faults = L.faults link.new }) result }
+        (record { left = L.left link.new; given = L.given link.new; faults = L.faults link.new }) result)
+        × (NeverFails G.S.faults → (standing : Standing) → G.stands libraries.old (place_text place.now) lib ≡ Some standing → IsWhole standing
+        → ServesWhole service) }
 {
     let mut depot = match open_library(alloc, libraries, place, lib, clock) {
         Ok(depot) => depot,

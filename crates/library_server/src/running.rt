@@ -1,5 +1,5 @@
 //! The server's top call.
-ghost use Rattle.std.specs.Prelude.{◌≡◌, ◌≤◌, length, Some};
+ghost use Rattle.std.specs.Prelude.{◌≡◌, ◌≤◌, false, length, Some};
 ghost use Rattle.std.specs.Io.KnownBytes.{append_known};
 ghost use Rattle.server_words.specs.CommandLine.{NamesFit, command_of};
 ghost use Rattle.server_words.specs.Lines.{line_text};
@@ -12,7 +12,7 @@ ghost use Rattle.library_server.specs.Runs.{AddsToken, CreatesLibrary, PrintsSo,
 ghost use Rattle.library_server.specs.Standing.{GroundView};
 ghost use Rattle.object_store.specs.Shelf.{Contents};
 ghost use Rattle.library_server.specs.Whole.{AreWhole, IsWhole, empty_ground, holds_in};
-ghost use Rattle.library_server.specs.WholeRuns.{RunsWhole, TellsWhole};
+ghost use Rattle.library_server.specs.WholeRuns.{RunsWhole, is_storage_line};
 
 use crate::adding::{NewToken, add_token};
 use crate::creating::create;
@@ -56,11 +56,13 @@ pub fn run<G: Ground, L: Link, C: Clock, O: Sink, R>(
         (record { given = O.given out.new; faults = O.faults out.new }) result }
 
     // Over storage that never fails, in which each object lies under its own name, no line and no reply is a fault of it.
-    ensures whole { NeverFails G.S.faults → AreWhole (G.stands libraries.old) → RunsWhole G.S.contents G.S.may_give G.S.faults (C.shows clock.now) (command_of words.now)
+    ensures whole { NeverFails G.S.faults → AreWhole (G.stands libraries.old) → (done : RunsSo G.S.contents G.S.may_give G.S.faults (C.shows clock.now) (command_of words.now)
+        (record { stands = G.stands libraries.old; faults = G.faults libraries.old })
+        (record { stands = G.stands libraries.new; faults = G.faults libraries.new })
         (record { left = L.left link.old; given = L.given link.old; faults = L.faults link.old })
         (record { left = L.left link.new; given = L.given link.new; faults = L.faults link.new })
         (record { given = O.given out.old; faults = O.faults out.old })
-        (record { given = O.given out.new; faults = O.faults out.new }) result }
+        (record { given = O.given out.new; faults = O.faults out.new }) result) × RunsWhole done }
 
     // 2 comes with a written usage line alone.
     ensures usage { result ≡ 2
@@ -88,11 +90,11 @@ pub fn run_in_memory<L: Link, C: Clock, O: Sink, R>(
         (record { left = L.left link.new; given = L.given link.new; faults = L.faults link.new })
         (record { given = O.given out.old; faults = O.faults out.old })
         (record { given = O.given out.new; faults = O.faults out.new }) result }
-    ensures whole { RunsWhole {S = Contents} Some holds_in (λ shelf. 0) (C.shows clock.now) (command_of words.now)
+    ensures whole { (after : GroundView) × (done : RunsSo {S = Contents} Some holds_in (λ shelf. 0) (C.shows clock.now) (command_of words.now) empty_ground after
         (record { left = L.left link.old; given = L.given link.old; faults = L.faults link.old })
         (record { left = L.left link.new; given = L.given link.new; faults = L.faults link.new })
         (record { given = O.given out.old; faults = O.faults out.old })
-        (record { given = O.given out.new; faults = O.faults out.new }) result }
+        (record { given = O.given out.new; faults = O.faults out.new }) result) × RunsWhole done }
 {
     let mut libraries = MemoryGround::new(alloc);
     run(rt, alloc, words, &mut libraries, link, clock, out)
@@ -115,11 +117,13 @@ fn perform<G: Ground, L: Link, C: Clock, O: Sink>(
         (record { left = L.left link.new; given = L.given link.new; faults = L.faults link.new })
         (record { given = O.given out.old; faults = O.faults out.old })
         (record { given = O.given out.new; faults = O.faults out.new }) result }
-    ensures whole { NeverFails G.S.faults → AreWhole (G.stands libraries.old) → RunsWhole G.S.contents G.S.may_give G.S.faults (C.shows clock.now) command
+    ensures whole { NeverFails G.S.faults → AreWhole (G.stands libraries.old) → (done : RunsSo G.S.contents G.S.may_give G.S.faults (C.shows clock.now) command
+        (record { stands = G.stands libraries.old; faults = G.faults libraries.old })
+        (record { stands = G.stands libraries.new; faults = G.faults libraries.new })
         (record { left = L.left link.old; given = L.given link.old; faults = L.faults link.old })
         (record { left = L.left link.new; given = L.given link.new; faults = L.faults link.new })
         (record { given = O.given out.old; faults = O.faults out.old })
-        (record { given = O.given out.new; faults = O.faults out.new }) result }
+        (record { given = O.given out.new; faults = O.faults out.new }) result) × RunsWhole done }
 {
     match command {
         Command::Create {
@@ -169,14 +173,13 @@ fn create_printed<G: Ground, C: Clock, O: Sink>(
 ) -> u8
     requires fits { length new.now.name ≤ 255 }
     requires ready { (1 ≤ length new.now.user) × (length new.now.user ≤ 255) }
-    ensures value { CreatesLibrary G.S.contents G.S.may_give (C.shows clock.now) place.now new.now
+    ensures value { (done : CreatesLibrary G.S.contents G.S.may_give (C.shows clock.now) place.now new.now
         (record { stands = G.stands libraries.old; faults = G.faults libraries.old })
         (record { stands = G.stands libraries.new; faults = G.faults libraries.new })
         (record { given = O.given out.old; faults = O.faults out.old })
-        (record { given = O.given out.new; faults = O.faults out.new }) result }
-    ensures whole { NeverFails G.S.faults → (standing : Standing) → G.stands libraries.old (place_text place.now) new.now.lib ≡ Some standing → IsWhole standing
-        → TellsWhole (record { given = O.given out.old; faults = O.faults out.old })
-        (record { given = O.given out.new; faults = O.faults out.new }) result }
+        (record { given = O.given out.new; faults = O.faults out.new }) result)
+        × (NeverFails G.S.faults → (standing : Standing) → G.stands libraries.old (place_text place.now) new.now.lib ≡ Some standing → IsWhole standing
+        → is_storage_line (created_line new.now.lib done.created) ≡ false) }
 {
     let created = create(alloc, libraries, folder_word(place), new, clock.now());
     print_line(out, created_line(new.lib, created))
@@ -203,14 +206,13 @@ fn add_printed<G: Ground, C: Clock, O: Sink>(
     out: &mut O,
 ) -> u8
     requires ready { (1 ≤ length new.now.user) × (length new.now.user ≤ 255) }
-    ensures value { AddsToken G.S.contents G.S.may_give (C.shows clock.now) place.now lib new.now
+    ensures value { (done : AddsToken G.S.contents G.S.may_give (C.shows clock.now) place.now lib new.now
         (record { stands = G.stands libraries.old; faults = G.faults libraries.old })
         (record { stands = G.stands libraries.new; faults = G.faults libraries.new })
         (record { given = O.given out.old; faults = O.faults out.old })
-        (record { given = O.given out.new; faults = O.faults out.new }) result }
-    ensures whole { NeverFails G.S.faults → (standing : Standing) → G.stands libraries.old (place_text place.now) lib ≡ Some standing → IsWhole standing
-        → TellsWhole (record { given = O.given out.old; faults = O.faults out.old })
-        (record { given = O.given out.new; faults = O.faults out.new }) result }
+        (record { given = O.given out.new; faults = O.faults out.new }) result)
+        × (NeverFails G.S.faults → (standing : Standing) → G.stands libraries.old (place_text place.now) lib ≡ Some standing → IsWhole standing
+        → is_storage_line (added_line done.added) ≡ false) }
 {
     let added = add_token(alloc, libraries, place, lib, new, clock);
     print_line(out, added_line(added))

@@ -46,3 +46,6 @@ returns-in-Err-add_token-clause-whole g c = λ steady standing there whole.
 pub returns-in-Err-add_token-clause-cause : goal.returns-in-Err-add_token-clause-cause
 returns-in-Err-add_token-clause-cause g c =
     (c.in-Ok.depot.state, c.in-Ok.ensures.given, token_refused c.in-Ok.depot.state c.args.token.now c.in-Err-add_token.fault c.in-Err-add_token.ensures.refused)
+
+pub returns-in-Ok-add_token-clause-given : goal.returns-in-Ok-add_token-clause-given
+returns-in-Ok-add_token-clause-given g c = (c.in-Ok.depot.state, c.in-Ok.ensures.given, c.in-Ok-add_token.ensures.refused)

@@ -2,34 +2,31 @@
 use Rattle.std.proofs.Common.{◌∙◌, ap, refl}
 use Rattle.server_words.specs.Lines.{fault_status}
 use Rattle.library_server.specs.Connections.{opened, unopened}
-use Rattle.library_server.specs.Lines.{fault_of_not_opened}
-use Rattle.library_server.specs.WholeRuns.{served, unserved}
 use Rattle.library_server.proofs.StandingLemmas.{comes_back}
 use Rattle.library_server.proofs.WholeLemmas.{calls_whole}
 use Rattle.library_server.proofs.inetd.inetd.Goals as goal
 
 pub returns-in-Err : goal.returns-in-Err
 returns-in-Err g c = record {
-  serves = unopened c.in-Err.fault (record {
-    told = c.in-Err.ensures.told;
-    cause = c.in-Err.ensures.cause;
-    count = c.in-Err.ensures.faults;
-    back = c.in-Err.ensures.back;
-  }) (c.status.ensures.value ∙ ap fault_status c.fault.ensures.value) refl;
-  whole = λ steady standing there whole.
-      unserved (fault_of_not_opened c.in-Err.fault) (c.in-Err.ensures.whole steady standing there whole) (c.status.ensures.value ∙ ap fault_status c.fault.ensures.value);
+  serves = (
+    unopened c.in-Err.fault (record {
+      told = c.in-Err.ensures.told;
+      cause = c.in-Err.ensures.cause;
+      count = c.in-Err.ensures.faults;
+      back = c.in-Err.ensures.back;
+    }) (c.status.ensures.value ∙ ap fault_status c.fault.ensures.value) refl,
+    c.in-Err.ensures.whole,
+  );
 }
 
 pub returns : goal.returns
 returns g c = record {
-  serves = opened c.in-Ok.depot c.serve_opened-status.new.depot c.in-Ok.ensures.given c.in-Ok.ensures.told c.serve_opened-status.ensures.serves c.bring_back.ensures.good
-      (comes_back _ _ _ _ _ _ c.in-Ok.ensures.back (rw c.folder_word.ensures.value at c.bring_back.ensures.ok));
-  whole = λ steady standing there whole.
-      let ran = c.serve_opened-status.ensures.serves.ran in
-      served c.in-Ok.depot c.serve_opened-status.new.depot c.serve_opened-status.ensures.serves (
-        ran.0,
-        ran.1,
+  serves = (
+    opened c.in-Ok.depot c.serve_opened-status.new.depot c.in-Ok.ensures.given c.in-Ok.ensures.told c.serve_opened-status.ensures.serves c.bring_back.ensures.good
+        (comes_back _ _ _ _ _ _ c.in-Ok.ensures.back (rw c.folder_word.ensures.value at c.bring_back.ensures.ok)),
+    λ steady standing there whole.
+        let ran = c.serve_opened-status.ensures.serves.ran in
         calls_whole g.G.S.Shelf.contents g.G.S.Shelf.may_give g.G.S.Shelf.faults (g.C.Clock.shows c.args.clock.now) c.in-Ok.depot c.serve_opened-status.new.depot ran.0 steady
-            (c.in-Ok.ensures.whole steady standing there whole) ran.1,
-      );
+        (c.in-Ok.ensures.whole steady standing there whole) ran.1,
+  );
 }

@@ -1,11 +1,21 @@
 -- The line tells what was made.
-use Rattle.library_server.specs.Runs.{created_line}
+use Rattle.library_server.proofs.RunLemmas.{created_so}
 use Rattle.library_server.proofs.WholeLemmas.{created_whole}
 use Rattle.library_server.proofs.running.create_printed.Goals as goal
 
-pub returns-clause-whole : goal.returns-clause-whole
-returns-clause-whole g c = λ steady standing there whole. (
-  created_line c.args.new.now.lib c.create-created.result,
-  created_whole c.args.new.now.lib c.create-created.result ((rw c.folder_word.ensures.value at c.create-created.ensures.whole) steady standing there whole),
-  rw c.created_line.ensures.value at c.print_line.ensures.prints,
-)
+pub returns : goal.returns
+returns g c = record {
+  value = (
+    record {
+      created = c.create-created.result;
+      moment = c.now.result;
+      shown = c.now.ensures.value;
+      told = rw c.folder_word.ensures.value at c.create-created.ensures.told;
+      is = created_so g.G.S.Shelf.may_give c.args.new.now c.now.result _ _ c.create-created.result c.create-created.ensures.value c.create-created.ensures.cause c.create-created.ensures.faults;
+      back = rw c.folder_word.ensures.value at c.create-created.ensures.back;
+      prints = rw c.created_line.ensures.value at c.print_line.ensures.prints;
+    },
+    λ steady standing there whole.
+        created_whole c.args.new.now.lib c.create-created.result ((rw c.folder_word.ensures.value at c.create-created.ensures.whole) steady standing there whole),
+  );
+}

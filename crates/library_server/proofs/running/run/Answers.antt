@@ -1,7 +1,7 @@
 -- The words are read as a command, which is done.
 use Rattle.std.proofs.Common.{refl}
 use Rattle.library_server.proofs.RunLemmas.{runs_usage}
-use Rattle.library_server.specs.WholeRuns.{nothing_read}
+use Rattle.library_server.specs.Runs.{unread}
 use Rattle.library_server.proofs.running.run.Goals as goal
 
 pub returns-in-Ok-clause-runs : goal.returns-in-Ok-clause-runs
@@ -16,4 +16,4 @@ pub returns-in-Ok-clause-whole : goal.returns-in-Ok-clause-whole
 returns-in-Ok-clause-whole g c = rw c.in-Ok.ensures.value at c.perform.ensures.whole
 
 pub returns-in-Err-clause-whole : goal.returns-in-Err-clause-whole
-returns-in-Err-clause-whole g c = λ steady all. nothing_read refl
+returns-in-Err-clause-whole g c = λ steady all. (unread refl refl refl refl, tt)

@@ -5,10 +5,16 @@ use Rattle.folder_storage.specs.MemoryGround.{standings}
 use Rattle.library_server.proofs.running.run_in_memory.Goals as goal
 
 pub returns : goal.returns
-returns g c = record {
-  runs = (
-    record { stands = standings c.run.new.libraries.libraries.items; faults = c.run.new.libraries.faults },
-    rw c.new-libraries.ensures.value at (rw c.new-libraries.ensures.faults at c.run.ensures.runs),
-  );
-  whole = (rw c.new-libraries.ensures.value at c.run.ensures.whole) (λ shelf. refl) (λ folder lib. (Absent, refl, tt));
-}
+returns g c =
+    let done = (rw c.new-libraries.ensures.value at (rw c.new-libraries.ensures.faults at c.run.ensures.whole)) (λ shelf. refl) (λ folder lib. (Absent, refl, tt)) in
+    record {
+      runs = (
+        record { stands = standings c.run.new.libraries.libraries.items; faults = c.run.new.libraries.faults },
+        done.0,
+      );
+      whole = (
+        record { stands = standings c.run.new.libraries.libraries.items; faults = c.run.new.libraries.faults },
+        done.0,
+        done.1,
+      );
+    }
