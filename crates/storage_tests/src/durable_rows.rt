@@ -1,0 +1,221 @@
+//! One sync fails, the server goes on or starts anew, and then the power fails: what stands?
+use crate::lossy_files::LossyFiles;
+use folder_storage::{FileSystem, FolderGround, FolderShelf, Ground};
+use ids::{Key, Kind, LibId, ObjId};
+use object_store::{Shelf, ShelfFailed, Slot};
+use std::alloc::Global;
+use std::process::Abort;
+use std::test::Fail;
+
+/// Objects of each kind, and in two folders of one. State texts from `2` on name them.
+const OBJECTS: [(Kind, &str); 4] = [
+    (Kind::Commit, "{}"),
+    (Kind::Fs, "fs"),
+    (Kind::Block, "abc"),
+    (Kind::Block, "other"),
+];
+
+fn lib() -> LibId {
+    LibId::from_bytes([0x11; 16])
+}
+
+fn slot_of(kind: Kind, text: &str) -> Slot {
+    let id = ObjId::of(text.as_bytes());
+    Slot::Object(Key { kind, id })
+}
+
+fn there<T: Drop>(answered: Result<Option<T>, ShelfFailed>) -> Result<T, Fail> {
+    match answered {
+        Ok(Some(given)) => Ok(given),
+        Ok(None) => Err("nothing is there".into()),
+        Err(_) => Err("a fault".into()),
+    }
+}
+
+fn done(answered: Result<(), ShelfFailed>) -> Result<(), Fail> {
+    match answered {
+        Ok(()) => Ok(()),
+        Err(_) => Err("a fault".into()),
+    }
+}
+
+/// A new run over these files.
+fn opened(files: LossyFiles) -> Result<FolderShelf<LossyFiles>, Fail> {
+    there(FolderGround::over(files).find("F", lib()))
+}
+
+/// The run that makes the library, in a folder that is durable.
+fn made(alloc: Global) -> Result<FolderShelf<LossyFiles>, Fail> {
+    let mut files = LossyFiles::new(alloc);
+    files.make_folder("F")?;
+    files.sync_folder("")?;
+    there(FolderGround::over(files).make("F", lib()))
+}
+
+/// The files of a library whose state text is `1`.
+fn with_text(alloc: Global) -> Result<LossyFiles, Fail> {
+    let mut shelf = made(alloc)?;
+    done(shelf.put(Slot::Status, b"1"))?;
+    Ok(shelf.files().another()?)
+}
+
+/// Whether an object is there, whole.
+fn has(shelf: &mut FolderShelf<LossyFiles>, kind: Kind, text: &str) -> bool {
+    match shelf.fetch(slot_of(kind, text)) {
+        Ok(Some(bytes)) => bytes.slice() == text.as_bytes(),
+        _ => false,
+    }
+}
+
+/// Whether all objects are there, whole.
+fn has_all(shelf: &mut FolderShelf<LossyFiles>) -> bool {
+    for (kind, text) in OBJECTS {
+        if !has(shelf, kind, text) {
+            return false;
+        }
+    }
+    true
+}
+
+/// Puts each object that isn't there whole.
+fn put_what_lacks(shelf: &mut FolderShelf<LossyFiles>) -> Result<(), Fail> {
+    for (kind, text) in OBJECTS {
+        if !has(shelf, kind, text) {
+            done(shelf.put(slot_of(kind, text), text.as_bytes()))?;
+        }
+    }
+    Ok(())
+}
+
+/// Puts a text. The answer is the text that was answered last.
+fn put_text(shelf: &mut FolderShelf<LossyFiles>, text: u8, answered: u8) -> u8 {
+    match shelf.put(Slot::Status, &[text]) {
+        Ok(()) => text,
+        Err(_) => answered,
+    }
+}
+
+/// The state text, a digit.
+fn text_of(shelf: &mut FolderShelf<LossyFiles>) -> Result<u8, Fail> {
+    match there(shelf.fetch(Slot::Status))?.slice() {
+        [digit] => Ok(*digit),
+        _ => Err("no digit".into()),
+    }
+}
+
+/// The power fails now: a text stands that is not before the one that was answered last, and all that it names.
+fn stands(rt: &impl Abort, files: &LossyFiles, answered: u8, case: u64) -> Result<(), Fail> {
+    for has_names in [false, true] {
+        let mut shelf = opened(files.cut(has_names)?)?;
+        let told = text_of(&mut shelf)?;
+        assert!(rt; told >= answered, "the text of case {case}");
+        let is_whole = told == b'1' || has_all(&mut shelf);
+        assert!(rt; is_whole, "the objects of case {case}");
+    }
+    Ok(())
+}
+
+/// The sync with this number fails in an update; the update is tried again in the same run, and then in another.
+fn one_sync_fails(rt: &impl Abort, files: &LossyFiles, case: u64) -> Result<(), Fail> {
+    let mut shelf = opened(files.failing(case)?)?;
+    put_what_lacks(&mut shelf)?;
+    let answered = put_text(&mut shelf, b'2', b'1');
+    // What of an object was not synced is written anew at once: the failures of the others are answered.
+    let is_answered = (4..SYNCS).contains(&case);
+    assert_eq!(rt; answered == b'1', is_answered, "the answer of case {case}");
+    stands(rt, shelf.files(), answered, case)?;
+    let answered = put_text(&mut shelf, b'3', answered);
+    stands(rt, shelf.files(), answered, case)?;
+    let mut shelf = opened(shelf.files().failing(u64::MAX)?)?;
+    put_what_lacks(&mut shelf)?;
+    assert_eq!(rt;
+        put_text(&mut shelf, b'4', answered),
+        b'4',
+        "the end of case {case}"
+    );
+    stands(rt, shelf.files(), b'4', case)
+}
+
+/// The syncs of a run's first update: four objects, their four folders and the three of their kinds, the text, the
+/// library's folder, and the one above.
+const SYNCS: u64 = 14;
+
+#[test]
+fn an_update_syncs_each_object_and_each_folder(rt: HostRuntime) -> Result<(), Fail> {
+    let mut shelf = opened(with_text(rt.alloc())?)?;
+    put_what_lacks(&mut shelf)?;
+    assert_eq!(rt; shelf.files().syncs(), 0);
+    done(shelf.put(Slot::Status, b"2"))?;
+    assert_eq!(rt; shelf.files().syncs(), SYNCS);
+    stands(&rt, shelf.files(), b'2', 0)
+}
+
+#[test]
+fn no_text_stands_over_what_a_failed_sync_lost(rt: HostRuntime) -> Result<(), Fail> {
+    let files = with_text(rt.alloc())?;
+    for case in 0..17 {
+        one_sync_fails(&rt, &files, case)?;
+    }
+    Ok(())
+}
+
+#[test]
+fn a_new_run_trusts_nothing_that_was_not_synced(rt: HostRuntime) -> Result<(), Fail> {
+    let mut shelf = opened(with_text(rt.alloc())?)?;
+    put_what_lacks(&mut shelf)?;
+    let mut torn = opened(shelf.files().cut(true)?)?;
+    for kind in [Kind::Commit, Kind::Fs, Kind::Block] {
+        assert_eq!(rt; torn.next(kind, None), Ok(None));
+    }
+    put_what_lacks(&mut torn)?;
+    assert!(rt; torn.next(Kind::Block, None) != Ok(None));
+    done(torn.put(Slot::Status, b"2"))?;
+    stands(&rt, torn.files(), b'2', 0)?;
+    let mut whole = opened(shelf.files().another()?)?;
+    done(whole.put(Slot::Status, b"2"))?;
+    stands(&rt, whole.files(), b'2', 1)
+}
+
+/// The calls of a run that puts the block `abc` and a text.
+const UPDATE: &str = "\
+write F/11111111-1111-1111-1111-111111111111/tmp/spare
+make F/11111111-1111-1111-1111-111111111111/blocks/a9
+rename to F/11111111-1111-1111-1111-111111111111/blocks/a9/993e364706816aba3e25717850c26c9cd0d89d
+write F/11111111-1111-1111-1111-111111111111/syncing
+sync F/11111111-1111-1111-1111-111111111111/blocks/a9/993e364706816aba3e25717850c26c9cd0d89d
+sync F/11111111-1111-1111-1111-111111111111/blocks/a9
+sync F/11111111-1111-1111-1111-111111111111/blocks
+write F/11111111-1111-1111-1111-111111111111/tmp/spare
+sync F/11111111-1111-1111-1111-111111111111/tmp/spare
+rename to F/11111111-1111-1111-1111-111111111111/status
+sync F/11111111-1111-1111-1111-111111111111
+sync F
+remove F/11111111-1111-1111-1111-111111111111/syncing
+";
+
+/// The calls by which a library is made and has its first text.
+const MAKING: &str = "\
+make F/11111111-1111-1111-1111-111111111111.new
+make F/11111111-1111-1111-1111-111111111111.new/tmp
+make F/11111111-1111-1111-1111-111111111111.new/commits
+make F/11111111-1111-1111-1111-111111111111.new/fs
+make F/11111111-1111-1111-1111-111111111111.new/blocks
+write F/11111111-1111-1111-1111-111111111111.new/tmp/spare
+sync F/11111111-1111-1111-1111-111111111111.new/tmp/spare
+rename to F/11111111-1111-1111-1111-111111111111.new/status
+sync F/11111111-1111-1111-1111-111111111111.new
+rename to F/11111111-1111-1111-1111-111111111111
+sync F
+";
+
+#[test]
+fn the_calls_come_in_their_order(rt: HostRuntime) -> Result<(), Fail> {
+    let mut shelf = made(rt.alloc())?;
+    done(shelf.put(Slot::Status, b"1"))?;
+    assert_eq!(rt; shelf.files().calls(), MAKING);
+    let mut shelf = opened(shelf.files().another()?)?;
+    done(shelf.put(slot_of(Kind::Block, "abc"), b"abc"))?;
+    done(shelf.put(Slot::Status, b"2"))?;
+    assert_eq!(rt; shelf.files().calls(), UPDATE);
+    Ok(())
+}
