@@ -5,8 +5,8 @@ use Rattle.std.specs.Str.{bytes_eq}
 use Rattle.serde_json.specs.Data.{Data}
 use Rattle.json_words.specs.Check.{◌>>=◌, holds}
 use Rattle.json_words.specs.Fields.{is_object, optional_field}
-use Rattle.json_words.specs.Kept.{emptied, kept}
-use Rattle.json_words.proofs.KeptLemmas.{is_object-kept, as_bool-emptied, as_number-emptied, number_field-kept, text_field-kept, optional_text-kept, optional_field-kept}
+use Rattle.json_tokens.specs.Kept.{emptied, kept}
+use Rattle.json_tokens.proofs.KeptLemmas.{is_object-kept, as_bool-emptied, as_number-emptied, number_field-kept, text_field-kept, optional_text-kept, optional_field-kept}
 use Rattle.commit_objects.specs.Commit.{id_at, stored_id_at, library_id_at, parent_at, text_at, flag_in, conflict_from, conflict_at, commit_in}
 use Rattle.commit_objects.specs.CommitKey.{key_text}
 use Rattle.commit_objects.specs.Reading.{commit_keys, value_seen}

@@ -12,7 +12,7 @@ use crate::fields::{
     conflict_at, id_at, library_id_at, number_at, parent_at, stored_id_at, text_at,
 };
 use ids::{LibId, ObjId, Text};
-use json_words::parse_kept;
+use json_tokens::parse_kept;
 use serde_json::Value;
 use std::alloc::{AllocError, Global};
 

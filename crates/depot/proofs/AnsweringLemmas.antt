@@ -9,7 +9,7 @@ use Rattle.ids.specs.FaultCount.{Rose}
 use Rattle.ids.specs.Key.{Objects}
 use Rattle.ids.specs.declared.key.Key.{Key}
 use Rattle.library_rules.specs.Answered.{Fails, IsFault as IsFaultOf}
-use Rattle.library_rules.specs.Calls.{Due, Denies, Says, Stores, Installs, Merges, act_due, due, keys_of, may, put_by, token_due, token_of}
+use Rattle.library_rules.specs.Calls.{Due, Denies, Says, Stores, Installs, Merges, act_due, due, keys_of, may, token_due, token_of}
 use Rattle.library_rules.specs.Changes.{act_changes, apply, counted, fresher, is_refused, moved, put_new, step_changes, stored_keys, told_by}
 use Rattle.library_rules.specs.History.{Permits, lone}
 use Rattle.library_rules.specs.LibraryState.{State, is_stored}
@@ -36,17 +36,18 @@ use Rattle.object_store.specs.declared.error.StoreFault.TheVariants as store
 use Rattle.object_graph.proofs.Keys.{same_key, same_key-itself}
 use Rattle.depot.specs.Answering.{AnswersBySome, permits}
 use Rattle.depot.specs.ObjectCalls.{Counts, IsFault, IsToldRefusal, SaysOr, is_counted, is_of_store}
+use Rattle.library_rules.proofs.CallsLemmas.{put_by}
 
 -- ---- what a call is due
 
 -- of one who may
-pub due_is : (s : State) (call : Call) (token : Token) → token_of s.tokens call.secret ≡ Some token → may token call.act ≡ true → due s call ≡ act_due s token call.act
+pub due_is : (s : State) (call : Call) (token : Token) → token_of s.state.tokens call.secret ≡ Some token → may token call.act ≡ true → due s call ≡ act_due s token call.act
 due_is s call token known right =
     ap (token_due s call.act) known ∙ ap (λ b. if b then act_due s token call.act else Denies) right
 
 -- of one who may not
-pub due_denies : (s : State) (call : Call) → permits (token_of s.tokens call.secret) call.act ≡ false → due s call ≡ Denies
-due_denies s call lacks = by (token_of s.tokens call.secret) lacks
+pub due_denies : (s : State) (call : Call) → permits (token_of s.state.tokens call.secret) call.act ≡ false → due s call ≡ Denies
+due_denies s call lacks = by (token_of s.state.tokens call.secret) lacks
   where
     by : (o : Option Token) → permits o call.act ≡ false → token_due s call.act o ≡ Denies
     by None e = refl

@@ -1,9 +1,9 @@
 pub mod Told
 pub mod WritingLemmas
 pub mod GoodLemmas
-pub mod OpeningLemmas
+pub mod MakeLemmas
 pub mod CompleteLemmas
-pub mod ReopeningLemmas
+pub mod StartLemmas
 pub mod ObjectCallLemmas
 pub mod AnsweringLemmas
 pub mod GrownLemmas

@@ -15,20 +15,20 @@ use Rattle.tree_walk.specs.Visits.{commit_due, commits_due}
 use Rattle.tree_walk.specs.declared.fault.WalkFault.{WalkFault}
 use Rattle.tree_walk.specs.declared.fault.WalkFault.TheVariants as walk
 use Rattle.depot.specs.Answering.{MayRefuseTree}
-use Rattle.depot.specs.UpdateBase.{walk_refusal}
 use Rattle.depot.specs.ObjectCalls.{IsFault, IsToldDamage, is_counted}
+use Rattle.depot.specs.Refusals.{walk_refusal}
 use Rattle.depot.proofs.AnsweringLemmas.{damage_other}
 
 -- the commits that are asked about are complete, so no traversal has a fault
 client_due : (s : State) → IsSound s → (client : Option (List ℕ)) → commit_due s.objects (kept_alone s client) ≡ None
 client_due s sound None = refl
-client_due s sound (Some commit) = by (is_kept s.kept commit) refl
+client_due s sound (Some commit) = by (is_kept s.state.kept commit) refl
   where
-    by : (b : Bool) → is_kept s.kept commit ≡ b → commit_due s.objects (if b then Some commit else None) ≡ None
+    by : (b : Bool) → is_kept s.state.kept commit ≡ b → commit_due s.objects (if b then Some commit else None) ≡ None
     by true is = sound.kept.complete commit is
     by false is = refl
 
-pub none_due : (s : State) → IsSound s → (server : List ℕ) (client : Option (List ℕ)) → is_kept s.kept server ≡ true → commits_due s.objects server (kept_alone s client) ≡ None
+pub none_due : (s : State) → IsSound s → (server : List ℕ) (client : Option (List ℕ)) → is_kept s.state.kept server ≡ true → commits_due s.objects server (kept_alone s client) ≡ None
 none_due s sound server client is =
     ap (λ o. first_due o (commit_due s.objects (kept_alone s client))) (sound.kept.complete server is) ∙ client_due s sound client
 

@@ -6,7 +6,8 @@ use Rattle.std.specs.FinMap as map
 use Rattle.sha1.specs.Sha1.{sha1}
 use Rattle.ids.specs.Key.{Objects}
 use Rattle.ids.specs.declared.key.Key.{Key}
-use Rattle.library_rules.specs.Calls.{Says, Stores, first_refusal, other_bytes, put_by, taken}
+use Rattle.library_rules.specs.Calls.{Says, Stores, first_refusal, other_bytes}
+use Rattle.library_rules.proofs.CallsLemmas.{put_after, put_by, taken}
 use Rattle.library_rules.specs.LibraryState.{State, is_stored}
 use Rattle.library_state.specs.declared.call.Act.TheVariants as act
 use Rattle.library_state.specs.declared.refusal.Refusal.{Refusal}
@@ -21,8 +22,9 @@ use Rattle.object_store.specs.declared.put.Put.TheVariants.{New, Same}
 use Rattle.object_store.specs.declared.error.StoreFault.{StoreFault}
 use Rattle.object_store.specs.declared.error.StoreFault.TheVariants.{Taken, Wrong, Damaged, Shelf, NoMemory}
 use Rattle.object_store.specs.declared.shelf.Slot.{Slot}
-use Rattle.depot.specs.Answering.{MayAnswer, MayGet, MayPut, store_decided}
-use Rattle.depot.specs.ObjectCalls.{DoneSo, IsFault, IsToldDamage, own_name, store_due, store_refusal}
+use Rattle.depot.specs.Answering.{MayAnswer, MayGet, MayPut}
+use Rattle.depot.specs.ObjectCalls.{DoneSo, IsFault, IsToldDamage, own_name, store_decided, store_due}
+use Rattle.depot.specs.Refusals.{store_refusal}
 use Rattle.depot.proofs.AnsweringLemmas.{damage_other}
 
 -- ---- what is due of a put
@@ -36,9 +38,13 @@ module _ (s : State) (key : Key) (bytes : List ℕ) where
       by true = (inr fault, is)
       by false = inr (fault, is)
 
+  pub store_due-is : store_due s key bytes ≡ put_by s key bytes (first_refusal (own_name key bytes ∷ taken s key bytes ∷ []))
+  store_due-is = put_after s key bytes (is_nil key.id) (other_bytes (map.get s.objects key) bytes) (own_name key bytes ∷ [])
+
   -- a fault in the place of what is due
   pub put_fault : (r : Reply) (after : Option Objects) → IsFault s.objects r → after ≡ Some s.objects → DoneSo s.objects (store_due s key bytes) r after
-  put_fault r after fault is = fault_by (first_refusal (own_name key bytes ∷ taken s key bytes ∷ [])) r after fault is
+  put_fault r after fault is =
+      subst (λ d. DoneSo s.objects d r after) (sym store_due-is) (fault_by (first_refusal (own_name key bytes ∷ taken s key bytes ∷ [])) r after fault is)
 
   -- a refusal that is due
   pub due_refused : (o : Option Refusal) (why : Refusal) (after : Option Objects) → o ≡ Some why → after ≡ Some s.objects → DoneSo s.objects (put_by s key bytes o) (reply.Refused why) after
@@ -105,7 +111,9 @@ put_refused s key bytes fault after (inl due) is = by (refused_by key bytes faul
   where
     by : (first_refusal (own_name key bytes ∷ taken s key bytes ∷ []) ≡ Some (store_refusal fault)) ⊎ (damage_of key (map.get s.objects key) ≡ Some fault)
         → DoneSo s.objects (store_due s key bytes) (reply.Refused (store_refusal fault)) after
-    by (inl refused) = due_refused s key bytes (first_refusal (own_name key bytes ∷ taken s key bytes ∷ [])) (store_refusal fault) after refused is
+    by (inl refused) =
+        subst (λ d. DoneSo s.objects d (reply.Refused (store_refusal fault)) after) (sym (store_due-is s key bytes))
+        (due_refused s key bytes (first_refusal (own_name key bytes ∷ taken s key bytes ∷ [])) (store_refusal fault) after refused is)
     by (inr damage) = put_fault s key bytes (reply.Refused (store_refusal fault)) after (damage_told s.objects key (map.get s.objects key) fault damage refl) is
 
 -- ---- damage

@@ -1,11 +1,14 @@
--- The first token of a secret, by its place. The key lemmas are place_token, place_marked, place_absent and marked_moves.
-use Rattle.std.proofs.Common.{◌≡◌, ◌≢◌, ℕ, zero, suc, ◌<◌, false, cond, if◌then◌else◌, List, [], ◌∷◌, length, refl, sym, ap, ◌∙◌, subst, arith, Option, None, Some}
-use Rattle.std.specs.Prelude.{IfSome, slice_index_or}
+-- The first token of a secret, by its place. The key lemmas are place_token, place_marked, place_absent, marked_moves and token_asked.
+use Rattle.std.proofs.Common.{◌≡◌, ◌≢◌, ℕ, zero, suc, ◌<◌, false, cond, if◌then◌else◌, List, [], ◌∷◌, length, refl, sym, ap, ◌∙◌, arith, Option, None, Some}
+use Rattle.std.specs.Prelude.{slice_index_or}
 use Rattle.std.specs.Str.{bytes_eq}
-use Rattle.library_rules.specs.Calls.{token_of}
+use Rattle.library_rules.specs.Calls.{may, token_of}
 use Rattle.library_rules.specs.Changes.{seen_by, with_last}
 use Rattle.library_state.specs.declared.right.Right.TheVariants.{Read}
+use Rattle.library_state.specs.declared.state.LibState.{LibState}
 use Rattle.library_state.specs.declared.token.Token.{Token}
+use Rattle.library_state.specs.declared.call.Act.{Act}
+use Rattle.depot.specs.Answering.{MayAsk, permits}
 use Rattle.depot.specs.Changing.{IsPlaceOf, marked}
 
 -- ---- a token further on
@@ -115,6 +118,18 @@ marked_back (t ∷ tokens) (suc place) collection d e within = ap (λ ts. t ∷ 
     less : suc place < suc (length tokens) → place < length tokens
     less below = omega arith
 
+-- the state of which a token was marked, and marked back
+pub marked_undone : (before settled written : LibState) (place : ℕ) (d : Token) (marked_now last slice : List Token) → place < length before.tokens → settled ≡ before
+    → slice ≡ before.tokens → marked_now ≡ marked place settled.collection settled.tokens d → written ≡ record settled { tokens = marked_now }
+    → last ≡ marked place (slice_index_or slice place d).last written.tokens d → record written { tokens = last } ≡ before
+marked_undone before settled written place d marked_now last slice within stays sliced mark writes back =
+    ap (λ (tokens : List Token). record written { tokens = tokens }) back
+    ∙ ap (λ (state : LibState). record state { tokens = marked place (slice_index_or slice place d).last state.tokens d }) writes
+    ∙ ap (λ (tokens : List Token). record settled { tokens = marked place (slice_index_or slice place d).last tokens d }) mark
+    ∙ ap (λ (state : LibState). record state { tokens = marked place (slice_index_or slice place d).last (marked place state.collection state.tokens d) d }) stays
+    ∙ ap (λ (tokens : List Token). record before { tokens = marked place (slice_index_or tokens place d).last (marked place before.collection before.tokens d) d }) sliced
+    ∙ ap (λ (tokens : List Token). record before { tokens = tokens }) (marked_back before.tokens place before.collection d d within)
+
 pub marked_length : (tokens : List Token) (place collection : ℕ) (d : Token) → place < length tokens → length (marked place collection tokens d) ≡ length tokens
 marked_length [] place collection d within = absurd (none place within)
   where
@@ -132,10 +147,19 @@ marked_length (t ∷ tokens) (suc place) collection d within = ap suc (marked_le
 pub no_token : Token
 no_token = record { secret = []; user = []; right = Read; last = 0 }
 
-pub place_some : (o : Option ℕ) (place : ℕ) → o ≡ Some place → o ≡ None → ⊥
-place_some o place is none = cc
+-- the token that a call shows is told of the collection
+pub seen_asked : (secret : Option (List ℕ)) (a : Act) (tokens : List Token) (place collection : ℕ) (d : Token) → MayAsk tokens secret a place
+    → seen_by secret collection tokens ≡ marked place collection tokens d
+seen_asked secret a tokens place collection d who =
+    ap (λ o. seen_by o collection tokens) who.shown ∙ place_marked tokens who.digits place collection d who.at
 
-pub seen_marked : (secret : Option (List ℕ)) (slice tokens : List Token) (place collection : ℕ) (d : Token) → slice ≡ tokens → IfSome secret (λ digits. IsPlaceOf slice digits place)
-    → (secret ≡ None → ⊥) → seen_by secret collection tokens ≡ marked place collection tokens d
-seen_marked None slice tokens place collection d is at some = absurd (some refl)
-seen_marked (Some digits) slice tokens place collection d is at some = place_marked tokens digits place collection d (subst (λ ts. IsPlaceOf ts digits place) is at)
+-- it is the one at the place
+pub token_asked : (secret : Option (List ℕ)) (a : Act) (tokens : List Token) (place : ℕ) (d : Token) → MayAsk tokens secret a place
+    → token_of tokens secret ≡ Some (slice_index_or tokens place d)
+token_asked secret a tokens place d who = ap (token_of tokens) who.shown ∙ place_token tokens who.digits place d who.at
+
+-- whether one may is told by the token at the place
+pub permits_at : (tokens : List Token) (secret : Option (List ℕ)) (digits : List ℕ) (a : Act) (place : ℕ) (d : Token) → secret ≡ Some digits → IsPlaceOf tokens digits place
+    → permits (token_of tokens secret) a ≡ may (slice_index_or tokens place d) a
+permits_at tokens secret digits a place d shown at =
+    ap (λ o. permits (token_of tokens o) a) shown ∙ ap (λ o. permits o a) (place_token tokens digits place d at)

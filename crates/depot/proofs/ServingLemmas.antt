@@ -4,7 +4,7 @@ use Rattle.std.specs.FinMap as map
 use Rattle.std.specs.FinSet as set
 use Rattle.ids.specs.Key.{Objects}
 use Rattle.ids.specs.declared.key.Key.{Key}
-use Rattle.library_rules.specs.Calls.{Due, Denies, Says, Stores, Installs, Merges, act_due, due, first_refusal, may, put_by, put_due, put_refusals, taken, token_of}
+use Rattle.library_rules.specs.Calls.{Due, Denies, Says, Stores, Installs, Merges, act_due, due, first_refusal, may, put_due, put_refusals, token_of}
 use Rattle.library_rules.specs.Changes.{is_refused, put_new, step_changes}
 use Rattle.library_rules.specs.LibraryState.{Running, State}
 use Rattle.library_rules.specs.declared.entry.Step.TheVariants as step
@@ -29,6 +29,7 @@ use Rattle.depot.specs.FreshKeys.{RunsOn, came, told_there}
 use Rattle.depot.specs.ObjectCalls.{Counts, DoneSo, IsToldDamage, SaysOr, is_counted}
 use Rattle.depot.proofs.AnsweringLemmas.{denied_answers, due_denies, due_is, fault_answers, is_quiet, quiet_step, said_answers, says_answers, stores_answers, stores_new}
 use Rattle.depot.proofs.Told.{mapped_at}
+use Rattle.library_rules.proofs.CallsLemmas.{put_due-is, taken, put_by}
 
 -- ---- who may ask
 
@@ -54,10 +55,10 @@ decided_is state call right o each =
     ∙ ap (λ b. if b then act_decided state who.token call.act else Some (reply.Refused refusal.Denied)) who.right
     ∙ each who.token who.known
 
-pub due_as : (s : State) (call : Call) → permits (token_of s.tokens call.secret) call.act ≡ true → (d : Due)
+pub due_as : (s : State) (call : Call) → permits (token_of s.state.tokens call.secret) call.act ≡ true → (d : Due)
     → ((token : Token) → act_due s token call.act ≡ d) → due s call ≡ d
 due_as s call right d each =
-    let who = permitted_by s.tokens call right in
+    let who = permitted_by s.state.tokens call right in
     due_is s call who.token who.known who.right ∙ each who.token
 
 -- ---- the state that is left
@@ -87,7 +88,7 @@ pub denied_told : {S : Type 0} (contents : S → Option Contents) (faults : S �
 denied_told contents faults old call moment lacks s is =
     let at = mapped_at (running_library old.state old.running (faults old.store.shelf)) (objects_of contents old.store) s is in
     subst (AnswersBySome s call moment (reply.Refused refusal.Denied)) (sym is)
-    (denied_answers s call moment (due_denies s call (subst (λ (st : State). permits (token_of st.tokens call.secret) call.act ≡ false) at.gives lacks)))
+    (denied_answers s call moment (due_denies s call (subst (λ (st : State). permits (token_of st.state.tokens call.secret) call.act ≡ false) at.gives lacks)))
 
 -- ---- a call that touches nothing, whether a collection runs or not
 
@@ -108,22 +109,22 @@ runs_still index told (Some running) none = (
     by false true = refl
     by false false = refl
 
-pub serves_still : {S : Type 0} (contents : S → Option Contents) (may_give : S → ShelfSlot → Option (List ℕ) → Type 0) (faults : S → ℕ) (old : DepotView S) (call : Call) (moment : ℕ) (r : Reply)
-    → ((s : State) → s.kept ≡ old.state.kept → s.tokens ≡ old.state.tokens → due s call ≡ Says r) → ((s : State) → step_changes moment (step.Asked call) r s ≡ s)
+pub serves_still : {S : Type 0} (contents : S → Option Contents) (may_give : S → ShelfSlot → Option (List ℕ) → Type 0) (texts faults : S → ℕ) (old : DepotView S) (call : Call) (moment : ℕ) (r : Reply)
+    → ((s : State) → s.state.kept ≡ old.state.kept → s.state.tokens ≡ old.state.tokens → due s call ≡ Says r) → ((s : State) → step_changes moment (step.Asked call) r s ≡ s)
     → decided old.state call ≡ Some r → ((objects : Objects) → IsToldDamage objects r) → Counts (faults old.store.shelf) (faults old.store.shelf) r
-    → old.state ≡ state_after old.state call moment r → told_there old.store.index call.act r ≡ [] → Serves contents may_give faults old call moment r old
-serves_still contents may_give faults old call moment r is_due stays is_decided damage count left none = record {
+    → old.state ≡ state_after old.state call moment r → told_there old.store.index call.act r ≡ [] → Serves contents may_give texts faults old call moment r old
+serves_still contents may_give texts faults old call moment r is_due stays is_decided damage count left none = record {
   told = λ s told.
       let at = mapped_at (running_library old.state old.running (faults old.store.shelf)) (objects_of contents old.store) s told in
       subst (AnswersBySome s call moment r) (sym told)
-      (says_answers s call moment r (is_due s (ap (λ (t : State). t.kept) (sym at.gives)) (ap (λ (t : State). t.tokens) (sym at.gives))) (stays s));
+      (says_answers s call moment r (is_due s (ap (λ (t : State). t.state.kept) (sym at.gives)) (ap (λ (t : State). t.state.tokens) (sym at.gives))) (stays s));
   may_come = subst (λ o. MayAnswer old.store.index (may_give old.store.shelf) call.act o r) (sym is_decided) (inl refl);
   damage = λ objects told. damage objects;
   count = count;
   left = left;
   fresh = runs_still old.store.index (told_there old.store.index call.act r) old.running none;
   lying = λ _ key stray. stray;
-  slot = unwritten refl refl refl;
+  slot = unwritten refl refl refl refl;
 }
 
 -- ---- a put
@@ -154,7 +155,7 @@ put_answers s call moment key bytes o (Merges user base pushed) r now after acts
 
 -- ---- what a call answers that writes no text
 
-module _ {S : Type 0} (contents : S → Option Contents) (may_give : S → ShelfSlot → Option (List ℕ) → Type 0) (faults : S → ℕ) (old : DepotView S) (call : Call) (moment : ℕ) where
+module _ {S : Type 0} (contents : S → Option Contents) (may_give : S → ShelfSlot → Option (List ℕ) → Type 0) (texts faults : S → ℕ) (old : DepotView S) (call : Call) (moment : ℕ) where
   -- what holds of the library over what is told
   pub of_told : (P : State → Type 0) → ((objects : Objects) → objects_of contents old.store ≡ Some objects → P (library old.state (faults old.store.shelf) objects))
       → (s : State) → state_of contents faults (at_rest old) ≡ Some s → P s
@@ -162,12 +163,12 @@ module _ {S : Type 0} (contents : S → Option Contents) (may_give : S → Shelf
       let at = mapped_at (library old.state (faults old.store.shelf)) (objects_of contents old.store) s is in
       subst P at.gives (each at.value at.is)
 
-  module _ (quiet : is_quiet call.act ≡ true) (store : StoreView S) (r : Reply) (text_kept : status_of contents store ≡ status_of contents old.store)
+  module _ (quiet : is_quiet call.act ≡ true) (store : StoreView S) (r : Reply) (text_kept : status_of contents store ≡ status_of contents old.store) (written : texts store.shelf ≡ texts old.store.shelf)
       (may_come : MayAnswer old.store.index (may_give store.shelf) call.act (decided old.state call) r)
       (damage : (objects : Objects) → objects_of contents old.store ≡ Some objects → IsToldDamage objects r)
       (count : Counts (faults old.store.shelf) (faults store.shelf) r) (lying : is_counted r ≡ false → AddsNoStray contents old.store store) where
     serves_by : ((s : State) → state_of contents faults (at_rest old) ≡ Some s → AnswersBySome s call moment r (state_of contents faults (record { store = store; state = old.state; unsettled = old.unsettled; running = None })))
-        → Serves contents may_give faults (at_rest old) call moment r (record { store = store; state = old.state; unsettled = old.unsettled; running = None })
+        → Serves contents may_give texts faults (at_rest old) call moment r (record { store = store; state = old.state; unsettled = old.unsettled; running = None })
     serves_by told = record {
       told = told;
       may_come = may_come;
@@ -176,14 +177,14 @@ module _ {S : Type 0} (contents : S → Option Contents) (may_give : S → Shelf
       left = quiet_left old.state call moment r quiet;
       fresh = refl;
       lying = lying;
-      slot = unwritten refl refl text_kept;
+      slot = unwritten refl refl text_kept written;
     }
 
     -- an answer that changes nothing
     pub serves_said : objects_of contents store ≡ objects_of contents old.store
         → ((objects : Objects) → objects_of contents old.store ≡ Some objects
         → (said : Reply) × (due (library old.state (faults old.store.shelf) objects) call ≡ Says said) × SaysOr objects said r)
-        → Serves contents may_give faults (at_rest old) call moment r (record { store = store; state = old.state; unsettled = old.unsettled; running = None })
+        → Serves contents may_give texts faults (at_rest old) call moment r (record { store = store; state = old.state; unsettled = old.unsettled; running = None })
     serves_said kept says = serves_by (of_told (λ s. AnswersBySome s call moment r (state_of contents faults (record { store = store; state = old.state; unsettled = old.unsettled; running = None })))
         (λ objects told.
         let due_says = says objects told in
@@ -196,10 +197,10 @@ module _ {S : Type 0} (contents : S → Option Contents) (may_give : S → Shelf
         → ((objects : Objects) → objects_of contents old.store ≡ Some objects
         → (due (library old.state (faults old.store.shelf) objects) call ≡ put_due (library old.state (faults old.store.shelf) objects) key bytes)
         × DoneSo objects (put_due (library old.state (faults old.store.shelf) objects) key bytes) r (objects_of contents store))
-        → Serves contents may_give faults (at_rest old) call moment r (record { store = store; state = old.state; unsettled = old.unsettled; running = None })
+        → Serves contents may_give texts faults (at_rest old) call moment r (record { store = store; state = old.state; unsettled = old.unsettled; running = None })
     serves_put key bytes acts done = serves_by (of_told (λ s. AnswersBySome s call moment r (state_of contents faults (record { store = store; state = old.state; unsettled = old.unsettled; running = None })))
         (λ objects told.
         let s : State = library old.state (faults old.store.shelf) objects in
         let both = done objects told in
-        put_answers s call moment key bytes (first_refusal (put_refusals s.lib key.kind key bytes ++ taken s key bytes ∷ []))
-        (put_due s key bytes) r (faults store.shelf) (objects_of contents store) acts refl both.0 refl both.1 count))
+        put_answers s call moment key bytes (first_refusal (put_refusals s.state.lib key.kind key bytes ++ taken s key bytes ∷ []))
+        (put_due s key bytes) r (faults store.shelf) (objects_of contents store) acts refl both.0 (sym (put_due-is s key bytes)) both.1 count))

@@ -6,7 +6,7 @@ use Rattle.ids.specs.Key.{Objects}
 use Rattle.ids.specs.declared.key.Key.{Key}
 use Rattle.ids.proofs.KeyOrder.{key_cmp_total, key_cmp_exact}
 use Rattle.library_rules.specs.LibraryState.{IsSound, State, kept_commits, last_number}
-use Rattle.library_rules.specs.Recovery.{StandsFor, written_part}
+use Rattle.library_rules.specs.Recovery.{StandsFor}
 use Rattle.library_rules.proofs.Keeping.{agrees_grown, still_complete}
 use Rattle.library_rules.proofs.Members.{or_left, or_right, same_id-itself}
 use Rattle.library_rules.proofs.ProperText.{sound_is_proper}
@@ -20,7 +20,7 @@ use Rattle.object_store.specs.Shelf.{Contents}
 use Rattle.object_store.specs.StoreView.{HasNoStray, Index, StoreView, indexed, objects_of}
 use Rattle.object_store.proofs.MapLemmas.{get-retained}
 use Rattle.depot.specs.DepotView.{DepotView, Holds, HoldsOther, IsGood, library, running_library, state_of}
-use Rattle.depot.specs.Reopening.{first_incomplete, first_of, start_refusal, text_refusal}
+use Rattle.depot.specs.Start.{first_incomplete, first_of, start_refusal, text_refusal}
 use Rattle.depot.specs.Standing.{IsOnShelf, StandsForNext}
 use Rattle.depot.specs.declared.error.StartFault.TheVariants as start
 
@@ -55,8 +55,8 @@ module _ {S : Type 0} (contents : S → Option Contents) (faults : S → ℕ) (d
   unfolding objects
   stands_own text =
       stands_by_its_objects s held.status held.objects sound
-      (text ∙ ap (λ (z : State). Some (text_of (written_part z))) s_is)
-      (subst (λ (z : State). IsSound z → read_state (text_of (written_part z)) ≡ Ok (written_part z)) s_is
+      (text ∙ ap (λ (z : State). Some (text_of z.state)) s_is)
+      (subst (λ (z : State). IsSound z → read_state (text_of z.state) ≡ Ok z.state) s_is
       (λ (own : IsSound (running_library depot.state depot.running (faults depot.store.shelf) objects)).
       good.reads (sound_is_proper (running_library depot.state depot.running (faults depot.store.shelf) objects) own)) sound)
       (subst (λ (z : State). Keeps z.objects held.objects) s_is (indexed_lies depot.store.index held))
@@ -88,12 +88,12 @@ none_incomplete lying (id ∷ ids) each =
     ∙ none_incomplete lying ids (λ other e. each other (or_right (same_id other id) (list_any (same_id other) ids) e))
 
 pub opens : (s : State) (slot : Option (List ℕ)) (lying : Objects) → IsSound s → StandsFor slot lying s
-    → start_refusal lying slot ≡ (if s.opening == last_number then Some start.Worn else None)
+    → start_refusal lying slot ≡ (if s.state.opening == last_number then Some start.Worn else None)
 opens s slot lying sound stands =
     ap (start_refusal lying) stands.text
     ∙ ap (text_refusal lying) stands.reads
-    ∙ ap (λ o. if s.opening == last_number then Some start.Worn else option_map start.Walk o)
-    (none_incomplete lying (kept_commits s.kept) (λ id e. still_complete s.objects lying id (agrees_grown s.objects lying id (sound.kept.complete id e) stands.lies) (sound.kept.complete id e)))
+    ∙ ap (λ o. if s.state.opening == last_number then Some start.Worn else option_map start.Walk o)
+    (none_incomplete lying (kept_commits s.state.kept) (λ id e. still_complete s.objects lying id (agrees_grown s.objects lying id (sound.kept.complete id e) stands.lies) (sound.kept.complete id e)))
 
 -- ---- what lies there
 

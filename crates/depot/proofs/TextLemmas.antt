@@ -9,7 +9,6 @@ use Rattle.library_rules.specs.Changes.{is_refused, step_changes}
 use Rattle.library_rules.specs.History.{lone}
 use Rattle.library_rules.specs.LibraryState.{State, IsSound}
 use Rattle.library_rules.specs.Permitted.{DuePermits}
-use Rattle.library_rules.specs.Recovery.{written_part}
 use Rattle.library_rules.specs.declared.entry.Step.TheVariants as step
 use Rattle.library_rules.proofs.Unmoved.{lone_apply}
 use Rattle.library_state.specs.declared.call.Call.{Call}
@@ -24,7 +23,7 @@ use Rattle.object_store.specs.declared.error.StoreFault.{StoreFault}
 use Rattle.object_store.specs.declared.error.StoreFault.TheVariants.{Taken, Wrong, Damaged, Shelf, NoMemory}
 use Rattle.object_store.specs.declared.shelf.Slot.{Slot as ShelfSlot}
 use Rattle.depot.specs.Answering.{AnswersBySome, MayAnswer, MayAnswerSo, Serves, Would, decided, next_state, refused, rewritten, unwritten}
-use Rattle.depot.specs.Changing.{TextSo, answer_of, same, changed}
+use Rattle.depot.specs.Changing.{TextSo, same, changed}
 use Rattle.depot.specs.DepotView.{at_rest, DepotView, library, state_of, IsGood}
 use Rattle.depot.specs.ObjectCalls.{Counts, IsFault, IsToldDamage, is_counted}
 use Rattle.depot.specs.NextState.{Follows}
@@ -32,6 +31,7 @@ use Rattle.depot.specs.Writing.{IsWritten, LeftBy, settled}
 use Rattle.depot.proofs.AnsweringLemmas.{fault_answers, says_answers}
 use Rattle.depot.proofs.GoodLemmas.{good_rewritten}
 use Rattle.depot.proofs.GrownLemmas.{good_kept}
+use Rattle.depot.specs.Refusals.{answer_of}
 use Rattle.depot.proofs.ServingLemmas.{of_told}
 
 -- ---- answers that are no refusals
@@ -63,7 +63,7 @@ says_not_denied said e = cc
 
 -- a state of a library tells what its text holds
 library_apart : (next present : LibState) (count : ℕ) (objects : Objects) → next ≢ present → library next count objects ≢ library present count objects
-library_apart next present count objects apart e = apart (ap written_part e)
+library_apart next present count objects apart e = apart (ap (λ (z : State). z.state) e)
 
 -- ---- an answer after which the state is another
 
@@ -86,7 +86,7 @@ entered s t call moment said is changes apart = (
   },
 )
 
-module _ {S : Type 0} (contents : S → Option Contents) (may_give : S → ShelfSlot → Option (List ℕ) → Type 0) (faults : S → ℕ) (old : DepotView S) (call : Call) (moment : ℕ)
+module _ {S : Type 0} (contents : S → Option Contents) (may_give : S → ShelfSlot → Option (List ℕ) → Type 0) (texts faults : S → ℕ) (old : DepotView S) (call : Call) (moment : ℕ)
     (said : Reply) (next : LibState) (plain : is_refused said ≡ false) (is_decided : decided old.state call ≡ Some said) (is_next : next_state old.state call moment said ≡ next)
     (is_due : (objects : Objects) → due (library old.state (faults old.store.shelf) objects) call ≡ Says said)
     (makes : (objects : Objects) → step_changes moment (step.Asked call) said (library old.state (faults old.store.shelf) objects) ≡ library next (faults old.store.shelf) objects)
@@ -99,7 +99,7 @@ module _ {S : Type 0} (contents : S → Option Contents) (may_give : S → Shelf
   refused_by : (fault : StoreFault) → (is_free : (objects : Objects) → IsFault objects (answer_of said (Err fault)))
       → Counts (faults old.store.shelf) (faults store.shelf) (answer_of said (Err fault)) → state ≡ old.state
       → (s : State) → state_of contents faults (at_rest old) ≡ Some s → AnswersBySome s call moment (answer_of said (Err fault)) (state_of contents faults (record { store = store; state = state; unsettled = still; running = None }))
-  refused_by fault is_free count stays = of_told contents may_give faults old call moment
+  refused_by fault is_free count stays = of_told contents may_give texts faults old call moment
       (λ s. AnswersBySome s call moment (answer_of said (Err fault)) (state_of contents faults (record { store = store; state = state; unsettled = still; running = None }))) (λ objects told.
       subst (AnswersBySome (library old.state (faults old.store.shelf) objects) call moment (answer_of said (Err fault))) (sym (left_is old.state stays objects told))
       (fault_answers (library old.state (faults old.store.shelf) objects) call moment (λ e. says_not_denied said (sym (is_due objects) ∙ e))
@@ -107,7 +107,7 @@ module _ {S : Type 0} (contents : S → Option Contents) (may_give : S → Shelf
 
   read_by : next ≡ old.state → faults store.shelf ≡ faults old.store.shelf → state ≡ next
       → (s : State) → state_of contents faults (at_rest old) ≡ Some s → AnswersBySome s call moment said (state_of contents faults (record { store = store; state = state; unsettled = still; running = None }))
-  read_by is count ok = of_told contents may_give faults old call moment
+  read_by is count ok = of_told contents may_give texts faults old call moment
       (λ s. AnswersBySome s call moment said (state_of contents faults (record { store = store; state = state; unsettled = still; running = None }))) (λ objects told.
       subst (AnswersBySome (library old.state (faults old.store.shelf) objects) call moment said)
       (sym (left_is old.state (ok ∙ is) objects told ∙ ap (λ n. Some (library old.state n objects)) count))
@@ -115,7 +115,7 @@ module _ {S : Type 0} (contents : S → Option Contents) (may_give : S → Shelf
 
   entered_by : next ≢ old.state → faults store.shelf ≡ faults old.store.shelf → state ≡ next
       → (s : State) → state_of contents faults (at_rest old) ≡ Some s → AnswersBySome s call moment said (state_of contents faults (record { store = store; state = state; unsettled = still; running = None }))
-  entered_by apart count ok = of_told contents may_give faults old call moment
+  entered_by apart count ok = of_told contents may_give texts faults old call moment
       (λ s. AnswersBySome s call moment said (state_of contents faults (record { store = store; state = state; unsettled = still; running = None }))) (λ objects told.
       subst (AnswersBySome (library old.state (faults old.store.shelf) objects) call moment said)
       (sym (left_is next ok objects told ∙ ap (λ n. Some (library next n objects)) count))
@@ -131,7 +131,7 @@ module _ {S : Type 0} (contents : S → Option Contents) (may_give : S → Shelf
 
   -- the answer could be given
   would : Would contents faults (at_rest old) call moment said
-  would = of_told contents may_give faults old call moment (λ s. MayAnswerSo s call moment said) (λ objects told. (
+  would = of_told contents may_give texts faults old call moment (λ s. MayAnswerSo s call moment said) (λ objects told. (
     [],
     (
       subst (DuePermits (library old.state (faults old.store.shelf) objects) (lone (library old.state (faults old.store.shelf) objects) (step.Asked call) moment said))
@@ -143,9 +143,10 @@ module _ {S : Type 0} (contents : S → Option Contents) (may_give : S → Shelf
   -- an answer, or a failure of the shelf or want of memory
   pub serves_changed : (result : Result ⊤ StoreFault) → OnOk result (state ≡ next) → OnErr result (state ≡ old.state)
       → TextSo old.unsettled old.state next (status_of contents old.store) still (status_of contents store) result
+      (texts old.store.shelf) (texts store.shelf)
       → CountsShelf (faults old.store.shelf) (faults store.shelf) result
-      → Serves contents may_give faults (at_rest old) call moment (answer_of said result) (record { store = store; state = state; unsettled = still; running = None })
-  serves_changed (Ok done) ok err (same is settles text good) count = record {
+      → Serves contents may_give texts faults (at_rest old) call moment (answer_of said result) (record { store = store; state = state; unsettled = still; running = None })
+  serves_changed (Ok done) ok err (same is settles text written good) count = record {
     told = read_by is count ok;
     may_come = subst (λ o. MayAnswer old.store.index (may_give store.shelf) call.act o said) (sym is_decided) (inl refl);
     damage = λ objects told. told_no_damage objects said plain;
@@ -153,7 +154,7 @@ module _ {S : Type 0} (contents : S → Option Contents) (may_give : S → Shelf
     left = ok_left ok;
     fresh = refl;
     lying = λ _. lying;
-    slot = unwritten (ok ∙ is) settles text;
+    slot = unwritten (ok ∙ is) settles text written;
   }
   serves_changed (Ok done) ok err (changed apart writes) count = record {
     told = entered_by apart count ok;
@@ -166,11 +167,11 @@ module _ {S : Type 0} (contents : S → Option Contents) (may_give : S → Shelf
     slot = rewritten plain (λ stays. apart (sym ok ∙ stays)) writes.0
         (subst (λ st. IsWritten st (settled old.unsettled old.state (status_of contents old.store)) (status_of contents store)) (sym ok) writes.1);
   }
-  serves_changed (Err Shelf) ok err (same is settles text good) count = cc
-  serves_changed (Err NoMemory) ok err (same is settles text good) count = cc
-  serves_changed (Err (Taken id)) ok err (same is settles text good) count = cc
-  serves_changed (Err (Wrong id)) ok err (same is settles text good) count = cc
-  serves_changed (Err (Damaged want got)) ok err (same is settles text good) count = cc
+  serves_changed (Err Shelf) ok err (same is settles text written good) count = cc
+  serves_changed (Err NoMemory) ok err (same is settles text written good) count = cc
+  serves_changed (Err (Taken id)) ok err (same is settles text written good) count = cc
+  serves_changed (Err (Wrong id)) ok err (same is settles text written good) count = cc
+  serves_changed (Err (Damaged want got)) ok err (same is settles text written good) count = cc
   serves_changed (Err Shelf) ok err (changed apart writes) count = record {
     told = refused_by Shelf (λ objects. tt) count err;
     may_come = subst (λ o. MayAnswer old.store.index (may_give store.shelf) call.act o (reply.Refused refusal.Store)) (sym is_decided) (inr refl);
@@ -196,15 +197,16 @@ module _ {S : Type 0} (contents : S → Option Contents) (may_give : S → Shelf
   serves_changed (Err (Damaged want got)) ok err (changed apart writes) count = absurd writes
 
 -- the depot stays good
-pub good_changed : {S : Type 0} (contents : S → Option Contents) (faults : S → ℕ) (old : DepotView S) (next : LibState) → IsGood contents faults (at_rest old) → Follows old.state next → next.kept ≢ []
+pub good_changed : {S : Type 0} (contents : S → Option Contents) (texts faults : S → ℕ) (old : DepotView S) (next : LibState) → IsGood contents faults (at_rest old) → Follows old.state next → next.kept ≢ []
     → ((objects : Objects) (count : ℕ) → objects_of contents old.store ≡ Some objects → IsSound (library next count objects))
     → (store : StoreView S) (state : LibState) (still : Bool) (result : Result ⊤ StoreFault) → OnOk result (state ≡ next) → OnErr result (state ≡ old.state)
     → TextSo old.unsettled old.state next (status_of contents old.store) still (status_of contents store) result
+    (texts old.store.shelf) (texts store.shelf)
     → objects_of contents store ≡ objects_of contents old.store → IsGood contents faults (record { store = store; state = state; unsettled = still; running = None })
-good_changed contents faults old next good follows some sound store state still result ok err (changed apart writes) kept =
+good_changed contents texts faults old next good follows some sound store state still result ok err (changed apart writes) kept =
     good_rewritten contents faults old good next follows some sound store state still result ok err writes kept
-good_changed contents faults old next good follows some sound store state still (Ok done) ok err (same is settles text fine) kept =
+good_changed contents texts faults old next good follows some sound store state still (Ok done) ok err (same is settles text written fine) kept =
     subst (λ (d : DepotView _). IsGood contents faults d) (sym (ap (λ st. record { store = store; state = st; unsettled = still; running = None }) (ok ∙ is)
     ∙ ap (λ b. record { store = store; state = old.state; unsettled = b; running = None }) settles))
     (good_kept contents faults old good store text kept)
-good_changed contents faults old next good follows some sound store state still (Err fault) ok err (same is settles text fine) kept = cc
+good_changed contents texts faults old next good follows some sound store state still (Err fault) ok err (same is settles text written fine) kept = cc

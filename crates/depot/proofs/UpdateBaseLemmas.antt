@@ -30,9 +30,10 @@ use Rattle.tree_walk.specs.Reading.{AnswersRead, IsCause, IsDue, IsReadFault, Is
 use Rattle.tree_walk.specs.declared.fault.WalkFault.{WalkFault}
 use Rattle.tree_walk.specs.declared.fault.WalkFault.TheVariants as walk
 use Rattle.depot.specs.Answering.{MayRefuseUpdate}
-use Rattle.depot.specs.ObjectCalls.{IsToldDamageOf, IsToldRefusal, is_of_store, store_refusal}
-use Rattle.depot.specs.UpdateBase.{FindsSo, HasParent, LooksSo, ReadsOnly, walk_refusal}
+use Rattle.depot.specs.ObjectCalls.{IsToldDamageOf, IsToldRefusal, is_of_store}
+use Rattle.depot.specs.UpdateBase.{FindsSo, HasParent, LooksSo, ReadsOnly}
 use Rattle.depot.specs.UpdatePlan.{IsPlanFault, MergeRefuses}
+use Rattle.depot.specs.Refusals.{store_refusal, walk_refusal}
 use Rattle.depot.specs.declared.update_base.Look.{Look}
 
 -- ---- faults of a reading as refusals
@@ -71,7 +72,7 @@ one_due objects due (walk.Store fault) is = inr (store_told objects fault is)
 pub at_look : (objects : Objects) (kept : List Install) (id : List ℕ) (seen at : Look) → seen ≡ at → LooksSo objects kept id (Ok seen) → LooksSo objects kept id (Ok at)
 at_look objects kept id seen at is looks = subst (λ l. LooksSo objects kept id (Ok l)) is looks
 
-pub not_kept : (s : State) (kept : List Install) (id : List ℕ) → s.kept ≡ kept → is_kept kept id ≡ false → is_kept s.kept id ≡ false
+pub not_kept : (s : State) (kept : List Install) (id : List ℕ) → s.state.kept ≡ kept → is_kept kept id ≡ false → is_kept s.state.kept id ≡ false
 not_kept s kept id same not = ap (λ k. is_kept k id) same ∙ not
 
 -- both commits of each head update
@@ -86,51 +87,51 @@ any_commit id (i ∷ kept) =
     ∙ or_group (same_id id i.head) (same_id id i.pushed) (list_any (same_id id) (kept_commits kept))
 
 module _ (s : State) where
-  pub base_here : (left n : ℕ) (id : List ℕ) → is_kept s.kept id ≡ true → base_from s left n id ≡ Base id
+  pub base_here : (left n : ℕ) (id : List ℕ) → is_kept s.state.kept id ≡ true → base_from s left n id ≡ Base id
   unfolding base_from
   base_here zero n id is = ap (λ b. cond b (Base id) (by_commit (λ parent. NoBase (refusal.Unrelated n)) n (commit_at s.objects id))) is
   base_here (suc left) n id is = ap (λ b. cond b (Base id) (by_commit (base_from s left (n + 1)) n (commit_at s.objects id))) is
 
-  by_below : (next : List ℕ → Based) (n : ℕ) (id : List ℕ) (parent : Option (List ℕ)) → is_kept s.kept id ≡ false → HasParent s.objects id parent
-      → cond (is_kept s.kept id) (Base id) (by_commit next n (commit_at s.objects id)) ≡ by_parent next n parent
+  by_below : (next : List ℕ → Based) (n : ℕ) (id : List ℕ) (parent : Option (List ℕ)) → is_kept s.state.kept id ≡ false → HasParent s.objects id parent
+      → cond (is_kept s.state.kept id) (Base id) (by_commit next n (commit_at s.objects id)) ≡ by_parent next n parent
   by_below next n id parent not below =
       ap (λ b. cond b (Base id) (by_commit next n (commit_at s.objects id))) not
       ∙ ap (by_commit next n) below.reads ∙ ap (by_parent next n) below.is
 
   -- on to the parent
-  base_next : (left n : ℕ) (id parent : List ℕ) → is_kept s.kept id ≡ false → HasParent s.objects id (Some parent) → base_from s (suc left) n id ≡ base_from s left (n + 1) parent
+  base_next : (left n : ℕ) (id parent : List ℕ) → is_kept s.state.kept id ≡ false → HasParent s.objects id (Some parent) → base_from s (suc left) n id ≡ base_from s left (n + 1) parent
   unfolding base_from
   base_next left n id parent not below = by_below (base_from s left (n + 1)) n id (Some parent) not below
 
-  pub base_on : (n : ℕ) (id parent : List ℕ) → n < 128 → is_kept s.kept id ≡ false → HasParent s.objects id (Some parent)
+  pub base_on : (n : ℕ) (id parent : List ℕ) → n < 128 → is_kept s.state.kept id ≡ false → HasParent s.objects id (Some parent)
       → base_from s (128 - n) n id ≡ base_from s (128 - (n + 1)) (n + 1) parent
   base_on n id parent below not has =
       let more : 128 - n ≡ suc (128 - (n + 1)) = omega arith in
       ap (λ left. base_from s left n id) more ∙ base_next (128 - (n + 1)) n id parent not has
 
   -- a commit without parents
-  pub base_ends : (left n : ℕ) (id : List ℕ) → is_kept s.kept id ≡ false → HasParent s.objects id None → base_from s left n id ≡ NoBase (refusal.Unrelated n)
+  pub base_ends : (left n : ℕ) (id : List ℕ) → is_kept s.state.kept id ≡ false → HasParent s.objects id None → base_from s left n id ≡ NoBase (refusal.Unrelated n)
   unfolding base_from
   base_ends zero n id not below = by_below (λ parent. NoBase (refusal.Unrelated n)) n id None not below
   base_ends (suc left) n id not below = by_below (base_from s left (n + 1)) n id None not below
 
   -- no step is left
-  pub base_over : (n : ℕ) (id parent : List ℕ) → is_kept s.kept id ≡ false → HasParent s.objects id (Some parent) → base_from s 0 n id ≡ NoBase (refusal.Unrelated n)
+  pub base_over : (n : ℕ) (id parent : List ℕ) → is_kept s.state.kept id ≡ false → HasParent s.objects id (Some parent) → base_from s 0 n id ≡ NoBase (refusal.Unrelated n)
   unfolding base_from
   base_over n id parent not below = by_below (λ parent. NoBase (refusal.Unrelated n)) n id (Some parent) not below
 
-  by_fault : (next : List ℕ → Based) (n : ℕ) (id : List ℕ) (fault : TreeFault) → is_kept s.kept id ≡ false → commit_at s.objects id ≡ Err fault
-      → cond (is_kept s.kept id) (Base id) (by_commit next n (commit_at s.objects id)) ≡ NoBase (refusal_of fault)
+  by_fault : (next : List ℕ → Based) (n : ℕ) (id : List ℕ) (fault : TreeFault) → is_kept s.state.kept id ≡ false → commit_at s.objects id ≡ Err fault
+      → cond (is_kept s.state.kept id) (Base id) (by_commit next n (commit_at s.objects id)) ≡ NoBase (refusal_of fault)
   by_fault next n id fault not is =
       ap (λ b. cond b (Base id) (by_commit next n (commit_at s.objects id))) not ∙ ap (by_commit next n) is
 
-  base_unread : (left n : ℕ) (id : List ℕ) (fault : TreeFault) → is_kept s.kept id ≡ false → commit_at s.objects id ≡ Err fault → base_from s left n id ≡ NoBase (refusal_of fault)
+  base_unread : (left n : ℕ) (id : List ℕ) (fault : TreeFault) → is_kept s.state.kept id ≡ false → commit_at s.objects id ≡ Err fault → base_from s left n id ≡ NoBase (refusal_of fault)
   unfolding base_from
   base_unread zero n id fault not is = by_fault (λ parent. NoBase (refusal.Unrelated n)) n id fault not is
   base_unread (suc left) n id fault not is = by_fault (base_from s left (n + 1)) n id fault not is
 
   -- a commit that can't be read
-  pub finds_fault : (left n : ℕ) (id : List ℕ) (fault : WalkFault) → is_kept s.kept id ≡ false → AnswersRead {T = Commit} s.objects (commit_at s.objects id) (Err fault)
+  pub finds_fault : (left n : ℕ) (id : List ℕ) (fault : WalkFault) → is_kept s.state.kept id ≡ false → AnswersRead {T = Commit} s.objects (commit_at s.objects id) (Err fault)
       → FindsSo s.objects (base_from s left n id) (Err fault)
   finds_fault left n id fault not read = by (commit_at s.objects id) refl read
     where
@@ -174,10 +175,10 @@ module _ (s : State) where
   base_not_damaged : (left n : ℕ) (id : List ℕ) → NotDamaged s.objects (base_from s left n id)
   unfolding base_from
   base_not_damaged zero n id =
-      if_not_damaged (is_kept s.kept id) id (by_commit (λ parent. NoBase (refusal.Unrelated n)) n (commit_at s.objects id))
+      if_not_damaged (is_kept s.state.kept id) id (by_commit (λ parent. NoBase (refusal.Unrelated n)) n (commit_at s.objects id))
       (commit_not_damaged (λ parent. NoBase (refusal.Unrelated n)) n (commit_at s.objects id) (λ p. tt))
   base_not_damaged (suc left) n id =
-      if_not_damaged (is_kept s.kept id) id (by_commit (base_from s left (n + 1)) n (commit_at s.objects id))
+      if_not_damaged (is_kept s.state.kept id) id (by_commit (base_from s left (n + 1)) n (commit_at s.objects id))
       (commit_not_damaged (base_from s left (n + 1)) n (commit_at s.objects id) (base_not_damaged left (n + 1)))
 
 pub told_damage : (objects : Objects) (why : Refusal) → IsToldRefusal objects why → IsToldDamageOf objects why
@@ -216,12 +217,12 @@ module _ (s : State) (moment : ℕ) (user : List ℕ) where
   -- a traversal of the pushed commit that has a fault
   pub complete_refused : (base pushed : List ℕ) (o : Option TreeFault) (fault : WalkFault) → IsDue s.objects o fault
       → IsPlanFault s moment (complete_due s user base pushed o) (walk_refusal fault)
-  complete_refused base pushed None fault is = told_complete base pushed (same_id base (head_of s.kept)) (walk_refusal fault) (none_due s.objects fault is)
+  complete_refused base pushed None fault is = told_complete base pushed (same_id base (head_of s.state.kept)) (walk_refusal fault) (none_due s.objects fault is)
   complete_refused base pushed (Some due) fault is = elim (one_due s.objects due fault is) [ inl same ↦ inl (ap reply.Refused same) | inr told ↦ inr told ]
 
   -- a fault of the store, where there is a merge base
   pub told_after_base : (pushed base : List ℕ) (o : Option TreeFault) (why : Refusal) → IsToldRefusal s.objects why → IsPlanFault s moment (complete_due s user base pushed o) why
-  told_after_base pushed base None why is = told_complete base pushed (same_id base (head_of s.kept)) why is
+  told_after_base pushed base None why is = told_complete base pushed (same_id base (head_of s.state.kept)) why is
   told_after_base pushed base (Some due) why is = inr is
 
 -- ---- over any shelf
@@ -280,33 +281,36 @@ counted_alike (walk.Store fault) = by fault
     by store.Shelf = refl
     by store.NoMemory = refl
 
-module _ {S : Type 0} {contents : S → Option Contents} {may_give : S → Slot → Option (List ℕ) → Type 0} {faults : S → ℕ} where
+module _ {S : Type 0} {contents : S → Option Contents} {may_give : S → Slot → Option (List ℕ) → Type 0} {texts faults : S → ℕ} where
   -- a reading that failed, as a refusal
-  pub reads_refused : {T U : Type 0} {old new : StoreView S} (fault : WalkFault) → Reads {T = T} contents may_give faults old new (Err fault)
-      → ReadsOnly {T = U} contents faults old new (Err (walk_refusal fault))
+  pub reads_refused : {T U : Type 0} {old new : StoreView S} (fault : WalkFault) → Reads {T = T} contents may_give texts faults old new (Err fault)
+      → ReadsOnly {T = U} contents texts faults old new (Err (walk_refusal fault))
   reads_refused {old = old} {new = new} fault reads = record {
     kept = reads.kept;
+    written = reads.shelf.written;
     count = subst (λ b. MatchBool b ((faults old.shelf ≤ faults new.shelf) × Rose (faults old.shelf) (faults new.shelf)) (faults new.shelf ≡ faults old.shelf))
         (counted_alike fault) reads.count;
   }
 
   -- a fault is one of any reading
-  pub reads_fails : {T U : Type 0} {old new : StoreView S} (fault : WalkFault) → Reads {T = T} contents may_give faults old new (Err fault)
-      → Reads {T = U} contents may_give faults old new (Err fault)
-  reads_fails fault reads = record { kept = reads.kept; cause = reads.cause; count = reads.count }
+  pub reads_fails : {T U : Type 0} {old new : StoreView S} (fault : WalkFault) → Reads {T = T} contents may_give texts faults old new (Err fault)
+      → Reads {T = U} contents may_give texts faults old new (Err fault)
+  reads_fails fault reads = record { kept = reads.kept; shelf = reads.shelf; cause = reads.cause; count = reads.count }
 
   -- an answer after a reading that gave something
-  pub reads_then_says : {T U : Type 0} {old new : StoreView S} (value : T) (result : Result U Refusal) → Reads contents may_give faults old new (Ok value)
-      → FailsBy is_of_store (faults old.shelf) (faults old.shelf) result → ReadsOnly contents faults old new result
+  pub reads_then_says : {T U : Type 0} {old new : StoreView S} (value : T) (result : Result U Refusal) → Reads contents may_give texts faults old new (Ok value)
+      → FailsBy is_of_store (faults old.shelf) (faults old.shelf) result → ReadsOnly contents texts faults old new result
   reads_then_says {old = old} value result reads count = record {
     kept = reads.kept;
+    written = reads.shelf.written;
     count = subst (λ n. FailsBy is_of_store (faults old.shelf) n result) (sym reads.count) count;
   }
 
   -- a reading that gave something, and then another call
   pub reads_only_then : {T U : Type 0} {old mid new : StoreView S} (value : T) (result : Result U Refusal)
-      → Reads contents may_give faults old mid (Ok value) → ReadsOnly contents faults mid new result → ReadsOnly contents faults old new result
+      → Reads contents may_give texts faults old mid (Ok value) → ReadsOnly contents texts faults mid new result → ReadsOnly contents texts faults old new result
   reads_only_then {new = new} value result first second = record {
     kept = keeps_on first.kept second.kept;
+    written = second.written ∙ first.shelf.written;
     count = subst (λ n. FailsBy is_of_store n (faults new.shelf) result) first.count second.count;
   }

@@ -29,7 +29,7 @@ use Rattle.object_store.specs.declared.error.StoreFault.TheVariants.{Taken, Wron
 use Rattle.object_store.specs.declared.shelf.Slot.{Slot as ShelfSlot}
 use Rattle.depot.specs.Answering.{AnswersBySome, MayAnswer, MayAnswerSo, Serves, SlotSo, Would, decided, next_by, next_state, refused, rewritten, unwritten, with_install}
 use Rattle.depot.specs.DepotView.{at_rest, DepotView, library, state_of, Holds, IsGood}
-use Rattle.depot.specs.ObjectCalls.{Counts, IsToldDamageOf, store_refusal}
+use Rattle.depot.specs.ObjectCalls.{Counts, IsToldDamageOf}
 use Rattle.depot.specs.UpdateInstall.{IsCarriedOut, IsWriteFault, LeftBehind, StoresPart, held_in, stopped, unsure, with_all}
 use Rattle.depot.specs.UpdatePlan.{IsPlan, IsPlanFault, objects_in}
 use Rattle.depot.specs.NextState.{Follows, answered}
@@ -40,14 +40,17 @@ use Rattle.depot.proofs.GrownLemmas.{kept_status, sound_grown}
 use Rattle.depot.proofs.Told.{mapped_at}
 use Rattle.depot.proofs.UpdateInstallLemmas.{counted_same, free_told}
 use Rattle.depot.proofs.UpdateLemmas.{done_answers, done_may, kept_answers, refused_answers, stopped_answers}
+use Rattle.depot.specs.Refusals.{store_refusal}
 use Rattle.depot.proofs.WritingLemmas.{holds_after, written_at}
 
 -- ---- what is held
 
-pub held_kept : {S : Type 0} (contents : S → Option Contents) (old new : StoreView S) → Keeps contents old new → held_in contents new ≡ held_in contents old
-held_kept contents old new keeps =
-    ap (λ o. record { objects = o; slot = status_of contents new }) keeps.objects
-    ∙ ap (λ s. record { objects = objects_of contents old; slot = s }) (kept_status contents old new keeps)
+pub held_kept : {S : Type 0} (contents : S → Option Contents) (texts : S → ℕ) (old new : StoreView S) → Keeps contents old new → texts new.shelf ≡ texts old.shelf
+    → held_in contents texts new ≡ held_in contents texts old
+held_kept contents texts old new keeps written =
+    ap (λ o. record { objects = o; slot = status_of contents new; texts = texts new.shelf }) keeps.objects
+    ∙ ap (λ s. record { objects = objects_of contents old; slot = s; texts = texts new.shelf }) (kept_status contents old new keeps)
+    ∙ ap (λ n. record { objects = objects_of contents old; slot = status_of contents old; texts = n }) written
 
 -- ---- soundness
 
@@ -111,7 +114,7 @@ install_follows state pushed head moment new =
     answered (record { secret = None; act = act.Update pushed }) moment (reply.Updated head) refl
     (next_is state (record { secret = None; act = act.Update pushed }) moment pushed head refl new)
 
-module _ {S : Type 0} (contents : S → Option Contents) (may_give : S → ShelfSlot → Option (List ℕ) → Type 0) (faults : S → ℕ) (old : DepotView S)
+module _ {S : Type 0} (contents : S → Option Contents) (may_give : S → ShelfSlot → Option (List ℕ) → Type 0) (texts faults : S → ℕ) (old : DepotView S)
     (call : Call) (moment : ℕ) (pushed : List ℕ) (updates : call.act ≡ act.Update pushed) where
   -- the library before, over what is told
   abbrev at : Objects → State
@@ -136,7 +139,7 @@ module _ {S : Type 0} (contents : S → Option Contents) (may_give : S → Shelf
 
   -- ---- nothing is stored
 
-  module _ (store : StoreView S) (keeps : Keeps contents old.store store) where
+  module _ (store : StoreView S) (keeps : Keeps contents old.store store) (written : texts store.shelf ≡ texts old.store.shelf) where
     abbrev unmoved : DepotView S
     unmoved = record { store = store; state = old.state; unsettled = old.unsettled; running = None }
 
@@ -150,7 +153,7 @@ module _ {S : Type 0} (contents : S → Option Contents) (may_give : S → Shelf
     pub serves_refused : (why : Refusal) → ((objects : Objects) → objects_of contents old.store ≡ Some objects → IsPlanFault (at objects) moment (due (at objects) call) why)
         → Counts (faults old.store.shelf) (faults store.shelf) (reply.Refused why) → MayAnswer store.index (may_give store.shelf) (act.Update pushed) (decided old.state call) (reply.Refused why)
         → ((objects : Objects) → objects_of contents old.store ≡ Some objects → IsToldDamageOf objects why)
-        → Serves contents may_give faults (at_rest old) call moment (reply.Refused why) unmoved
+        → Serves contents may_give texts faults (at_rest old) call moment (reply.Refused why) unmoved
     serves_refused why plans count may damage = record {
       told = told_by (reply.Refused why) unmoved (λ objects told. left_as (reply.Refused why) unmoved [] old.state (faults store.shelf) objects refl refl nothing_stored told
           (refused_answers old.state (faults old.store.shelf) objects call moment pushed updates why (faults store.shelf) (plans objects told) count));
@@ -161,12 +164,12 @@ module _ {S : Type 0} (contents : S → Option Contents) (may_give : S → Shelf
       left = refl;
       fresh = refl;
       lying = λ _. strays_kept contents old.store store keeps.index keeps.shelf;
-      slot = unwritten refl refl (kept_status contents old.store store keeps);
+      slot = unwritten refl refl (kept_status contents old.store store keeps) written;
     }
 
     pub serves_kept : is_kept old.state.kept pushed ≡ true → ((objects : Objects) → objects_of contents old.store ≡ Some objects → due (at objects) call ≡ Says (reply.Updated (head_of old.state.kept)))
         → faults store.shelf ≡ faults old.store.shelf → decided old.state call ≡ Some (reply.Updated (head_of old.state.kept))
-        → Serves contents may_give faults (at_rest old) call moment (reply.Updated (head_of old.state.kept)) unmoved
+        → Serves contents may_give texts faults (at_rest old) call moment (reply.Updated (head_of old.state.kept)) unmoved
     serves_kept kept says count is = record {
       told = told_by (reply.Updated (head_of old.state.kept)) unmoved (λ objects told.
           left_as (reply.Updated (head_of old.state.kept)) unmoved [] old.state (faults old.store.shelf) objects refl count nothing_stored told
@@ -177,7 +180,7 @@ module _ {S : Type 0} (contents : S → Option Contents) (may_give : S → Shelf
       left = sym (next_same old.state call moment pushed (head_of old.state.kept) updates kept);
       fresh = refl;
       lying = λ _. strays_kept contents old.store store keeps.index keeps.shelf;
-      slot = unwritten refl refl (kept_status contents old.store store keeps);
+      slot = unwritten refl refl (kept_status contents old.store store keeps) written;
     }
 
   -- ---- a plan is carried out
@@ -196,8 +199,8 @@ module _ {S : Type 0} (contents : S → Option Contents) (may_give : S → Shelf
       abbrev new : DepotView S
       new = record { store = store; state = state; unsettled = still; running = None }
 
-      module _ (done : IsCarriedOut old.unsettled old.state next (objects_in plan) (held_in contents old.store) still (held_in contents store)) (same : state ≡ next) where
-        pub serves_done : faults store.shelf ≡ faults old.store.shelf → AddsNoStray contents old.store store → Serves contents may_give faults (at_rest old) call moment (reply.Updated plan.head) new
+      module _ (done : IsCarriedOut old.unsettled old.state next (objects_in plan) (held_in contents texts old.store) still (held_in contents texts store)) (same : state ≡ next) where
+        pub serves_done : faults store.shelf ≡ faults old.store.shelf → AddsNoStray contents old.store store → Serves contents may_give texts faults (at_rest old) call moment (reply.Updated plan.head) new
         serves_done count lying = record {
           told = told_by (reply.Updated plan.head) new (λ objects told.
               left_as (reply.Updated plan.head) new (objects_in plan) next (faults old.store.shelf) objects same count done.objects told (done_told objects told));
@@ -230,11 +233,11 @@ module _ {S : Type 0} (contents : S → Option Contents) (may_give : S → Shelf
 
       -- ---- a plan is given up
 
-      module _ (fault : StoreFault) (behind : LeftBehind fault old.unsettled old.state next (objects_in plan) (held_in contents old.store) still (held_in contents store)) (same : state ≡ old.state) where
+      module _ (fault : StoreFault) (behind : LeftBehind fault old.unsettled old.state next (objects_in plan) (held_in contents texts old.store) still (held_in contents texts store)) (same : state ≡ old.state) where
         -- the objects that were put
-        part_of : LeftBehind fault old.unsettled old.state next (objects_in plan) (held_in contents old.store) still (held_in contents store)
+        part_of : LeftBehind fault old.unsettled old.state next (objects_in plan) (held_in contents texts old.store) still (held_in contents texts store)
             → StoresPart (objects_of contents old.store) (objects_in plan) (objects_of contents store)
-        part_of (stopped part unsettled kept) = part
+        part_of (stopped part unsettled kept written) = part
         part_of (unsure free stored left) = record { part = objects_in plan; front = ([], sym (append_nil (objects_in plan))); objects = stored }
           where
             append_nil : (xs : List Stored) → xs ++ [] ≡ xs
@@ -251,7 +254,7 @@ module _ {S : Type 0} (contents : S → Option Contents) (may_give : S → Shelf
               stopped_answers old.state (faults old.store.shelf) objects call moment pushed updates plan part.part (store_refusal fault) (faults store.shelf) (planned objects told) part.front
               (free_told objects fault (free objects told)) (fault_counts (faults old.store.shelf) (faults store.shelf) fault count)
 
-          pub serves_failed : IsWriteFault (may_give store.shelf) fault → (is_of_shelf fault ≡ false → AddsNoStray contents old.store store) → Serves contents may_give faults (at_rest old) call moment (reply.Refused (store_refusal fault)) new
+          pub serves_failed : IsWriteFault (may_give store.shelf) fault → (is_of_shelf fault ≡ false → AddsNoStray contents old.store store) → Serves contents may_give texts faults (at_rest old) call moment (reply.Refused (store_refusal fault)) new
           serves_failed cause lying = record {
             told = told_by (reply.Refused (store_refusal fault)) new (λ objects told.
                 left_as (reply.Refused (store_refusal fault)) new part.part old.state (faults store.shelf) objects same refl part.objects told (failed_told objects told));
@@ -265,9 +268,10 @@ module _ {S : Type 0} (contents : S → Option Contents) (may_give : S → Shelf
             slot = by behind;
           }
             where
-              by : LeftBehind fault old.unsettled old.state next (objects_in plan) (held_in contents old.store) still (held_in contents store)
+              by : LeftBehind fault old.unsettled old.state next (objects_in plan) (held_in contents texts old.store) still (held_in contents texts store)
                   → SlotSo (Would contents faults (at_rest old) call moment) call moment (reply.Refused (store_refusal fault)) old.unsettled old.state (status_of contents old.store) still state (status_of contents store)
-              by (stopped stays unsettled kept) = unwritten same unsettled kept
+                  (texts old.store.shelf) (texts store.shelf)
+              by (stopped stays unsettled kept written) = unwritten same unsettled kept written
               by (unsure is stored left) =
                   refused fault refl (reply.Updated plan.head) refl
                   (λ s known.
@@ -284,9 +288,9 @@ module _ {S : Type 0} (contents : S → Option Contents) (may_give : S → Shelf
               (sound_answered (at objects) (library next (faults old.store.shelf) (with_added objects (objects_in plan))) call moment (reply.Updated plan.head)
               (sound_at contents faults old good objects (faults old.store.shelf) told) (done_told objects told))
 
-          text_left : IsGood contents faults (at_rest old) → LeftBehind fault old.unsettled old.state next (objects_in plan) (held_in contents old.store) still (held_in contents store)
+          text_left : IsGood contents faults (at_rest old) → LeftBehind fault old.unsettled old.state next (objects_in plan) (held_in contents texts old.store) still (held_in contents texts store)
               → (objects : Objects) (status : Option (List ℕ)) → objects_of contents store ≡ Some objects → status_of contents store ≡ Some status → Holds still old.state objects status
-          text_left good (stopped stays unsettled kept) objects status told holds =
+          text_left good (stopped stays unsettled kept written) objects status told holds =
               let before = mapped_at (λ (o : Objects). with_added o stays.part) (objects_of contents old.store) objects (sym stays.objects ∙ told) in
               subst (λ b. Holds b old.state objects status) (sym unsettled)
               (subst (λ o. Holds old.unsettled old.state o status) before.gives

@@ -6,7 +6,7 @@ use Rattle.std.specs.Ordering.{eq_by_cmp}
 use Rattle.ids.specs.Key.{Objects, key_cmp}
 use Rattle.ids.specs.declared.key.Key.{Key}
 use Rattle.library_rules.specs.Calls.{Due, Denies, Says, Stores, Installs, Merges, due}
-use Rattle.library_rules.specs.Changes.{act_changes, apply, counted, installed, keys_added, moved, with_added}
+use Rattle.library_rules.specs.Changes.{act_changes, apply, counted, keys_added, moved, with_added}
 use Rattle.library_rules.specs.History.{lone}
 use Rattle.library_rules.specs.LibraryState.{State, head_of, is_kept, is_stored}
 use Rattle.library_rules.specs.MergeCommit.{Makes, Partly}
@@ -74,7 +74,7 @@ module _ (state : LibState) (count : ℕ) (objects : Objects) (call : Call) (mom
   kept_answers kept is =
       says_answers s call moment (reply.Updated (head_of state.kept)) is
       (ap (λ a. act_changes call.secret moment a (reply.Updated (head_of state.kept)) s) updates
-      ∙ ap (λ b. if b then s else installed (head_of state.kept) pushed moment s) kept)
+      ∙ ap (λ b. record s { state = if b then state else with_install (head_of state.kept) pushed moment state }) kept)
 
   -- ---- a refusal before anything is stored
 
@@ -143,7 +143,7 @@ module _ (state : LibState) (count : ℕ) (objects : Objects) (call : Call) (mom
   unfolding entry_of
   done_apply plan new =
       ap (λ a. counted count (act_changes call.secret moment a (reply.Updated plan.head) (moved s (objects_in plan) []))) updates
-      ∙ ap (λ b. counted count (if b then moved s (objects_in plan) [] else installed plan.head pushed moment (moved s (objects_in plan) []))) new
+      ∙ ap (λ b. counted count (record (moved s (objects_in plan) []) { state = if b then state else with_install plan.head pushed moment state })) new
 
   pub done_answers : (plan : Plan) → is_kept state.kept pushed ≡ false → IsPlan s moment (due s call) plan
       → AnswersBySome s call moment (reply.Updated plan.head) (Some (library (with_install plan.head pushed moment state) count (with_added objects (objects_in plan))))

@@ -29,10 +29,11 @@ use Rattle.tree_model.specs.Path.{PathV}
 use Rattle.tree_model.specs.declared.node.FileVersion.{FileVersion}
 use Rattle.tree_walk.proofs.ReadsLemmas.{store_due}
 use Rattle.depot.specs.Answering.{IsTakenBy}
-use Rattle.depot.specs.ObjectCalls.{IsToldDamageOf, store_refusal}
+use Rattle.depot.specs.ObjectCalls.{IsToldDamageOf}
 use Rattle.depot.specs.UpdateMerge.{StoredSo}
 use Rattle.depot.specs.UpdatePlan.{AreNamed, HasNames, listed}
 use Rattle.depot.proofs.UpdateBaseLemmas.{store_told, told_damage}
+use Rattle.depot.specs.Refusals.{store_refusal}
 use Rattle.depot.proofs.UpdateListedLemmas.{all_join, listed_all}
 
 -- ---- what is stored of the made commit

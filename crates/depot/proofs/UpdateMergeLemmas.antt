@@ -19,7 +19,7 @@ use Rattle.conflict_names.specs.Naming.{naming}
 use Rattle.library_rules.specs.Calls.{other_bytes}
 use Rattle.library_rules.specs.Changes.{keys_added, with_added}
 use Rattle.library_rules.specs.LibraryState.{State, head_of, is_stored}
-use Rattle.library_rules.specs.MergeCommit.{Clash, Clashes, ClashesAt, IsCommitObject, IsDirectoryObject, IsMade, IsMergedDirectory, IsNilWhereNoPath, IsTreeAt, Makes, OfTrees, RootTree, has_conflict, merge_of, zeros, stored, another}
+use Rattle.library_rules.specs.MergeCommit.{Clash, Clashes, ClashesAt, IsCommitObject, IsDirectoryObject, IsMade, IsMergedDirectory, IsNilWhereNoPath, IsTreeAt, Makes, OfTrees, RootTree, has_conflict, merge_of, zeros, stored, another, IsMadeOf}
 use Rattle.library_rules.specs.declared.entry.Stored.{Stored}
 use Rattle.library_rules.proofs.Histories.{commit_visited}
 use Rattle.library_rules.proofs.Keeping.{grown}
@@ -52,13 +52,13 @@ use Rattle.tree_walk.specs.declared.fault.WalkFault.{WalkFault}
 use Rattle.depot.specs.Answering.{MayRefuseUpdate}
 use Rattle.depot.specs.DepotView.{library}
 use Rattle.depot.specs.ObjectCalls.{IsToldDamageOf}
-use Rattle.depot.specs.UpdateBase.{walk_refusal}
-use Rattle.depot.specs.UpdateMerge.{AreComplete, HasRoot, HasRoots, IsPlanOf, PlansMade, TextSo, commit_over, has_copies, merge_refusal}
+use Rattle.depot.specs.UpdateMerge.{AreComplete, HasRoot, HasRoots, IsPlanOf, PlansMade, TextSo, commit_over, has_copies}
 use Rattle.depot.specs.UpdatePlan.{MergeRefuses, MergesSo, listed, objects_in, own_object}
 use Rattle.depot.specs.declared.update_merge.Roots.{Roots}
 use Rattle.depot.specs.declared.update_plan.Plan.{Plan}
 use Rattle.depot.proofs.UpdateBaseLemmas.{may_refuse, none_due, told_merge, walk_not_damaged}
 use Rattle.depot.proofs.UpdateListedLemmas.{all_join, found_added, found_in, found_last, found_listed, listed_all, listed_once, once_pushed}
+use Rattle.depot.specs.Refusals.{merge_refusal, walk_refusal}
 use Rattle.depot.proofs.UpdateMadeLemmas.{commit_complete, commit_reads, copies_is, root_needed}
 
 -- why a merge is refused, over any shelf
@@ -194,6 +194,9 @@ module _ (state : LibState) (count : ℕ) (objects : Objects) (moment : ℕ) (us
     dirs_gone : AllByRecursion (λ (x : Stored). is_stored objects x.key ≡ false) dirs
     dirs_gone = listed_all (λ x. is_stored objects x.key ≡ false) result.made new_key
 
+    own_key : (key : Key) (bytes : List ℕ) → IsOwnName key bytes → key ≡ fs_key (sha1 bytes)
+    own_key key bytes named = ap (λ k. record { kind = k; id = key.id }) named.is_fs ∙ ap (λ i. record { kind = kind.Fs; id = i }) named.is_sha1
+
     dirs_made : AllByRecursion IsDirectoryObject dirs
     dirs_made = listed_all IsDirectoryObject result.made (λ key bytes there. by key bytes (own key bytes there)
         (some_trees (IsDirectoryObject (record { key = fs_key (sha1 bytes); bytes = bytes })) (λ sides b h p.
@@ -201,10 +204,7 @@ module _ (state : LibState) (count : ℕ) (objects : Objects) (moment : ℕ) (us
         record { entries = dir.entries; some = dir.some; reads = dir.reads; named = refl })))
       where
         by : (key : Key) (bytes : List ℕ) → IsOwnName key bytes → IsDirectoryObject (record { key = fs_key (sha1 bytes); bytes = bytes }) → IsDirectoryObject (record { key = key; bytes = bytes })
-        by key bytes named dir =
-            let same : key ≡ fs_key (sha1 bytes)
-            = ap (λ k. record { kind = k; id = key.id }) named.is_fs ∙ ap (λ i. record { kind = kind.Fs; id = i }) named.is_sha1 in
-            subst (λ k. IsDirectoryObject (record { key = k; bytes = bytes })) (sym same) dir
+        by key bytes named dir = subst (λ k. IsDirectoryObject (record { key = k; bytes = bytes })) (sym (own_key key bytes named)) dir
 
     other_kind : (id : List ℕ) (key : Key) → key.kind ≡ kind.Fs → same_key key (commit_key id) ≡ false
     other_kind id key fs = by (same_key key (commit_key id)) refl
@@ -277,6 +277,13 @@ module _ (state : LibState) (count : ℕ) (objects : Objects) (moment : ℕ) (us
     root_zeros : (sides : Sides) → IsMerged objects sides result → (t : Tree) → merge_of sides ≡ merged.MergedTree t → IsNilWhereNoPath t result.root
     root_zeros sides is t at = subst (λ u. IsNilWhereNoPath u result.root) (tree_same (merge_of sides) is.tree t is.is at) is.zeros
 
+    -- each directory that was made is one of the merged tree
+    dirs_merged : (sides : Sides) → IsMerged objects sides result → (t : Tree) → merge_of sides ≡ merged.MergedTree t → AllByRecursion (IsMergedDirectory s t) dirs
+    dirs_merged sides is t at =
+        listed_all (IsMergedDirectory s t) result.made (λ key bytes there.
+        subst (λ k. IsMergedDirectory s t (record { key = k; bytes = bytes })) (sym (own_key key bytes (own key bytes there)))
+        (merged_directory t bytes (subst (λ u. IsDirectoryIn objects u bytes) (tree_same (merge_of sides) is.tree t is.is at) (is.dirs key bytes there))))
+
     -- all objects that are stored then
     abbrev more : Option (List ℕ) → Objects
     more text = with_added objects (added text)
@@ -300,9 +307,21 @@ module _ (state : LibState) (count : ℕ) (objects : Objects) (moment : ℕ) (us
           (own_needed text);
       were_gone = all_gone text is;
       named = all_join (IsMade s moment user pushed result.root (has_copies result)) dirs (own_object commit.id text) (all_inl dirs dirs_made) (own_made text is);
+      of_merge = of_trees (λ sides. (t : Tree) → merge_of sides ≡ merged.MergedTree t → AllByRecursion (IsMadeOf s moment user pushed result.root (has_copies result) t) (added text))
+          (λ sides b h p t is_merge.
+          all_join (IsMadeOf s moment user pushed result.root (has_copies result) t) dirs (own_object commit.id text)
+          (all_merged t dirs (dirs_merged sides (each sides b h p) t is_merge)) (own_of t text is));
       once = all_once text;
     }
       where
+        own_of : (t : Tree) (o : Option (List ℕ)) → TextSo objects commit o → AllByRecursion (IsMadeOf s moment user pushed result.root (has_copies result) t) (own_object commit.id o)
+        own_of t None so = tt
+        own_of t (Some o) so = (inr (record { text = so.1; named = refl }), tt)
+
+        all_merged : (t : Tree) (xs : List Stored) → AllByRecursion (IsMergedDirectory s t) xs → AllByRecursion (IsMadeOf s moment user pushed result.root (has_copies result) t) xs
+        all_merged t [] all = tt
+        all_merged t (x ∷ xs) all = (inl all.0, all_merged t xs all.1)
+
         reads : commit_at (more text) commit.id ≡ Ok commit
         reads = commit_reads (more text) commit (commit_there text is) (reads_back (proper some))
 

@@ -27,33 +27,37 @@ use Rattle.object_graph.proofs.Keys.{same_key, same_key-itself, same_key-true}
 use Rattle.object_store.specs.Store.{first_refusal, name_refusal, put_refusal, stored_refusal}
 use Rattle.object_store.specs.StoreView.{Index}
 use Rattle.object_store.specs.declared.shelf.Slot.{Slot as ShelfSlot}
-use Rattle.depot.specs.Answering.{act_decided, decided, permits, token_decided, update_decided}
+use Rattle.depot.specs.Answering.{MayAnswer, act_decided, decided, permits, token_decided, update_decided}
 use Rattle.depot.specs.DepotView.{library}
 use Rattle.depot.specs.ObjectCalls.{IsToldRefusal}
 use Rattle.depot.specs.UpdateBase.{FindsSo}
 use Rattle.depot.specs.UpdateInstall.{ArePuttable}
 use Rattle.depot.specs.UpdateMerge.{AreComplete}
-use Rattle.depot.specs.UpdatePlan.{AreNamed, DecidesCall, HasNames, IsPlan, IsPlanFault, MergesSo, PlansDue, PlansSo, listed, objects_in, own_object}
+use Rattle.depot.specs.UpdatePlan.{AreNamed, DecidesCall, DecidesSo, HasNames, IsPlan, IsPlanFault, MergesSo, PlansDue, PlansSo, listed, objects_in, own_object}
 use Rattle.depot.specs.declared.update_base.Found.{Found}
 use Rattle.depot.specs.declared.update_plan.Plan.{Plan}
 use Rattle.depot.proofs.UpdateBaseLemmas.{told_after_base}
+use Rattle.library_rules.proofs.CallsLemmas.{update_due-is}
 
 -- ---- by the state alone
 
 module _ (s : State) (token : Token) (pushed : List ℕ) where
-  pub due_known : is_kept s.kept pushed ≡ true → update_due s token pushed ≡ Says (reply.Updated (head_of s.kept))
+  pub due_known : is_kept s.state.kept pushed ≡ true → update_due s token pushed ≡ Says (reply.Updated (head_of s.state.kept))
   due_known kept =
-      ap (λ b. if b then Says (reply.Updated (head_of s.kept)) else if nat_lt token.last s.collection then Says (reply.Refused (refusal.Stale token.last s.collection)) else base_due s token.user pushed (base_of s pushed)) kept
+      update_due-is s token pushed
+      ∙ ap (λ b. if b then Says (reply.Updated (head_of s.state.kept)) else if nat_lt token.last s.state.collection then Says (reply.Refused (refusal.Stale token.last s.state.collection)) else base_due s token.user pushed (base_of s pushed)) kept
 
-  pub due_stale : is_kept s.kept pushed ≡ false → nat_lt token.last s.collection ≡ true → update_due s token pushed ≡ Says (reply.Refused (refusal.Stale token.last s.collection))
+  pub due_stale : is_kept s.state.kept pushed ≡ false → nat_lt token.last s.state.collection ≡ true → update_due s token pushed ≡ Says (reply.Refused (refusal.Stale token.last s.state.collection))
   due_stale new stale =
-      ap (λ b. if b then Says (reply.Updated (head_of s.kept)) else if nat_lt token.last s.collection then Says (reply.Refused (refusal.Stale token.last s.collection)) else base_due s token.user pushed (base_of s pushed)) new
-      ∙ ap (λ b. if b then Says (reply.Refused (refusal.Stale token.last s.collection)) else base_due s token.user pushed (base_of s pushed)) stale
+      update_due-is s token pushed
+      ∙ ap (λ b. if b then Says (reply.Updated (head_of s.state.kept)) else if nat_lt token.last s.state.collection then Says (reply.Refused (refusal.Stale token.last s.state.collection)) else base_due s token.user pushed (base_of s pushed)) new
+      ∙ ap (λ b. if b then Says (reply.Refused (refusal.Stale token.last s.state.collection)) else base_due s token.user pushed (base_of s pushed)) stale
 
-  pub due_unknown : is_kept s.kept pushed ≡ false → nat_lt token.last s.collection ≡ false → update_due s token pushed ≡ base_due s token.user pushed (base_of s pushed)
+  pub due_unknown : is_kept s.state.kept pushed ≡ false → nat_lt token.last s.state.collection ≡ false → update_due s token pushed ≡ base_due s token.user pushed (base_of s pushed)
   due_unknown new fresh =
-      ap (λ b. if b then Says (reply.Updated (head_of s.kept)) else if nat_lt token.last s.collection then Says (reply.Refused (refusal.Stale token.last s.collection)) else base_due s token.user pushed (base_of s pushed)) new
-      ∙ ap (λ b. if b then Says (reply.Refused (refusal.Stale token.last s.collection)) else base_due s token.user pushed (base_of s pushed)) fresh
+      update_due-is s token pushed
+      ∙ ap (λ b. if b then Says (reply.Updated (head_of s.state.kept)) else if nat_lt token.last s.state.collection then Says (reply.Refused (refusal.Stale token.last s.state.collection)) else base_due s token.user pushed (base_of s pushed)) new
+      ∙ ap (λ b. if b then Says (reply.Refused (refusal.Stale token.last s.state.collection)) else base_due s token.user pushed (base_of s pushed)) fresh
 
 module _ (state : LibState) (token : Token) (pushed : List ℕ) where
   pub decided_known : is_kept state.kept pushed ≡ true → update_decided state token pushed ≡ Some (reply.Updated (head_of state.kept))
@@ -76,12 +80,12 @@ module _ (call : Call) (pushed : List ℕ) (secret : Option (List ℕ)) (token :
   may_update : (o : Option Token) → o ≡ Some token → permits o (act.Update pushed) ≡ true → may token (act.Update pushed) ≡ true
   may_update o is right = subst (λ p. permits p (act.Update pushed) ≡ true) is right
 
-  pub due_of : (s : State) → token_of s.tokens secret ≡ Some token → permits (token_of s.tokens secret) (act.Update pushed) ≡ true → due s call ≡ update_due s token pushed
+  pub due_of : (s : State) → token_of s.state.tokens secret ≡ Some token → permits (token_of s.state.tokens secret) (act.Update pushed) ≡ true → due s call ≡ update_due s token pushed
   due_of s found right =
-      ap (λ a. token_due s a (token_of s.tokens call.secret)) updates
-      ∙ ap (λ secret. token_due s (act.Update pushed) (token_of s.tokens secret)) asks
+      ap (λ a. token_due s a (token_of s.state.tokens call.secret)) updates
+      ∙ ap (λ secret. token_due s (act.Update pushed) (token_of s.state.tokens secret)) asks
       ∙ ap (token_due s (act.Update pushed)) found
-      ∙ ap (λ b. if b then act_due s token (act.Update pushed) else Denies) (may_update (token_of s.tokens secret) found right)
+      ∙ ap (λ b. if b then act_due s token (act.Update pushed) else Denies) (may_update (token_of s.state.tokens secret) found right)
 
   pub decided_of : (state : LibState) → token_of state.tokens secret ≡ Some token → permits (token_of state.tokens secret) (act.Update pushed) ≡ true
       → decided state call ≡ update_decided state token pushed
@@ -91,8 +95,14 @@ module _ (call : Call) (pushed : List ℕ) (secret : Option (List ℕ)) (token :
       ∙ ap (token_decided state (act.Update pushed)) found
       ∙ ap (λ b. if b then act_decided state token (act.Update pushed) else Some (reply.Refused refusal.Denied)) (may_update (token_of state.tokens secret) found right)
 
-pub none_denied : (pushed : List ℕ) (o : Option Token) → o ≡ None → permits o (act.Update pushed) ≡ true → ⊥
-none_denied pushed o is right = true≢false (sym (subst (λ p. permits p (act.Update pushed) ≡ true) is right))
+-- what the state decides of an update of the token it decides of the call
+pub decides_call : (state : LibState) (call : Call) (token : Token) (pushed : List ℕ) (index : Index) (may_give : ShelfSlot → Option (List ℕ) → Type 0)
+    → decided state call ≡ update_decided state token pushed → (r : Result (Option Plan) Refusal) → DecidesSo state token pushed index may_give r
+    → DecidesCall state call pushed index may_give r
+decides_call state call token pushed index may_give same (Ok None) so = (so.0, same ∙ so.1)
+decides_call state call token pushed index may_give same (Ok (Some plan)) so = (so.0, same ∙ so.1, so.2)
+decides_call state call token pushed index may_give same (Err why) so =
+    subst (λ o. MayAnswer index may_give (act.Update pushed) o (reply.Refused why)) (sym same) so
 
 -- ---- the merge base
 
@@ -125,11 +135,11 @@ pub none_named : (dirs : map.FinMap key_cmp (List ℕ)) (head : List ℕ) → di
 none_named dirs head is = subst AreNamed (sym (nothing_listed dirs head is)) tt
 
 module _ (s : State) (moment : ℕ) (user base pushed : List ℕ) (o : Option TreeFault) (none : o ≡ None) where
-  complete_is : (b : Bool) → same_id base (head_of s.kept) ≡ b → complete_due s user base pushed o ≡ (if b then Installs pushed else Merges user base pushed)
+  complete_is : (b : Bool) → same_id base (head_of s.state.kept) ≡ b → complete_due s user base pushed o ≡ (if b then Installs pushed else Merges user base pushed)
   complete_is b same =
       ap (complete_due s user base pushed) none ∙ ap (λ c. if c then Installs pushed else Merges user base pushed) same
 
-  pub forwards : (dirs : map.FinMap key_cmp (List ℕ)) → same_id base (head_of s.kept) ≡ true → dirs ≡ map.empty
+  pub forwards : (dirs : map.FinMap key_cmp (List ℕ)) → same_id base (head_of s.state.kept) ≡ true → dirs ≡ map.empty
       → IsPlan s moment (complete_due s user base pushed o) (record { head = pushed; dirs = dirs; text = None })
   forwards dirs same is =
       subst (λ d. IsPlan s moment d (record { head = pushed; dirs = dirs; text = None })) (sym (complete_is true same)) (refl, nothing_listed dirs pushed is)
@@ -138,7 +148,7 @@ module _ (s : State) (moment : ℕ) (user base pushed : List ℕ) (o : Option Tr
   merges (Ok plan) so = so
   merges (Err why) so = so
 
-  pub merges_due : (result : Result Plan Refusal) → same_id base (head_of s.kept) ≡ false → MergesSo s moment user base pushed result
+  pub merges_due : (result : Result Plan Refusal) → same_id base (head_of s.state.kept) ≡ false → MergesSo s moment user base pushed result
       → PlansDue s moment (complete_due s user base pushed o) result
   merges_due result other so = subst (λ d. PlansDue s moment d result) (sym (complete_is false other)) (merges result so)
 

@@ -1,29 +1,28 @@
 -- What a library that is kept answers, and what a call leaves of it. Our own. Read AnswersSo, then decided and MayAnswer,
 -- then SlotSo; what is left of the state is in NextState.
-use Rattle.std.specs.Prelude.{◌≡◌, ◌≢◌, ◌⊎◌, ℕ, nat_lt, Bool, true, false, if◌then◌else◌, List, [], ◌∷◌, ◌++◌, Option, None, Some, is_some, option_map, filter, not, IsSome, IsNone, IsTrue, ⊤}
-use Rattle.std.specs.Bool.{then_some}
+use Rattle.std.specs.Prelude.{◌≡◌, ◌≢◌, ◌⊎◌, ℕ, Bool, true, false, if◌then◌else◌, List, [], ◌∷◌, ◌++◌, Option, None, Some, is_some, filter, not, IsSome, IsNone, IsTrue, ⊤}
 use Rattle.std.specs.FinMap as map
 use Rattle.ids.specs.Key.{Objects}
 use Rattle.ids.specs.declared.key.Key.{Key}
 use Rattle.ids.specs.declared.key.Kind.{Kind}
-use Rattle.library_rules.specs.Calls.{first_refusal, ids_of, keys_of, may, put_refusals, token_of}
+use Rattle.library_rules.specs.Calls.{ids_of, keys_of, may, token_of}
+pub use Rattle.library_rules.specs.Calls.{act_decided, decided, ids_decided, put_decided, token_decided, update_decided}
 use Rattle.library_rules.specs.Changes.{is_refused}
 use Rattle.library_rules.specs.History.{Permits, StepSo, lone}
-use Rattle.library_rules.specs.LibraryState.{State, head_of, is_kept, is_day_count}
+use Rattle.library_rules.specs.LibraryState.{State}
 use Rattle.library_rules.specs.declared.entry.Entry.{Entry}
 use Rattle.library_rules.specs.declared.entry.Step.TheVariants.{Asked}
 use Rattle.library_rules.specs.declared.entry.Stored.{Stored}
 use Rattle.library_state.specs.declared.call.Act.{Act}
 use Rattle.library_state.specs.declared.call.Act.TheVariants as act
 use Rattle.library_state.specs.declared.call.Call.{Call}
-use Rattle.library_state.specs.declared.history.Install.{Install}
 use Rattle.library_state.specs.declared.refusal.Refusal.{Refusal}
 use Rattle.library_state.specs.declared.refusal.Refusal.TheVariants as refusal
 use Rattle.library_state.specs.declared.reply.Reply.{Reply}
 use Rattle.library_state.specs.declared.reply.Reply.TheVariants as reply
 use Rattle.library_state.specs.declared.state.LibState.{LibState}
 use Rattle.library_state.specs.declared.token.Token.{Token}
-use Rattle.object_graph.specs.Objects.{commit_key, is_nil}
+use Rattle.object_graph.specs.Objects.{is_nil}
 use Rattle.object_graph.specs.Traversal.{distinct_from}
 use Rattle.object_store.specs.Shelf.{Contents}
 use Rattle.object_store.specs.Store.{GivesOther, IsDamage, IsWhole}
@@ -32,10 +31,12 @@ use Rattle.object_store.specs.declared.error.StoreFault.{StoreFault}
 use Rattle.object_store.specs.declared.shelf.Slot.{Slot as ShelfSlot}
 use Rattle.object_store.specs.declared.shelf.Slot.TheVariants.{Object}
 use Rattle.tree_merge.specs.TreeBuilding.{IsCollision}
+use Rattle.depot.specs.Changing.{IsPlaceOf}
 use Rattle.depot.specs.DepotView.{DepotView, state_of}
 use Rattle.depot.specs.FreshKeys.{RunsOn, told_there}
 pub use Rattle.depot.specs.NextState.{next_by, next_state, state_after, with_install}
-use Rattle.depot.specs.ObjectCalls.{Counts, IsToldDamage, is_counted, own_name, store_refusal}
+use Rattle.depot.specs.ObjectCalls.{Counts, IsToldDamage, is_counted}
+use Rattle.depot.specs.Refusals.{store_refusal}
 use Rattle.depot.specs.Writing.{IsWritten, LeftBy, Slot, settled}
 
 -- the answer is permitted, and what is left is what it leaves by these entries of the history: the same state by none, or
@@ -54,45 +55,12 @@ abbrev pub permits : Option Token → Act → Bool
 permits None a = false
 permits (Some token) a = may token a
 
--- ---- over any shelf: what the state alone decides
-
--- an update of a kept commit, and one whose upload was checked before the last collection began
-abbrev pub update_decided : LibState → Token → List ℕ → Option Reply
-update_decided state token pushed =
-    if is_kept state.kept pushed then Some (reply.Updated (head_of state.kept))
-    else if nat_lt token.last state.collection then Some (reply.Refused (refusal.Stale token.last state.collection))
-    else None
-
--- a put is refused for its bytes, or since its id has forty zeros
-abbrev pub put_decided : List ℕ → Key → List ℕ → Option Reply
-put_decided lib key bytes = option_map reply.Refused (first_refusal (put_refusals lib key.kind key bytes ++ then_some (is_nil key.id) (refusal.Taken key.id) ∷ []))
-
--- a put of which only the name and what is stored are still to be looked at
-abbrev pub store_decided : Key → List ℕ → Option Reply
-store_decided key bytes = option_map reply.Refused (first_refusal (own_name key bytes ∷ then_some (is_nil key.id) (refusal.Taken key.id) ∷ []))
-
--- a list of a commit that isn't kept
-abbrev pub ids_decided : List Install → List ℕ → Option Reply
-ids_decided kept server = if is_kept kept server then None else Some (reply.Refused (refusal.NoObject (commit_key server)))
-
--- the answer to an act of one whose right is enough, or none where the objects decide
-abbrev pub act_decided : LibState → Token → Act → Option Reply
-act_decided state token (act.Check o) = Some reply.Checked
-act_decided state token act.Head = Some (reply.HeadIs (head_of state.kept))
-act_decided state token (act.Get key) = None
-act_decided state token (act.Put key bytes) = put_decided state.lib key bytes
-act_decided state token (act.Missing k ids) = None
-act_decided state token (act.Update commit) = update_decided state token commit
-act_decided state token (act.Limit days) = Some (if is_day_count days then reply.Limited else reply.Refused (refusal.BadDays days))
-act_decided state token (act.Ids server client) = ids_decided state.kept server
-
-abbrev pub token_decided : LibState → Act → Option Token → Option Reply
-token_decided state a None = Some (reply.Refused refusal.Denied)
-token_decided state a (Some token) = if may token a then act_decided state token a else Some (reply.Refused refusal.Denied)
-
--- the answer to a call that the state alone decides
-abbrev pub decided : LibState → Call → Option Reply
-decided state call = token_decided state call.act (token_of state.tokens call.secret)
+-- the token of the secret stands at this place, and its right is enough for the act
+pub record MayAsk (tokens : List Token) (secret : Option (List ℕ)) (a : Act) (place : ℕ) : Type 0 where
+  pub digits : List ℕ
+  pub shown : secret ≡ Some digits
+  pub at : IsPlaceOf tokens digits place
+  pub right : permits (token_of tokens secret) a ≡ true
 
 -- ---- over any shelf: which answers may come, and the cause of each fault
 
@@ -219,17 +187,18 @@ module _ (index : Index) where
 abbrev pub MayAnswerSo : State → Call → ℕ → Reply → Type 0
 MayAnswerSo s call moment said = (added : List Stored) × Permits s (record (lone s (Asked call) moment said) { added = added })
 
--- what the slot holds after an answer. Nothing was written where the state stays; the text of another state that is left,
+-- what the slot holds after an answer. Nothing was written where the state stays, so the count of texts that were put does
+-- too; the text of another state that is left,
 -- after the present one where that was open; or, after a failure of the shelf, it is open whether the present text stands
 -- or that of another state, which the call would have made by an answer that it could have; and after want of memory the
 -- present one alone
-pub data SlotSo (would : Reply → Type 0) (call : Call) (moment : ℕ) (r : Reply) (unsettled : Bool) (present : LibState) (old : Slot) (still : Bool) (after : LibState) (new : Slot) : Type 0 where
-  unwritten : after ≡ present → still ≡ unsettled → new ≡ old → SlotSo would call moment r unsettled present old still after new
-  rewritten : is_refused r ≡ false → after ≢ present → still ≡ false → IsWritten after (settled unsettled present old) new → SlotSo would call moment r unsettled present old still after new
+pub data SlotSo (would : Reply → Type 0) (call : Call) (moment : ℕ) (r : Reply) (unsettled : Bool) (present : LibState) (old : Slot) (still : Bool) (after : LibState) (new : Slot) (before now : ℕ) : Type 0 where
+  unwritten : after ≡ present → still ≡ unsettled → new ≡ old → now ≡ before → SlotSo would call moment r unsettled present old still after new before now
+  rewritten : is_refused r ≡ false → after ≢ present → still ≡ false → IsWritten after (settled unsettled present old) new → SlotSo would call moment r unsettled present old still after new before now
   refused : (fault : StoreFault) → r ≡ reply.Refused (store_refusal fault) → (said : Reply) → is_refused said ≡ false → would said
       → next_state present call moment said ≢ present
       → LeftBy fault unsettled present (next_state present call moment said) old still new
-      → SlotSo would call moment r unsettled present old still after new
+      → SlotSo would call moment r unsettled present old still after new before now
 
 -- an answer that a library which is told could give
 abbrev pub Would : {S : Type 0} → (S → Option Contents) → (S → ℕ) → DepotView S → Call → ℕ → Reply → Type 0
@@ -238,7 +207,7 @@ Would contents faults old call moment said = (s : State) → state_of contents f
 -- ---- all of it
 
 -- what a call answers and leaves
-pub record Serves {S : Type 0} (contents : S → Option Contents) (may_give : S → ShelfSlot → Option (List ℕ) → Type 0) (faults : S → ℕ) (old : DepotView S)
+pub record Serves {S : Type 0} (contents : S → Option Contents) (may_give : S → ShelfSlot → Option (List ℕ) → Type 0) (texts faults : S → ℕ) (old : DepotView S)
     (call : Call) (moment : ℕ) (r : Reply) (new : DepotView S) : Type 0 where
   pub told : (s : State) → state_of contents faults old ≡ Some s → AnswersBySome s call moment r (state_of contents faults new)
   pub may_come : MayAnswer old.store.index (may_give new.store.shelf) call.act (decided old.state call) r
@@ -248,3 +217,15 @@ pub record Serves {S : Type 0} (contents : S → Option Contents) (may_give : S 
   pub fresh : RunsOn old.store.index new.store.index (told_there old.store.index call.act r) old.running new.running
   pub lying : is_counted r ≡ false → AddsNoStray contents old.store new.store
   pub slot : SlotSo (Would contents faults old call moment) call moment r old.unsettled old.state (status_of contents old.store) new.unsettled new.state (status_of contents new.store)
+      (texts old.store.shelf) (texts new.store.shelf)
+
+-- each call that asks this of one who may is served so
+abbrev pub ServesAct : {S : Type 0} → (S → Option Contents) → (S → ShelfSlot → Option (List ℕ) → Type 0) → (texts faults : S → ℕ) → DepotView S → Act → Reply → DepotView S → Type 0
+ServesAct contents may_give texts faults old a r new =
+    (call : Call) (moment : ℕ) → permits (token_of old.state.tokens call.secret) call.act ≡ true → call.act ≡ a → Serves contents may_give texts faults old call moment r new
+
+-- each such call by the token at this place, at this moment
+abbrev pub ServesAt : {S : Type 0} → (S → Option Contents) → (S → ShelfSlot → Option (List ℕ) → Type 0) → (texts faults : S → ℕ) → DepotView S → ℕ → Act → ℕ
+    → Reply → DepotView S → Type 0
+ServesAt contents may_give texts faults old place a moment r new =
+    (call : Call) → MayAsk old.state.tokens call.secret call.act place → call.act ≡ a → Serves contents may_give texts faults old call moment r new

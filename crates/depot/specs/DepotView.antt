@@ -18,7 +18,7 @@ use Rattle.depot.specs.NextState.{Follows}
 use Rattle.depot.specs.Writing.{ReadsBack}
 
 -- a depot as contracts see it. It is unsettled after a write of the state text that failed: then the slot may hold the
--- text of the state that the refused call would have made. No depot of today runs a collection
+-- text of a state that some call makes of this one. No depot of today runs a collection
 pub record DepotView (S : Type 0) : Type 0 where
   pub store : StoreView S
   pub state : LibState
@@ -39,18 +39,7 @@ depot_code {S} shelf = code_by (StoreView S × (LibState × (Bool × Option Runn
 
 -- the library of a state text, with these objects, no collection running, and this count of faults
 abbrev pub library : LibState → ℕ → Objects → State
-library state faults objects = record {
-  objects = objects;
-  kept = state.kept;
-  collection = state.collection;
-  running = None;
-  days = state.days;
-  tokens = state.tokens;
-  opening = state.opening;
-  lib = state.lib;
-  name = state.name;
-  faults = faults;
-}
+library state faults objects = record { objects = objects; state = state; running = None; faults = faults }
 
 -- the same, with the collection that runs
 abbrev pub running_library : LibState → Option Running → ℕ → Objects → State
@@ -74,8 +63,8 @@ at_rest depot = record depot { running = None }
 
 -- ---- what the slot holds
 
--- the text of another state, which a call would have made of the present one: it is read as that state, and the library
--- is sound over the same objects
+-- the text of another state, which some call, or a token more, makes of the present one: it is read as that state, and
+-- the library is sound over the same objects
 pub record HoldsOther (present : LibState) (objects : Objects) (status : Option (List ℕ)) : Type 0 where
   pub other : LibState
   pub follows : Follows present other
@@ -83,8 +72,7 @@ pub record HoldsOther (present : LibState) (objects : Objects) (status : Option 
   pub reads : read_state (text_of other) ≡ Ok other
   pub sound : (faults : ℕ) → IsSound (library other faults objects)
 
--- the slot holds the state's text; while the depot is unsettled it may hold that of the state which the refused call
--- would have made
+-- the slot holds the state's text; while the depot is unsettled it may hold that of such another state
 abbrev pub Holds : Bool → LibState → Objects → Option (List ℕ) → Type 0
 Holds false state objects status = status ≡ Some (text_of state)
 Holds true state objects status = (status ≡ Some (text_of state)) ⊎ HoldsOther state objects status

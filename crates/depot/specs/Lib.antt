@@ -1,9 +1,10 @@
 pub mod NextState
 pub mod Writing
 pub mod DepotView
-pub mod Opening
+pub mod Make
 pub mod Tokens
-pub mod Reopening
+pub mod Start
+pub mod Refusals
 pub mod ObjectCalls
 pub mod FreshKeys
 pub mod Answering
@@ -13,5 +14,4 @@ pub mod UpdateBase
 pub mod UpdatePlan
 pub mod UpdateMerge
 pub mod UpdateInstall
-pub mod Update
 pub mod Standing

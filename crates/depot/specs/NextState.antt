@@ -1,35 +1,14 @@
--- The state that a call makes of the one before it. Our own. Read next_by, then Follows.
-use Rattle.std.specs.Prelude.{◌≡◌, ℕ, false, if◌then◌else◌, List, [], ◌∷◌, ◌++◌, Option}
-use Rattle.library_rules.specs.Changes.{head_in, is_refused, seen_by}
-use Rattle.library_rules.specs.LibraryState.{is_kept}
-use Rattle.library_state.specs.declared.call.Act.{Act}
-use Rattle.library_state.specs.declared.call.Act.TheVariants as act
+-- The state that a call makes of the one before it. Our own. Read state_after, then Follows.
+use Rattle.std.specs.Prelude.{◌≡◌, ℕ, false, if◌then◌else◌, List}
+use Rattle.library_rules.specs.Changes.{is_refused}
+pub use Rattle.library_rules.specs.Changes.{next_by, with_install}
+pub use Rattle.library_rules.specs.Creation.{with_new_token}
 use Rattle.library_state.specs.declared.call.Call.{Call}
-use Rattle.library_state.specs.declared.call.Op.TheVariants as op
 use Rattle.library_state.specs.declared.reply.Reply.{Reply}
 use Rattle.library_state.specs.declared.right.Right.{Right}
 use Rattle.library_state.specs.declared.state.LibState.{LibState}
 
--- the state with one head update more
-abbrev pub with_install : (head pushed : List ℕ) → ℕ → LibState → LibState
-with_install head pushed moment state = record state { kept = state.kept ++ record { head = head; pushed = pushed; at = moment } ∷ [] }
-
--- the state with one token more, which saw no collection
-abbrev pub with_new_token : (user secret : List ℕ) → Right → LibState → LibState
-with_new_token user secret right state = record state { tokens = state.tokens ++ record { secret = secret; user = user; right = right; last = 0 } ∷ [] }
-
--- what an act changes that is answered so
-abbrev pub next_by : LibState → Option (List ℕ) → ℕ → Act → Reply → LibState
-next_by state secret moment (act.Check op.Upload) r = record state { tokens = seen_by secret state.collection state.tokens }
-next_by state secret moment (act.Check op.Download) r = state
-next_by state secret moment act.Head r = state
-next_by state secret moment (act.Get key) r = state
-next_by state secret moment (act.Put key bytes) r = state
-next_by state secret moment (act.Missing k ids) r = state
-next_by state secret moment (act.Update pushed) r = if is_kept state.kept pushed then state else with_install (head_in r pushed) pushed moment state
-next_by state secret moment (act.Limit days) r = record state { days = days }
-next_by state secret moment (act.Ids server client) r = state
-
+-- what a call makes of a state that is answered so, and isn't refused
 abbrev pub next_state : LibState → Call → ℕ → Reply → LibState
 next_state state call moment r = next_by state call.secret moment call.act r
 

@@ -1,28 +1,20 @@
 -- What the calls on objects answer and leave. Our own. Read SaysOr and DoneSo first.
-use Rattle.std.specs.Prelude.{◌≡◌, ◌⊎◌, ℕ, ◌≤◌, Bool, true, false, List, [], ◌∷◌, Option, Some, ⊤}
+use Rattle.std.specs.Prelude.{◌≡◌, ◌⊎◌, ℕ, ◌≤◌, Bool, true, false, List, [], ◌∷◌, Option, Some, option_map, ⊤}
 use Rattle.std.specs.Bool.{MatchBool, then_some}
 use Rattle.sha1.specs.Sha1.{sha1}
 use Rattle.ids.specs.FaultCount.{Rose}
 use Rattle.ids.specs.Key.{Objects}
 use Rattle.ids.specs.declared.key.Key.{Key}
-use Rattle.library_rules.specs.Calls.{Due, Denies, Says, Stores, Installs, Merges, first_refusal, put_by, taken}
+use Rattle.library_rules.specs.Calls.{Due, Denies, Says, Stores, Installs, Merges, by_state, first_refusal, put_by_objects}
 use Rattle.library_rules.specs.Changes.{put_new}
 use Rattle.library_rules.specs.LibraryState.{State}
 use Rattle.library_state.specs.declared.refusal.Refusal.{Refusal}
 use Rattle.library_state.specs.declared.refusal.Refusal.TheVariants as refusal
 use Rattle.library_state.specs.declared.reply.Reply.{Reply}
 use Rattle.library_state.specs.declared.reply.Reply.TheVariants as reply
+use Rattle.object_graph.specs.Objects.{is_nil}
 use Rattle.object_store.specs.Store.{damage_at, has_other_name}
-use Rattle.object_store.specs.declared.error.StoreFault.{StoreFault}
 use Rattle.object_store.specs.declared.error.StoreFault.TheVariants as store
-
--- the refusal that a fault of the store is
-abbrev pub store_refusal : StoreFault → Refusal
-store_refusal (store.Taken id) = refusal.Taken id
-store_refusal (store.Wrong id) = refusal.Wrong id
-store_refusal (store.Damaged want got) = refusal.Damaged want got
-store_refusal store.Shelf = refusal.Store
-store_refusal store.NoMemory = refusal.NoMemory
 
 -- ---- faults
 
@@ -78,6 +70,10 @@ DoneSo objects (Merges user base pushed) r after = ⊥
 abbrev pub own_name : Key → List ℕ → Option Refusal
 own_name key bytes = then_some (has_other_name key bytes) (refusal.Wrong (sha1 bytes))
 
+-- what the state decides of a put of which only the name and what is stored are still to be looked at
+abbrev pub store_decided : Key → List ℕ → Option Reply
+store_decided key bytes = option_map reply.Refused (first_refusal (own_name key bytes ∷ then_some (is_nil key.id) (refusal.Taken key.id) ∷ []))
+
 -- what a put is due of which only the name and what is stored are still to be looked at
 abbrev pub store_due : State → Key → List ℕ → Due
-store_due s key bytes = put_by s key bytes (first_refusal (own_name key bytes ∷ taken s key bytes ∷ []))
+store_due s key bytes = by_state (store_decided key bytes) (put_by_objects s key bytes)

@@ -1,4 +1,4 @@
--- How the merge base of a pushed commit is looked for. Our own. Read walk_refusal, then LooksSo and FindsSo.
+-- How the merge base of a pushed commit is looked for. Our own. Read LooksSo and FindsSo.
 use Rattle.std.specs.Prelude.{◌≡◌, ◌⊎◌, ℕ, true, false, List, Option, None, Some, Result, Ok, Err}
 use Rattle.ids.specs.FaultCount.{FailsBy}
 use Rattle.ids.specs.Key.{Objects}
@@ -13,27 +13,18 @@ use Rattle.object_store.specs.Shelf.{Contents}
 use Rattle.object_store.specs.StoreView.{Keeps, StoreView}
 use Rattle.tree_walk.specs.Reading.{AnswersRead}
 use Rattle.tree_walk.specs.declared.fault.WalkFault.{WalkFault}
-use Rattle.tree_walk.specs.declared.fault.WalkFault.TheVariants as walk
-use Rattle.depot.specs.ObjectCalls.{IsToldRefusal, is_of_store, store_refusal}
+use Rattle.depot.specs.ObjectCalls.{IsToldRefusal, is_of_store}
 use Rattle.depot.specs.declared.update_base.Found.{Found}
 use Rattle.depot.specs.declared.update_base.Found.TheVariants as found
 use Rattle.depot.specs.declared.update_base.Look.{Look}
+use Rattle.depot.specs.Refusals.{walk_refusal}
 use Rattle.depot.specs.declared.update_base.Look.TheVariants as look
 
--- the refusal that a fault of a reading is
-abbrev pub walk_refusal : WalkFault → Refusal
-walk_refusal (walk.Incomplete key) = refusal.Incomplete key
-walk_refusal (walk.Unreadable key) = refusal.Unreadable key
-walk_refusal (walk.WrongKind id) = refusal.WrongKind id
-walk_refusal (walk.WrongSize id) = refusal.WrongSize id
-walk_refusal (walk.TooDeep path) = refusal.TooDeep path
-walk_refusal (walk.TooMany paths) = refusal.TooMany paths
-walk_refusal (walk.Store fault) = store_refusal fault
-
--- a call that may be refused reads: nothing that the store holds is changed, and the shelf's count rose where it failed,
--- and stays else
-pub record ReadsOnly {S T : Type 0} (contents : S → Option Contents) (faults : S → ℕ) (old new : StoreView S) (result : Result T Refusal) : Type 0 where
+-- a call that may be refused reads: nothing that the store holds is changed, no text is put, and the shelf's count of
+-- faults rose where it failed, and stays else
+pub record ReadsOnly {S T : Type 0} (contents : S → Option Contents) (texts faults : S → ℕ) (old new : StoreView S) (result : Result T Refusal) : Type 0 where
   pub kept : Keeps contents old new
+  pub written : texts new.shelf ≡ texts old.shelf
   pub count : FailsBy is_of_store (faults old.shelf) (faults new.shelf) result
 
 -- ---- one commit

@@ -10,7 +10,7 @@ use Rattle.object_store.specs.StoreView.{Index, StoreView, objects_of, status_of
 use Rattle.object_store.specs.declared.error.StoreFault.{StoreFault}
 use Rattle.object_store.specs.declared.shelf.Slot.{Slot as ShelfSlot}
 use Rattle.depot.specs.Answering.{MayRefuseUpdate}
-use Rattle.depot.specs.ObjectCalls.{store_refusal}
+use Rattle.depot.specs.Refusals.{store_refusal}
 use Rattle.depot.specs.Writing.{IsWritten, LeftBy, Slot, settled}
 
 -- objects that are put one after another, where the objects are told
@@ -49,15 +49,16 @@ abbrev pub InstallsText : Bool → LibState → LibState → Slot → Bool → S
 InstallsText unsettled present next old still new (Ok done) = (still ≡ false) × IsWritten next (settled unsettled present old) new
 InstallsText unsettled present next old still new (Err fault) = LeftBy fault unsettled present next old still new
 
--- the objects and the slot, where they are told
+-- the objects and the slot, where they are told, and the count of texts that were put
 pub record Held : Type 0 where
   pub objects : Option Objects
   pub slot : Slot
+  pub texts : ℕ
 
 -- the first ones of the objects were put, and nothing was written; or all of them, and then the text was written as far as
 -- a failure of the shelf or want of memory let it
 pub data LeftBehind (fault : StoreFault) (unsettled : Bool) (present next : LibState) (all : List Stored) (old : Held) (still : Bool) (new : Held) : Type 0 where
-  stopped : StoresPart old.objects all new.objects → still ≡ unsettled → new.slot ≡ old.slot → LeftBehind fault unsettled present next all old still new
+  stopped : StoresPart old.objects all new.objects → still ≡ unsettled → new.slot ≡ old.slot → new.texts ≡ old.texts → LeftBehind fault unsettled present next all old still new
   unsure : IsTrue (is_free fault) → new.objects ≡ with_all all old.objects → LeftBy fault unsettled present next old.slot still new.slot
       → LeftBehind fault unsettled present next all old still new
 
@@ -72,5 +73,5 @@ CarriesSo unsettled present next all old still new (Ok done) = IsCarriedOut unse
 CarriesSo unsettled present next all old still new (Err fault) = LeftBehind fault unsettled present next all old still new
 
 -- what a store holds
-abbrev pub held_in : {S : Type 0} → (S → Option Contents) → StoreView S → Held
-held_in contents store = record { objects = objects_of contents store; slot = status_of contents store }
+abbrev pub held_in : {S : Type 0} → (S → Option Contents) → (S → ℕ) → StoreView S → Held
+held_in contents texts store = record { objects = objects_of contents store; slot = status_of contents store; texts = texts store.shelf }

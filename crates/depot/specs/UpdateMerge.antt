@@ -13,13 +13,10 @@ use Rattle.library_state.specs.declared.refusal.Refusal.{Refusal}
 use Rattle.library_state.specs.declared.refusal.Refusal.TheVariants as refusal
 use Rattle.object_graph.specs.Objects.{commit_at, commit_key, is_nil}
 use Rattle.object_graph.specs.Traversal.{IsComplete}
-use Rattle.tree_merge.specs.declared.merging.MergeFault.{MergeFault}
-use Rattle.tree_merge.specs.declared.merging.MergeFault.TheVariants as merge
 use Rattle.tree_merge.specs.declared.merging.Merged.{Merged}
 use Rattle.tree_walk.specs.Reading.{AnswersRead, IsDue}
 use Rattle.tree_walk.specs.declared.fault.WalkFault.{WalkFault}
 use Rattle.depot.specs.ObjectCalls.{IsToldRefusal}
-use Rattle.depot.specs.UpdateBase.{walk_refusal}
 use Rattle.depot.specs.declared.update_merge.Roots.{Roots}
 use Rattle.depot.specs.declared.update_plan.Plan.{Plan}
 
@@ -28,13 +25,6 @@ pub record AreComplete (objects : Objects) (base head pushed : List ℕ) : Type 
   pub base_complete : IsComplete objects base
   pub head_complete : IsComplete objects head
   pub pushed_complete : IsComplete objects pushed
-
--- the refusal that a fault of a merge is
-abbrev pub merge_refusal : MergeFault → Refusal
-merge_refusal (merge.TooLong path size) = refusal.TooLong path size
-merge_refusal (merge.TooMany paths) = refusal.TooMany paths
-merge_refusal (merge.Taken id) = refusal.Taken id
-merge_refusal (merge.Walk fault) = walk_refusal fault
 
 -- ---- roots
 

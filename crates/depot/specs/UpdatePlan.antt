@@ -85,8 +85,8 @@ PlansDue s moment due (Err why) = IsPlanFault s moment due why
 
 -- nothing is to do for a commit that is kept; else a plan, or a refusal
 abbrev pub PlansSo : State → ℕ → List ℕ → Due → Result (Option Plan) Refusal → Type 0
-PlansSo s moment pushed due (Ok None) = (is_kept s.kept pushed ≡ true) × (due ≡ Says (reply.Updated (head_of s.kept)))
-PlansSo s moment pushed due (Ok (Some plan)) = (is_kept s.kept pushed ≡ false) × IsPlan s moment due plan
+PlansSo s moment pushed due (Ok None) = (is_kept s.state.kept pushed ≡ true) × (due ≡ Says (reply.Updated (head_of s.state.kept)))
+PlansSo s moment pushed due (Ok (Some plan)) = (is_kept s.state.kept pushed ≡ false) × IsPlan s moment due plan
 PlansSo s moment pushed due (Err why) = IsPlanFault s moment due why
 
 -- ---- over any shelf

@@ -1,17 +1,17 @@
 //! What a library answers to a call.
-ghost use Rattle.std.specs.Prelude.{◌≡◌, Some, true, false, nat_le};
+ghost use Rattle.std.specs.Prelude.{◌≡◌, IfNone, IfSome, None, Some, false, nat_le};
 ghost use Rattle.ids.specs.Key.{Objects};
 ghost use Rattle.library_rules.specs.Calls.{token_of};
 ghost use Rattle.library_rules.specs.LibraryState.{State};
 ghost use Rattle.library_state.specs.Rights.{right_number};
 ghost use Rattle.object_store.specs.StoreView.{AddsNoStray, objects_of, status_of};
-ghost use Rattle.depot.specs.Answering.{AnswersBySome, MayAnswer, Serves, SlotSo, Would, decided, permits, state_after};
+ghost use Rattle.depot.specs.Answering.{AnswersBySome, MayAnswer, MayAsk, Serves, SlotSo, Would, decided, permits, state_after};
+ghost use Rattle.depot.specs.Changing.{IsPlaceOf};
 ghost use Rattle.depot.specs.DepotView.{IsGood, state_of};
 ghost use Rattle.depot.specs.FreshKeys.{RunsOn, told_there};
 ghost use Rattle.depot.specs.ObjectCalls.{Counts, IsToldDamage, is_counted};
 
 use crate::depot::Depot;
-use crate::update_plan::token_of;
 use library_rules::right_needed;
 use library_state::{Act, Call, Refusal, Reply, Right, Secret, Token};
 use object_store::Shelf;
@@ -39,43 +39,68 @@ impl<S: Shelf> Depot<S> {
         ensures kept { self.new.state.lib ≡ self.old.state.lib }
         ensures fresh { RunsOn self.old.store.index self.new.store.index (told_there self.old.store.index call.now.act result) self.old.running self.new.running }
         ensures text { SlotSo (Would S.contents S.faults self.old call.now moment) call.now moment result self.old.unsettled self.old.state (status_of S.contents self.old.store)
-            self.new.unsettled self.new.state (status_of S.contents self.new.store) }
+            self.new.unsettled self.new.state (status_of S.contents self.new.store) (S.texts self.old.store.shelf) (S.texts self.new.store.shelf) }
     {
-        if is_permitted(self.state.tokens.slice(), &call.secret, &call.act) {
-            let reply = self.answer_permitted(call, moment);
-            let _ = &self.alloc;
-            reply
-        } else {
-            Reply::Refused(Refusal::Denied)
+        match permitted_place(self.parts.state.tokens.slice(), &call.secret, &call.act) {
+            Some(place) => {
+                let reply = self.answer_permitted(call, place, moment);
+                // Tells the proof that the library is good.
+                let _ = &self.parts;
+                reply
+            }
+            None => Reply::Refused(Refusal::Denied),
         }
     }
 
-    /// Answers a call of one who may ask it.
-    fn answer_permitted(&mut self, call: &Call, moment: u64) -> Reply
-        requires right { permits (token_of self.old.state.tokens call.now.secret) call.now.act ≡ true }
-        ensures value { Serves S.contents S.may_give S.faults self.old call.now moment result self.new }
+    /// Answers a call of one who may ask it, by the token at a place.
+    fn answer_permitted(&mut self, call: &Call, place: usize, moment: u64) -> Reply
+        requires who { MayAsk self.old.state.tokens call.now.secret call.now.act place }
+        ensures value { Serves S.contents S.may_give S.texts S.faults self.old call.now moment result self.new }
     {
         match &call.act {
-            Act::Check(op) => self.check(call, *op, moment),
+            Act::Check(op) => self.check(place, *op),
             Act::Head => Reply::HeadIs(self.head()),
-            Act::Get(key) => self.get(call, key, moment),
-            Act::Put(key, bytes) => self.put(call, key, bytes.slice(), moment),
-            Act::Missing(kind, ids) => self.missing(call, *kind, ids.slice(), moment),
-            Act::Update(pushed) => self.update(&call.secret, *pushed, moment),
-            Act::Limit(days) => self.limit(call, *days, moment),
-            Act::Ids(server, client) => self.list(call, server, client, moment),
+            Act::Get(key) => self.get(key),
+            Act::Put(key, bytes) => self.put(key, bytes.slice()),
+            Act::Missing(kind, ids) => self.missing(*kind, ids.slice()),
+            Act::Update(pushed) => self.update(place, *pushed, moment),
+            Act::Limit(days) => self.limit(*days),
+            Act::Ids(server, client) => self.list(server, client),
         }
     }
 }
 
-/// Whether the token of the secret gives the right to the act.
-fn is_permitted(tokens: &[Token], secret: &Option<Secret>, act: &Act) -> bool
-    ensures value { result ≡ permits (token_of tokens.now secret.now) act.now }
+/// The place of the first token of the secret, where its right is enough for the act.
+fn permitted_place(tokens: &[Token], secret: &Option<Secret>, act: &Act) -> Option<usize>
+    ensures found { IfSome result (MayAsk tokens.now secret.now act.now) }
+    ensures absent { IfNone result (permits (token_of tokens.now secret.now) act.now ≡ false) }
 {
-    match token_of(tokens, secret) {
-        Some(token) => is_enough(right_needed(act), token.right),
-        None => false,
+    let shown = match secret {
+        Some(shown) => shown,
+        None => return None,
+    };
+    let place = match place_of(tokens, shown) {
+        Some(place) => place,
+        None => return None,
+    };
+    if is_enough(right_needed(act), tokens[place].right) {
+        Some(place)
+    } else {
+        None
     }
+}
+
+/// The place of the first token of a secret.
+fn place_of(tokens: &[Token], secret: &Secret) -> Option<usize>
+    ensures found { IfSome result (IsPlaceOf tokens.now secret.now) }
+    ensures absent { IfNone result (token_of tokens.now (Some secret.now) ≡ None) }
+{
+    for (place, token) in tokens.iter().enumerate() {
+        if secret.is(&token.secret) {
+            return Some(place);
+        }
+    }
+    None
 }
 
 /// Whether a right is enough where another is needed: each right has those before it.

@@ -3,8 +3,8 @@ ghost use Rattle.std.specs.Prelude.{◌≡◌, Some, IfErr};
 ghost use Rattle.ids.specs.FaultCount.{FailsBy};
 ghost use Rattle.ids.specs.Key.{Objects};
 ghost use Rattle.object_graph.specs.Traversal.{walk_commit};
-ghost use Rattle.object_store.specs.StoreView.{Keeps, objects_of};
-ghost use Rattle.depot.specs.Reopening.{ChecksSo, IsCheckFault, check_fault_of, first_incomplete, first_of, is_check_counted};
+ghost use Rattle.object_store.specs.StoreView.{Keeps, ReadsShelf, objects_of};
+ghost use Rattle.depot.specs.Start.{ChecksSo, IsCheckFault, check_fault_of, first_incomplete, first_of, is_check_counted};
 ghost use Rattle.library_rules.specs.LibraryState.{kept_commits};
 
 use ids::ObjId;
@@ -31,7 +31,8 @@ pub(crate) fn check_complete<S: Shelf>(
 ) -> Result<(), CheckFault>
     ensures value { (objects : Objects) → objects_of S.contents store.old ≡ Some objects → ChecksSo objects (walk_commit objects commit).fault result }
     ensures kept { Keeps S.contents store.old store.new }
-    ensures cause { IfErr result (IsCheckFault (S.may_give store.new.shelf)) }
+    ensures reads { ReadsShelf S.may_give S.texts store.old.shelf store.new.shelf }
+    ensures cause { IfErr result (IsCheckFault (S.may_give store.old.shelf)) }
     ensures faults { FailsBy is_check_counted (S.faults store.old.shelf) (S.faults store.new.shelf) result }
 {
     match needs(alloc, store, commit) {
@@ -64,7 +65,8 @@ pub(crate) fn check_kept<S: Shelf>(
     ensures value { (objects : Objects) → objects_of S.contents store.old ≡ Some objects
         → ChecksSo objects (first_incomplete objects (kept_commits kept.now)) result }
     ensures kept { Keeps S.contents store.old store.new }
-    ensures cause { IfErr result (IsCheckFault (S.may_give store.new.shelf)) }
+    ensures reads { ReadsShelf S.may_give S.texts store.old.shelf store.new.shelf }
+    ensures cause { IfErr result (IsCheckFault (S.may_give store.old.shelf)) }
     ensures faults { FailsBy is_check_counted (S.faults store.old.shelf) (S.faults store.new.shelf) result }
 {
     for install in kept {
@@ -85,7 +87,8 @@ fn check_install<S: Shelf>(
     ensures value { (objects : Objects) → objects_of S.contents store.old ≡ Some objects
         → ChecksSo objects (first_of (walk_commit objects install.now.head).fault (walk_commit objects install.now.pushed).fault) result }
     ensures kept { Keeps S.contents store.old store.new }
-    ensures cause { IfErr result (IsCheckFault (S.may_give store.new.shelf)) }
+    ensures reads { ReadsShelf S.may_give S.texts store.old.shelf store.new.shelf }
+    ensures cause { IfErr result (IsCheckFault (S.may_give store.old.shelf)) }
     ensures faults { FailsBy is_check_counted (S.faults store.old.shelf) (S.faults store.new.shelf) result }
 {
     match check_complete(alloc, store, install.head) {

@@ -16,10 +16,17 @@ use std::marker::Model;
 /// any other text.
 #[derive(Drop)]
 pub struct Depot<S: Shelf> {
-    pub(crate) alloc: Global,
-    pub(crate) store: Store<S>,
-    pub(crate) state: LibState,
-    pub(crate) unsettled: bool,
+    pub(crate) parts: Parts<S>,
+}
+
+/// What a depot holds. Its methods are the steps that write.
+#[derive(Drop)]
+pub(crate) struct Parts<S: Shelf> {
+    pub alloc: Global,
+    pub store: Store<S>,
+    pub state: LibState,
+    /// Whether the last write of the state text failed.
+    pub unsettled: bool,
 }
 
 impl<S: Shelf> Model for Depot<S> {
@@ -30,9 +37,9 @@ impl<S: Shelf> Model for Depot<S> {
 
     ghost coded = { depot_code S.code };
 
-    ghost view = { λ a. record { store = a.store; state = a.state; unsettled = a.unsettled; running = None } };
+    ghost view = { λ a. record { store = a.parts.store; state = a.parts.state; unsettled = a.parts.unsettled; running = None } };
 
-    ghost invariant = { λ a. IsGood S.contents S.faults (record { store = a.store; state = a.state; unsettled = a.unsettled; running = None }) };
+    ghost invariant = { λ a. IsGood S.contents S.faults (record { store = a.parts.store; state = a.parts.state; unsettled = a.parts.unsettled; running = None }) };
 }
 
 impl<S: Shelf> Depot<S> {
@@ -42,7 +49,7 @@ impl<S: Shelf> Depot<S> {
     pub fn head(&self) -> ObjId
         ensures value { result ≡ head_of self.now.state.kept }
     {
-        let kept = self.state.kept.slice();
+        let kept = self.parts.state.kept.slice();
         kept[kept.len() - 1].head
     }
 
@@ -50,14 +57,14 @@ impl<S: Shelf> Depot<S> {
     pub fn opening(&self) -> u64
         ensures value { result ≡ self.now.state.opening }
     {
-        self.state.opening
+        self.parts.state.opening
     }
 
     /// The library's id. It takes no memory.
     pub fn lib(&self) -> LibId
         ensures value { result ≡ self.now.state.lib }
     {
-        self.state.lib
+        self.parts.state.lib
     }
 
     /// The store, with the shelf.
@@ -65,6 +72,6 @@ impl<S: Shelf> Depot<S> {
         ensures value { result ≡ self.store }
         ensures kept { IsGood S.contents S.faults self }
     {
-        self.store
+        self.parts.store
     }
 }

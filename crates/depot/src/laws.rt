@@ -6,14 +6,14 @@ ghost use Rattle.library_rules.specs.Recovery.{StandsFor};
 ghost use Rattle.object_store.specs.Shelf.{Contents};
 ghost use Rattle.object_store.specs.StoreView.{HasNoStray, StoreView, objects_of};
 ghost use Rattle.depot.specs.DepotView.{DepotView, IsGood, state_of};
-ghost use Rattle.depot.specs.Reopening.{start_refusal};
+ghost use Rattle.depot.specs.Start.{start_refusal};
 ghost use Rattle.depot.specs.Standing.{IsOnShelf};
 ghost use Rattle.depot.specs.declared.error.StartFault.TheVariants.{Worn};
 
 use object_store::Shelf;
 
-/// The shelf of a depot stands for its library. While the depot is unsettled it may stand for the one that the refused
-/// call would have made.
+/// The shelf of a depot stands for its library. While the depot is unsettled it may stand for one that some call, or a
+/// token more, makes of it; that it is the refused call's, the clause `text` of that call says.
 pub fn a_shelf_stands_for_its_library<S: Shelf>()
     ensures { (depot : DepotView S) → (held : Contents) → (s : State) → IsGood S.contents S.faults depot → S.contents depot.store.shelf ≡ Some held
         → state_of S.contents S.faults depot ≡ Some s → IsOnShelf depot.unsettled held s }
@@ -22,7 +22,7 @@ pub fn a_shelf_stands_for_its_library<S: Shelf>()
 /// A shelf that stands for a sound library opens to it: nothing but the last opening number refuses it.
 pub fn a_shelf_that_stands_for_a_library_opens_to_it()
     ensures { (s : State) → (slot : Option (List ℕ)) → (lying : Objects) → IsSound s → StandsFor slot lying s
-        → start_refusal lying slot ≡ (if s.opening == last_number then Some Worn else None) }
+        → start_refusal lying slot ≡ (if s.state.opening == last_number then Some Worn else None) }
 {}
 
 /// Where no object lies on the shelf that the store doesn't hold, the store's objects are exactly those that lie there.

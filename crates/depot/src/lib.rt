@@ -1,24 +1,25 @@
 //! One library that is kept: made, opened, asked, and kept on a shelf with the text of its state.
 //!
 //! Shown upward: `Depot` and the faults of its calls, and `read_state`. Definitions: `specs/DepotView.antt` (`state_of`, `IsGood`), then
-//! `specs/Answering.antt`, `specs/Opening.antt`, `specs/Reopening.antt`, `specs/Tokens.antt` and `specs/Writing.antt`.
+//! `specs/Answering.antt`, `specs/Make.antt`, `specs/Start.antt`, `specs/Tokens.antt` and `specs/Writing.antt`.
 //! Laws: `src/laws.rt`. What a call may answer stands in library_rules. It serves no connection and starts no thread.
 #![tactic(auto)]
 
 mod answering;
-mod asking;
 mod checking;
 mod commit_put;
 mod complete;
 mod depot;
 mod error;
+mod history;
 mod history_limit;
 pub mod laws;
 mod listing;
+mod make;
 mod missing;
 mod object_calls;
-mod opening;
-mod reopening;
+mod refusals;
+mod start;
 mod state_write;
 mod tokens;
 mod update;
@@ -30,4 +31,4 @@ mod update_plan;
 
 pub use crate::depot::Depot;
 pub use crate::error::{MakeFault, StartFault, TokenFault};
-pub use crate::reopening::read_state;
+pub use crate::start::read_state;

@@ -1,33 +1,51 @@
 //! Which files and directories a kept commit needs.
 ghost use Rattle.std.specs.Prelude.{◌≡◌, Some};
 ghost use Rattle.ids.specs.Key.{Objects};
-ghost use Rattle.library_rules.specs.Calls.{kept_alone, listed};
+ghost use Rattle.library_rules.specs.Calls.{kept_alone, listed, said_by};
 ghost use Rattle.library_rules.specs.LibraryState.{State, IsSound};
 ghost use Rattle.object_store.specs.StoreView.{Keeps, objects_of};
-ghost use Rattle.depot.specs.Answering.{MayAnswer, ids_decided};
+ghost use Rattle.depot.specs.Answering.{MayAnswer, ServesAct, ids_decided};
 ghost use Rattle.depot.specs.ObjectCalls.{Counts, IsToldDamage, SaysOr};
 ghost use Rattle.library_state.specs.declared.call.Act.TheVariants as act;
 
-use crate::update_base::{is_kept, walk_refusal};
+use crate::depot::Depot;
+use crate::history::is_kept;
+use crate::refusals::walk_refusal;
 use ids::{Key, Kind, ObjId};
 use library_state::{Install, Refusal, Reply};
 use object_store::{Shelf, Store};
 use std::alloc::Global;
 use tree_walk::fs_ids;
 
+impl<S: Shelf> Depot<S> {
+    /// Lists the files and directories that one kept commit needs and another doesn't.
+    pub(crate) fn list(&mut self, server: &ObjId, client: &Option<ObjId>) -> Reply
+        ensures value { ServesAct S.contents S.may_give S.texts S.faults self.old (act.Ids server.now client.now) result self.new }
+    {
+        list_ids(
+            self.parts.alloc,
+            &mut self.parts.store,
+            self.parts.state.kept.slice(),
+            server,
+            client,
+        )
+    }
+}
+
 /// The ids of the files and directories that a kept commit needs and the client's doesn't, in ascending order. A client's
 /// commit that isn't kept counts as none.
-pub(crate) fn list_ids<S: Shelf>(
+fn list_ids<S: Shelf>(
     alloc: Global,
     store: &mut Store<S>,
     kept: &[Install],
     server: &ObjId,
     client: &Option<ObjId>,
 ) -> Reply
-    ensures value { (s : State) → objects_of S.contents store.old ≡ Some s.objects → s.kept ≡ kept.now → IsSound s → SaysOr s.objects (listed s server.now client.now) result }
+    ensures value { (s : State) → objects_of S.contents store.old ≡ Some s.objects → s.state.kept ≡ kept.now → IsSound s → SaysOr s.objects (said_by (ids_decided s.state.kept server.now) (listed s server.now client.now)) result }
     ensures kept { Keeps S.contents store.old store.new }
     ensures cause { MayAnswer store.new.index (S.may_give store.new.shelf) (act.Ids server.now client.now) (ids_decided kept.now server.now) result }
     ensures damage { (objects : Objects) → objects_of S.contents store.old ≡ Some objects → IsToldDamage objects result }
+    ensures written { S.texts store.new.shelf ≡ S.texts store.old.shelf }
     ensures faults { Counts (S.faults store.old.shelf) (S.faults store.new.shelf) result }
 {
     if !is_kept(kept, server) {
@@ -44,7 +62,7 @@ pub(crate) fn list_ids<S: Shelf>(
 
 /// The client's commit, if it is kept.
 fn kept_alone(kept: &[Install], client: &Option<ObjId>) -> Option<ObjId>
-    ensures value { (s : State) → s.kept ≡ kept.now → result ≡ kept_alone s client.now }
+    ensures value { (s : State) → s.state.kept ≡ kept.now → result ≡ kept_alone s client.now }
 {
     match client {
         Some(commit) => {

@@ -5,22 +5,28 @@ ghost use Rattle.ids.specs.Key.{Objects};
 ghost use Rattle.library_rules.specs.Calls.{absent};
 ghost use Rattle.library_rules.specs.LibraryState.{State, is_stored};
 ghost use Rattle.object_store.specs.StoreView.{objects_of};
-ghost use Rattle.depot.specs.Answering.{MayTell};
+ghost use Rattle.library_state.specs.declared.call.Act.TheVariants as act;
+ghost use Rattle.depot.specs.Answering.{MayTell, ServesAct};
 ghost use Rattle.depot.specs.Missing.{absent_from, is_absent, is_known};
 ghost use Rattle.depot.specs.ObjectCalls.{Counts, IsToldDamage, SaysOr};
 
+use crate::depot::Depot;
 use ids::{IdList, Key, KeyTable, Kind, ObjId};
 use library_state::{Refusal, Reply};
 use object_store::{Shelf, Store};
 use std::alloc::{AllocError, Global};
 
+impl<S: Shelf> Depot<S> {
+    /// Tells which ids name nothing that is stored.
+    pub(crate) fn missing(&mut self, kind: Kind, ids: &[ObjId]) -> Reply
+        ensures value { ServesAct S.contents S.may_give S.texts S.faults self.old (act.Missing kind ids.now) result self.new }
+    {
+        missing_objects(self.parts.alloc, &self.parts.store, kind, ids)
+    }
+}
+
 /// Tells which ids name nothing that is stored as this kind, in the order asked, each once. Forty zeros are never told.
-pub(crate) fn missing_objects<S: Shelf>(
-    alloc: Global,
-    store: &Store<S>,
-    kind: Kind,
-    ids: &[ObjId],
-) -> Reply
+fn missing_objects<S: Shelf>(alloc: Global, store: &Store<S>, kind: Kind, ids: &[ObjId]) -> Reply
     ensures value { (s : State) → objects_of S.contents store.now ≡ Some s.objects → SaysOr s.objects (Reply.Absent (absent s kind ids.now)) result }
     ensures cause { MayTell store.now.index kind ids.now result }
     ensures damage { (objects : Objects) → IsToldDamage objects result }

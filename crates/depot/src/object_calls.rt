@@ -7,10 +7,12 @@ ghost use Rattle.library_rules.specs.Calls.{first_refusal, got, not_fs, other_na
 ghost use Rattle.library_rules.specs.LibraryState.{State};
 ghost use Rattle.library_state.specs.declared.call.Act.TheVariants as act;
 ghost use Rattle.object_store.specs.StoreView.{AddsNoStray, Keeps, objects_of, status_of};
-ghost use Rattle.depot.specs.Answering.{MayAnswer, MayGet, put_decided, store_decided};
-ghost use Rattle.depot.specs.ObjectCalls.{Counts, DoneSo, IsToldDamage, SaysOr, is_counted, store_due, store_refusal};
+ghost use Rattle.depot.specs.Answering.{MayAnswer, MayGet, ServesAct, put_decided};
+ghost use Rattle.depot.specs.ObjectCalls.{Counts, DoneSo, IsToldDamage, SaysOr, is_counted, store_decided, store_due};
 ghost use Rattle.depot.specs.Writing.{with_stored};
 
+use crate::depot::Depot;
+use crate::refusals::store_refusal;
 use commit_objects::Commit;
 use fs_objects::{BadFs, FsObject};
 use ids::{Key, Kind, LibId, ObjId};
@@ -19,25 +21,35 @@ use library_state::{Refusal, Reply};
 use object_store::{Shelf, Store, StoreFault};
 use std::alloc::Global;
 
-/// The refusal that a fault of the store is.
-pub(crate) fn store_refusal(fault: StoreFault) -> Refusal
-    ensures value { result ≡ store_refusal fault }
-{
-    match fault {
-        StoreFault::Taken(id) => Refusal::Taken(id),
-        StoreFault::Wrong(id) => Refusal::Wrong(id),
-        StoreFault::Damaged { want, got } => Refusal::Damaged { want, got },
-        StoreFault::Shelf => Refusal::Store,
-        StoreFault::NoMemory => Refusal::NoMemory,
+impl<S: Shelf> Depot<S> {
+    /// Answers with what is stored under a key.
+    pub(crate) fn get(&mut self, key: &Key) -> Reply
+        ensures value { ServesAct S.contents S.may_give S.texts S.faults self.old (act.Get key.now) result self.new }
+    {
+        get_object(&mut self.parts.store, key)
+    }
+
+    /// Stores an object.
+    pub(crate) fn put(&mut self, key: &Key, bytes: &[u8]) -> Reply
+        ensures value { ServesAct S.contents S.may_give S.texts S.faults self.old (act.Put key.now bytes.now) result self.new }
+    {
+        put_object(
+            self.parts.alloc,
+            &mut self.parts.store,
+            &self.parts.state.lib,
+            key,
+            bytes,
+        )
     }
 }
 
 /// What is stored under the key.
-pub(crate) fn get_object<S: Shelf>(store: &mut Store<S>, key: &Key) -> Reply
+fn get_object<S: Shelf>(store: &mut Store<S>, key: &Key) -> Reply
     ensures value { (objects : Objects) → objects_of S.contents store.old ≡ Some objects → SaysOr objects (got key.now (map.get objects key.now)) result }
     ensures kept { Keeps S.contents store.old store.new }
     ensures cause { MayGet store.old.index (S.may_give store.new.shelf) key.now result }
     ensures damage { (objects : Objects) → objects_of S.contents store.old ≡ Some objects → IsToldDamage objects result }
+    ensures written { S.texts store.new.shelf ≡ S.texts store.old.shelf }
     ensures faults { Counts (S.faults store.old.shelf) (S.faults store.new.shelf) result }
 {
     match store.get(*key) {
@@ -48,14 +60,14 @@ pub(crate) fn get_object<S: Shelf>(store: &mut Store<S>, key: &Key) -> Reply
 }
 
 /// Stores the bytes under the key, as an object of this library.
-pub(crate) fn put_object<S: Shelf>(
+fn put_object<S: Shelf>(
     alloc: Global,
     store: &mut Store<S>,
     lib: &LibId,
     key: &Key,
     bytes: &[u8],
 ) -> Reply
-    ensures value { (s : State) → objects_of S.contents store.old ≡ Some s.objects → s.lib ≡ lib.now
+    ensures value { (s : State) → objects_of S.contents store.old ≡ Some s.objects → s.state.lib ≡ lib.now
         → DoneSo s.objects (put_due s key.now bytes.now) result (objects_of S.contents store.new) }
     ensures kept { status_of S.contents store.new ≡ status_of S.contents store.old }
     ensures stored { (objects_of S.contents store.new ≡ objects_of S.contents store.old)
@@ -63,6 +75,7 @@ pub(crate) fn put_object<S: Shelf>(
     ensures cause { MayAnswer store.old.index (S.may_give store.new.shelf) (act.Put key.now bytes.now) (put_decided lib.now key.now bytes.now) result }
     ensures damage { (objects : Objects) → objects_of S.contents store.old ≡ Some objects → IsToldDamage objects result }
     ensures lying { is_counted result ≡ false → AddsNoStray S.contents store.old store.new }
+    ensures written { S.texts store.new.shelf ≡ S.texts store.old.shelf }
     ensures faults { Counts (S.faults store.old.shelf) (S.faults store.new.shelf) result }
 {
     match key.kind {
@@ -82,6 +95,7 @@ fn store_object<S: Shelf>(store: &mut Store<S>, key: &Key, bytes: &[u8]) -> Repl
     ensures cause { MayAnswer store.old.index (S.may_give store.new.shelf) (act.Put key.now bytes.now) (store_decided key.now bytes.now) result }
     ensures damage { (objects : Objects) → objects_of S.contents store.old ≡ Some objects → IsToldDamage objects result }
     ensures lying { is_counted result ≡ false → AddsNoStray S.contents store.old store.new }
+    ensures written { S.texts store.new.shelf ≡ S.texts store.old.shelf }
     ensures faults { Counts (S.faults store.old.shelf) (S.faults store.new.shelf) result }
 {
     let new = store.has(*key).is_none();
@@ -102,6 +116,7 @@ fn put_fs<S: Shelf>(alloc: Global, store: &mut Store<S>, key: &Key, bytes: &[u8]
     ensures cause { (lib : List ℕ) → MayAnswer store.old.index (S.may_give store.new.shelf) (act.Put key.now bytes.now) (put_decided lib key.now bytes.now) result }
     ensures damage { (objects : Objects) → objects_of S.contents store.old ≡ Some objects → IsToldDamage objects result }
     ensures lying { is_counted result ≡ false → AddsNoStray S.contents store.old store.new }
+    ensures written { S.texts store.new.shelf ≡ S.texts store.old.shelf }
     ensures faults { Counts (S.faults store.old.shelf) (S.faults store.new.shelf) result }
 {
     match FsObject::read(alloc, bytes) {
@@ -132,7 +147,7 @@ fn put_commit_text<S: Shelf>(
     bytes: &[u8],
 ) -> Reply
     requires ready { key.now.kind ≡ kinds.Commit }
-    ensures value { (s : State) → objects_of S.contents store.old ≡ Some s.objects → s.lib ≡ lib.now
+    ensures value { (s : State) → objects_of S.contents store.old ≡ Some s.objects → s.state.lib ≡ lib.now
         → DoneSo s.objects (put_due s key.now bytes.now) result (objects_of S.contents store.new) }
     ensures kept { status_of S.contents store.new ≡ status_of S.contents store.old }
     ensures stored { (objects_of S.contents store.new ≡ objects_of S.contents store.old)
@@ -140,6 +155,7 @@ fn put_commit_text<S: Shelf>(
     ensures cause { MayAnswer store.old.index (S.may_give store.new.shelf) (act.Put key.now bytes.now) (put_decided lib.now key.now bytes.now) result }
     ensures damage { (objects : Objects) → objects_of S.contents store.old ≡ Some objects → IsToldDamage objects result }
     ensures lying { is_counted result ≡ false → AddsNoStray S.contents store.old store.new }
+    ensures written { S.texts store.new.shelf ≡ S.texts store.old.shelf }
     ensures faults { Counts (S.faults store.old.shelf) (S.faults store.new.shelf) result }
 {
     let commit = match Commit::read(alloc, bytes) {

@@ -1,9 +1,12 @@
 //! The state text: when it is written, and what stands where a write fails.
-ghost use Rattle.std.specs.Prelude.{◌≡◌, OnOk, OnErr, false};
-ghost use Rattle.object_store.specs.Store.{CountsShelf};
+ghost use Rattle.std.specs.Prelude.{◌≡◌, IfErr, IsTrue, OnOk, OnErr, false};
+ghost use Rattle.library_state.specs.StateSpelling.{text_of};
+ghost use Rattle.library_state.specs.declared.state.LibState.{LibState};
+ghost use Rattle.object_store.specs.Store.{CountsShelf, is_free};
 ghost use Rattle.object_store.specs.StoreView.{AddsNoStray, objects_of, status_of};
-ghost use Rattle.depot.specs.Writing.{SettlesSo, Writes, leaves_open};
+ghost use Rattle.depot.specs.Writing.{ReadsBack, SettlesSo, Writes, leaves_open};
 
+use crate::depot::Parts;
 use library_state::LibState;
 use object_store::{Shelf, Store, StoreFault};
 use std::alloc::Global;
@@ -26,52 +29,65 @@ pub(crate) fn write_text<S: Shelf>(
     store.note(text.slice())
 }
 
-/// Writes the text of the present state again, where a write failed since.
-pub(crate) fn settle<S: Shelf>(
-    alloc: Global,
-    store: &mut Store<S>,
-    state: &LibState,
-    unsettled: &mut bool,
-) -> Result<(), StoreFault>
-    ensures ok { OnOk result (unsettled.new ≡ false) }
-    ensures value { SettlesSo unsettled.old state.now (status_of S.contents store.old) (status_of S.contents store.new) result }
-    ensures err { OnErr result (unsettled.new ≡ unsettled.old) }
-    ensures kept { objects_of S.contents store.new ≡ objects_of S.contents store.old }
-    ensures lying { AddsNoStray S.contents store.old store.new }
-    ensures faults { CountsShelf (S.faults store.old.shelf) (S.faults store.new.shelf) result }
-{
-    if !*unsettled {
-        return Ok(());
-    }
-    match write_text(alloc, store, state) {
-        Ok(()) => {}
-        Err(fault) => return Err(fault),
-    }
-    *unsettled = false;
-    Ok(())
-}
-
-/// Writes the text of the state that a call makes, in the place of the present one's, which the slot holds. Where the
-/// shelf fails it is open which of the two stands.
-pub(crate) fn write_next<S: Shelf>(
-    alloc: Global,
-    store: &mut Store<S>,
-    next: &LibState,
-    unsettled: &mut bool,
-) -> Result<(), StoreFault>
-    requires ready { unsettled.old ≡ false }
-    ensures value { Writes next.now (status_of S.contents store.old) (status_of S.contents store.new) result }
-    ensures ok { unsettled.new ≡ leaves_open result }
-    ensures kept { objects_of S.contents store.new ≡ objects_of S.contents store.old }
-    ensures lying { AddsNoStray S.contents store.old store.new }
-    ensures faults { CountsShelf (S.faults store.old.shelf) (S.faults store.new.shelf) result }
-{
-    match write_text(alloc, store, next) {
-        Ok(()) => Ok(()),
-        Err(StoreFault::Shelf) => {
-            *unsettled = true;
-            Err(StoreFault::Shelf)
+impl<S: Shelf> Parts<S> {
+    /// Writes the text of the present state again, where a write failed since.
+    pub(crate) fn settle(&mut self) -> Result<(), StoreFault>
+        ensures ok { OnOk result (self.new.unsettled ≡ false) }
+        ensures value { SettlesSo self.old.unsettled self.old.state (status_of S.contents self.old.store) (status_of S.contents self.new.store) result }
+        ensures err { OnErr result (self.new.unsettled ≡ self.old.unsettled) }
+        ensures stays { self.new.state ≡ self.old.state }
+        ensures kept { objects_of S.contents self.new.store ≡ objects_of S.contents self.old.store }
+        ensures lying { AddsNoStray S.contents self.old.store self.new.store }
+        ensures faults { CountsShelf (S.faults self.old.store.shelf) (S.faults self.new.store.shelf) result }
+    {
+        if !self.unsettled {
+            return Ok(());
         }
-        Err(fault) => Err(fault),
+        match write_text(self.alloc, &mut self.store, &self.state) {
+            Ok(()) => {}
+            Err(fault) => return Err(fault),
+        }
+        self.unsettled = false;
+        Ok(())
+    }
+
+    /// Writes the text of the state, in the place of the one before it, which the slot holds. Where the shelf fails it is
+    /// open which of the two stands.
+    pub(crate) fn write_next(&mut self) -> Result<(), StoreFault>
+        requires ready { self.old.unsettled ≡ false }
+        ensures value { Writes self.old.state (status_of S.contents self.old.store) (status_of S.contents self.new.store) result }
+        ensures ok { self.new.unsettled ≡ leaves_open result }
+        ensures stays { self.new.state ≡ self.old.state }
+        ensures kept { objects_of S.contents self.new.store ≡ objects_of S.contents self.old.store }
+        ensures lying { AddsNoStray S.contents self.old.store self.new.store }
+        ensures faults { CountsShelf (S.faults self.old.store.shelf) (S.faults self.new.store.shelf) result }
+    {
+        let text = match self.state.write(self.alloc) {
+            Ok(text) => text,
+            Err(_) => return Err(StoreFault::NoMemory),
+        };
+        self.note_text(text.slice())
+    }
+
+    /// Writes a text in the place of one that stands. Where the shelf fails it is open which of the two stands.
+    pub(crate) fn note_text(&mut self, text: &[u8]) -> Result<(), StoreFault>
+        requires ready { self.old.unsettled ≡ false }
+        ensures value { (next : LibState) → text.now ≡ text_of next → ReadsBack next
+            → Writes next (status_of S.contents self.old.store) (status_of S.contents self.new.store) result }
+        ensures ok { self.new.unsettled ≡ leaves_open result }
+        ensures stays { self.new.state ≡ self.old.state }
+        ensures kept { objects_of S.contents self.new.store ≡ objects_of S.contents self.old.store }
+        ensures lying { AddsNoStray S.contents self.old.store self.new.store }
+        ensures free { IfErr result (λ fault. IsTrue (is_free fault)) }
+        ensures faults { CountsShelf (S.faults self.old.store.shelf) (S.faults self.new.store.shelf) result }
+    {
+        match self.store.note(text) {
+            Ok(()) => Ok(()),
+            Err(StoreFault::Shelf) => {
+                self.unsettled = true;
+                Err(StoreFault::Shelf)
+            }
+            Err(fault) => Err(fault),
+        }
     }
 }

@@ -12,12 +12,11 @@ ghost use Rattle.depot.specs.DepotView.{IsGood, state_of};
 ghost use Rattle.depot.specs.Tokens.{is_token_counted, is_token_free, store_answer, token_refusal, token_shown, with_new_token};
 ghost use Rattle.depot.specs.Writing.{RewritesSo};
 
-use crate::depot::Depot;
+use crate::depot::{Depot, Parts};
 use crate::error::TokenFault;
-use crate::state_write::{settle, write_next};
 use ids::{Items, Text};
-use library_state::{LibState, MAX_TOKENS, Right, Secret, Token};
-use object_store::{Shelf, Store, StoreFault};
+use library_state::{MAX_TOKENS, Right, Secret, Token};
+use object_store::{Shelf, StoreFault};
 use std::alloc::{AllocError, Global};
 use std::mem;
 
@@ -44,23 +43,17 @@ impl<S: Shelf> Depot<S> {
         ensures refused { RefusesAs is_token_free result (token_refusal self.old.state.tokens secret) }
         ensures faults { FailsBy is_token_counted (S.faults self.old.store.shelf) (S.faults self.new.store.shelf) result }
     {
-        if has_secret(self.state.tokens.slice(), &secret) {
+        if has_secret(self.parts.state.tokens.slice(), &secret) {
             return Err(TokenFault::SecretTaken);
         }
-        if self.state.tokens.len() >= MAX_TOKENS {
+        if self.parts.state.tokens.len() >= MAX_TOKENS {
             return Err(TokenFault::Full);
         }
-        let token = match new_token(self.alloc, user, secret, right) {
+        let token = match new_token(self.parts.alloc, user, secret, right) {
             Ok(token) => token,
             Err(_) => return Err(TokenFault::Store(StoreFault::NoMemory)),
         };
-        match write_token(
-            self.alloc,
-            &mut self.store,
-            &mut self.state,
-            &mut self.unsettled,
-            token,
-        ) {
+        match self.parts.write_token(token) {
             Ok(()) => Ok(()),
             Err(fault) => Err(TokenFault::Store(fault)),
         }
@@ -71,7 +64,7 @@ impl<S: Shelf> Depot<S> {
     pub fn token_at(&self, place: u64) -> Option<(Secret, Right)>
         ensures value { result ≡ token_shown self.now.state.tokens place }
     {
-        match self.state.tokens.slice().get(place as usize) {
+        match self.parts.state.tokens.slice().get(place as usize) {
             Some(token) => Some((token.secret, token.right)),
             None => None,
         }
@@ -82,7 +75,7 @@ impl<S: Shelf> Depot<S> {
 fn has_secret(tokens: &[Token], secret: &Secret) -> bool
     ensures value { result ≡ is_taken tokens.now secret.now }
 {
-    tokens.iter().any(|token| *secret == token.secret)
+    tokens.iter().any(|token| secret.is(&token.secret))
 }
 
 /// A token that saw no collection.
@@ -98,35 +91,31 @@ fn new_token(alloc: Global, user: &Text, secret: Secret, right: Right) -> Result
     })
 }
 
-/// Adds the token, and writes the text.
-fn write_token<S: Shelf>(
-    alloc: Global,
-    store: &mut Store<S>,
-    state: &mut LibState,
-    unsettled: &mut bool,
-    token: Token,
-) -> Result<(), StoreFault>
-    ensures ok { OnOk result (state.new ≡ record state.old { tokens = state.old.tokens ++ token ∷ [] }) }
-    ensures err { OnErr result (state.new ≡ state.old) }
-    ensures value { RewritesSo unsettled.old state.old (record state.old { tokens = state.old.tokens ++ token ∷ [] })
-        (status_of S.contents store.old) unsettled.new (status_of S.contents store.new) result }
-    ensures kept { objects_of S.contents store.new ≡ objects_of S.contents store.old }
-    ensures lying { AddsNoStray S.contents store.old store.new }
-    ensures faults { CountsShelf (S.faults store.old.shelf) (S.faults store.new.shelf) result }
-{
-    match settle(alloc, store, state, unsettled) {
-        Ok(()) => {}
-        Err(fault) => return Err(fault),
-    }
-    match state.tokens.push(token) {
-        Ok(()) => {}
-        Err(_) => return Err(StoreFault::NoMemory),
-    }
-    match write_next(alloc, store, state, unsettled) {
-        Ok(()) => Ok(()),
-        Err(fault) => {
-            drop_last(alloc, &mut state.tokens);
-            Err(fault)
+impl<S: Shelf> Parts<S> {
+    /// Adds the token, and writes the text.
+    fn write_token(&mut self, token: Token) -> Result<(), StoreFault>
+        ensures ok { OnOk result (self.new.state ≡ record self.old.state { tokens = self.old.state.tokens ++ token ∷ [] }) }
+        ensures err { OnErr result (self.new.state ≡ self.old.state) }
+        ensures value { RewritesSo self.old.unsettled self.old.state (record self.old.state { tokens = self.old.state.tokens ++ token ∷ [] })
+            (status_of S.contents self.old.store) self.new.unsettled (status_of S.contents self.new.store) result }
+        ensures kept { objects_of S.contents self.new.store ≡ objects_of S.contents self.old.store }
+        ensures lying { AddsNoStray S.contents self.old.store self.new.store }
+        ensures faults { CountsShelf (S.faults self.old.store.shelf) (S.faults self.new.store.shelf) result }
+    {
+        match self.settle() {
+            Ok(()) => {}
+            Err(fault) => return Err(fault),
+        }
+        match self.state.tokens.push(token) {
+            Ok(()) => {}
+            Err(_) => return Err(StoreFault::NoMemory),
+        }
+        match self.write_next() {
+            Ok(()) => Ok(()),
+            Err(fault) => {
+                drop_last(self.alloc, &mut self.state.tokens);
+                Err(fault)
+            }
         }
     }
 }

@@ -1,16 +1,15 @@
 //! The merge base of a pushed commit.
-ghost use Rattle.std.specs.Prelude.{◌≡◌, ◌≢◌, [], Some};
+ghost use Rattle.std.specs.Prelude.{◌≡◌, Some};
 ghost use Rattle.ids.specs.Key.{Objects};
-ghost use Rattle.library_rules.specs.LibraryState.{State, head_of, is_kept};
+ghost use Rattle.library_rules.specs.LibraryState.{State};
 ghost use Rattle.library_rules.specs.MergeBase.{base_from, base_of};
-ghost use Rattle.object_graph.specs.Objects.{same_id};
 ghost use Rattle.object_store.specs.StoreView.{objects_of};
 ghost use Rattle.tree_walk.specs.Reading.{Reads};
-ghost use Rattle.depot.specs.UpdateBase.{FindsSo, LooksSo, walk_refusal};
+ghost use Rattle.depot.specs.UpdateBase.{FindsSo, LooksSo};
 
-use crate::object_calls::store_refusal;
+use crate::history::is_kept;
 use ids::ObjId;
-use library_state::{Install, Refusal};
+use library_state::Install;
 use object_store::{Shelf, Store};
 use std::alloc::Global;
 use tree_walk::{WalkFault, commit_at};
@@ -38,45 +37,6 @@ pub(crate) enum Look {
     Last,
 }
 
-/// The refusal that a fault of a reading is.
-pub(crate) fn walk_refusal(fault: WalkFault) -> Refusal
-    ensures value { result ≡ walk_refusal fault }
-{
-    match fault {
-        WalkFault::Incomplete(key) => Refusal::Incomplete(key),
-        WalkFault::Unreadable(key) => Refusal::Unreadable(key),
-        WalkFault::WrongKind(id) => Refusal::WrongKind(id),
-        WalkFault::WrongSize(id) => Refusal::WrongSize(id),
-        WalkFault::TooDeep(path) => Refusal::TooDeep(path),
-        WalkFault::TooMany(paths) => Refusal::TooMany(paths),
-        WalkFault::Store(fault) => store_refusal(fault),
-    }
-}
-
-/// Whether a commit is kept.
-pub(crate) fn is_kept(kept: &[Install], id: &ObjId) -> bool
-    ensures value { result ≡ is_kept kept.now id.now }
-{
-    kept.iter()
-        .any(|install| *id == install.head || *id == install.pushed)
-}
-
-/// The head: that of the last head update.
-pub(crate) fn head_of(kept: &[Install]) -> ObjId
-    requires some { kept.now ≢ [] }
-    ensures value { result ≡ head_of kept.now }
-{
-    kept[kept.len() - 1].head
-}
-
-/// Whether a commit is the head.
-pub(crate) fn is_head(kept: &[Install], id: &ObjId) -> bool
-    requires some { kept.now ≢ [] }
-    ensures value { result ≡ same_id id.now (head_of kept.now) }
-{
-    *id == head_of(kept)
-}
-
 /// The first kept commit from the pushed one along first parents, at most 128 steps away.
 pub(crate) fn find_base<S: Shelf>(
     alloc: Global,
@@ -84,8 +44,8 @@ pub(crate) fn find_base<S: Shelf>(
     kept: &[Install],
     pushed: ObjId,
 ) -> Result<Found, WalkFault>
-    ensures value { (s : State) → objects_of S.contents store.old ≡ Some s.objects → s.kept ≡ kept.now → FindsSo s.objects (base_of s pushed) result }
-    ensures kept { Reads S.contents S.may_give S.faults store.old store.new result }
+    ensures value { (s : State) → objects_of S.contents store.old ≡ Some s.objects → s.state.kept ≡ kept.now → FindsSo s.objects (base_of s pushed) result }
+    ensures kept { Reads S.contents S.may_give S.texts S.faults store.old store.new result }
 {
     let mut id = pushed;
     for steps in 0..MAX_STEPS {
@@ -109,8 +69,8 @@ fn find_last<S: Shelf>(
     kept: &[Install],
     id: ObjId,
 ) -> Result<Found, WalkFault>
-    ensures value { (s : State) → objects_of S.contents store.old ≡ Some s.objects → s.kept ≡ kept.now → FindsSo s.objects (base_from s 0 128 id) result }
-    ensures kept { Reads S.contents S.may_give S.faults store.old store.new result }
+    ensures value { (s : State) → objects_of S.contents store.old ≡ Some s.objects → s.state.kept ≡ kept.now → FindsSo s.objects (base_from s 0 128 id) result }
+    ensures kept { Reads S.contents S.may_give S.texts S.faults store.old store.new result }
 {
     let seen = match look_at(alloc, store, kept, id) {
         Ok(seen) => seen,
@@ -131,7 +91,7 @@ fn look_at<S: Shelf>(
     id: ObjId,
 ) -> Result<Look, WalkFault>
     ensures value { (objects : Objects) → objects_of S.contents store.old ≡ Some objects → LooksSo objects kept.now id result }
-    ensures kept { Reads S.contents S.may_give S.faults store.old store.new result }
+    ensures kept { Reads S.contents S.may_give S.texts S.faults store.old store.new result }
 {
     if is_kept(kept, &id) {
         return Ok(Look::Kept);

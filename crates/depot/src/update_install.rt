@@ -1,5 +1,5 @@
 //! How an update is carried out: its objects first, the state text last.
-ghost use Rattle.std.specs.Prelude.{◌≡◌, ◌++◌, ◌∷◌, [], IfErr, IfOk, IsTrue, OnErr, OnOk, Some, false};
+ghost use Rattle.std.specs.Prelude.{◌≡◌, ◌++◌, ◌∷◌, [], IfErr, IfOk, IsTrue, OnErr, OnOk, Some};
 ghost use Rattle.std.specs.FinMap as map;
 ghost use Rattle.ids.specs.Key.{Objects};
 ghost use Rattle.library_state.specs.StateSpelling.{text_of};
@@ -10,9 +10,9 @@ ghost use Rattle.object_store.specs.StoreView.{AddsNoStray, StraysBy, objects_of
 ghost use Rattle.depot.specs.Answering.{with_install};
 ghost use Rattle.depot.specs.UpdateInstall.{ArePuttableIn, CarriesSo, InstallsText, IsWriteFault, StoresSo, held_in};
 ghost use Rattle.depot.specs.UpdatePlan.{AreNamed, listed, objects_in, own_object};
-ghost use Rattle.depot.specs.Writing.{ReadsBack, Writes, leaves_open};
+ghost use Rattle.depot.specs.Writing.{ReadsBack};
 
-use crate::state_write::settle;
+use crate::depot::Parts;
 use crate::update_plan::Plan;
 use ids::{Bytes, Key, KeyTable, Kind, ObjId};
 use library_state::{History, Install, LibState};
@@ -20,47 +20,59 @@ use object_store::{Shelf, Store, StoreFault};
 use std::alloc::{AllocError, Global};
 use std::mem;
 
-/// Stores what the plan makes, and writes the text of the state in which its head is the head.
-///
-/// What the head update needs of memory is taken before the first write. After a fault the state is as it was, and the
-/// first ones of the objects may be stored. Where the shelf failed as the text was written, it is open which text stands.
-pub(crate) fn carry_out<S: Shelf>(
-    alloc: Global,
-    store: &mut Store<S>,
-    state: &mut LibState,
-    unsettled: &mut bool,
-    plan: &Plan,
-    install: Install,
-) -> Result<(), StoreFault>
-    requires named { AreNamed (objects_in plan.now) }
-    requires ready { ArePuttableIn (objects_of S.contents store.old) (objects_in plan.now) }
-    ensures ok { OnOk result (state.new ≡ with_install install.head install.pushed install.at state.old) }
-    ensures err { OnErr result (state.new ≡ state.old) }
-    ensures value { CarriesSo unsettled.old state.old (with_install install.head install.pushed install.at state.old) (objects_in plan.now)
-        (held_in S.contents store.old) unsettled.new (held_in S.contents store.new) result }
-    ensures free { (objects : Objects) → objects_of S.contents store.old ≡ Some objects → IfErr result (λ fault. IsTrue (is_free fault)) }
-    ensures cause { IfErr result (IsWriteFault (S.may_give store.new.shelf)) }
-    ensures lying { StraysBy is_of_shelf S.contents store.old store.new result }
-    ensures faults { CountsShelf (S.faults store.old.shelf) (S.faults store.new.shelf) result }
-{
-    let mut kept = match with_install(alloc, state.kept.slice(), install) {
-        Ok(kept) => kept,
-        Err(_) => return Err(StoreFault::NoMemory),
-    };
-    let text = match text_with(alloc, state, &mut kept) {
-        Ok(text) => text,
-        Err(_) => return Err(StoreFault::NoMemory),
-    };
-    match put_plan(store, plan) {
-        Ok(()) => {}
-        Err(fault) => return Err(fault),
+impl<S: Shelf> Parts<S> {
+    /// Stores what the plan makes, and writes the text of the state in which its head is the head.
+    ///
+    /// What the head update needs of memory is taken before the first write. After a fault the state is as it was, and the
+    /// first ones of the objects may be stored. Where the shelf failed as the text was written, it is open which text stands.
+    pub(crate) fn carry_out(&mut self, plan: &Plan, install: Install) -> Result<(), StoreFault>
+        requires named { AreNamed (objects_in plan.now) }
+        requires ready { ArePuttableIn (objects_of S.contents self.old.store) (objects_in plan.now) }
+        ensures ok { OnOk result (self.new.state ≡ with_install install.head install.pushed install.at self.old.state) }
+        ensures err { OnErr result (self.new.state ≡ self.old.state) }
+        ensures value { CarriesSo self.old.unsettled self.old.state (with_install install.head install.pushed install.at self.old.state) (objects_in plan.now)
+            (held_in S.contents S.texts self.old.store) self.new.unsettled (held_in S.contents S.texts self.new.store) result }
+        ensures free { (objects : Objects) → objects_of S.contents self.old.store ≡ Some objects → IfErr result (λ fault. IsTrue (is_free fault)) }
+        ensures cause { IfErr result (IsWriteFault (S.may_give self.new.store.shelf)) }
+        ensures lying { StraysBy is_of_shelf S.contents self.old.store self.new.store result }
+        ensures faults { CountsShelf (S.faults self.old.store.shelf) (S.faults self.new.store.shelf) result }
+    {
+        let mut kept = match with_install(self.alloc, self.state.kept.slice(), install) {
+            Ok(kept) => kept,
+            Err(_) => return Err(StoreFault::NoMemory),
+        };
+        let text = match text_with(self.alloc, &mut self.state, &mut kept) {
+            Ok(text) => text,
+            Err(_) => return Err(StoreFault::NoMemory),
+        };
+        match put_plan(&mut self.store, plan) {
+            Ok(()) => {}
+            Err(fault) => return Err(fault),
+        }
+        match self.write_installed(text.slice()) {
+            Ok(()) => {}
+            Err(fault) => return Err(fault),
+        }
+        self.state.kept = kept;
+        Ok(())
     }
-    match write_installed(alloc, store, state, unsettled, text.slice()) {
-        Ok(()) => {}
-        Err(fault) => return Err(fault),
+
+    /// Writes a text in the place of the present state's, which is written before where it is open whether it stands.
+    fn write_installed(&mut self, text: &[u8]) -> Result<(), StoreFault>
+        ensures value { (next : LibState) → text.now ≡ text_of next → ReadsBack next
+            → InstallsText self.old.unsettled self.old.state next (status_of S.contents self.old.store) self.new.unsettled (status_of S.contents self.new.store) result }
+        ensures stays { self.new.state ≡ self.old.state }
+        ensures kept { objects_of S.contents self.new.store ≡ objects_of S.contents self.old.store }
+        ensures lying { AddsNoStray S.contents self.old.store self.new.store }
+        ensures free { IfErr result (λ fault. IsTrue (is_free fault)) }
+        ensures faults { CountsShelf (S.faults self.old.store.shelf) (S.faults self.new.store.shelf) result }
+    {
+        match self.settle() {
+            Ok(()) => {}
+            Err(fault) => return Err(fault),
+        }
+        self.note_text(text)
     }
-    state.kept = kept;
-    Ok(())
 }
 
 /// The head updates with one more.
@@ -105,6 +117,7 @@ fn put_plan<S: Shelf>(store: &mut Store<S>, plan: &Plan) -> Result<(), StoreFaul
     ensures free { (objects : Objects) → objects_of S.contents store.old ≡ Some objects → IfErr result (λ fault. IsTrue (is_free fault)) }
     ensures cause { IfErr result (IsWriteFault (S.may_give store.new.shelf)) }
     ensures lying { StraysBy is_of_shelf S.contents store.old store.new result }
+    ensures written { S.texts store.new.shelf ≡ S.texts store.old.shelf }
     ensures faults { CountsShelf (S.faults store.old.shelf) (S.faults store.new.shelf) result }
 {
     match put_dirs(store, &plan.dirs) {
@@ -123,6 +136,7 @@ fn put_dirs<S: Shelf>(store: &mut Store<S>, dirs: &KeyTable<Bytes>) -> Result<()
     ensures free { (objects : Objects) → objects_of S.contents store.old ≡ Some objects → IfErr result (λ fault. IsTrue (is_free fault)) }
     ensures cause { IfErr result (IsWriteFault (S.may_give store.new.shelf)) }
     ensures lying { StraysBy is_of_shelf S.contents store.old store.new result }
+    ensures written { S.texts store.new.shelf ≡ S.texts store.old.shelf }
     ensures faults { CountsShelf (S.faults store.old.shelf) (S.faults store.new.shelf) result }
 {
     for (key, bytes) in dirs.iter() {
@@ -147,6 +161,7 @@ fn put_text<S: Shelf>(
     ensures free { (objects : Objects) → objects_of S.contents store.old ≡ Some objects → IfErr result (λ fault. IsTrue (is_free fault)) }
     ensures cause { IfErr result (IsWriteFault (S.may_give store.new.shelf)) }
     ensures lying { StraysBy is_of_shelf S.contents store.old store.new result }
+    ensures written { S.texts store.new.shelf ≡ S.texts store.old.shelf }
     ensures faults { CountsShelf (S.faults store.old.shelf) (S.faults store.new.shelf) result }
 {
     match text {
@@ -172,56 +187,11 @@ fn put_one<S: Shelf>(store: &mut Store<S>, key: &Key, bytes: &Bytes) -> Result<(
     ensures free { (objects : Objects) → objects_of S.contents store.old ≡ Some objects → IfErr result (λ fault. IsTrue (is_free fault)) }
     ensures cause { IfErr result (IsWriteFault (S.may_give store.new.shelf)) }
     ensures lying { StraysBy is_of_shelf S.contents store.old store.new result }
+    ensures written { S.texts store.new.shelf ≡ S.texts store.old.shelf }
     ensures faults { CountsShelf (S.faults store.old.shelf) (S.faults store.new.shelf) result }
 {
     match store.put(*key, bytes.slice()) {
         Ok(_) => Ok(()),
-        Err(fault) => Err(fault),
-    }
-}
-
-/// Writes a text in the place of the present state's, which is written before where it is open whether it stands.
-fn write_installed<S: Shelf>(
-    alloc: Global,
-    store: &mut Store<S>,
-    state: &LibState,
-    unsettled: &mut bool,
-    text: &[u8],
-) -> Result<(), StoreFault>
-    ensures value { (next : LibState) → text.now ≡ text_of next → ReadsBack next
-        → InstallsText unsettled.old state.now next (status_of S.contents store.old) unsettled.new (status_of S.contents store.new) result }
-    ensures kept { objects_of S.contents store.new ≡ objects_of S.contents store.old }
-    ensures lying { AddsNoStray S.contents store.old store.new }
-    ensures free { IfErr result (λ fault. IsTrue (is_free fault)) }
-    ensures faults { CountsShelf (S.faults store.old.shelf) (S.faults store.new.shelf) result }
-{
-    match settle(alloc, store, state, unsettled) {
-        Ok(()) => {}
-        Err(fault) => return Err(fault),
-    }
-    note_text(store, unsettled, text)
-}
-
-/// Writes a text in the place of one that stands. Where the shelf fails it is open which of the two stands.
-fn note_text<S: Shelf>(
-    store: &mut Store<S>,
-    unsettled: &mut bool,
-    text: &[u8],
-) -> Result<(), StoreFault>
-    requires ready { unsettled.old ≡ false }
-    ensures value { (next : LibState) → text.now ≡ text_of next → ReadsBack next → Writes next (status_of S.contents store.old) (status_of S.contents store.new) result }
-    ensures ok { unsettled.new ≡ leaves_open result }
-    ensures kept { objects_of S.contents store.new ≡ objects_of S.contents store.old }
-    ensures lying { AddsNoStray S.contents store.old store.new }
-    ensures free { IfErr result (λ fault. IsTrue (is_free fault)) }
-    ensures faults { CountsShelf (S.faults store.old.shelf) (S.faults store.new.shelf) result }
-{
-    match store.note(text) {
-        Ok(()) => Ok(()),
-        Err(StoreFault::Shelf) => {
-            *unsettled = true;
-            Err(StoreFault::Shelf)
-        }
         Err(fault) => Err(fault),
     }
 }

@@ -14,8 +14,8 @@ ghost use Rattle.depot.specs.UpdateBase.{ReadsOnly};
 ghost use Rattle.depot.specs.UpdateMerge.{PlansMade, StoredSo, commit_over};
 ghost use Rattle.depot.specs.UpdatePlan.{HasNames};
 
-use crate::object_calls::store_refusal;
-use crate::update_base::head_of;
+use crate::history::head_of;
+use crate::refusals::store_refusal;
 use crate::update_plan::Plan;
 use commit_objects::Commit;
 use ids::{Key, Kind, ObjId, Text};
@@ -41,7 +41,7 @@ pub(crate) fn plan_merged<S: Shelf>(
     ensures named { IfOk result HasNames }
     ensures cause { IfErr result (MayRefuseUpdate store.new.index (S.may_give store.new.shelf)) }
     ensures damage { (objects : Objects) → objects_of S.contents store.old ≡ Some objects → IfErr result (IsToldDamageOf objects) }
-    ensures kept { ReadsOnly S.contents S.faults store.old store.new result }
+    ensures kept { ReadsOnly S.contents S.texts S.faults store.old store.new result }
 {
     let Merged {
         root,
@@ -107,7 +107,7 @@ fn is_stored<S: Shelf>(store: &mut Store<S>, id: &ObjId, text: &[u8]) -> Result<
     ensures not_zeros { OnOk result (is_nil id.now ≡ false) }
     ensures cause { IfErr result (MayRefuseUpdate store.new.index (S.may_give store.new.shelf)) }
     ensures damage { (objects : Objects) → objects_of S.contents store.old ≡ Some objects → IfErr result (IsToldDamageOf objects) }
-    ensures kept { ReadsOnly S.contents S.faults store.old store.new result }
+    ensures kept { ReadsOnly S.contents S.texts S.faults store.old store.new result }
 {
     if is_zeros(id) {
         return Err(Refusal::Taken(*id));

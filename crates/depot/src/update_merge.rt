@@ -8,10 +8,11 @@ ghost use Rattle.depot.specs.Answering.{MayRefuseUpdate};
 ghost use Rattle.depot.specs.DepotView.{library};
 ghost use Rattle.depot.specs.ObjectCalls.{IsToldDamageOf};
 ghost use Rattle.depot.specs.UpdateBase.{ReadsOnly};
-ghost use Rattle.depot.specs.UpdateMerge.{AreComplete, RootSo, RootsSo, merge_refusal};
+ghost use Rattle.depot.specs.UpdateMerge.{AreComplete, RootSo, RootsSo};
 ghost use Rattle.depot.specs.UpdatePlan.{HasNames, MergesSo};
 
-use crate::update_base::{head_of, walk_refusal};
+use crate::history::head_of;
+use crate::refusals::{merge_refusal, walk_refusal};
 use crate::update_made::plan_merged;
 use crate::update_plan::Plan;
 use ids::{ObjId, Text};
@@ -48,7 +49,7 @@ pub(crate) fn plan_merge<S: Shelf>(
     ensures named { IfOk result HasNames }
     ensures cause { IfErr result (MayRefuseUpdate store.new.index (S.may_give store.new.shelf)) }
     ensures damage { (objects : Objects) → objects_of S.contents store.old ≡ Some objects → IfErr result (IsToldDamageOf objects) }
-    ensures kept { ReadsOnly S.contents S.faults store.old store.new result }
+    ensures kept { ReadsOnly S.contents S.texts S.faults store.old store.new result }
 {
     let head = head_of(state.kept.slice());
     let roots = match read_roots(alloc, store, base, head, pushed) {
@@ -62,18 +63,6 @@ pub(crate) fn plan_merge<S: Shelf>(
     plan_merged(alloc, store, state, user, pushed, moment, merged)
 }
 
-/// The refusal that a fault of a merge is.
-fn merge_refusal(fault: MergeFault) -> Refusal
-    ensures value { result ≡ merge_refusal fault }
-{
-    match fault {
-        MergeFault::TooLong(path, size) => Refusal::TooLong(path, size),
-        MergeFault::TooMany(paths) => Refusal::TooMany(paths),
-        MergeFault::Taken(id) => Refusal::Taken(id),
-        MergeFault::Walk(fault) => walk_refusal(fault),
-    }
-}
-
 /// The roots of three complete commits.
 fn read_roots<S: Shelf>(
     alloc: Global,
@@ -84,7 +73,7 @@ fn read_roots<S: Shelf>(
 ) -> Result<Roots, WalkFault>
     ensures value { (objects : Objects) → objects_of S.contents store.old ≡ Some objects → AreComplete objects base head pushed
         → RootsSo objects base head pushed result }
-    ensures kept { Reads S.contents S.may_give S.faults store.old store.new result }
+    ensures kept { Reads S.contents S.may_give S.texts S.faults store.old store.new result }
 {
     let base = match root_at(alloc, store, base) {
         Ok(base) => base,
@@ -104,7 +93,7 @@ fn read_roots<S: Shelf>(
 /// The root of a commit.
 fn root_at<S: Shelf>(alloc: Global, store: &mut Store<S>, id: ObjId) -> Result<ObjId, WalkFault>
     ensures value { (objects : Objects) → objects_of S.contents store.old ≡ Some objects → RootSo objects id result }
-    ensures kept { Reads S.contents S.may_give S.faults store.old store.new result }
+    ensures kept { Reads S.contents S.may_give S.texts S.faults store.old store.new result }
 {
     match commit_at(alloc, store, id) {
         Ok(commit) => Ok(commit.root),

@@ -1,23 +1,25 @@
 //! What an update is to do, found by reading alone.
-ghost use Rattle.std.specs.Prelude.{◌≡◌, ◌≢◌, ℕ, [], true, IfErr, IfOk, Some, option_copied};
+ghost use Rattle.std.specs.Prelude.{◌≡◌, ◌≢◌, ◌<◌, ℕ, [], true, IfErr, IfOk, Some, length};
 ghost use Rattle.ids.specs.Key.{Objects};
-ghost use Rattle.library_rules.specs.Calls.{base_due, complete_due, due, token_of, update_due};
+ghost use Rattle.library_rules.specs.Calls.{base_due, complete_due, due, update_due};
 ghost use Rattle.library_rules.specs.LibraryState.{is_kept};
 ghost use Rattle.library_rules.specs.MergeBase.{base_of};
 ghost use Rattle.library_state.specs.declared.call.Act.TheVariants as act;
 ghost use Rattle.library_state.specs.declared.call.Call.{Call};
 ghost use Rattle.object_graph.specs.Traversal.{walk_commit};
 ghost use Rattle.object_store.specs.StoreView.{objects_of};
-ghost use Rattle.depot.specs.Answering.{MayRefuseUpdate, permits};
+ghost use Rattle.depot.specs.Answering.{MayAsk, MayRefuseUpdate};
 ghost use Rattle.depot.specs.DepotView.{IsSoundIn, library};
 ghost use Rattle.depot.specs.ObjectCalls.{IsToldDamageOf};
 ghost use Rattle.depot.specs.UpdateBase.{ReadsOnly};
 ghost use Rattle.depot.specs.UpdatePlan.{DecidesCall, DecidesSo, HasNames, PlansDue, PlansSo};
 
-use crate::update_base::{Found, find_base, is_head, is_kept, walk_refusal};
+use crate::history::{is_head, is_kept};
+use crate::refusals::walk_refusal;
+use crate::update_base::{Found, find_base};
 use crate::update_merge::plan_merge;
 use ids::{Bytes, KeyTable, ObjId, Text};
-use library_state::{LibState, Refusal, Secret, Token};
+use library_state::{LibState, Refusal, Token};
 use object_store::{Shelf, Store};
 use std::alloc::Global;
 use tree_walk::needs;
@@ -33,40 +35,28 @@ pub(crate) struct Plan {
     pub text: Option<Bytes>,
 }
 
-/// The plan of an update by the token of a secret, which may write.
+/// The plan of an update by the token at a place, which may write.
 pub(crate) fn plan_of<S: Shelf>(
     alloc: Global,
     store: &mut Store<S>,
     state: &LibState,
-    secret: &Option<Secret>,
+    place: usize,
     pushed: ObjId,
     moment: u64,
 ) -> Result<Option<Plan>, Refusal>
-    requires right { permits (token_of state.now.tokens secret.now) (act.Update pushed) ≡ true }
+    requires within { place < length state.now.tokens }
     requires sound { IsSoundIn S.contents store.old state.now }
     requires some_kept { state.now.kept ≢ [] }
     ensures value { (objects : Objects) (count : ℕ) → objects_of S.contents store.old ≡ Some objects
-        → (call : Call) → call.secret ≡ secret.now → call.act ≡ act.Update pushed
+        → (call : Call) → MayAsk state.now.tokens call.secret call.act place → call.act ≡ act.Update pushed
         → PlansSo (library state.now count objects) moment pushed (due (library state.now count objects) call) result }
-    ensures any { (call : Call) → call.secret ≡ secret.now → call.act ≡ act.Update pushed → DecidesCall state.now call pushed store.new.index (S.may_give store.new.shelf) result }
+    ensures any { (call : Call) → MayAsk state.now.tokens call.secret call.act place → call.act ≡ act.Update pushed
+        → DecidesCall state.now call pushed store.new.index (S.may_give store.new.shelf) result }
     ensures damage { (objects : Objects) → objects_of S.contents store.old ≡ Some objects → IfErr result (IsToldDamageOf objects) }
-    ensures kept { ReadsOnly S.contents S.faults store.old store.new result }
+    ensures kept { ReadsOnly S.contents S.texts S.faults store.old store.new result }
 {
-    let token = match token_of(state.tokens.slice(), secret) {
-        Some(token) => token,
-        None => return Err(Refusal::Denied),
-    };
+    let token = &state.tokens.slice()[place];
     plan_update(alloc, store, state, token, pushed, moment)
-}
-
-/// The token of a secret.
-pub(crate) fn token_of<'a>(tokens: &'a [Token], secret: &Option<Secret>) -> Option<&'a Token>
-    ensures value { option_copied result ≡ token_of tokens.now secret.now }
-{
-    match secret {
-        Some(secret) => tokens.iter().find(|token| *secret == token.secret),
-        None => None,
-    }
 }
 
 /// The plan of an update by a token, and none where the pushed commit is kept already.
@@ -87,7 +77,7 @@ fn plan_update<S: Shelf>(
         → PlansSo (library state.now count objects) moment pushed (update_due (library state.now count objects) token.now pushed) result }
     ensures any { DecidesSo state.now token.now pushed store.new.index (S.may_give store.new.shelf) result }
     ensures damage { (objects : Objects) → objects_of S.contents store.old ≡ Some objects → IfErr result (IsToldDamageOf objects) }
-    ensures kept { ReadsOnly S.contents S.faults store.old store.new result }
+    ensures kept { ReadsOnly S.contents S.texts S.faults store.old store.new result }
 {
     if is_kept(state.kept.slice(), &pushed) {
         return Ok(None);
@@ -121,7 +111,7 @@ fn plan_unknown<S: Shelf>(
     ensures named { IfOk result HasNames }
     ensures cause { IfErr result (MayRefuseUpdate store.new.index (S.may_give store.new.shelf)) }
     ensures damage { (objects : Objects) → objects_of S.contents store.old ≡ Some objects → IfErr result (IsToldDamageOf objects) }
-    ensures kept { ReadsOnly S.contents S.faults store.old store.new result }
+    ensures kept { ReadsOnly S.contents S.texts S.faults store.old store.new result }
 {
     let found = match find_base(alloc, store, state.kept.slice(), pushed) {
         Ok(found) => found,
@@ -152,7 +142,7 @@ fn plan_based<S: Shelf>(
     ensures named { IfOk result HasNames }
     ensures cause { IfErr result (MayRefuseUpdate store.new.index (S.may_give store.new.shelf)) }
     ensures damage { (objects : Objects) → objects_of S.contents store.old ≡ Some objects → IfErr result (IsToldDamageOf objects) }
-    ensures kept { ReadsOnly S.contents S.faults store.old store.new result }
+    ensures kept { ReadsOnly S.contents S.texts S.faults store.old store.new result }
 {
     match needs(alloc, store, pushed) {
         Ok(_) => {}

@@ -22,6 +22,7 @@ use Rattle.folder_side.specs.ScanReport.{seen_of, is_visible, visible_count, IsS
 use Rattle.folder_side.specs.Findings.{seen_at, skips, is_skipped, has_nameless, IsSmall, AreOf, Knows, KnowsNameless, Grows, HasTaken, KnowsWithin, HasTakenItem, HasScanned, Reports}
 use Rattle.folder_side.proofs.SortedEntries.{Rises-entries, passes, same_keys, fewer_keys, length_chosen}
 use Rattle.folder_side.proofs.ListingLemmas.{item_of_path, above, none_below}
+use Rattle.tree_model.specs.declared.limits.TheConstants.{MAX_NAMES, MAX_PATHS}
 
 both_same : (a b : Bool) → (a ≡ true → b ≡ true) → b ≡ false → a ≡ b
 both_same true b more none = sym (more refl)
@@ -88,7 +89,7 @@ module _ (cuts : Cuts) (c : Contents) where
     there : (q : PathV) → same_path q path ≡ false → map.get grown.paths q ≡ map.get old.paths q
     there q apart = got q ∙ ap (λ b. cond b (Some seen) (map.get old.paths q)) apart
 
-    AreOf-seen : length path ≤ 100 → IsSmall c path → AreOf cuts c grown
+    AreOf-seen : length path ≤ MAX_NAMES → IsSmall c path → AreOf cuts c grown
     AreOf-seen short small = record {
       seen = λ q h. seen_by q h (same_path q path) refl;
       skipped = are.skipped;
@@ -101,15 +102,15 @@ module _ (cuts : Cuts) (c : Contents) where
         seen_by q h true e = here q e
         seen_by q h false e = there q e ∙ are.seen q (ap is_some (sym (there q e)) ∙ h)
 
-        deep_by : (q : PathV) → IsSome (map.get grown.paths q) → (b : Bool) → same_path q path ≡ b → length q ≤ 100
-        deep_by q h true e = subst (λ (p : PathV). length p ≤ 100) (sym (same_path-true q path e)) short
+        deep_by : (q : PathV) → IsSome (map.get grown.paths q) → (b : Bool) → same_path q path ≡ b → length q ≤ MAX_NAMES
+        deep_by q h true e = subst (λ (p : PathV). length p ≤ MAX_NAMES) (sym (same_path-true q path e)) short
         deep_by q h false e = are.deep q (ap is_some (sym (there q e)) ∙ h)
 
         big_by : (q : PathV) → IsSome (map.get grown.paths q) → (b : Bool) → same_path q path ≡ b → IsSmall c q
         big_by q h true e = subst (IsSmall c) (sym (same_path-true q path e)) small
         big_by q h false e = are.big q (ap is_some (sym (there q e)) ∙ h)
 
-    pub HasTaken-seen : length path ≤ 100 → IsSmall c path → HasTaken cuts c path old grown
+    pub HasTaken-seen : length path ≤ MAX_NAMES → IsSmall c path → HasTaken cuts c path old grown
     HasTaken-seen short small = record {
       grows = record {
         are_of = AreOf-seen short small;
@@ -151,8 +152,8 @@ module _ (cuts : Cuts) (c : Contents) where
       sym (length_chosen is_visible (map.entries c.paths)) ∙ ap length (sym same) ∙ length-map (map.entries found.paths) (λ e. e.0)
       ∙ sym (map.len-entries found.paths)
 
-  pub note_past_limit : (found : Findings) (path : PathV) (seen : Seen) → AreOf cuts c found → seen_at cuts c path ≡ Some seen → length path ≤ 100 → IsSmall c path
-      → map.len found.paths ≤ 1000000 → (count : ℕ) → count ≡ map.len (map.insert found.paths path seen) → 1000000 < count → IsPastLimit c (fault.TooMany count)
+  pub note_past_limit : (found : Findings) (path : PathV) (seen : Seen) → AreOf cuts c found → seen_at cuts c path ≡ Some seen → length path ≤ MAX_NAMES → IsSmall c path
+      → map.len found.paths ≤ MAX_PATHS → (count : ℕ) → count ≡ map.len (map.insert found.paths path seen) → MAX_PATHS < count → IsPastLimit c (fault.TooMany count)
   note_past_limit found path seen are is short small few count e many =
       let next = HasTaken-seen found path seen are is short small in
       let most = seen_count (with_seen found path seen) next.grows.are_of in
@@ -352,7 +353,7 @@ module _ (cuts : Cuts) (c : Contents) where
   visible_seen_at o (File bytes) e v = ap (λ o. is_some (option_and_then (seen_of cuts) o)) e
   visible_seen_at o Other e v = absurd (true≢false (sym v))
 
-  pub IsWithinLimits-of : IsFolder c → (old new : Findings) → HasScanned cuts c [] old new → map.len new.paths ≤ 1000000 → IsWithinLimits c
+  pub IsWithinLimits-of : IsFolder c → (old new : Findings) → HasScanned cuts c [] old new → map.len new.paths ≤ MAX_PATHS → IsWithinLimits c
   IsWithinLimits-of folder old new scanned few = record {
     deep = λ q h is v. scanned.grows.are_of.deep q (there q h is v);
     many = omega (arith, all_count new (λ q. (scan_knows folder old new scanned q).seen), few);

@@ -8,6 +8,7 @@ use Rattle.folder_side.specs.declared.file_reader.ReadFault.{ReadFault}
 use Rattle.folder_side.specs.declared.file_reader.ReadFault.TheVariants.{Folder, TooBig, NoMemory}
 use Rattle.folder_side.specs.declared.file_reader.FileRead.{FileRead}
 use Rattle.folder_side.specs.declared.file_reader.Reading.{Reading}
+use Rattle.folder_side.specs.declared.file_reader.TheConstants.{MAX_FILE}
 
 -- the chunker and the names stand behind the first `place` bytes of a file
 pub record IsBehind (cuts : Cuts) (bytes : List ℕ) (reading : Reading) : Type 0 where
@@ -19,12 +20,12 @@ pub record IsBehind (cuts : Cuts) (bytes : List ℕ) (reading : Reading) : Type 
 pub record ReadsFile (cuts : Cuts) (bytes : List ℕ) (file : FileRead) : Type 0 where
   pub blocks : file.blocks ≡ map sha1 (chunks_of cuts bytes)
   pub size : file.size ≡ length bytes
-  pub small : length bytes ≤ 274877906944
+  pub small : length bytes ≤ MAX_FILE
 
 -- a file that is too big has more bytes than the limit
 abbrev pub PassesLimit : List ℕ → ReadFault → Type 0
 PassesLimit bytes Folder = Unit {0}
-PassesLimit bytes TooBig = 274877906944 < length bytes
+PassesLimit bytes TooBig = MAX_FILE < length bytes
 PassesLimit bytes NoMemory = Unit {0}
 
 abbrev pub is_read_failure : ReadFault → Bool

@@ -12,6 +12,8 @@ use Rattle.folder_side.specs.declared.scan_report.Scan.{Scan}
 use Rattle.folder_side.specs.declared.scan_report.Seen.{Seen}
 use Rattle.folder_side.specs.Folder.{Contents, at, nameless_at, is_other}
 use Rattle.folder_side.specs.ScanReport.{seen_of, IsPastLimit}
+use Rattle.folder_side.specs.declared.file_reader.TheConstants.{MAX_FILE}
+use Rattle.tree_model.specs.declared.limits.TheConstants.{MAX_NAMES}
 
 -- what a scan is to see at a path
 abbrev pub seen_at : Cuts → Contents → PathV → Option Seen
@@ -30,14 +32,14 @@ has_nameless c dir = nat_lt 0 (nameless_at c dir)
 
 -- a file at the path has no more bytes than a file may have
 abbrev pub IsSmall : Contents → PathV → Type 0
-IsSmall c path = (bytes : List ℕ) → at c path ≡ Some (File bytes) → length bytes ≤ 274877906944
+IsSmall c path = (bytes : List ℕ) → at c path ≡ Some (File bytes) → length bytes ≤ MAX_FILE
 
 -- what was found is so, and within the limits of a path and a file
 pub record AreOf (cuts : Cuts) (c : Contents) (found : Findings) : Type 0 where
   pub seen : (path : PathV) → IsSome (map.get found.paths path) → map.get found.paths path ≡ seen_at cuts c path
   pub skipped : (path : PathV) → IsSome (map.get found.skipped path) → is_skipped c path ≡ true
   pub nameless : (dir : PathV) → IsSome (map.get found.nameless dir) → has_nameless c dir ≡ true
-  pub deep : (path : PathV) → IsSome (map.get found.paths path) → length path ≤ 100
+  pub deep : (path : PathV) → IsSome (map.get found.paths path) → length path ≤ MAX_NAMES
   pub big : (path : PathV) → IsSome (map.get found.paths path) → IsSmall c path
 
 -- all is found that is to be found of an entry at a path

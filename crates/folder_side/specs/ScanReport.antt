@@ -1,5 +1,5 @@
 -- What a scan finds of a folder's contents. Our own. Read IsScan.
-use Rattle.std.specs.Prelude.{◌≡◌, ℕ, ◌<◌, ◌≤◌, Bool, true, false, if◌then◌else◌, List, length, map, nat_lt, Option, Some, None, option_and_then, count_by, ⊤}
+use Rattle.std.specs.Prelude.{◌≡◌, ℕ, ◌+◌, ◌<◌, ◌≤◌, Bool, true, false, if◌then◌else◌, List, length, map, nat_lt, Option, Some, None, option_and_then, count_by, ⊤}
 use Rattle.std.specs.List.{filter_map}
 use Rattle.std.specs.FinMap as map
 use Rattle.sha1.specs.Sha1.{sha1}
@@ -14,6 +14,8 @@ use Rattle.folder_side.specs.declared.scan_report.Scan.{Scan}
 use Rattle.folder_side.specs.declared.error.ScanFault.{ScanFault}
 use Rattle.folder_side.specs.declared.error.ScanFault.TheVariants as fault
 use Rattle.folder_side.specs.Folder.{Contents, at, is_other}
+use Rattle.tree_model.specs.declared.limits.TheConstants.{MAX_NAMES, MAX_PATHS}
+use Rattle.folder_side.specs.declared.file_reader.TheConstants.{MAX_FILE}
 
 -- the names of a file's chunks
 abbrev pub block_names : Cuts → List ℕ → List (List ℕ)
@@ -47,16 +49,16 @@ abbrev pub visible_count : Contents → ℕ
 visible_count c = count_by (λ entry. is_visible entry.1) (map.entries c.paths)
 
 pub record IsWithinLimits (c : Contents) : Type 0 where
-  pub deep : (path : PathV) (holding : Holding) → at c path ≡ Some holding → is_visible holding ≡ true → length path ≤ 100
-  pub many : visible_count c ≤ 1000000
-  pub big : (path : PathV) (bytes : List ℕ) → at c path ≡ Some (File bytes) → length bytes ≤ 274877906944
+  pub deep : (path : PathV) (holding : Holding) → at c path ≡ Some holding → is_visible holding ≡ true → length path ≤ MAX_NAMES
+  pub many : visible_count c ≤ MAX_PATHS
+  pub big : (path : PathV) (bytes : List ℕ) → at c path ≡ Some (File bytes) → length bytes ≤ MAX_FILE
 
 -- a refusal is true of the folder; a failure and want of memory say nothing of it
 abbrev pub IsPastLimit : Contents → ScanFault → Type 0
 IsPastLimit c fault.Folder = ⊤
-IsPastLimit c (fault.TooDeep path) = (holding : Holding) × (at c path ≡ Some holding) × (is_visible holding ≡ true) × (100 < length path)
-IsPastLimit c (fault.TooMany count) = (count ≡ 1000001) × (1000000 < visible_count c)
-IsPastLimit c (fault.TooBig path) = (bytes : List ℕ) × (at c path ≡ Some (File bytes)) × (274877906944 < length bytes)
+IsPastLimit c (fault.TooDeep path) = (holding : Holding) × (at c path ≡ Some holding) × (is_visible holding ≡ true) × (MAX_NAMES < length path)
+IsPastLimit c (fault.TooMany count) = (count ≡ MAX_PATHS + 1) × (MAX_PATHS < visible_count c)
+IsPastLimit c (fault.TooBig path) = (bytes : List ℕ) × (at c path ≡ Some (File bytes)) × (MAX_FILE < length bytes)
 IsPastLimit c fault.NoMemory = ⊤
 
 abbrev pub is_scan_failure : ScanFault → Bool

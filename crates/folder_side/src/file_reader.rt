@@ -8,6 +8,8 @@ ghost use Rattle.block_chunker.specs.ChunkerProgress.{after_piece, finished_by};
 ghost use Rattle.folder_side.specs.declared.holding.Holding.TheVariants.{File};
 ghost use Rattle.folder_side.specs.Folder.{Contents, at, is_folder_fault};
 ghost use Rattle.folder_side.specs.FileRead.{IsBehind, ReadsFile, PassesLimit, is_read_failure};
+ghost use Rattle.folder_side.specs.declared.folder_scan.TheConstants.{PIECE};
+ghost use Rattle.folder_side.specs.declared.file_reader.TheConstants.{MAX_FILE};
 
 use crate::error::FolderFault;
 use crate::folder::Folder;
@@ -123,7 +125,7 @@ pub fn read_file<F: Folder>(
     buffer: &mut [u8],
 ) -> Result<FileRead, ReadFault>
     requires some { 0 < length buffer.old }
-    requires fits { length buffer.old ≤ 65536 }
+    requires fits { length buffer.old ≤ PIECE }
     ensures value { (c : Contents) (bytes : List ℕ) → F.told folder.old ≡ Some c → at c file.now ≡ Some (File bytes) →
         IfOk result (ReadsFile cuts bytes) }
     ensures refused { (c : Contents) (bytes : List ℕ) → F.told folder.old ≡ Some c → at c file.now ≡ Some (File bytes) →
@@ -144,9 +146,9 @@ pub(crate) fn read_rest<F: Folder>(
     buffer: &mut [u8],
 ) -> Result<FileRead, ReadFault>
     requires some { 0 < length buffer.old }
-    requires fits { length buffer.old ≤ 65536 }
+    requires fits { length buffer.old ≤ PIECE }
     requires ready { reading.chunker.failed ≡ false }
-    requires ordered { reading.place ≤ 274877906944 }
+    requires ordered { reading.place ≤ MAX_FILE }
     ensures value { (c : Contents) (bytes : List ℕ) → F.told folder.old ≡ Some c → at c file.now ≡ Some (File bytes) →
         IsBehind reading.chunker.cuts bytes reading → IfOk result (ReadsFile reading.chunker.cuts bytes) }
     ensures refused { (c : Contents) (bytes : List ℕ) → F.told folder.old ≡ Some c → at c file.now ≡ Some (File bytes) →

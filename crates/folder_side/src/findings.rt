@@ -7,18 +7,13 @@ ghost use Rattle.folder_side.specs.declared.holding.Holding.TheVariants.{Dir, Ot
 ghost use Rattle.folder_side.specs.Folder.{Contents, at};
 ghost use Rattle.folder_side.specs.ScanReport.{is_scan_failure};
 ghost use Rattle.folder_side.specs.Findings.{AreOf, HasTaken, Grows, KnowsNameless, Gives, seen_at, has_nameless, IsSmall};
+ghost use Rattle.tree_model.specs.declared.limits.TheConstants.{MAX_NAMES, MAX_PATHS};
 
 use crate::error::ScanFault;
 use crate::scan_report::Seen;
 use ids::Items;
 use std::alloc::{AllocError, Global};
-use tree_model::{Path, PathTable};
-
-/// The greatest number of names in a path.
-const MAX_NAMES: usize = 100;
-
-/// The greatest number of files and directories in a folder.
-const MAX_PATHS: usize = 1_000_000;
+use tree_model::{MAX_NAMES, MAX_PATHS, Path, PathTable};
 
 /// What a scan has found so far: files and directories, other entries, and directories with entries that
 /// have no good name.
@@ -31,18 +26,18 @@ pub struct Findings {
 
 /// Whether a path has more names than it may have.
 pub fn is_too_deep(path: &Path) -> bool
-    ensures value { result ≡ nat_lt 100 (length path.now) }
+    ensures value { result ≡ nat_lt MAX_NAMES (length path.now) }
 {
     path.names().len() > MAX_NAMES
 }
 
 /// Notes a file or a directory.
 pub fn note_seen(found: &mut Findings, path: Path, seen: Seen) -> Result<(), ScanFault>
-    requires short { length path ≤ 100 }
-    requires few { map.len found.old.paths ≤ 1000000 }
+    requires short { length path ≤ MAX_NAMES }
+    requires few { map.len found.old.paths ≤ MAX_PATHS }
     ensures value { (cuts : Cuts) (c : Contents) → AreOf cuts c found.old → seen_at cuts c path ≡ Some seen →
         IsSmall c path → Gives c (HasTaken cuts c path found.old found.new) result }
-    ensures few { OnOk result (map.len found.new.paths ≤ 1000000) }
+    ensures few { OnOk result (map.len found.new.paths ≤ MAX_PATHS) }
     ensures faults { IfErr result (λ fault. is_scan_failure fault ≡ false) }
 {
     match found.paths.insert(path, seen) {
@@ -58,11 +53,11 @@ pub fn note_seen(found: &mut Findings, path: Path, seen: Seen) -> Result<(), Sca
 
 /// Notes a directory.
 pub fn note_dir(found: &mut Findings, path: Path) -> Result<(), ScanFault>
-    requires few { map.len found.old.paths ≤ 1000000 }
+    requires few { map.len found.old.paths ≤ MAX_PATHS }
     ensures value { (cuts : Cuts) (c : Contents) → AreOf cuts c found.old → at c path ≡ Some Dir →
         Gives c (HasTaken cuts c path found.old found.new) result }
-    ensures bound { OnOk result (length path ≤ 100) }
-    ensures few { OnOk result (map.len found.new.paths ≤ 1000000) }
+    ensures bound { OnOk result (length path ≤ MAX_NAMES) }
+    ensures few { OnOk result (map.len found.new.paths ≤ MAX_PATHS) }
     ensures faults { IfErr result (λ fault. is_scan_failure fault ≡ false) }
 {
     if is_too_deep(&path) {

@@ -10,6 +10,8 @@ ghost use Rattle.folder_side.specs.FileRead.{PassesLimit, is_read_failure};
 ghost use Rattle.folder_side.specs.Folder.{Contents, IsFolder, at, kind_of, nameless_at, is_folder_fault};
 ghost use Rattle.folder_side.specs.Findings.{AreOf, Gives, Grows, KnowsNameless, HasTaken, HasTakenItem, HasScanned, Reports};
 ghost use Rattle.folder_side.specs.ScanReport.{IsScan, IsWithinLimits, IsPastLimit, is_scan_failure};
+ghost use Rattle.folder_side.specs.declared.folder_scan.TheConstants.{PIECE};
+ghost use Rattle.tree_model.specs.declared.limits.TheConstants.{MAX_NAMES, MAX_PATHS};
 
 use crate::error::{FolderFault, ScanFault};
 use crate::file_reader::{FileRead, ReadFault, read_file};
@@ -24,7 +26,7 @@ use std::alloc::{AllocError, Global};
 use tree_model::{Path, PathTable};
 
 /// The greatest number of bytes of a file that are read at once.
-const PIECE: usize = 65_536;
+pub const PIECE: usize = 65_536;
 
 /// Scans a folder: reads each file once, cuts it into chunks and names them.
 ///
@@ -73,12 +75,12 @@ fn scan_dir<F: Folder>(
     found: &mut Findings,
 ) -> Result<(), ScanFault>
     requires some { 0 < length buffer.old }
-    requires fits { length buffer.old ≤ 65536 }
-    requires short { length dir.now ≤ 100 }
-    requires few { map.len found.old.paths ≤ 1000000 }
+    requires fits { length buffer.old ≤ PIECE }
+    requires short { length dir.now ≤ MAX_NAMES }
+    requires few { map.len found.old.paths ≤ MAX_PATHS }
     ensures value { (c : Contents) → F.told folder.old ≡ Some c → AreOf cuts c found.old →
         Gives c (IsFolder c × HasScanned cuts c dir.now found.old found.new) result }
-    ensures few { OnOk result (map.len found.new.paths ≤ 1000000) }
+    ensures few { OnOk result (map.len found.new.paths ≤ MAX_PATHS) }
     ensures kept { (F.told folder.new ≡ F.told folder.old) × (F.spare folder.new ≡ F.spare folder.old) }
     ensures faults { FailsBy is_scan_failure (F.faults folder.old) (F.faults folder.new) result }
 {
@@ -111,13 +113,13 @@ fn scan_item<F: Folder>(
     found: &mut Findings,
 ) -> Result<(), ScanFault>
     requires some { 0 < length buffer.old }
-    requires fits { length buffer.old ≤ 65536 }
-    requires short { length dir.now ≤ 100 }
-    requires few { map.len found.old.paths ≤ 1000000 }
+    requires fits { length buffer.old ≤ PIECE }
+    requires short { length dir.now ≤ MAX_NAMES }
+    requires few { map.len found.old.paths ≤ MAX_PATHS }
     ensures value { (c : Contents) (holding : Holding) → F.told folder.old ≡ Some c → IsFolder c → AreOf cuts c found.old →
         at c (dir.now ++ item.now.name ∷ []) ≡ Some holding → item.now.kind ≡ kind_of holding →
         Gives c (HasTakenItem cuts c (dir.now ++ item.now.name ∷ []) found.old found.new) result }
-    ensures few { OnOk result (map.len found.new.paths ≤ 1000000) }
+    ensures few { OnOk result (map.len found.new.paths ≤ MAX_PATHS) }
     ensures kept { (F.told folder.new ≡ F.told folder.old) × (F.spare folder.new ≡ F.spare folder.old) }
     ensures faults { FailsBy is_scan_failure (F.faults folder.old) (F.faults folder.new) result }
 {
@@ -140,11 +142,11 @@ fn scan_item<F: Folder>(
 
 /// Notes a directory by a copy of its path.
 fn note_child(alloc: Global, path: &Path, found: &mut Findings) -> Result<(), ScanFault>
-    requires few { map.len found.old.paths ≤ 1000000 }
+    requires few { map.len found.old.paths ≤ MAX_PATHS }
     ensures value { (cuts : Cuts) (c : Contents) → AreOf cuts c found.old → at c path.now ≡ Some Dir →
         Gives c (HasTaken cuts c path.now found.old found.new) result }
-    ensures bound { OnOk result (length path.now ≤ 100) }
-    ensures few { OnOk result (map.len found.new.paths ≤ 1000000) }
+    ensures bound { OnOk result (length path.now ≤ MAX_NAMES) }
+    ensures few { OnOk result (map.len found.new.paths ≤ MAX_PATHS) }
     ensures faults { IfErr result (λ fault. is_scan_failure fault ≡ false) }
 {
     match path.copy(alloc) {
@@ -184,11 +186,11 @@ fn scan_file<F: Folder>(
     found: &mut Findings,
 ) -> Result<(), ScanFault>
     requires some { 0 < length buffer.old }
-    requires fits { length buffer.old ≤ 65536 }
-    requires few { map.len found.old.paths ≤ 1000000 }
+    requires fits { length buffer.old ≤ PIECE }
+    requires few { map.len found.old.paths ≤ MAX_PATHS }
     ensures value { (c : Contents) (bytes : List ℕ) → F.told folder.old ≡ Some c → AreOf cuts c found.old →
         at c path ≡ Some (File bytes) → Gives c (HasTaken cuts c path found.old found.new) result }
-    ensures few { OnOk result (map.len found.new.paths ≤ 1000000) }
+    ensures few { OnOk result (map.len found.new.paths ≤ MAX_PATHS) }
     ensures kept { (F.told folder.new ≡ F.told folder.old) × (F.spare folder.new ≡ F.spare folder.old) }
     ensures faults { FailsBy is_scan_failure (F.faults folder.old) (F.faults folder.new) result }
 {
@@ -236,7 +238,7 @@ fn file_fault(fault: ReadFault, path: Path) -> ScanFault
 
 /// A buffer for a piece of a file.
 fn piece_buffer(alloc: Global) -> Result<Vec<u8>, AllocError>
-    ensures bound { IfOk result (λ buffer. vec_len buffer ≡ 65536) }
+    ensures bound { IfOk result (λ buffer. vec_len buffer ≡ PIECE) }
 {
     vec![in alloc; 0; PIECE]
 }

@@ -15,7 +15,14 @@ ghost use Rattle.folder_side.specs.declared.holding.Holding.TheVariants.{Dir, Fi
 ghost use Rattle.folder_side.specs.declared.scan_report.Scan.{Scan};
 ghost use Rattle.folder_side.specs.Folder.{Contents, IsFolder, at, is_dir};
 ghost use Rattle.folder_side.specs.ScanReport.{IsScan};
+ghost use Rattle.folder_side.specs.declared.file_reader.TheConstants.{MAX_FILE};
+ghost use Rattle.folder_side.specs.declared.folder_scan.TheConstants.{PIECE};
 ghost use Rattle.folder_side.specs.WorkingTree.{HoldsLeft, KeepsHidden, PlainNode, PlainDir, held_at, held_list, is_stuck, left_at, plain_at, seen_as};
+
+/// A file has at most 256 GiB, and is read in pieces of at most 64 KiB.
+pub fn the_limit_of_a_file()
+    ensures value { (MAX_FILE ≡ 274877906944) × (PIECE ≡ 65536) }
+{}
 
 /// A scan sees the visible tree and nothing else: each directory, and each file by the names of its
 /// chunks and its length.

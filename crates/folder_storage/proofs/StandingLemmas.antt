@@ -8,6 +8,7 @@ use Rattle.std.specs.Str.{bytes_eq}
 use Rattle.object_store.specs.Shelf.{Contents}
 use Rattle.folder_storage.specs.Ground.{ChangesStanding, Standing, Absent, Kept, HandedOut, StandAsBefore, TakesBack}
 use Rattle.folder_storage.specs.MemoryGround.{IsPlaceOf, entry_out, is_at, returned, standing_in, standing_of, standings}
+use Rattle.folder_storage.specs.SteadyShelf.{SteadyShelfState}
 use Rattle.folder_storage.specs.declared.memory_ground.KeptLibrary.{KeptLibrary}
 
 -- an entry is of one library alone
@@ -44,13 +45,13 @@ standing-place (x ∷ xs) f l zero d is = rw (is.there x)
 standing-place (x ∷ xs) f l (suc i) d is = rw (place-not_front x xs f l i is) (standing-place xs f l i d (place-later x xs f l i is))
 
 -- another shelf at the first entry of a library
-pub standing-set : (xs : List KeptLibrary) (f l : List ℕ) (i : ℕ) (d : KeptLibrary) (s : Option Contents) → IsPlaceOf xs f l i
+pub standing-set : (xs : List KeptLibrary) (f l : List ℕ) (i : ℕ) (d : KeptLibrary) (s : Option SteadyShelfState) → IsPlaceOf xs f l i
     → standing_in (slice_set xs i (record (get_or xs i d) { shelf = s })) f l ≡ standing_of s
 standing-set [] f l i d s is = absurd (omega (arith, is.within))
 standing-set (x ∷ xs) f l zero d s is = rw (is.there x)
 standing-set (x ∷ xs) f l (suc i) d s is = rw (place-not_front x xs f l i is) (standing-set xs f l i d s (place-later x xs f l i is))
 
-pub standing-set_other : (xs : List KeptLibrary) (f l g m : List ℕ) (i : ℕ) (d : KeptLibrary) (s : Option Contents) → IsPlaceOf xs f l i
+pub standing-set_other : (xs : List KeptLibrary) (f l g m : List ℕ) (i : ℕ) (d : KeptLibrary) (s : Option SteadyShelfState) → IsPlaceOf xs f l i
     → ((g ≡ f) × (m ≡ l) → ⊥) → standing_in (slice_set xs i (record (get_or xs i d) { shelf = s })) g m ≡ standing_in xs g m
 standing-set_other [] f l g m i d s is other = absurd (omega (arith, is.within))
 standing-set_other (x ∷ xs) f l g m zero d s is other = rw (is_at-other x f l g m (is.there x) other)
@@ -62,11 +63,11 @@ pub standing-push_other : (xs : List KeptLibrary) (y : KeptLibrary) (g m : List 
 standing-push_other [] y g m other = rw other
 standing-push_other (x ∷ xs) y g m other = ap (λ rest. cond (is_at x g m) (standing_of x.shelf) rest) (standing-push_other xs y g m other)
 
-standing_of-there : (s : Option Contents) → standing_of s ≢ Absent
+standing_of-there : (s : Option SteadyShelfState) → standing_of s ≢ Absent
 standing_of-there None e = cc
 standing_of-there (Some shelf) e = cc
 
-push_at : (b : Bool) (s : Option Contents) (before after last : Standing) → cond b (standing_of s) before ≡ Absent → (before ≡ Absent → after ≡ last)
+push_at : (b : Bool) (s : Option SteadyShelfState) (before after last : Standing) → cond b (standing_of s) before ≡ Absent → (before ≡ Absent → after ≡ last)
     → cond b (standing_of s) after ≡ last
 push_at true s before after last e go = absurd (standing_of-there s e)
 push_at false s before after last e go = go e
@@ -85,10 +86,10 @@ some_standing : (a b : Standing) → Some a ≡ Some b → a ≡ b
 some_standing a b e = cc
 
 -- the shelf that is taken is that of a library that is kept
-pub taken-found : (xs : List KeptLibrary) (f l : List ℕ) (i : ℕ) (shelf : Contents) → IsPlaceOf xs f l i → ((d : KeptLibrary) → Some shelf ≡ (get_or xs i d).shelf)
-    → (standing : Standing) → standings xs f l ≡ Some standing → (held : Contents) × (standing ≡ Kept held) × (Some shelf ≡ Some held)
+pub taken-found : (xs : List KeptLibrary) (f l : List ℕ) (i : ℕ) (shelf : SteadyShelfState) → IsPlaceOf xs f l i → ((d : KeptLibrary) → Some shelf ≡ (get_or xs i d).shelf)
+    → (standing : Standing) → standings xs f l ≡ Some standing → (held : Contents) × (standing ≡ Kept held) × (Some shelf.contents ≡ Some held)
 taken-found xs f l i shelf is value standing same =
-    (shelf, sym (some_standing (standing_in xs f l) standing same) ∙ standing-place xs f l i blank is ∙ ap standing_of (sym (value blank)), refl)
+    (shelf.contents, sym (some_standing (standing_in xs f l) standing same) ∙ standing-place xs f l i blank is ∙ ap standing_of (sym (value blank)), refl)
 
 -- a library whose shelf is taken is handed out, and the others stand as they did
 pub taken-changes : (xs ys : List KeptLibrary) (f l : List ℕ) (i : ℕ) → IsPlaceOf xs f l i → ((d : KeptLibrary) → ys ≡ slice_set xs i (record (get_or xs i d) { shelf = None }))
@@ -103,7 +104,7 @@ set-own [] i d = refl
 set-own (x ∷ xs) zero d = refl
 set-own (x ∷ xs) (suc i) d = ap (λ more. x ∷ more) (set-own xs i d)
 
-set-taken : (xs : List KeptLibrary) (i : ℕ) (d : KeptLibrary) (o : Option Contents) → o ≡ (get_or xs i d).shelf
+set-taken : (xs : List KeptLibrary) (i : ℕ) (d : KeptLibrary) (o : Option SteadyShelfState) → o ≡ (get_or xs i d).shelf
     → slice_set xs i (record (get_or xs i d) { shelf = o }) ≡ xs
 set-taken xs i d o same = rw same (set-own xs i d)
 
@@ -126,12 +127,12 @@ added-changes xs ys f l absent adds = record {
   others = λ g m other. rw adds (ap Some (standing-push_other xs (entry_out f l) g m (is_at-other (entry_out f l) f l g m (entry_out-here f l) other)));
 }
 
-returned-kept : (o : Option Contents) (shelf : Contents) (held : Contents) → standing_of o ≡ HandedOut → shelf ≡ held
+returned-kept : (o : Option SteadyShelfState) (shelf : SteadyShelfState) (held : Contents) → standing_of o ≡ HandedOut → shelf.contents ≡ held
     → standing_of (returned o shelf) ≡ Kept held
 returned-kept None shelf held out same = ap Kept same
 returned-kept (Some before) shelf held out same = absurd (cc)
 
-returned-stays : (o : Option Contents) (shelf : Contents) (standing : Standing) → standing ≢ HandedOut → standing_of o ≡ standing
+returned-stays : (o : Option SteadyShelfState) (shelf : SteadyShelfState) (standing : Standing) → standing ≢ HandedOut → standing_of o ≡ standing
     → standing_of (returned o shelf) ≡ standing
 returned-stays None shelf standing other same = absurd (other (sym same))
 returned-stays (Some before) shelf standing other same = same
@@ -140,15 +141,15 @@ some_contents : (a b : Contents) → Some a ≡ Some b → a ≡ b
 some_contents a b e = cc
 
 -- a shelf goes back to a library that was handed out
-pub laid-takes_back : (xs ys : List KeptLibrary) (f l : List ℕ) (i : ℕ) (shelf : Contents) → IsPlaceOf xs f l i
+pub laid-takes_back : (xs ys : List KeptLibrary) (f l : List ℕ) (i : ℕ) (shelf : SteadyShelfState) → IsPlaceOf xs f l i
     → ((d : KeptLibrary) → ys ≡ slice_set xs i (record (get_or xs i d) { shelf = returned (get_or xs i d).shelf shelf }))
-    → TakesBack (standings xs) (standings ys) f l (Some shelf)
+    → TakesBack (standings xs) (standings ys) f l (Some shelf.contents)
 laid-takes_back xs ys f l i shelf is sets =
     let o = (get_or xs i blank).shelf in
     let now : standing_in ys f l ≡ standing_of (returned o shelf) = rw (sets blank) (standing-set xs f l i blank (returned o shelf) is) in
     let was : standing_in xs f l ≡ standing_of o = standing-place xs f l i blank is in
     record {
-      here = λ held same out. ap Some (now ∙ returned-kept o shelf held (sym was ∙ some_standing (standing_in xs f l) HandedOut out) (some_contents shelf held same));
+      here = λ held same out. ap Some (now ∙ returned-kept o shelf held (sym was ∙ some_standing (standing_in xs f l) HandedOut out) (some_contents shelf.contents held same));
       kept = λ standing other same. ap Some (now ∙ returned-stays o shelf standing other (sym was ∙ some_standing (standing_in xs f l) standing same));
       others = λ g m other. rw (sets blank) (ap Some (standing-set_other xs f l g m i blank (returned o shelf) is other));
     }

@@ -1,17 +1,17 @@
 -- The libraries of a ground in memory, as a list. Our own. Read standing_in first.
 use Rattle.std.specs.Prelude.{◌≡◌, ℕ, ◌<◌, ◌&&◌, Bool, true, false, List, [], ◌∷◌, length, slice_index_or, if◌then◌else◌, Option, None, Some}
 use Rattle.std.specs.Str.{bytes_eq}
-use Rattle.object_store.specs.Shelf.{Contents}
 use Rattle.folder_storage.specs.Ground.{Standing, Standings, Absent, Kept, HandedOut}
+use Rattle.folder_storage.specs.SteadyShelf.{SteadyShelfState}
 use Rattle.folder_storage.specs.declared.memory_ground.KeptLibrary.{KeptLibrary}
 
 -- whether it is this library
 abbrev pub is_at : KeptLibrary → List ℕ → List ℕ → Bool
 is_at kept folder lib = bytes_eq kept.folder folder && bytes_eq kept.lib lib
 
-abbrev pub standing_of : Option Contents → Standing
+abbrev pub standing_of : Option SteadyShelfState → Standing
 standing_of None = HandedOut
-standing_of (Some shelf) = Kept shelf
+standing_of (Some shelf) = Kept shelf.contents
 
 -- how a library stands: as the first entry of it says
 abbrev pub standing_in : List KeptLibrary → List ℕ → List ℕ → Standing
@@ -29,7 +29,7 @@ pub record IsPlaceOf (libraries : List KeptLibrary) (folder lib : List ℕ) (pla
   pub first : (k : ℕ) (d : KeptLibrary) → k < place → is_at (slice_index_or libraries k d) folder lib ≡ false
 
 -- what stands where a shelf is laid, unless one stands there
-abbrev pub returned : Option Contents → Contents → Option Contents
+abbrev pub returned : Option SteadyShelfState → SteadyShelfState → Option SteadyShelfState
 returned None shelf = Some shelf
 returned (Some before) shelf = Some before
 

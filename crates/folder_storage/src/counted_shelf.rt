@@ -36,6 +36,8 @@ impl<S: Shelf> Shelf for CountedShelf<S> {
 
     ghost faults = { λ counted. counted.faults };
 
+    ghost texts = { λ counted. S.texts counted.shelf };
+
     fn fetch(&mut self, slot: Slot) -> Result<Option<Bytes>, ShelfFailed> {
         let given = self.shelf.fetch(slot);
         passed_on(&mut self.faults, given)

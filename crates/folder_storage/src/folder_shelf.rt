@@ -5,7 +5,7 @@ use crate::answer::{answer, counted};
 use crate::file_system::FileSystem;
 use crate::library_folder::LibraryFolder;
 use ids::{Bytes, Kind, ObjId};
-use object_store::{Found, Shelf, ShelfFailed, Slot};
+use object_store::{Found, Shelf, ShelfFailed, Slot, TextCount};
 
 /// A shelf over the files of one library's folder, one file a slot. It tells nothing of what it holds, and counts the
 /// calls that failed.
@@ -28,6 +28,7 @@ use object_store::{Found, Shelf, ShelfFailed, Slot};
 pub struct FolderShelf<F> {
     folder: LibraryFolder<F>,
     faults: u64,
+    texts: TextCount,
 }
 
 impl<F> FolderShelf<F> {
@@ -35,7 +36,11 @@ impl<F> FolderShelf<F> {
     pub(crate) fn new(folder: LibraryFolder<F>) -> FolderShelf<F>
         ensures faults { result.faults ≡ 0 }
     {
-        FolderShelf { folder, faults: 0 }
+        FolderShelf {
+            folder,
+            faults: 0,
+            texts: TextCount::new(),
+        }
     }
 
     /// The files that it stands on, as its calls left them.
@@ -53,11 +58,14 @@ impl<F: FileSystem + Drop> Shelf for FolderShelf<F> {
 
     ghost faults = { λ s. s.faults };
 
+    ghost texts = { λ s. s.texts.count };
+
     fn fetch(&mut self, slot: Slot) -> Result<Option<Bytes>, ShelfFailed> {
         answer(&mut self.faults, self.folder.read(&slot))
     }
 
     fn put(&mut self, slot: Slot, bytes: &[u8]) -> Result<(), ShelfFailed> {
+        self.texts.count_put(&slot);
         match slot {
             Slot::Object(key) => {
                 let written = self.folder.write_beside(bytes);

@@ -25,8 +25,6 @@ mod paths;
 mod steady_shelf;
 mod syncing;
 mod system_files;
-#[cfg(test)]
-mod tests;
 mod whole;
 
 pub use crate::counted_shelf::CountedShelf;

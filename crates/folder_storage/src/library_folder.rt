@@ -147,12 +147,7 @@ impl<F: FileSystem + Drop> LibraryFolder<F> {
     fn move_object(&mut self, key: &Key, bytes: &[u8]) -> io::Result<()> {
         self.note_put(key, bytes)?;
         let path = object_path(self.files.alloc(), self.path.as_str(), key)?;
-        let folder = listed_folder(
-            self.files.alloc(),
-            self.path.as_str(),
-            key.kind,
-            first_byte(key),
-        )?;
+        let folder = self.folder_of(key)?;
         if self.files.look(folder.as_str())?.is_none() {
             self.files.make_folder(folder.as_str())?;
         }
@@ -179,6 +174,12 @@ impl<F: FileSystem + Drop> LibraryFolder<F> {
         if self.lost == Some(*key) {
             self.lost = None;
         }
+    }
+
+    /// The path of the folder that an object's file lies in.
+    pub(crate) fn folder_of(&self, key: &Key) -> Result<String, AllocError> {
+        let alloc = self.files.alloc();
+        listed_folder(alloc, self.path.as_str(), key.kind, first_byte(key))
     }
 
     /// The path of a slot's file.

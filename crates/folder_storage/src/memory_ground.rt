@@ -53,7 +53,7 @@ impl Ground for MemoryGround {
 
     fn find(&mut self, folder: &str, lib: LibId) -> Result<Option<SteadyShelf>, ShelfFailed>
         ensures found { (standing : Standing) → standings self.old.libraries.items folder.now lib ≡ Some standing
-            → IfOk result (FindsLibrary (λ shelf. Some shelf) standing) }
+            → IfOk result (FindsLibrary (λ shelf. Some shelf.contents) standing) }
         ensures ok { IfOk result (HandsOut (standings self.old.libraries.items) (standings self.new.libraries.items) folder.now lib) }
         ensures err { OnErr result (StandAsBefore (standings self.old.libraries.items) (standings self.new.libraries.items)) }
         ensures shelf { IfErr result (λ failed. (failed ≡ ShelfFailed.Shelf) × (standing_in self.old.libraries.items folder.now lib ≡ HandedOut)) }
@@ -77,7 +77,7 @@ impl Ground for MemoryGround {
 
     fn make(&mut self, folder: &str, lib: LibId) -> Result<Option<SteadyShelf>, ShelfFailed>
         ensures found { (standing : Standing) → standings self.old.libraries.items folder.now lib ≡ Some standing
-            → IfOk result (MakesLibrary (λ shelf. Some shelf) standing) }
+            → IfOk result (MakesLibrary (λ shelf. Some shelf.contents) standing) }
         ensures ok { IfOk result (HandsOut (standings self.old.libraries.items) (standings self.new.libraries.items) folder.now lib) }
         ensures err { OnErr result (StandAsBefore (standings self.old.libraries.items) (standings self.new.libraries.items)) }
         ensures no_memory { IfErr result (λ failed. failed ≡ ShelfFailed.NoMemory) }
@@ -135,7 +135,7 @@ fn add_library(
     lib: LibId,
 ) -> Result<SteadyShelf, ShelfFailed>
     ensures ok { OnOk result (libraries.new.items ≡ libraries.old.items ++ entry_out folder.now lib ∷ []) }
-    ensures value { IfOk result (λ shelf. shelf ≡ no_contents) }
+    ensures value { IfOk result (λ shelf. shelf.contents ≡ no_contents) }
     ensures err { OnErr result (libraries.new.items ≡ libraries.old.items) }
     ensures no_memory { IfErr result (λ failed. failed ≡ ShelfFailed.NoMemory) }
 {

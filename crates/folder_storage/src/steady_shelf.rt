@@ -1,7 +1,7 @@
 //! A shelf in memory of which no call fails.
 ghost use Rattle.std.specs.Prelude.{◌≡◌, IfOk, None, Some};
 ghost use Rattle.std.specs.FinMap as map;
-ghost use Rattle.object_store.specs.Shelf.{Changes, Contents, CountsFaults, FindsNext, lies_in, put_known, removed_known};
+ghost use Rattle.object_store.specs.Shelf.{Changes, Contents, CountsFaults, FindsNext, GivesAlso, GivesNoMore, Tells, lies_in, put_known, removed_known, texts_after};
 
 use ids::{Bytes, Items, Kind, ObjId};
 use object_store::{Found, MemoryShelf, Shelf, ShelfFailed, Slot};
@@ -15,14 +15,13 @@ pub struct SteadyShelf {
 }
 
 impl Model for SteadyShelf {
-    ghost use Rattle.object_store.specs.Shelf.{Contents, contents_code};
-    ghost use Rattle.folder_storage.specs.SteadyShelf.{IsSteady};
+    ghost use Rattle.folder_storage.specs.SteadyShelf.{IsSteady, SteadyShelfState, steady_shelf_code};
 
-    ghost Value = { Contents };
+    ghost Value = { SteadyShelfState };
 
-    ghost coded = { contents_code };
+    ghost coded = { steady_shelf_code };
 
-    ghost view = { λ a. a.inner.contents };
+    ghost view = { λ a. record { contents = a.inner.contents; texts = a.inner.texts } };
 
     ghost invariant = { λ a. IsSteady a.inner };
 }
@@ -30,7 +29,7 @@ impl Model for SteadyShelf {
 impl SteadyShelf {
     /// An empty shelf. It takes no memory.
     pub fn new(alloc: Global) -> SteadyShelf
-        ensures value { result ≡ record { objects = map.empty; status = None } }
+        ensures value { result ≡ record { contents = record { objects = map.empty; status = None }; texts = 0 } }
     {
         SteadyShelf {
             inner: MemoryShelf::new(alloc, Items::new(alloc)),
@@ -41,38 +40,48 @@ impl SteadyShelf {
 impl Shelf for SteadyShelf {
     ghost use Rattle.folder_storage.specs.SteadyShelf.{steady_told};
 
-    ghost contents = { λ shelf. Some shelf };
+    ghost contents = { λ shelf. Some shelf.contents };
 
-    ghost may_give = { λ shelf slot given. given ≡ lies_in shelf slot };
+    ghost may_give = { λ shelf slot given. given ≡ lies_in shelf.contents slot };
 
     ghost faults = { λ shelf. 0 };
 
+    ghost texts = { λ shelf. shelf.texts };
+
     fn fetch(&mut self, slot: Slot) -> Result<Option<Bytes>, ShelfFailed>
-        ensures found { IfOk result (λ given. given ≡ lies_in self.new slot) }
-        ensures kept { Some self.new ≡ Some self.old }
+        ensures found { IfOk result (λ given. given ≡ lies_in self.new.contents slot) }
+        ensures kept { Some self.new.contents ≡ Some self.old.contents }
         ensures faults { CountsFaults 0 0 result }
+        ensures gives { GivesNoMore (Tells self.old.contents) (Tells self.new.contents) }
+        ensures texts { self.new.texts ≡ self.old.texts }
     {
         self.inner.fetch(slot)
     }
 
     fn put(&mut self, slot: Slot, bytes: &[u8]) -> Result<(), ShelfFailed>
-        ensures ok { Changes (Some self.old) (put_known (Some self.old) slot bytes.now) (Some self.new) result }
+        ensures ok { Changes (Some self.old.contents) (put_known (Some self.old.contents) slot bytes.now) (Some self.new.contents) result }
         ensures faults { CountsFaults 0 0 result }
+        ensures gives { GivesAlso (Tells self.old.contents) (Tells self.new.contents) slot (Some bytes.now) }
+        ensures texts { self.new.texts ≡ texts_after slot self.old.texts }
     {
         self.inner.put(slot, bytes)
     }
 
     fn remove(&mut self, slot: Slot) -> Result<(), ShelfFailed>
-        ensures ok { Changes (Some self.old) (removed_known (Some self.old) slot) (Some self.new) result }
+        ensures ok { Changes (Some self.old.contents) (removed_known (Some self.old.contents) slot) (Some self.new.contents) result }
         ensures faults { CountsFaults 0 0 result }
+        ensures gives { GivesAlso (Tells self.old.contents) (Tells self.new.contents) slot None }
+        ensures texts { self.new.texts ≡ self.old.texts }
     {
         self.inner.remove(slot)
     }
 
     fn next(&mut self, kind: Kind, after: Option<ObjId>) -> Result<Option<Found>, ShelfFailed>
-        ensures found { (held : Contents) → Some self.old ≡ Some held → IfOk result (FindsNext held.objects kind after) }
-        ensures kept { Some self.new ≡ Some self.old }
+        ensures found { (held : Contents) → Some self.old.contents ≡ Some held → IfOk result (FindsNext held.objects kind after) }
+        ensures kept { Some self.new.contents ≡ Some self.old.contents }
         ensures faults { CountsFaults 0 0 result }
+        ensures gives { GivesNoMore (Tells self.old.contents) (Tells self.new.contents) }
+        ensures texts { self.new.texts ≡ self.old.texts }
     {
         self.inner.next(kind, after)
     }

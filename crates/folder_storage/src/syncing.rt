@@ -46,12 +46,7 @@ impl<F: FileSystem + Drop> LibraryFolder<F> {
         let torn = self.earlier.torn.clone()?;
         for key in &torn {
             let path = object_path(self.files.alloc(), self.path.as_str(), key)?;
-            let folder = listed_folder(
-                self.files.alloc(),
-                self.path.as_str(),
-                key.kind,
-                first_byte(key),
-            )?;
+            let folder = self.folder_of(key)?;
             self.files.remove_file(path.as_str())?;
             if let Err(failure) = self.files.sync_folder(folder.as_str()) {
                 self.is_adrift = true;
@@ -156,12 +151,7 @@ impl<F: FileSystem + Drop> LibraryFolder<F> {
         for key in keys {
             let place = Place::Objects(key.kind, first_byte(key));
             if last != Some(place) {
-                let folder = listed_folder(
-                    self.files.alloc(),
-                    self.path.as_str(),
-                    key.kind,
-                    first_byte(key),
-                )?;
+                let folder = self.folder_of(key)?;
                 self.enter_anew(folder.as_str())?;
                 last = Some(place);
             }

@@ -77,80 +77,125 @@ fn push_blocks(text: &mut String, blocks: &IdList) -> Result<(), AllocError> {
     text.push_str("\n")
 }
 
+/// Whether a scan saw these lines, and skipped and met no name at these.
+fn tells(
+    alloc: Global,
+    scan: &Scan,
+    seen: &str,
+    skipped: &str,
+    nameless: &str,
+) -> Result<bool, AllocError> {
+    Ok(
+        seen_lines(alloc, scan)?.as_str() == seen
+            && lines(alloc, &scan.skipped)?.as_str() == skipped
+            && lines(alloc, &scan.nameless)?.as_str() == nameless,
+    )
+}
+
+/// Whether a scan of a folder with these parameters tells these lines, without a fault.
+fn scan_tells(
+    alloc: Global,
+    folder: &mut MemoryFolder,
+    cuts: Cuts,
+    seen: &str,
+    skipped: &str,
+    nameless: &str,
+) -> Result<bool, AllocError> {
+    match scan(alloc, folder, cuts) {
+        Ok(scan) => tells(alloc, &scan, seen, skipped, nameless),
+        Err(_) => Ok(false),
+    }
+}
+
+const SEEN: &str =
+    "a directory\na-b a9993e364706816aba3e25717850c26c9cd0d89d\na/b 5a1e1b103a1661b2d0553a4403f32967e4391fb7 5a1e1b103a1661b2d0553a4403f32967e4391fb7 29fb26f0ca3b0a0644528f5648a806fbd0820eb3\nd directory\nempty\n";
+
 #[test]
 fn a_scan_tells_chunks_links_and_nameless_entries(rt: HostRuntime) -> Result<(), Fail> {
     let alloc = rt.alloc();
-    let mut folder = folder(alloc, [].as_slice())?;
+    let mut folder = folder(alloc, &[])?;
     let cuts = Cuts::new(48, 48, 44).ok_or("in the limits")?;
-    match scan(alloc, &mut folder, cuts) {
-        Ok(scan) => {
-            assert_eq!(rt; lines(alloc, &scan.skipped)?.as_str(), "a!\na/link\n");
-            assert_eq!(rt; lines(alloc, &scan.nameless)?.as_str(), "a\nd\n");
-            assert_eq!(rt;
-                seen_lines(alloc, &scan)?.as_str(),
-                "a directory\na-b a9993e364706816aba3e25717850c26c9cd0d89d\na/b 5a1e1b103a1661b2d0553a4403f32967e4391fb7 5a1e1b103a1661b2d0553a4403f32967e4391fb7 29fb26f0ca3b0a0644528f5648a806fbd0820eb3\nd directory\nempty\n"
-            );
-        }
-        Err(_) => return Err(Fail::from("not scanned")),
-    }
-    assert_eq!(rt; folder.faults(), 0);
+    assert!(rt; scan_tells(alloc, &mut folder, cuts, SEEN, "a!\na/link\n", "a\nd\n")?);
+    assert!(rt; folder.faults() == 0);
     Ok(())
 }
 
-#[test]
-fn a_link_is_skipped_and_a_nameless_entry_names_its_directory(rt: HostRuntime) -> Result<(), Fail> {
-    let alloc = rt.alloc();
+/// A folder of a link and of a directory with a nameless entry.
+fn link_and_nameless(alloc: Global) -> Result<MemoryFolder, NameFault> {
     let mut folder = MemoryFolder::new(alloc, Items::new(alloc));
     let _ = folder.add(path(alloc, "l")?, Holding::Other)?;
     let _ = folder.add(path(alloc, "d")?, Holding::Dir)?;
     let _ = folder.set_nameless(path(alloc, "d")?, 1)?;
-    match scan(alloc, &mut folder, Cuts::USUAL) {
-        Ok(scan) => {
-            assert_eq!(rt; lines(alloc, &scan.skipped)?.as_str(), "l\n");
-            assert_eq!(rt; lines(alloc, &scan.nameless)?.as_str(), "d\n");
-            assert_eq!(rt; seen_lines(alloc, &scan)?.as_str(), "d directory\n");
-        }
-        Err(_) => return Err(Fail::from("not scanned")),
+    Ok(folder)
+}
+
+#[test]
+fn a_link_is_skipped_and_a_nameless_entry_names_its_directory(
+    rt: HostRuntime,
+) -> Result<(), NameFault> {
+    let alloc = rt.alloc();
+    let mut folder = link_and_nameless(alloc)?;
+    assert!(rt;
+        scan_tells(
+            alloc,
+            &mut folder,
+            Cuts::USUAL,
+            "d directory\n",
+            "l\n",
+            "d\n"
+        )?
+    );
+    Ok(())
+}
+
+/// Whether a scan of a folder whose call of this number fails ends with a fault that is counted.
+fn ends_with_fault(alloc: Global, number: u64) -> Result<bool, NameFault> {
+    let mut folder = folder(alloc, &[number])?;
+    let is_failed = matches!(
+        scan(alloc, &mut folder, Cuts::USUAL),
+        Err(ScanFault::Folder)
+    );
+    Ok(is_failed && folder.faults() == 1)
+}
+
+#[test]
+fn a_failing_call_ends_a_scan(rt: HostRuntime) -> Result<(), NameFault> {
+    for number in 0..5 {
+        assert!(rt; ends_with_fault(rt.alloc(), number)?, "call {number}");
     }
     Ok(())
 }
 
-#[test]
-fn a_failing_call_ends_a_scan(rt: HostRuntime) -> Result<(), Fail> {
-    let alloc = rt.alloc();
-    for number in 0..5 {
-        let mut folder = folder(alloc, [number].as_slice())?;
-        match scan(alloc, &mut folder, Cuts::USUAL) {
-            Err(ScanFault::Folder) => assert_eq!(rt; folder.faults(), 1, "call {number}"),
-            _ => return Err(Fail::from("no fault of the folder")),
+/// Makes 100 directories, one in the other, and gives the last. None where one has no directory.
+fn chain(alloc: Global, folder: &mut MemoryFolder) -> Result<Option<Path>, NameFault> {
+    let name = Name::read(alloc, "n")?;
+    let mut deep = Path::root(alloc);
+    for _ in 0..100 {
+        deep = deep.child(alloc, &name)?;
+        if !folder.add(deep.copy(alloc)?, Holding::Dir)? {
+            return Ok(None);
         }
     }
-    Ok(())
+    Ok(Some(deep))
+}
+
+/// Whether a scan is refused for this path.
+fn is_too_deep(told: Result<Scan, ScanFault>, path: &Path) -> bool {
+    match told {
+        Err(ScanFault::TooDeep(told)) => told == *path,
+        _ => false,
+    }
 }
 
 #[test]
 fn a_path_of_more_than_100_names_is_too_deep(rt: HostRuntime) -> Result<(), Fail> {
     let alloc = rt.alloc();
     let mut folder = MemoryFolder::new(alloc, Items::new(alloc));
-    let name = Name::read(alloc, "n")?;
-    let mut deep = Path::root(alloc);
-    for _ in 0..100 {
-        deep = deep.child(alloc, &name)?;
-        assert!(rt;
-            folder.add(deep.copy(alloc)?, Holding::Dir)?,
-            "it has a directory"
-        );
-    }
-    assert!(rt; scan(alloc, &mut folder, Cuts::USUAL).is_ok(), "100 names");
-    deep = deep.child(alloc, &name)?;
-    assert!(rt;
-        folder.add(deep.copy(alloc)?, file(alloc, b"")?)?,
-        "it has a directory"
-    );
-    match scan(alloc, &mut folder, Cuts::USUAL) {
-        Err(ScanFault::TooDeep(told)) => assert!(rt; told == deep, "the path is told"),
-        _ => return Err(Fail::from("not too deep")),
-    }
+    let deep = chain(alloc, &mut folder)?.ok_or("it has a directory")?;
+    assert!(rt; scan(alloc, &mut folder, Cuts::USUAL).is_ok());
+    let deeper = deep.child(alloc, &Name::read(alloc, "n")?)?;
+    assert!(rt; folder.add(deeper.copy(alloc)?, file(alloc, b"")?)?);
+    assert!(rt; is_too_deep(scan(alloc, &mut folder, Cuts::USUAL), &deeper));
     Ok(())
 }
 
@@ -176,31 +221,53 @@ fn bytes_from<F: Folder>(
     }
 }
 
-/// The number of entries of a directory, with and without good names.
-fn entries<F: Folder>(
-    alloc: Global,
-    folder: &mut F,
-    dir: &Path,
-) -> Result<(usize, u64), FolderFault> {
-    let listing = folder.list(alloc, dir)?;
-    Ok((listing.items.len(), listing.nameless))
+/// Whether a file has these bytes from a place on.
+fn reads(alloc: Global, folder: &mut MemoryFolder, file: &Path, place: u64, bytes: &[u8]) -> bool {
+    match bytes_from(alloc, folder, file, place) {
+        Ok(read) => read.as_slice() == bytes,
+        Err(_) => false,
+    }
 }
 
+/// Whether a call failed with the folder.
+fn failed(told: Result<(), FolderFault>) -> bool {
+    match told {
+        Ok(()) => false,
+        Err(fault) => fault == FolderFault::Folder,
+    }
+}
+
+/// Whether a file is written at this path, or the call fails with the folder.
+fn writes(
+    alloc: Global,
+    folder: &mut MemoryFolder,
+    text: &str,
+    is_written: bool,
+) -> Result<bool, NameFault> {
+    let done = write(folder, &path(alloc, text)?, b"abcdef");
+    if is_written {
+        Ok(done.is_ok())
+    } else {
+        Ok(failed(done))
+    }
+}
+
+/// A path, whether a file is written there, and why. The first call is to fail.
+const WRITES: [(&str, bool, &str); 6] = [
+    ("new", false, "the call is to fail"),
+    ("d/new", true, "a new file"),
+    ("a/b", true, "in place of a file"),
+    ("d", false, "in place of a directory"),
+    ("a!", false, "in place of a link"),
+    ("x/y", false, "in no directory"),
+];
+
 #[test]
-fn files_are_written_in_place_of_files_alone(rt: HostRuntime) -> Result<(), Fail> {
-    let alloc = rt.alloc();
-    let mut folder = folder(alloc, [0].as_slice())?;
-    for (case, text, expected) in [
-        ("the call is to fail", "new", Err(FolderFault::Folder)),
-        ("a new file", "d/new", Ok(())),
-        ("in place of a file", "a/b", Ok(())),
-        ("in place of a directory", "d", Err(FolderFault::Folder)),
-        ("in place of a link", "a!", Err(FolderFault::Folder)),
-        ("in no directory", "x/y", Err(FolderFault::Folder)),
-    ] {
-        assert_eq!(rt;
-            write(&mut folder, &path(alloc, text)?, b"abcdef"),
-            expected,
+fn files_are_written_in_place_of_files_alone(rt: HostRuntime) -> Result<(), NameFault> {
+    let mut folder = folder(rt.alloc(), &[0])?;
+    for (text, is_written, case) in WRITES {
+        assert!(rt;
+            writes(rt.alloc(), &mut folder, text, is_written)?,
             "{case}"
         );
     }
@@ -208,63 +275,88 @@ fn files_are_written_in_place_of_files_alone(rt: HostRuntime) -> Result<(), Fail
 }
 
 #[test]
-fn a_spare_that_is_not_there_is_not_moved(rt: HostRuntime) -> Result<(), Fail> {
+fn a_spare_that_is_not_there_is_not_moved(rt: HostRuntime) -> Result<(), NameFault> {
     let alloc = rt.alloc();
-    let mut folder = folder(alloc, [].as_slice())?;
+    let mut folder = folder(alloc, &[])?;
     let file = path(alloc, "a-b")?;
-    assert_eq!(rt; folder.spare_move(&file), Err(FolderFault::Folder));
-    assert_eq!(rt; folder.spare_add(b"x"), Err(FolderFault::Folder));
-    assert_eq!(rt; folder.faults(), 2);
-    match bytes_from(alloc, &mut folder, &file, 0) {
-        Ok(bytes) => assert_eq!(rt; bytes.as_slice(), b"abc".as_slice()),
-        Err(_) => return Err(Fail::from("not read")),
-    }
+    assert!(rt; failed(folder.spare_move(&file)));
+    assert!(rt; failed(folder.spare_add(b"x")));
+    assert!(rt; folder.faults() == 2);
+    assert!(rt; reads(alloc, &mut folder, &file, 0, b"abc"));
     Ok(())
 }
 
 #[test]
-fn files_are_read_up_to_their_end(rt: HostRuntime) -> Result<(), Fail> {
+fn files_are_read_up_to_their_end(rt: HostRuntime) -> Result<(), NameFault> {
     let alloc = rt.alloc();
-    let mut folder = folder(alloc, [].as_slice())?;
+    let mut folder = folder(alloc, &[])?;
     let file = path(alloc, "a-b")?;
-    for (place, expected) in [
-        (0, b"abc".as_slice()),
-        (1, b"bc".as_slice()),
-        (3, b"".as_slice()),
-        (u64::MAX, b"".as_slice()),
-    ] {
-        match bytes_from(alloc, &mut folder, &file, place) {
-            Ok(bytes) => assert_eq!(rt; bytes.as_slice(), expected, "from {place} on"),
-            Err(_) => return Err(Fail::from("not read")),
-        }
-    }
+    assert!(rt; reads(alloc, &mut folder, &file, 0, b"abc"));
+    assert!(rt; reads(alloc, &mut folder, &file, 1, b"bc"));
+    assert!(rt; reads(alloc, &mut folder, &file, 3, b""));
+    assert!(rt; reads(alloc, &mut folder, &file, u64::MAX, b""));
     Ok(())
 }
 
-#[test]
-fn directories_are_made_and_empty_ones_removed(rt: HostRuntime) -> Result<(), Fail> {
-    let alloc = rt.alloc();
-    let mut folder = folder(alloc, [].as_slice())?;
-    for (is_made, text, expected) in [
-        (true, "d/e", Ok(())),
-        (true, "d/e", Err(FolderFault::Folder)),
-        (true, "x/y", Err(FolderFault::Folder)),
-        (false, "d/e", Ok(())),
-        (false, "d", Err(FolderFault::Folder)),
-        (false, "a", Err(FolderFault::Folder)),
-        (false, "a!", Err(FolderFault::Folder)),
-        (false, "a-b", Ok(())),
-    ] {
-        let path = path(alloc, text)?;
-        let done = if is_made {
-            folder.make_dir(&path)
-        } else {
-            folder.remove(&path)
-        };
-        assert_eq!(rt; done, expected, "{text}");
+/// Whether a directory is made or something removed, or the call fails with the folder.
+fn changes(
+    alloc: Global,
+    folder: &mut MemoryFolder,
+    is_made: bool,
+    text: &str,
+    is_done: bool,
+) -> Result<bool, NameFault> {
+    let path = path(alloc, text)?;
+    let done = if is_made {
+        folder.make_dir(&path)
+    } else {
+        folder.remove(&path)
+    };
+    if is_done {
+        Ok(done.is_ok())
+    } else {
+        Ok(failed(done))
     }
-    assert_eq!(rt; folder.faults(), 5);
-    assert_eq!(rt; folder.paths().len(), 6);
-    assert_eq!(rt; entries(alloc, &mut folder, &path(alloc, "a")?), Ok((2, 1)));
+}
+
+/// Whether a directory is made, or else something removed; the path; and whether it is done.
+const CHANGES: [(bool, &str, bool); 8] = [
+    (true, "d/e", true),
+    (true, "d/e", false),
+    (true, "x/y", false),
+    (false, "d/e", true),
+    (false, "d", false),
+    (false, "a", false),
+    (false, "a!", false),
+    (false, "a-b", true),
+];
+
+/// Whether a directory has so many entries with good names, and so many without.
+fn has_entries(
+    alloc: Global,
+    folder: &mut MemoryFolder,
+    dir: &Path,
+    good: usize,
+    nameless: u64,
+) -> bool {
+    match folder.list(alloc, dir) {
+        Ok(listing) => listing.items.len() == good && listing.nameless == nameless,
+        Err(_) => false,
+    }
+}
+
+#[test]
+fn directories_are_made_and_empty_ones_removed(rt: HostRuntime) -> Result<(), NameFault> {
+    let alloc = rt.alloc();
+    let mut folder = folder(alloc, &[])?;
+    for (is_made, text, is_done) in CHANGES {
+        assert!(rt;
+            changes(alloc, &mut folder, is_made, text, is_done)?,
+            "{text}"
+        );
+    }
+    assert!(rt; folder.faults() == 5);
+    assert!(rt; folder.paths().len() == 6);
+    assert!(rt; has_entries(alloc, &mut folder, &path(alloc, "a")?, 2, 1));
     Ok(())
 }

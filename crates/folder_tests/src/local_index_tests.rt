@@ -8,8 +8,6 @@ use std::alloc::{AllocError, Global};
 use std::test::Fail;
 use tree_model::{Name, NameFault, Path};
 
-const LIB: &str = "11111111-2222-4333-8444-555555555555";
-
 /// The text of an empty directory `d` with an empty file `a`.
 const TEXT: &str =
     "{\"base\":\"cccccccccccccccccccccccccccccccccccccccc\",\"entries\":[{\"path\":\"d\"},{\"id\":\"0000000000000000000000000000000000000000\",\"mode\":33188,\"modifier\":\"me\",\"mtime\":5,\"own\":\"0000000000000000000000000000000000000000\",\"path\":\"d/a\",\"size\":0}],\"lib\":\"11111111-2222-4333-8444-555555555555\",\"version\":1}";
@@ -67,31 +65,38 @@ fn lines(alloc: Global, changes: &Items<Change>) -> Result<String, AllocError> {
 }
 
 /// Whether this key, as it is printed, is what is first wrong with a text; no text where nothing is.
-fn is_told(alloc: Global, text: &str, wanted: &str) -> Result<bool, Fail> {
+fn is_told(alloc: Global, text: &str, wanted: &str) -> Result<bool, AllocError> {
     match Index::read(alloc, text.as_bytes()) {
         Err(ReadFault::Bad(key)) => {
-            let told = format!(in alloc; "{key:?}")?;
-            Ok(told.as_bytes() == wanted.as_bytes())
+            Ok(format!(in alloc; "{key:?}")?.as_bytes() == wanted.as_bytes())
         }
         Err(ReadFault::NoMemory) => Ok(false),
         Ok(_) => Ok(wanted.is_empty()),
     }
 }
 
+/// Whether a text has two entries and is written back as itself.
+fn is_written_back(alloc: Global, text: &[u8]) -> Result<bool, AllocError> {
+    match Index::read(alloc, text) {
+        Ok(index) => Ok(index.entries.len() == 2 && index.write(alloc)?.slice() == text),
+        Err(_) => Ok(false),
+    }
+}
+
+/// The text of an empty index.
+fn empty_text(alloc: Global) -> Result<Bytes, AllocError> {
+    let lib = LibId::from_bytes([
+        17, 17, 17, 17, 34, 34, 67, 51, 132, 68, 85, 85, 85, 85, 85, 85,
+    ]);
+    Index::empty(alloc, lib).write(alloc)
+}
+
 // The text is that of docs/FORMATS.md.
 #[test]
-fn an_index_text_is_written_back_as_itself(rt: HostRuntime) -> Result<(), Fail> {
+fn an_index_text_is_written_back_as_itself(rt: HostRuntime) -> Result<(), AllocError> {
     let alloc = rt.alloc();
-    match Index::read(alloc, TEXT.as_bytes()) {
-        Ok(index) => {
-            assert_eq!(rt; index.entries.len(), 2);
-            assert_eq!(rt; index.write(alloc)?.slice(), TEXT.as_bytes());
-        }
-        Err(_) => return Err(Fail::from("not read")),
-    }
-    let lib = LibId::read(LIB).ok().ok_or("a library id")?;
-    let empty = Index::empty(alloc, lib).write(alloc)?;
-    assert_eq!(rt; empty.slice(), index_text(alloc, "")?.as_bytes());
+    assert!(rt; is_written_back(alloc, TEXT.as_bytes())?);
+    assert!(rt; empty_text(alloc)?.slice() == index_text(alloc, "")?.as_bytes());
     Ok(())
 }
 
@@ -125,7 +130,7 @@ const FIRST_WRONG: [(&str, &str); 11] = [
 ];
 
 #[test]
-fn the_first_failing_check_of_a_text_is_told(rt: HostRuntime) -> Result<(), Fail> {
+fn the_first_failing_check_of_a_text_is_told(rt: HostRuntime) -> Result<(), AllocError> {
     for (text, wanted) in FIRST_WRONG {
         assert!(rt; is_told(rt.alloc(), text, wanted)?, "{text}");
     }
@@ -133,7 +138,7 @@ fn the_first_failing_check_of_a_text_is_told(rt: HostRuntime) -> Result<(), Fail
 }
 
 #[test]
-fn a_number_is_no_base_whatever_the_entries_are(rt: HostRuntime) -> Result<(), Fail> {
+fn a_number_is_no_base_whatever_the_entries_are(rt: HostRuntime) -> Result<(), AllocError> {
     assert!(rt; is_told(rt.alloc(), BASE_IS_1, "Base")?);
     Ok(())
 }
@@ -153,7 +158,7 @@ const ENTRIES: [(&str, &str); 10] = [
 ];
 
 #[test]
-fn entries_are_distinct_paths_in_directories(rt: HostRuntime) -> Result<(), Fail> {
+fn entries_are_distinct_paths_in_directories(rt: HostRuntime) -> Result<(), AllocError> {
     for (entries, wanted) in ENTRIES {
         let text = index_text(rt.alloc(), entries)?;
         assert!(rt; is_told(rt.alloc(), text.as_str(), wanted)?, "{entries}");
@@ -161,16 +166,22 @@ fn entries_are_distinct_paths_in_directories(rt: HostRuntime) -> Result<(), Fail
     Ok(())
 }
 
+/// The index of these entries.
+fn index_of(alloc: Global, entries: &str) -> Result<Index, Fail> {
+    let text = index_text(alloc, entries)?;
+    match Index::read(alloc, text.as_bytes()) {
+        Ok(index) => Ok(index),
+        Err(_) => Err(Fail::from("no index")),
+    }
+}
+
 /// Whether the scan of these paths differs so from the index of these entries.
 fn differs_so(alloc: Global, entries: &str, paths: &[&str], wanted: &str) -> Result<bool, Fail> {
-    let text = index_text(alloc, entries)?;
-    let index = match Index::read(alloc, text.as_bytes()) {
-        Ok(index) => index,
-        Err(_) => return Err(Fail::from("an index")),
-    };
-    let scan = scan_of(alloc, paths)?.ok_or("a scan")?;
-    let told = lines(alloc, &changes(alloc, &scan, &index)?)?;
-    Ok(told.as_bytes() == wanted.as_bytes())
+    let index = index_of(alloc, entries)?;
+    match scan_of(alloc, paths)? {
+        Some(scan) => Ok(lines(alloc, &changes(alloc, &scan, &index)?)?.as_str() == wanted),
+        None => Ok(false),
+    }
 }
 
 /// A file whose own text is that of `abc`.
@@ -185,24 +196,27 @@ const OTHER: &str =
 const BELOW: &str =
     "{\"path\":\"d\"},{\"id\":\"0000000000000000000000000000000000000000\",\"mode\":33188,\"modifier\":\"me\",\"mtime\":5,\"own\":\"0000000000000000000000000000000000000000\",\"path\":\"d/a\",\"size\":0}";
 
+/// Entries, the paths of a folder, and how it differs.
+const CHANGED: [(&str, &[&str], &str); 7] = [
+    ("", &["a"], "a added\n"),
+    (BELOW, &["d/"], "d/a gone\n"),
+    (OTHER, &["a/"], "a changed\n"),
+    (OTHER, &["a"], "a changed\n"),
+    (SAME, &["a"], ""),
+    (SAME, &["a", "b/"], "b added\n"),
+    (
+        BELOW,
+        &["d-e", "d/", "d/b"],
+        "d-e added\nd/a gone\nd/b added\n",
+    ),
+];
+
 // The id of the file `abc` is the SHA-1 of its object's 88 bytes.
 #[test]
 fn changes_are_told_in_byte_order_of_path(rt: HostRuntime) -> Result<(), Fail> {
-    for (entries, paths, expected) in [
-        ("", ["a"].as_slice(), "a added\n"),
-        (BELOW, ["d/"].as_slice(), "d/a gone\n"),
-        (OTHER, ["a/"].as_slice(), "a changed\n"),
-        (OTHER, ["a"].as_slice(), "a changed\n"),
-        (SAME, ["a"].as_slice(), ""),
-        (SAME, ["a", "b/"].as_slice(), "b added\n"),
-        (
-            BELOW,
-            ["d-e", "d/", "d/b"].as_slice(),
-            "d-e added\nd/a gone\nd/b added\n",
-        ),
-    ] {
+    for (entries, paths, wanted) in CHANGED {
         assert!(rt;
-            differs_so(rt.alloc(), entries, paths, expected)?,
+            differs_so(rt.alloc(), entries, paths, wanted)?,
             "{entries}"
         );
     }

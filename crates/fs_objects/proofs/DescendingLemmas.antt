@@ -14,6 +14,7 @@ use Rattle.std.specs.List.Sorted.{IsPermutation, IsStrictlySortedBy}
 use Rattle.std.specs.Map.{keys_of, values_of}
 use Rattle.std.specs.Ordering.{match_ordering, ordering_reverse}
 use Rattle.std.specs.Str.{bytes_eq}
+use Rattle.ids.proofs.Facts.{AllByRecursion-push}
 use Rattle.serde_json.specs.Written.{compact_text}
 use Rattle.fs_objects.specs.Directory.{names_of}
 use Rattle.fs_objects.specs.Spelling.{directory_with, entry_data, in_written_order, placed, text_of}
@@ -106,13 +107,9 @@ names_ascend entries = subst Ascend (keys_are_names (placed [] entries) (placed-
 
 -- ---- the last first
 
-push : {X : Type 0} (P : X → Type 0) (xs : List X) (x : X) → AllByRecursion P xs → P x → AllByRecursion P (xs ++ x ∷ [])
-push P [] x all is = (is, tt)
-push P (y ∷ ys) x all is = (all.0, push P ys x all.1 is)
-
 turned_list : {X : Type 0} (P : X → Type 0) (xs : List X) → AllByRecursion P xs → AllByRecursion P (reverse xs)
 turned_list P [] all = tt
-turned_list P (x ∷ xs) all = subst (AllByRecursion P) (sym (reverse-append (x ∷ []) xs)) (push P (reverse xs) x (turned_list P xs all.1) all.0)
+turned_list P (x ∷ xs) all = subst (AllByRecursion P) (sym (reverse-append (x ∷ []) xs)) (AllByRecursion-push P (reverse xs) x (turned_list P xs all.1) all.0)
 
 -- each of the names is before the next, by the order turned round
 abbrev Descend : List (List ℕ) → Type 0
@@ -121,7 +118,7 @@ Descend = IsStrictlySortedBy (λ a b. slice_cmp nat_cmp b a)
 descend_push : (ks : List (List ℕ)) (k : List ℕ) → Descend ks → AreAbove k ks → Descend (ks ++ k ∷ [])
 unfolding IsStrictlySortedBy
 descend_push [] k all above = (tt, tt)
-descend_push (l ∷ ks) k all above = (push (λ key. by_bytes key l ≡ Less) ks k all.0 above.0, descend_push ks k all.1 above.1)
+descend_push (l ∷ ks) k all above = (AllByRecursion-push (λ key. by_bytes key l ≡ Less) ks k all.0 above.0, descend_push ks k all.1 above.1)
 
 descend_reversed : (ks : List (List ℕ)) → Ascend ks → Descend (reverse ks)
 unfolding IsStrictlySortedBy

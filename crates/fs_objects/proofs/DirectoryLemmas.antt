@@ -1,6 +1,6 @@
 -- One step of reading entries: what an entry adds to the earlier ones and to their names.
 -- The key lemmas are entries_after-ok, entries_after-err and IsDistinct-names_push.
-use Rattle.std.proofs.Common.{◌≡◌, ℕ, List, [], ◌∷◌, ◌++◌, ◌||◌, length, Bool, true, false, not, Result, Ok, Err, refl, sym, ap, ◌∙◌}
+use Rattle.std.proofs.Common.{◌≡◌, ℕ, List, [], ◌∷◌, ◌++◌, ◌||◌, length, Bool, true, false, not, Result, Ok, Err, refl, ap, ◌∙◌}
 use Rattle.std.specs.List.{IsDistinct}
 use Rattle.std.specs.Str.{bytes_eq}
 use Rattle.std.proofs.lemmas.List.Folds.{list_any-append}
@@ -77,11 +77,3 @@ unfolding entry_of
 entry_of-taken earlier d entry whole = taken_after earlier d entry (head_of (length earlier) d) whole
 
 -- ---- tests
-
-pub true_from_not : (b : Bool) → not b ≡ false → b ≡ true
-true_from_not true e = refl
-true_from_not false e = sym e
-
-pub false_from_not : (b : Bool) → not b ≡ true → b ≡ false
-false_from_not true e = sym e
-false_from_not false e = refl

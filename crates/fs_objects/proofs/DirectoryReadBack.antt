@@ -6,6 +6,7 @@ use Rattle.std.proofs.lemmas.List.Elements.{recursion_from_All}
 use Rattle.std.proofs.lemmas.Map.Keys.{IsDistinct-head, IsDistinct-tail}
 use Rattle.std.specs.List.{AllByRecursion, IsDistinct}
 use Rattle.std.specs.Str.{bytes_eq}
+use Rattle.ids.proofs.Facts.{AllByRecursion-middle}
 use Rattle.hex.specs.Hex.{encode_lower}
 use Rattle.serde_json.specs.Data.{Data, number, string, array, unsigned}
 use Rattle.serde_json.specs.Find.{get, of_integer}
@@ -88,14 +89,10 @@ entry_of-at earlier entry false is typed proper new =
 
 -- ---- all entries
 
-apart_there : (n : List ℕ) (names : List (List ℕ)) (name : List ℕ) (later : List (List ℕ)) → AllByRecursion (λ y. bytes_eq n y ≡ false) (names ++ name ∷ later) → bytes_eq n name ≡ false
-apart_there n [] name later all = all.0
-apart_there n (m ∷ names) name later all = apart_there n names name later all.1
-
 not_before : (names : List (List ℕ)) (name : List ℕ) (later : List (List ℕ)) → IsDistinct bytes_eq (names ++ name ∷ later) → is_taken names name ≡ false
 not_before [] name later distinct = refl
 not_before (n ∷ names) name later distinct =
-    let apart : bytes_eq name n ≡ false = nat_list_eq_equiv.symm name n ∙ apart_there n names name later (IsDistinct-head bytes_eq n (names ++ name ∷ later) distinct) in
+    let apart : bytes_eq name n ≡ false = nat_list_eq_equiv.symm name n ∙ AllByRecursion-middle (λ y. bytes_eq n y ≡ false) names name later (IsDistinct-head bytes_eq n (names ++ name ∷ later) distinct) in
     rw apart (not_before names name later (IsDistinct-tail bytes_eq n (names ++ name ∷ later) distinct))
 
 entries_read : (earlier entries : List Dirent) → AllByRecursion IsTyped entries → AllByRecursion IsProperEntry entries → IsDistinct bytes_eq (names_of (earlier ++ entries)) → entries_after earlier (map entry_data entries) ≡ Ok (earlier ++ entries)

@@ -3,8 +3,8 @@ use Rattle.std.proofs.Common.{◌≡◌, ◌^◌, ◌-◌, ℕ, List, [], ◌∷
 use Rattle.serde_json.specs.Data.{Data, null, boolean, number, string, array, object}
 use Rattle.json_words.specs.Check.{◌>>=◌, holds}
 use Rattle.json_words.specs.IdText.{id_in, stored_id_in}
-use Rattle.json_words.specs.Kept.{kept}
-use Rattle.json_words.proofs.KeptLemmas.{is_object-kept, id_field-kept, number_field-kept, number_between-kept, integer_field-kept, text_field-kept}
+use Rattle.json_tokens.specs.Kept.{kept}
+use Rattle.json_tokens.proofs.KeptLemmas.{is_object-kept, id_field-kept, number_field-kept, number_between-kept, integer_field-kept, text_field-kept}
 use Rattle.fs_objects.specs.Directory.{Head, is_taken, names_of, mode_of, head_of, file_details_of, details_of, entry_from, entry_of}
 use Rattle.fs_objects.specs.declared.dirent.Dirent.{Dirent}
 use Rattle.fs_objects.specs.declared.fault.BadFs.{BadFs}

@@ -1,35 +1,24 @@
 -- The written order of entries: the same entries, where their names are distinct. The key lemma is
 -- in_written_order-permutes.
-use Rattle.std.proofs.Common.{◌≡◌, ℕ, List, [], ◌∷◌, ◌++◌, ◌||◌, Bool, true, false, Ordering, Less, Equal, Greater, is_eq, nat_cmp, refl, sym, ap, subst, ◌∙◌, true≢false, append-nil}
+use Rattle.std.proofs.Common.{◌≡◌, ℕ, List, [], ◌∷◌, ◌++◌, false, Ordering, Less, Equal, Greater, is_eq, nat_cmp, refl, sym, ap, subst, ◌∙◌, true≢false, append-nil}
 use Rattle.std.proofs.lemmas.Cmp.{nat_list_eq_equiv}
 use Rattle.std.proofs.lemmas.List.Sorted.{IsPermutation-refl, IsPermutation-cons, IsPermutation-middle, IsPermutation-trans, IsPermutation-append_left, IsPermutation-reverse, IsPermutation-map}
 use Rattle.std.proofs.lemmas.Map.Keys.{IsDistinct-head, IsDistinct-tail, IsDistinct-IsPermutation}
 use Rattle.std.proofs.lemmas.Map.Text.{is_eq-slice_cmp}
 use Rattle.std.specs.BTreeMap.{insert_entry}
 use Rattle.std.specs.Cmp.Lexicographic.{slice_cmp}
-use Rattle.std.specs.FinMap.{slice_cmp-IsAntisymmetric, nat_cmp-IsAntisymmetric}
 use Rattle.std.specs.List.{AllByRecursion, IsDistinct}
 use Rattle.std.specs.List.Sorted.{IsPermutation}
 use Rattle.std.specs.Map.{keys_of, values_of}
 use Rattle.std.specs.Ordering.{match_ordering}
 use Rattle.std.specs.Str.{bytes_eq}
+use Rattle.std.proofs.lemmas.Bool.{or_parts}
 use Rattle.fs_objects.specs.Directory.{names_of, is_taken}
 use Rattle.fs_objects.specs.Spelling.{placed, in_written_order}
 use Rattle.fs_objects.specs.declared.dirent.Dirent.{Dirent}
 
 abbrev Named : Type 0
 Named = List ℕ × Dirent
-
-or_left : (a b : Bool) → (a || b) ≡ false → a ≡ false
-or_left true b e = e
-or_left false b e = refl
-
-or_right : (a b : Bool) → (a || b) ≡ false → b ≡ false
-or_right true b e = absurd (true≢false e)
-or_right false b e = e
-
-same_key : (k l : List ℕ) → slice_cmp nat_cmp k l ≡ Equal → k ≡ l
-same_key k l e = slice_cmp-IsAntisymmetric nat_cmp-IsAntisymmetric k l e
 
 -- ---- one entry under a new name
 
@@ -44,7 +33,7 @@ put_fresh_at e es k v Greater is apart later =
 put_fresh : (es : List Named) (k : List ℕ) (v : Dirent) → is_taken (keys_of es) k ≡ false → IsPermutation (v ∷ values_of es) (values_of (insert_entry (slice_cmp nat_cmp) es k v))
 put_fresh [] k v fresh = IsPermutation-refl (v ∷ [])
 put_fresh (e ∷ es) k v fresh =
-    put_fresh_at e es k v (slice_cmp nat_cmp k e.0) refl (or_left (bytes_eq k e.0) (is_taken (keys_of es) k) fresh) (put_fresh es k v (or_right (bytes_eq k e.0) (is_taken (keys_of es) k) fresh))
+    put_fresh_at e es k v (slice_cmp nat_cmp k e.0) refl (or_parts (bytes_eq k e.0) (is_taken (keys_of es) k) fresh).0 (put_fresh es k v (or_parts (bytes_eq k e.0) (is_taken (keys_of es) k) fresh).1)
 
 untaken_at : (e : Named) (es : List Named) (k : List ℕ) (v : Dirent) (q : List ℕ) (o : Ordering) → slice_cmp nat_cmp k e.0 ≡ o → bytes_eq q k ≡ false → bytes_eq q e.0 ≡ false
     → is_taken (keys_of es) q ≡ false → is_taken (keys_of (insert_entry (slice_cmp nat_cmp) es k v)) q ≡ false
@@ -57,8 +46,8 @@ untaken_at e es k v q Greater is apart here rest later = rw here later
 untaken : (es : List Named) (k : List ℕ) (v : Dirent) (q : List ℕ) → bytes_eq q k ≡ false → is_taken (keys_of es) q ≡ false → is_taken (keys_of (insert_entry (slice_cmp nat_cmp) es k v)) q ≡ false
 untaken [] k v q apart fresh = rw apart
 untaken (e ∷ es) k v q apart fresh =
-    let rest = or_right (bytes_eq q e.0) (is_taken (keys_of es) q) fresh in
-    untaken_at e es k v q (slice_cmp nat_cmp k e.0) refl apart (or_left (bytes_eq q e.0) (is_taken (keys_of es) q) fresh) rest (untaken es k v q apart rest)
+    let rest = (or_parts (bytes_eq q e.0) (is_taken (keys_of es) q) fresh).1 in
+    untaken_at e es k v q (slice_cmp nat_cmp k e.0) refl apart (or_parts (bytes_eq q e.0) (is_taken (keys_of es) q) fresh).0 rest (untaken es k v q apart rest)
 
 -- ---- all entries
 

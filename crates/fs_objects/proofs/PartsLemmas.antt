@@ -6,6 +6,7 @@ use Rattle.std.specs.Str.{bytes_eq}
 use Rattle.std.proofs.lemmas.Bool.{false≢true}
 use Rattle.std.proofs.lemmas.Map.Text.{is_eq-slice_cmp}
 use Rattle.std.proofs.lemmas.Slice.Eq.{bytes_eq-Decides}
+use Rattle.ids.proofs.Facts.{same_from_slice_cmp, same_from_bytes_eq}
 use Rattle.json.specs.Token.{Token}
 use Rattle.serde_json.specs.Data.{Data, object, Members, no_members, member, put}
 use Rattle.serde_json.specs.Find.{get_member}
@@ -14,7 +15,7 @@ use Rattle.json_words.specs.Fields.{array_field, number_field}
 use Rattle.json_words.specs.declared.fields.FieldFault.{FieldFault}
 use Rattle.fs_objects.specs.Directory.{directory_of, entries_after}
 use Rattle.fs_objects.specs.File.{block_of, file_of}
-use Rattle.json_words.specs.Front.{FrontIs}
+use Rattle.json_tokens.specs.Front.{FrontIs}
 use Rattle.fs_objects.specs.ObjectReading.{array_in, number_in}
 use Rattle.fs_objects.specs.FsKey.{key_text, at_key}
 use Rattle.fs_objects.specs.FsObject.{object_in, right_version, type_of}
@@ -28,9 +29,6 @@ use Rattle.fs_objects.specs.declared.file_reading.BlocksRead.{BlocksRead}
 use Rattle.fs_objects.specs.declared.parts.Parts.{Parts}
 
 -- ---- what is found of a member that was put
-
-same_text : (xs ys : List ℕ) → slice_cmp nat_cmp xs ys ≡ Equal → xs ≡ ys
-same_text xs ys is = (bytes_eq-Decides xs ys).0 (sym (is_eq-slice_cmp xs ys) ∙ ap is_eq is)
 
 equal_at : (o : Ordering) (k : List ℕ) → slice_cmp nat_cmp k k ≡ o → is_eq o ≡ true → o ≡ Equal
 equal_at Less k is eq = absurd (false≢true eq)
@@ -52,7 +50,7 @@ get_member-put k d (member l e ms) = put-same_at _ k l d e ms refl (get_member-p
 
 skips_at : (o : Ordering) (q k : List ℕ) (found here : Option Data) → slice_cmp nat_cmp q k ≡ o → (q ≡ k → ⊥) → match_ordering o found here found ≡ found
 skips_at Less q k found here is other = refl
-skips_at Equal q k found here is other = absurd (other (same_text q k is))
+skips_at Equal q k found here is other = absurd (other (same_from_slice_cmp q k is))
 skips_at Greater q k found here is other = refl
 
 skips : (q k : List ℕ) (d : Data) (ms : Members) → (q ≡ k → ⊥) → get_member q (member k d ms) ≡ get_member q ms
@@ -62,7 +60,7 @@ put-other_at : (o : Ordering) (q k l : List ℕ) (d e : Data) (ms : Members) →
     → get_member q (match_ordering o (member k d (member l e ms)) (member l d ms) (member l e (put k d ms))) ≡ get_member q (member l e ms)
 put-other_at Less q k l d e ms is other later = skips q k d (member l e ms) other
 put-other_at Equal q k l d e ms is other later =
-    let apart : q ≡ l → ⊥ = λ same. other (same ∙ sym (same_text k l is)) in
+    let apart : q ≡ l → ⊥ = λ same. other (same ∙ sym (same_from_slice_cmp k l is)) in
     skips q l d ms apart ∙ sym (skips q l e ms apart)
 put-other_at Greater q k l d e ms is other later = ap (λ r. match_ordering (slice_cmp nat_cmp q l) r (Some e) r) later
 
@@ -91,9 +89,6 @@ array-other q k d ms other = rw (get_member-put_other q k d ms other)
 -- texts that differ, by the test
 pub apart : (q k : List ℕ) → bytes_eq q k ≡ false → q ≡ k → ⊥
 apart q k differ same = false≢true (sym differ ∙ (bytes_eq-Decides q k).1 same)
-
-pub the_same : (q k : List ℕ) → bytes_eq q k ≡ true → q ≡ k
-the_same q k is = (bytes_eq-Decides q k).0 is
 
 module _ (found : Members) (parts : Parts) (d : Data) (is : IsPartsOf found parts) where
   with_kind : (slot : Result ℕ FieldFault) → slot ≡ number_in d → IsPartsOf (put (key_text KType) d found) (record parts { kind = slot })
@@ -161,7 +156,7 @@ module _ (name : List ℕ) (old new : List Token) (before : Parts) where
   IsMember-kind slot named read = record {
     d = read.0;
     front = read.1;
-    parts = λ found is. subst (λ key. IsPartsOf (put key read.0 found) (record before { kind = slot })) (sym (the_same name (key_text KType) named)) (with_kind found before read.0 is slot read.2);
+    parts = λ found is. subst (λ key. IsPartsOf (put key read.0 found) (record before { kind = slot })) (sym (same_from_bytes_eq name (key_text KType) named)) (with_kind found before read.0 is slot read.2);
   }
 
   pub IsMember-version : (slot : Result ℕ FieldFault) → bytes_eq name (key_text KVersion) ≡ true → (d : Data) × FrontIs member_depth old d new × (slot ≡ number_in d)
@@ -169,7 +164,7 @@ module _ (name : List ℕ) (old new : List Token) (before : Parts) where
   IsMember-version slot named read = record {
     d = read.0;
     front = read.1;
-    parts = λ found is. subst (λ key. IsPartsOf (put key read.0 found) (record before { version = slot })) (sym (the_same name (key_text KVersion) named)) (with_version found before read.0 is slot read.2);
+    parts = λ found is. subst (λ key. IsPartsOf (put key read.0 found) (record before { version = slot })) (sym (same_from_bytes_eq name (key_text KVersion) named)) (with_version found before read.0 is slot read.2);
   }
 
   pub IsMember-size : (slot : Result ℕ FieldFault) → bytes_eq name (key_text KSize) ≡ true → (d : Data) × FrontIs member_depth old d new × (slot ≡ number_in d)
@@ -177,7 +172,7 @@ module _ (name : List ℕ) (old new : List Token) (before : Parts) where
   IsMember-size slot named read = record {
     d = read.0;
     front = read.1;
-    parts = λ found is. subst (λ key. IsPartsOf (put key read.0 found) (record before { size = slot })) (sym (the_same name (key_text KSize) named)) (with_size found before read.0 is slot read.2);
+    parts = λ found is. subst (λ key. IsPartsOf (put key read.0 found) (record before { size = slot })) (sym (same_from_bytes_eq name (key_text KSize) named)) (with_size found before read.0 is slot read.2);
   }
 
   pub IsMember-dirents : (slot : Result EntriesRead FieldFault) → bytes_eq name (key_text KDirents) ≡ true
@@ -186,7 +181,7 @@ module _ (name : List ℕ) (old new : List Token) (before : Parts) where
   IsMember-dirents slot named read = record {
     d = read.0;
     front = read.1;
-    parts = λ found is. subst (λ key. IsPartsOf (put key read.0 found) (record before { dirents = slot })) (sym (the_same name (key_text KDirents) named)) (with_dirents found before read.0 is slot read.2);
+    parts = λ found is. subst (λ key. IsPartsOf (put key read.0 found) (record before { dirents = slot })) (sym (same_from_bytes_eq name (key_text KDirents) named)) (with_dirents found before read.0 is slot read.2);
   }
 
   pub IsMember-block_ids : (slot : Result BlocksRead FieldFault) → bytes_eq name (key_text KBlockIds) ≡ true
@@ -195,7 +190,7 @@ module _ (name : List ℕ) (old new : List Token) (before : Parts) where
   IsMember-block_ids slot named read = record {
     d = read.0;
     front = read.1;
-    parts = λ found is. subst (λ key. IsPartsOf (put key read.0 found) (record before { block_ids = slot })) (sym (the_same name (key_text KBlockIds) named)) (with_block_ids found before read.0 is slot read.2);
+    parts = λ found is. subst (λ key. IsPartsOf (put key read.0 found) (record before { block_ids = slot })) (sym (same_from_bytes_eq name (key_text KBlockIds) named)) (with_block_ids found before read.0 is slot read.2);
   }
 
   -- a member of another name leaves the parts as they are

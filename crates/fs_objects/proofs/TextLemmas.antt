@@ -1,7 +1,7 @@
 -- What is written has no float, and nests three levels at most.
-use Rattle.std.proofs.Common.{◌≡◌, ◌≤◌, ℕ, ℤ, pos, negsuc, max, List, [], ◌∷◌, map, Bool, true, false, cond, refl, ap, arith}
+use Rattle.std.proofs.Common.{◌≡◌, ◌≤◌, ℕ, max, List, [], ◌∷◌, map, Bool, true, false, cond, refl, ap, arith}
+use Rattle.json_words.proofs.FoundLemmas.{is_float-of_integer}
 use Rattle.serde_json.specs.Data.{Data, depth, items_depth}
-use Rattle.serde_json.specs.Find.{is_float, of_integer}
 use Rattle.serde_json.specs.View.{items_of}
 use Rattle.serde_json.specs.Written.{has_float, items_have_float}
 use Rattle.fs_objects.specs.Mode.{is_file_mode}
@@ -9,10 +9,6 @@ use Rattle.json_words.specs.IdText.{id_data}
 use Rattle.fs_objects.specs.Spelling.{file_with, file_data, file_entry_with, directory_entry_with, entry_data, directory_with}
 use Rattle.fs_objects.specs.declared.dirent.Dirent.{Dirent}
 use Rattle.fs_objects.specs.declared.file_object.FileObject.{FileObject}
-
-is_float-of_integer : (z : ℤ) → is_float (of_integer z) ≡ false
-is_float-of_integer (pos n) = refl
-is_float-of_integer (negsuc n) = refl
 
 no_float_ids : (ids : List (List ℕ)) → items_have_float (items_of (map id_data ids)) ≡ false
 no_float_ids [] = refl

@@ -6,11 +6,11 @@ use Rattle.json.specs.Token.{Token}
 use Rattle.serde_json.specs.Data.{Data, Members, object, put}
 use Rattle.json_words.specs.Check.{◌>>=◌, each, holds, result_map}
 use Rattle.json_words.specs.Fields.{array_field, number_field}
-use Rattle.json_words.specs.Front.{FrontIs}
+use Rattle.json_tokens.specs.Front.{FrontIs}
 use Rattle.json_words.specs.declared.answer.ReadFault.{ReadFault}
 use Rattle.json_words.specs.declared.answer.ReadFault.TheVariants.{Bad, NoMemory}
 use Rattle.json_words.specs.declared.fields.FieldFault.{FieldFault}
-use Rattle.json_words.specs.declared.front.NotJson as json_words
+use Rattle.json_words.specs.declared.answer.NotJson as json_words
 use Rattle.fs_objects.specs.Directory.{entries_after}
 use Rattle.fs_objects.specs.File.{block_of}
 use Rattle.fs_objects.specs.FsKey.{key_text, at_key}

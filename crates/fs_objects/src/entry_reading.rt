@@ -11,7 +11,8 @@ ghost use Rattle.fs_objects.specs.Reading.{head_seen, details_seen};
 
 use crate::dirent::Dirent;
 use crate::fault::{BadFs, FsFault, FsKey};
-use crate::fields::{id_at, integer_at, is_file_mode, mode_in, number_at, text_at};
+use crate::fields::{id_at, integer_at, mode_in, number_at, text_at};
+use crate::mode::is_file_mode;
 use ids::{ObjId, Text};
 use json_words::ReadFault;
 use serde_json::Value;

@@ -9,15 +9,10 @@ ghost use Rattle.fs_objects.specs.FsKey.{at_key, fault_at, key_text};
 ghost use Rattle.fs_objects.specs.Mode.{is_file_mode, is_directory_mode};
 
 use crate::fault::{BadFs, FsKey};
+use crate::mode::{is_directory_mode, is_file_mode};
 use ids::ObjId;
 use json_words::FieldFault;
 use serde_json::Value;
-
-const TYPE_BITS: u32 = 0o170000;
-
-const FILE: u32 = 0o100000;
-
-const DIRECTORY: u32 = 0o040000;
 
 /// A field's fault at its key.
 pub fn fault_at(key: FsKey, fault: FieldFault) -> BadFs
@@ -96,18 +91,4 @@ fn known_mode(number: u64) -> Result<u32, BadFs>
     } else {
         Err(BadFs::WrongType(FsKey::KMode))
     }
-}
-
-/// Whether the type in a mode is a regular file.
-pub fn is_file_mode(mode: u32) -> bool
-    ensures value { result ≡ is_file_mode mode }
-{
-    mode & TYPE_BITS == FILE
-}
-
-/// Whether the type in a mode is a directory.
-pub fn is_directory_mode(mode: u32) -> bool
-    ensures value { result ≡ is_directory_mode mode }
-{
-    mode & TYPE_BITS == DIRECTORY
 }

@@ -5,7 +5,7 @@ ghost use Rattle.serde_json.specs.Data.{Data, Items};
 ghost use Rattle.json_words.specs.Answer.{OnBad};
 ghost use Rattle.json_words.specs.Check.{each};
 ghost use Rattle.json_words.specs.Fields.{list_of};
-ghost use Rattle.json_words.specs.Front.{FrontIs, NoFront, ItemsAre, NoItems};
+ghost use Rattle.json_tokens.specs.Front.{FrontIs, NoFront, ItemsAre, NoItems};
 ghost use Rattle.json_words.specs.IdText.{stored_id_in};
 ghost use Rattle.fs_objects.specs.File.{block_of};
 ghost use Rattle.fs_objects.specs.Reading.{told};
@@ -13,7 +13,8 @@ ghost use Rattle.fs_objects.specs.Reading.{told};
 use crate::fault::{BadFs, FsKey};
 use ids::{IdList, ObjId};
 use json::Reader;
-use json_words::{NotJson, ReadFault, kept_value, pass_items, stored_id_in};
+use json_tokens::{kept_value, pass_items};
+use json_words::{NotJson, ReadFault, stored_id_in};
 use std::alloc::Global;
 
 /// What the items of an array are read as: the ids of blocks, or the first fault and the ids before it.

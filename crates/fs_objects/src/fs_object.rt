@@ -26,9 +26,9 @@ pub enum FsObject {
 impl FsObject {
     /// Reads the bytes of an object; entries keep their order. Of several failing checks the first is answered.
     ///
-    /// Besides the bytes it takes their size once, and room for what it answers and the names in it: about four times the
-    /// bytes in all at most, whatever the text holds. What no object has, it passes over. It takes n log n steps for n
-    /// entries, and else as many as there are bytes.
+    /// Besides the bytes it takes their size once, and room for what it answers and the names in it: by reckoning about four
+    /// times the bytes in all, whatever the text holds. What no object has, it passes over. It takes n log n steps for n
+    /// entries, and else as many as there are bytes. No clause says these.
     pub fn read(alloc: Global, bytes: &[u8]) -> Result<FsObject, FsFault>
         ensures value { Answers result (fs_of bytes.now) }
         ensures proper { IfOk result IsProper }

@@ -9,6 +9,12 @@ ghost use Rattle.fs_objects.specs.Directory.{names_of};
 ghost use Rattle.fs_objects.specs.Spelling.{in_written_order, text_of};
 ghost use Rattle.fs_objects.specs.declared.dirent.Dirent.{Dirent};
 ghost use Rattle.fs_objects.specs.declared.fs_object.FsObject.{FsObject};
+ghost use Rattle.fs_objects.specs.declared.mode.TheConstants.{TYPE_MASK, FILE_TYPE, DIRECTORY_TYPE};
+
+/// The types of files and directories in modes are those of POSIX.
+pub fn types_in_modes_are_those_of_posix()
+    ensures { (TYPE_MASK ≡ 0o170000) × (FILE_TYPE ≡ 0o100000) × (DIRECTORY_TYPE ≡ 0o040000) }
+{}
 
 /// The names of written entries descend by their bytes, and none stands twice.
 pub fn written_entries_descend_by_name()

@@ -9,13 +9,13 @@ ghost use Rattle.serde_json.specs.Read.{read as read_text};
 ghost use Rattle.json_words.specs.Answer.{Answers, OnBad};
 ghost use Rattle.json_words.specs.Check.{each, result_map};
 ghost use Rattle.json_words.specs.Fields.{is_object};
-ghost use Rattle.json_words.specs.Front.{FrontIs, NoFront, MembersAre, NoMembers};
+ghost use Rattle.json_tokens.specs.Front.{FrontIs, NoFront, MembersAre, NoMembers};
 ghost use Rattle.fs_objects.specs.Directory.{entries_after};
 ghost use Rattle.fs_objects.specs.File.{block_of};
 ghost use Rattle.fs_objects.specs.FsObject.{fs_of};
 ghost use Rattle.fs_objects.specs.Parts.{AreProper, HasProperBlocks, HasProperEntries, IsMember, IsPartsOf, blocks_told, entries_told, fault_of, member_depth, object_from};
 ghost use Rattle.fs_objects.specs.Proper.{IsProper};
-ghost use Rattle.fs_objects.specs.ObjectReading.{array_in, is_begin_array, is_begin_object, number_in};
+ghost use Rattle.fs_objects.specs.ObjectReading.{array_in, number_in};
 
 use crate::directory_reading::{EntriesRead, entries_behind};
 use crate::fault::{BadFs, FsFault};
@@ -23,7 +23,8 @@ use crate::file_reading::{BlocksRead, blocks_behind};
 use crate::fs_object::FsObject;
 use crate::parts::{Parts, no_parts, object_from};
 use json::{Reader, Scratch, Token};
-use json_words::{FieldFault, NotJson, ReadFault, kept_value, pass_from, pass_value};
+use json_tokens::{is_bracket, kept_value, opens_object, pass_from, pass_value};
+use json_words::{FieldFault, NotJson, ReadFault};
 use std::alloc::Global;
 
 /// How deep a member of the whole object may nest.
@@ -63,7 +64,7 @@ fn read_parts(alloc: Global, text: &str, scratch: &mut Scratch) -> Result<Parts,
     ensures err { OnBad result ((d : Data) → read_text text.now ≡ Some d → is_object d ≡ false) }
 {
     let mut reader = Reader::new(text, scratch)?;
-    if !enters_object(&mut reader) {
+    if !opens_object(&mut reader) {
         return Err(ReadFault::Bad(NotJson));
     }
     let parts = read_members(alloc, &mut reader)?;
@@ -71,23 +72,6 @@ fn read_parts(alloc: Global, text: &str, scratch: &mut Scratch) -> Result<Parts,
         return Err(ReadFault::Bad(NotJson));
     }
     Ok(parts)
-}
-
-/// Takes the first token of a text, and tells whether it opens an object.
-fn enters_object(reader: &mut Reader<'_>) -> bool
-    ensures value { MatchBool result (reader.old ≡ begin_object ∷ reader.new)
-        ((d : Data) → FrontIs 127 reader.old d [] → is_object d ≡ false) }
-{
-    match reader.next() {
-        Some(token) => is_brace(token),
-        None => false,
-    }
-}
-
-fn is_brace(token: Token<'_>) -> bool
-    ensures value { result ≡ is_begin_object (token_of token.entry) }
-{
-    matches!(token, Token::BeginObject)
 }
 
 /// The parts of an object, of which the opening brace is taken; the closing one is then taken too.
@@ -203,10 +187,4 @@ fn enters_array(reader: &mut Reader<'_>) -> Result<bool, PartFault>
     }
     pass_from(first, reader, MEMBER_DEPTH)?;
     Ok(false)
-}
-
-fn is_bracket(token: Token<'_>) -> bool
-    ensures value { result ≡ is_begin_array (token_of token.entry) }
-{
-    matches!(token, Token::BeginArray)
 }

@@ -8,7 +8,7 @@ ghost use Rattle.fs_objects.specs.Spelling.{file_with, file_data, file_entry_wit
 ghost use Rattle.fs_objects.specs.Typed.{IsTyped};
 
 use crate::dirent::Dirent;
-use crate::fields::is_file_mode;
+use crate::mode::is_file_mode;
 use ids::ObjId;
 use json_words::id_value;
 use serde_json::{Value, json};

@@ -4,7 +4,7 @@ pub mod CallQueryLemmas
 pub mod ElementLemmas
 pub mod FieldLemmas
 pub mod HeadLemmas
-pub mod IdTokenLemmas
+pub mod IdArrayLemmas
 pub mod MemoryLinkLemmas
 pub mod NumberLemmas
 pub mod OrderLemmas

@@ -1,6 +1,6 @@
 -- Bodies that are a JSON array (RFC 8259) of ids, each as its 40 digits. Our own, after Seafile's sync calls.
 -- Read ids_of first.
-use Rattle.std.specs.Prelude.{ℕ, List, map, Result}
+use Rattle.std.specs.Prelude.{ℕ, List, map, Option, Result}
 use Rattle.serde_json.specs.Data.{Data, array}
 use Rattle.serde_json.specs.Find.{as_array}
 use Rattle.serde_json.specs.View.{items_of}
@@ -19,6 +19,10 @@ unfoldable pub ids_of_value : Data → Result (List (List ℕ)) ℕ
 ids_of_value d = do
   items ← ok_or (as_array d) 0
   each id_at (list_of items)
+
+-- the ids of what a text is read as
+abbrev pub ids_of_read : Option Data → Result (List (List ℕ)) ℕ
+ids_of_read read = ok_or read 0 >>= ids_of_value
 
 -- the ids that a body is an array of. Every fault has the place 0
 unfoldable pub ids_of : List ℕ → Result (List (List ℕ)) ℕ

@@ -3,7 +3,6 @@ pub mod CallQuery
 pub mod EntityTag
 pub mod Fields
 pub mod IdArray
-pub mod IdTokens
 pub mod Link
 pub mod MemoryLink
 pub mod NextHead

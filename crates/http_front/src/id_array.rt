@@ -1,20 +1,22 @@
 //! Arrays of ids, in bodies of requests and of replies.
-ghost use Rattle.std.specs.Prelude.{◌≡◌, ◌<◌, ◌∷◌, false, length, map, IfOk, List, MatchOption, None, Err};
-ghost use Rattle.std.specs.Bool.{MatchBool};
-ghost use Rattle.json.specs.Json.{after_end_array};
-ghost use Rattle.json.specs.Lex.{tokens};
+ghost use Rattle.std.specs.Prelude.{◌≡◌, ◌<◌, false, length, map, List, None, Some, Ok, Err, IfOk, IfSome, IfNone, option_and_then};
 ghost use Rattle.json.specs.Reads.{token_of};
 ghost use Rattle.json.specs.Token.{Token as SpecToken};
-ghost use Rattle.serde_json.specs.Data.{array};
+ghost use Rattle.serde_json.specs.Data.{Data, Items, array};
+ghost use Rattle.serde_json.specs.Read.{read};
 ghost use Rattle.serde_json.specs.View.{view, items_of};
 ghost use Rattle.serde_json.specs.Written.{compact_text, has_float};
 ghost use Rattle.json_words.specs.Answer.{Answers};
-ghost use Rattle.json_words.specs.IdText.{id_data};
-ghost use Rattle.http_front.specs.IdArray.{array_text, ids_of};
-ghost use Rattle.http_front.specs.IdTokens.{ids_behind, ids_in_tokens, with_id};
+ghost use Rattle.json_words.specs.Check.{each};
+ghost use Rattle.json_words.specs.Fields.{list_of};
+ghost use Rattle.json_words.specs.IdText.{id_data, id_in, object_id_of};
+ghost use Rattle.json_tokens.specs.Front.{FrontIs, ItemsAre};
+ghost use Rattle.json_tokens.specs.Opening.{text_in};
+ghost use Rattle.http_front.specs.IdArray.{array_text, id_at, ids_of, ids_of_read};
 
 use ids::{IdList, ObjId};
 use json::{Reader, Scratch, Token};
+use json_tokens::opens_array;
 use json_words::{ReadFault, id_value, object_id};
 use serde_json::Value;
 use std::alloc::{AllocError, Global};
@@ -32,79 +34,48 @@ pub(crate) fn read_ids(alloc: Global, body: &[u8]) -> Result<IdList, ReadFault<u
     }
 }
 
-/// The ids of a text that is such an array.
+/// The ids of a text that is such an array, with nothing behind it.
 fn ids_of_text(alloc: Global, text: &str) -> Result<IdList, ReadFault<u64>>
-    ensures value { Answers result (ids_in_tokens (tokens text.now)) }
+    ensures value { Answers result (ids_of_read (read text.now)) }
 {
     let mut scratch = Scratch::new(alloc);
-    match Reader::new(text, &mut scratch) {
-        Ok(reader) => ids_of_tokens(alloc, reader),
-        Err(AllocError) => Err(ReadFault::NoMemory),
+    let mut reader = Reader::new(text, &mut scratch)?;
+    if !opens_array(&mut reader) {
+        return Err(ReadFault::Bad(0));
     }
-}
-
-/// The ids of the tokens of such an array, with nothing behind it.
-fn ids_of_tokens(alloc: Global, reader: Reader<'_>) -> Result<IdList, ReadFault<u64>>
-    ensures value { Answers result (ids_in_tokens reader.entry) }
-{
-    let mut reader = reader;
-    if begins_array(&mut reader) {
-        ids_behind(alloc, reader)
-    } else {
-        Err(ReadFault::Bad(0))
-    }
-}
-
-/// Takes the first token, and tells whether it begins an array.
-fn begins_array(reader: &mut Reader<'_>) -> bool
-    ensures value { MatchBool result (ids_in_tokens reader.old ≡ ids_behind reader.new) (ids_in_tokens reader.old ≡ Err 0) }
-{
-    match reader.next() {
-        Some(token) => is_array_begun(token),
-        None => false,
-    }
-}
-
-fn is_array_begun(token: Token<'_>) -> bool
-    ensures value { (ts : List SpecToken) → MatchBool result (ids_in_tokens (token_of token.entry ∷ ts) ≡ ids_behind ts) (ids_in_tokens (token_of token.entry ∷ ts) ≡ Err 0) }
-{
-    match token {
-        Token::BeginArray => true,
-        Token::BeginObject
-        | Token::EndObject
-        | Token::EndArray
-        | Token::Key(_)
-        | Token::String(_)
-        | Token::Number(_)
-        | Token::Bool(_)
-        | Token::Null
-        | Token::Bad => false,
-    }
-}
-
-/// The ids of an array of which the bracket was taken.
-fn ids_behind(alloc: Global, reader: Reader<'_>) -> Result<IdList, ReadFault<u64>>
-    ensures value { Answers result (ids_behind reader.entry) }
-{
-    let mut reader = reader;
-    let mut ids = IdList::new(alloc);
-    'items: while !reader.take_end_array() {
-        match next_id(&mut reader) {
-            Some(id) => ids.push(id)?,
-            None => return Err(ReadFault::Bad(0)),
-        }
-    }
+    let Some(ids) = ids_behind(alloc, &mut reader)? else {
+        return Err(ReadFault::Bad(0));
+    };
     if reader.next().is_some() {
         return Err(ReadFault::Bad(0));
     }
     Ok(ids)
 }
 
-/// The id that the next item is the text of, where one is left.
+/// The ids that the items of an array are, or none where an item is no id. The bracket was taken, and the closing one is
+/// taken too. Behind the first item that is no id nothing is read. In an array that is a whole text, items nest at most 126
+/// levels.
+fn ids_behind(alloc: Global, reader: &mut Reader<'_>) -> Result<Option<IdList>, AllocError>
+    ensures found { IfOk result (λ answer. IfSome answer (λ ids. (ds : Items)
+        × ItemsAre 126 reader.old ds reader.new × (each id_at (list_of ds) ≡ Ok ids))) }
+    ensures absent { IfOk result (λ answer. IfNone answer ((ds : Items) → (rest : List SpecToken)
+        → ItemsAre 126 reader.old ds rest → each id_at (list_of ds) ≡ Err 0)) }
+{
+    let mut ids = IdList::new(alloc);
+    'items: while !reader.take_end_array() {
+        match next_id(reader) {
+            Some(id) => ids.push(id)?,
+            None => return Ok(None),
+        }
+    }
+    Ok(Some(ids))
+}
+
+/// The id that the item at the front is the text of, or none.
 fn next_id(reader: &mut Reader<'_>) -> Option<ObjId>
-    requires going { after_end_array reader.old ≡ None }
-    ensures value { MatchOption result (ids_behind reader.old ≡ Err 0)
-        (λ id. (ids_behind reader.old ≡ with_id id (ids_behind reader.new)) × (length reader.new < length reader.old)) }
+    ensures found { IfSome result (λ id. (d : Data) × FrontIs 126 reader.old d reader.new × (id_in d ≡ Some id)) }
+    ensures shorter { IfSome result (λ _. length reader.new < length reader.old) }
+    ensures absent { IfNone result ((d : Data) → (rest : List SpecToken) → FrontIs 126 reader.old d rest → id_in d ≡ None) }
 {
     match reader.next() {
         Some(token) => id_in_token(token),
@@ -113,8 +84,7 @@ fn next_id(reader: &mut Reader<'_>) -> Option<ObjId>
 }
 
 fn id_in_token(token: Token<'_>) -> Option<ObjId>
-    ensures value { (ts : List SpecToken) → after_end_array (token_of token.entry ∷ ts) ≡ None
-        → MatchOption result (ids_behind (token_of token.entry ∷ ts) ≡ Err 0) (λ id. ids_behind (token_of token.entry ∷ ts) ≡ with_id id (ids_behind ts)) }
+    ensures value { result ≡ option_and_then object_id_of (text_in (token_of token.entry)) }
 {
     match token {
         Token::String(text) => object_id(text),

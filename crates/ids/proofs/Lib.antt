@@ -1,4 +1,5 @@
 pub mod DigitsLemmas
+pub mod Facts
 pub mod FormLemmas
 pub mod KeyOrder
 pub mod LibraryText

@@ -15,10 +15,7 @@ use Rattle.std.specs.declared.cmp.Ordering.{Ordering}
 use Rattle.std.specs.declared.cmp.Ordering.TheVariants.{Less}
 use Rattle.std.specs.declared.ops.Bound.TheVariants.{Excluded, Unbounded}
 use Rattle.ids.specs.MapView.{IsLeastAbove, map_of}
-
-no_items : {A : Type 0} (es : List A) → length es ≡ 0 → es ≡ []
-no_items [] e = refl
-no_items (x ∷ es) e = absurd (omega arith)
+use Rattle.std.proofs.lemmas.List.{nil_from_length}
 
 -- a number that is not above 0
 pub no_number : (n : ℕ) → (0 < n → false ≡ true) → n ≡ 0
@@ -27,7 +24,7 @@ no_number (suc n) h = absurd (true≢false (sym (h (omega arith))))
 
 module _ {K X : Type 0} (R : K → K → Ordering) where
   entries-empty : map.entries (map.empty {X = X} {R = R}) ≡ []
-  entries-empty = no_items (map.entries (map.empty {X = X} {R = R})) (sym (map.len-entries (map.empty {X = X} {R = R})) ∙ map.len-empty R X)
+  entries-empty = nil_from_length (map.entries (map.empty {X = X} {R = R})) (sym (map.len-entries (map.empty {X = X} {R = R})) ∙ map.len-empty R X)
 
   find-lookup : (q : K) (es : List (K × X)) → map.find R q es ≡ lookup (is_at (R q)) es
   find-lookup q [] = refl
@@ -77,7 +74,7 @@ module _ {K X : Type 0} {R : K → K → Ordering} (o : IsTotalOrder R) where
   }
 
   pub none-first : (m : BTreeMap K X) → btree_map_len m ≡ 0 → (q : K) → map.get (map_of R m) q ≡ None
-  none-first m none q = get-map_of m q ∙ ap (lookup (is_at (R q))) (no_items m.entries none)
+  none-first m none q = get-map_of m q ∙ ap (lookup (is_at (R q))) (nil_from_length m.entries none)
 
   module _ (exact : map.IsAntisymmetric R) where
     pub insert-map_of : (m n : BTreeMap K X) (k : K) (v : X) → UpdatesBy R (R k) m n (Some v) → map_of R n ≡ map.insert (map_of R m) k v

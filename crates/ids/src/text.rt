@@ -43,13 +43,6 @@ impl Text {
         Text { inner }
     }
 
-    /// The string of the text, which is moved and not copied.
-    pub fn into_string(self) -> String
-        ensures value { string_bytes result ≡ self }
-    {
-        self.inner
-    }
-
     /// The text.
     pub fn slice(&self) -> &str
         ensures value { result.now ≡ self.now }

@@ -6,7 +6,7 @@ use Rattle.std.proofs.lemmas.Slice.Eq.{bytes_eq-Decides}
 use Rattle.std.specs.Str.{bytes_eq}
 use Rattle.ids.specs.ObjectId.{nil}
 use Rattle.serde_json.specs.Data.{Data, Num, null, number, unsigned, string, array}
-use Rattle.serde_json.specs.Find.{get, as_i64, of_integer}
+use Rattle.serde_json.specs.Find.{get, as_i64, is_float, of_integer}
 use Rattle.serde_json.specs.View.{items_of}
 use Rattle.json_words.specs.Fields.{number_field, number_between, integer_field, text_field, array_field, optional_field, optional_text}
 use Rattle.json_words.specs.IdText.{object_id_of, id_in, stored_id_in, id_field}
@@ -22,6 +22,10 @@ within low high n above below = grind (arith, nat_tests)
 pub number_between-found : (low high : ℕ) (name : List ℕ) (d : Data) (n : ℕ) → get name d ≡ Some (number (unsigned n)) → low ≤ n → n ≤ high → number_between low high name d ≡ Ok n
 unfolding number_between
 number_between-found low high name d n is above below = rw (number_field-found name d n is, within low high n above below)
+
+pub is_float-of_integer : (z : ℤ) → is_float (of_integer z) ≡ false
+is_float-of_integer (pos n) = refl
+is_float-of_integer (negsuc n) = refl
 
 as_i64-of_integer : (z : ℤ) → FitsSigned w64 z → as_i64 (of_integer z) ≡ Some z
 as_i64-of_integer (pos n) fits = let small : n < 2 ^ 63 = omega (arith, ints) in

@@ -1,11 +1,8 @@
 pub mod AnswerLemmas
+pub mod CheckLemmas
 pub mod EachLemmas
 pub mod FieldLemmas
 pub mod JsonLemmas
 pub mod IdLemmas
 pub mod FoundLemmas
-pub mod ConvertedLemmas
-pub mod FrontLemmas
-pub mod RestLemmas
-pub mod KeptLemmas
 pub mod WrittenLemmas

@@ -124,7 +124,8 @@ fn has_only_members(members: &Map<String, Value>, known: &[&str]) -> bool
     true
 }
 
-pub(crate) fn is_known(key: &str, known: &[&str]) -> bool
+/// Whether a key is among the known ones.
+pub fn is_known(key: &str, known: &[&str]) -> bool
     ensures value { result ≡ list_any (λ name. bytes_eq key.now name.now) known.now }
 {
     known.iter().any(|name| key == *name)

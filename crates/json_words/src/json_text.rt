@@ -12,9 +12,9 @@ use std::alloc::{AllocError, Global};
 
 /// The value of a JSON text, or none where the bytes are no JSON text.
 ///
-/// For texts of our own storage: a value takes 32 bytes and an object about 600, so that a text of many short values takes
-/// some eighteen times its memory, and one of many small objects some eighty times. What clients send is read by
-/// `parse_kept`, or by `kept_value` and `pass_value`.
+/// For texts of our own storage: by reckoning a value takes 32 bytes and an object about 600, so that a text of many short
+/// values takes some eighteen times its memory, and one of many small objects some eighty times. No clause says so. What
+/// clients send is read by `json_tokens`.
 pub fn parse(alloc: Global, bytes: &[u8]) -> Result<Option<Value>, AllocError>
     ensures value { IfOk result (λ answer. option_map view answer ≡ json_of bytes.now) }
 {

@@ -15,7 +15,7 @@ use Rattle.object_graph.specs.Unchanged.{AgreeOn}
 use Rattle.object_graph.specs.declared.fault.TreeFault.{TreeFault}
 use Rattle.object_graph.proofs.Keys.{same_key, same_key-true}
 use Rattle.library_rules.specs.Answered.{Plain, Fails, OrFails}
-use Rattle.library_rules.specs.Calls.{Denies, Says, Stores, Installs, Merges, may, first_refusal, put_refusals, taken, put_by, complete_due, base_due, update_due, act_due, token_due, due, token_of}
+use Rattle.library_rules.specs.Calls.{Denies, Says, Stores, Installs, Merges, may, first_refusal, put_refusals, complete_due, base_due, update_due, act_due, token_due, due, token_of}
 use Rattle.library_rules.specs.Changes.{with_added, without, moved, is_refused, told_by, head_in}
 use Rattle.library_rules.specs.LibraryState.{State, head_of, is_kept, is_stored, is_day_count}
 use Rattle.library_rules.specs.MergeBase.{Based, Base, NoBase, base_of, refusal_of}
@@ -24,6 +24,7 @@ use Rattle.library_rules.specs.declared.entry.Entry.{Entry}
 use Rattle.library_rules.proofs.Keeping.{grown, still_stored, still_complete, agrees_grown}
 use Rattle.library_rules.proofs.Members.{or_cases, apart}
 use Rattle.library_rules.proofs.Sound.{Bears}
+use Rattle.library_rules.proofs.CallsLemmas.{update_due-is, put_due-is, taken, put_by}
 
 pub refused_not : (r : Reply) (why : Refusal) → r ≡ reply.Refused why → is_refused r ≡ false → ⊥
 refused_not r why is goes = apart (is_refused r) (ap is_refused is) goes
@@ -73,7 +74,7 @@ module _ (s : State) (e : Entry) (goes : is_refused e.reply ≡ false) (none : e
   bears_complete : (user base pushed : List ℕ) (o : Option TreeFault) → (walk_commit s.objects pushed).fault ≡ o
       → DuePermits s e (complete_due s user base pushed o) → Becomes pushed
   bears_complete user base pushed (Some fault) is p = absurd (not_refused (refusal_of fault) p)
-  bears_complete user base pushed None is p = by (same_id base (head_of s.kept)) p
+  bears_complete user base pushed None is p = by (same_id base (head_of s.state.kept)) p
     where
       old : IsComplete (without (with_added s.objects e.added) e.removed) pushed
       old = complete_then pushed is
@@ -97,19 +98,19 @@ module _ (s : State) (e : Entry) (goes : is_refused e.reply ≡ false) (none : e
   bears_base user pushed (NoBase why) p = absurd (not_refused why p)
   bears_base user pushed (Base base) p = bears_complete user base pushed (walk_commit s.objects pushed).fault refl p
 
-  bears_update : (token : Token) (pushed : List ℕ) → DuePermits s e (update_due s token pushed) → is_kept s.kept pushed ≡ false → Becomes pushed
-  bears_update token pushed p new = by (is_kept s.kept pushed) refl p
+  bears_update : (token : Token) (pushed : List ℕ) → DuePermits s e (update_due s token pushed) → is_kept s.state.kept pushed ≡ false → Becomes pushed
+  bears_update token pushed p new = by (is_kept s.state.kept pushed) refl (subst (DuePermits s e) (update_due-is s token pushed) p)
     where
-      fresh : (b : Bool) → DuePermits s e (if b then Says (reply.Refused (refusal.Stale token.last s.collection)) else base_due s token.user pushed (base_of s pushed)) → Becomes pushed
-      fresh true p = absurd (not_refused (refusal.Stale token.last s.collection) p)
+      fresh : (b : Bool) → DuePermits s e (if b then Says (reply.Refused (refusal.Stale token.last s.state.collection)) else base_due s token.user pushed (base_of s pushed)) → Becomes pushed
+      fresh true p = absurd (not_refused (refusal.Stale token.last s.state.collection) p)
       fresh false p = bears_base token.user pushed (base_of s pushed) p
 
-      by : (b : Bool) → is_kept s.kept pushed ≡ b
-          → DuePermits s e (if b then Says (reply.Updated (head_of s.kept))
-          else if nat_lt token.last s.collection then Says (reply.Refused (refusal.Stale token.last s.collection)) else base_due s token.user pushed (base_of s pushed))
+      by : (b : Bool) → is_kept s.state.kept pushed ≡ b
+          → DuePermits s e (if b then Says (reply.Updated (head_of s.state.kept))
+          else if nat_lt token.last s.state.collection then Says (reply.Refused (refusal.Stale token.last s.state.collection)) else base_due s token.user pushed (base_of s pushed))
           → Becomes pushed
-      by true is p = absurd (apart (is_kept s.kept pushed) is new)
-      by false is p = fresh (nat_lt token.last s.collection) p
+      by true is p = absurd (apart (is_kept s.state.kept pushed) is new)
+      by false is p = fresh (nat_lt token.last s.state.collection) p
 
   bears_limit : (days : ℤ) → DuePermits s e (Says (if is_day_count days then reply.Limited else reply.Refused (refusal.BadDays days))) → is_day_count days ≡ true
   bears_limit days p = by (is_day_count days) refl p
@@ -122,7 +123,8 @@ module _ (s : State) (e : Entry) (goes : is_refused e.reply ≡ false) (none : e
   bears_act token (act.Check o) p = tt
   bears_act token act.Head p = tt
   bears_act token (act.Get key) p = tt
-  bears_act token (act.Put key bytes) p = bears_put key bytes (first_refusal (put_refusals s.lib key.kind key bytes ++ taken s key bytes ∷ [])) p
+  bears_act token (act.Put key bytes) p = bears_put key bytes (first_refusal (put_refusals s.state.lib key.kind key bytes ++ taken s key bytes ∷ []))
+      (subst (DuePermits s e) (put_due-is s key bytes) p)
   bears_act token (act.Missing k ids) p = tt
   bears_act token (act.Update pushed) p = bears_update token pushed p
   bears_act token (act.Limit days) p = bears_limit days p
@@ -149,4 +151,4 @@ module _ (s : State) (e : Entry) (goes : is_refused e.reply ≡ false) (none : e
       by false p = absurd (not_denied p)
 
   pub bears : (call : Call) → DuePermits s e (due s call) → Bears (moved s e.added e.removed) call.act e.reply
-  bears call p = let who = allowed call.act (token_of s.tokens call.secret) p in bears_act who.token call.act who.permits
+  bears call p = let who = allowed call.act (token_of s.state.tokens call.secret) p in bears_act who.token call.act who.permits

@@ -9,7 +9,7 @@ use Rattle.library_state.specs.declared.call.Act.TheVariants as act
 use Rattle.library_state.specs.declared.call.Call.{Call}
 use Rattle.object_graph.specs.Traversal.{is_in}
 use Rattle.object_graph.proofs.Keys.{same_key}
-use Rattle.library_rules.specs.Changes.{with_added, without, keys_added, fresher, moved, is_refused, head_in, installed, act_changes, turn_counted, step_changes, apply}
+use Rattle.library_rules.specs.Changes.{with_added, without, keys_added, fresher, moved, is_refused, head_in, with_install, act_changes, turn_counted, step_changes, apply}
 use Rattle.library_rules.specs.LibraryState.{State, Running, is_kept, is_stored}
 use Rattle.library_rules.specs.declared.entry.Entry.{Entry}
 use Rattle.library_rules.specs.declared.entry.Step.TheVariants as step
@@ -64,12 +64,12 @@ without_push A (k ∷ removed) key = without_push (map.remove A k) removed key
 
 -- the history after an update that isn't refused, of a commit that wasn't kept
 pub install_leaves : (s : State) (e : Entry) (call : Call) (pushed : List ℕ) → e.step ≡ step.Asked call → call.act ≡ act.Update pushed → is_refused e.reply ≡ false
-    → is_kept s.kept pushed ≡ false → (apply s e).kept ≡ s.kept ++ record { head = head_in e.reply pushed; pushed = pushed; at = e.moment } ∷ []
+    → is_kept s.state.kept pushed ≡ false → (apply s e).state.kept ≡ s.state.kept ++ record { head = head_in e.reply pushed; pushed = pushed; at = e.moment } ∷ []
 install_leaves s e call pushed is acts goes new =
-    ap (λ st. (step_changes e.moment st e.reply (moved s e.added e.removed)).kept) is
-    ∙ ap (λ b. (if b then moved s e.added e.removed else act_changes call.secret e.moment call.act e.reply (moved s e.added e.removed)).kept) goes
-    ∙ ap (λ a. (act_changes call.secret e.moment a e.reply (moved s e.added e.removed)).kept) acts
-    ∙ ap (λ b. (if b then moved s e.added e.removed else installed (head_in e.reply pushed) pushed e.moment (moved s e.added e.removed)).kept) new
+    ap (λ st. (step_changes e.moment st e.reply (moved s e.added e.removed)).state.kept) is
+    ∙ ap (λ b. (if b then moved s e.added e.removed else act_changes call.secret e.moment call.act e.reply (moved s e.added e.removed)).state.kept) goes
+    ∙ ap (λ a. (act_changes call.secret e.moment a e.reply (moved s e.added e.removed)).state.kept) acts
+    ∙ ap (λ b. (if b then s.state else with_install (head_in e.reply pushed) pushed e.moment s.state).kept) new
 
 longer_not : {A : Type 0} (xs : List A) (x : A) → xs ++ x ∷ [] ≢ xs
 longer_not [] x is = cc
@@ -78,17 +78,17 @@ longer_not (y ∷ xs) x is =
     longer_not xs x rest
 
 pub install_changes : (s : State) (e : Entry) (call : Call) (pushed : List ℕ) → e.step ≡ step.Asked call → call.act ≡ act.Update pushed → is_refused e.reply ≡ false
-    → is_kept s.kept pushed ≡ false → apply s e ≢ s
+    → is_kept s.state.kept pushed ≡ false → apply s e ≢ s
 install_changes s e call pushed is acts goes new same =
-    longer_not s.kept (record { head = head_in e.reply pushed; pushed = pushed; at = e.moment })
-    (sym (install_leaves s e call pushed is acts goes new) ∙ ap (λ (t : State). t.kept) same)
+    longer_not s.state.kept (record { head = head_in e.reply pushed; pushed = pushed; at = e.moment })
+    (sym (install_leaves s e call pushed is acts goes new) ∙ ap (λ (t : State). t.state.kept) same)
 
 -- ---- collections
 
 pub began_changes : (s : State) (e : Entry) → e.step ≡ step.Began → apply s e ≢ s
 began_changes s e is same =
-    one_more_not s.collection
-    (sym (ap (λ st. (step_changes e.moment st e.reply (moved s e.added e.removed)).collection) is) ∙ ap (λ (t : State). t.collection) same)
+    one_more_not s.state.collection
+    (sym (ap (λ st. (step_changes e.moment st e.reply (moved s e.added e.removed)).state.collection) is) ∙ ap (λ (t : State). t.state.collection) same)
 
 turns_of : Option Running → ℕ
 turns_of None = 0

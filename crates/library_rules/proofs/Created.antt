@@ -108,17 +108,17 @@ length_push (y ∷ xs) x = ap (λ k. suc k) (length_push xs x) ∙ more (length 
     more : (k : ℕ) → suc (k + 1) ≡ suc k + 1
     more k = omega arith
 
-pub sound_with_token : (s : State) (user secret : List ℕ) (right : Right) → IsSound s → is_taken s.tokens secret ≡ false → length s.tokens < 1000
+pub sound_with_token : (s : State) (user secret : List ℕ) (right : Right) → IsSound s → is_taken s.state.tokens secret ≡ false → length s.state.tokens < 1000
     → 1 ≤ length user → length user ≤ 255 → IsSound (with_token user secret right s)
 sound_with_token s user secret right sound free room some_user user_fits = record {
   kept = sound.kept;
   tokens = record {
-    secrets = subst (IsDistinct bytes_eq) (sym (secrets_push s.tokens t))
-        (distinct_push (secrets_of s.tokens) secret sound.tokens.secrets (none_taken s.tokens secret free));
-    few = subst (λ k. k ≤ 1000) (sym (length_push s.tokens t)) (fits (length s.tokens) room);
-    lasts = all_push (λ (x : Token). x.last ≤ s.collection) s.tokens t sound.tokens.lasts zero-le;
-    users = subst (AllByRecursion (λ u. (1 ≤ length u) × (length u ≤ 255))) (sym (users_push s.tokens t))
-        (all_push (λ u. (1 ≤ length u) × (length u ≤ 255)) (users_of s.tokens) user sound.tokens.users (some_user, user_fits));
+    secrets = subst (IsDistinct bytes_eq) (sym (secrets_push s.state.tokens t))
+        (distinct_push (secrets_of s.state.tokens) secret sound.tokens.secrets (none_taken s.state.tokens secret free));
+    few = subst (λ k. k ≤ 1000) (sym (length_push s.state.tokens t)) (fits (length s.state.tokens) room);
+    lasts = all_push (λ (x : Token). x.last ≤ s.state.collection) s.state.tokens t sound.tokens.lasts zero-le;
+    users = subst (AllByRecursion (λ u. (1 ≤ length u) × (length u ≤ 255))) (sym (users_push s.state.tokens t))
+        (all_push (λ u. (1 ≤ length u) × (length u ≤ 255)) (users_of s.state.tokens) user sound.tokens.users (some_user, user_fits));
   };
   numbers = sound.numbers;
 }

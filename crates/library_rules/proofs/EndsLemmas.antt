@@ -15,24 +15,24 @@ neither : (a b : Bool) → a ≡ false → b ≡ false → (a || b) ≡ false
 neither true b p q = p
 neither false b p q = q
 
-pub spared : (s : State) (e : Entry) → Permits s e → (key : Key) → is_in e.removed key ≡ true → (is_needed s.objects s.kept key || is_fresh s.running key) ≡ false
+pub spared : (s : State) (e : Entry) → Permits s e → (key : Key) → is_in e.removed key ≡ true → (is_needed s.objects s.state.kept key || is_fresh s.running key) ≡ false
 spared s e permits key there =
-    neither (is_needed s.objects s.kept key) (is_fresh s.running key) ((spares s e permits).unneeded key there) ((spares s e permits).not_fresh key there)
+    neither (is_needed s.objects s.state.kept key) (is_fresh s.running key) ((spares s e permits).unneeded key there) ((spares s e permits).not_fresh key there)
 
 -- an end changes no object and cuts nothing
 ended_objects : (s : State) (e : Entry) → Ends s e → (apply s e).objects ≡ s.objects
 ended_objects s e ends = objects_after s e ∙ ap (λ removed. without (with_added s.objects e.added) removed) ends.removes ∙ ap (with_added s.objects) ends.adds
 
-ended_kept : (s : State) (e : Entry) → e.step ≡ step.Ended → (apply s e).kept ≡ s.kept
-ended_kept s e is = ap (λ st. (step_changes e.moment st e.reply (moved s e.added e.removed)).kept) is
+ended_kept : (s : State) (e : Entry) → e.step ≡ step.Ended → (apply s e).state.kept ≡ s.state.kept
+ended_kept s e is = ap (λ st. (step_changes e.moment st e.reply (moved s e.added e.removed)).state.kept) is
 
 pub clean_at_end : (s : State) (e : Entry) → Permits s e → e.step ≡ step.Ended → (key : Key) → is_stored (apply s e).objects key ≡ true
-    → (is_needed (apply s e).objects (apply s e).kept key || is_fresh s.running key) ≡ true
+    → (is_needed (apply s e).objects (apply s e).state.kept key || is_fresh s.running key) ≡ true
 clean_at_end s e permits is key there =
     let ends : Ends s e = subst (λ st. StepPermits s e st) is permits in
     let objects = ended_objects s e ends in
     let kept = ended_kept s e is in
     let before : is_stored s.objects key ≡ true = ap (λ o. is_stored o key) (sym objects) ∙ there in
-    ap (λ o. is_needed o (apply s e).kept key || is_fresh s.running key) objects
+    ap (λ o. is_needed o (apply s e).state.kept key || is_fresh s.running key) objects
     ∙ ap (λ k. is_needed s.objects k key || is_fresh s.running key) kept
     ∙ ends.clean.each key before

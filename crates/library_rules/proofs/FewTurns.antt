@@ -3,15 +3,14 @@ use Rattle.std.proofs.Common.{◌≡◌, ◌⊎◌, inl, inr, ℕ, zero, suc, �
 use Rattle.ids.specs.declared.key.Key.{Key}
 use Rattle.library_state.specs.declared.call.Act.{Act}
 use Rattle.library_state.specs.declared.call.Act.TheVariants as act
-use Rattle.library_state.specs.declared.call.Op.TheVariants as op
 use Rattle.library_state.specs.declared.reply.Reply.{Reply}
 use Rattle.library_state.specs.declared.reply.Reply.TheVariants as reply
 use Rattle.library_rules.specs.Answered.{Plain, Fails}
 use Rattle.library_rules.specs.Calls.{keys_of}
-use Rattle.library_rules.specs.Changes.{keys_added, fresher, moved, is_refused, told_by, stored_keys, head_in, installed, act_changes, turn_counted, step_changes, apply}
+use Rattle.library_rules.specs.Changes.{keys_added, fresher, moved, is_refused, told_by, stored_keys, act_changes, turn_counted, step_changes, apply}
 use Rattle.library_rules.specs.CollectionSteps.{SweepPermits, HasFewTurns}
 use Rattle.library_rules.specs.History.{StepPermits, Permits, Legal, after}
-use Rattle.library_rules.specs.LibraryState.{State, Running, is_kept}
+use Rattle.library_rules.specs.LibraryState.{State, Running}
 use Rattle.library_rules.specs.declared.entry.Entry.{Entry}
 use Rattle.library_rules.specs.declared.entry.Step.{Step}
 use Rattle.library_rules.specs.declared.entry.Step.TheVariants as step
@@ -22,17 +21,12 @@ few_fresher keys None few = few
 few_fresher keys (Some r) few = few
 
 few_act : (secret : Option (List ℕ)) (moment : ℕ) (a : Act) (r : Reply) (m : State) → HasFewTurns m.running → HasFewTurns (act_changes secret moment a r m).running
-few_act secret moment (act.Check op.Upload) r m few = few
-few_act secret moment (act.Check op.Download) r m few = few
+few_act secret moment (act.Check o) r m few = few
 few_act secret moment act.Head r m few = few
 few_act secret moment (act.Get key) r m few = few
 few_act secret moment (act.Put key bytes) r m few = few_fresher (told_by key r) m.running few
 few_act secret moment (act.Missing k ids) r m few = few_fresher (stored_keys m.objects (keys_of k ids)) m.running few
-few_act secret moment (act.Update pushed) r m few = by (is_kept m.kept pushed)
-  where
-    by : (b : Bool) → HasFewTurns (if b then m else installed (head_in r pushed) pushed moment m).running
-    by true = few
-    by false = few
+few_act secret moment (act.Update pushed) r m few = few
 few_act secret moment (act.Limit days) r m few = few
 few_act secret moment (act.Ids server client) r m few = few
 

@@ -55,13 +55,13 @@ alike_itself t = record { dirs = λ path. refl; files = λ path. same_file-itsel
 -- ---- a head that hadn't moved
 
 -- the merge is like the pushed tree
-forwarded : (s : State) (base pushed : List ℕ) → same_id base (head_of s.kept) ≡ true → IsComplete s.objects pushed
+forwarded : (s : State) (base pushed : List ℕ) → same_id base (head_of s.state.kept) ≡ true → IsComplete s.objects pushed
     → OfTrees s base pushed (λ sides. (merged made : Tree) × (merge_of sides ≡ MergedTree merged) × IsTreeAt s.objects pushed made × IsAlike merged made)
 forwarded s base pushed same complete b h p base_tree head_tree pushed_tree =
-    let moved_tree : IsTreeAt s.objects (head_of s.kept) b = subst (λ id. IsTreeAt s.objects id b) (same_id-true base (head_of s.kept) same) base_tree in
-    let equal : b ≡ h = same_tree s.objects (commit_at s.objects (head_of s.kept)) b h moved_tree head_tree in
+    let moved_tree : IsTreeAt s.objects (head_of s.state.kept) b = subst (λ id. IsTreeAt s.objects id b) (same_id-true base (head_of s.state.kept) same) base_tree in
+    let equal : b ≡ h = same_tree s.objects (commit_at s.objects (head_of s.state.kept)) b h moved_tree head_tree in
     let alike : IsAlike b h = subst (λ t. IsAlike b t) equal (alike_itself b) in
-    let like = merge_unmoved_head naming b h p (is_tree s.objects (commit_at s.objects base) b base_tree) (is_tree s.objects (commit_at s.objects (head_of s.kept)) h head_tree) (fits_at s.objects pushed p complete pushed_tree) alike in
+    let like = merge_unmoved_head naming b h p (is_tree s.objects (commit_at s.objects base) b base_tree) (is_tree s.objects (commit_at s.objects (head_of s.state.kept)) h head_tree) (fits_at s.objects pushed p complete pushed_tree) alike in
     (like.tree, p, like.is, pushed_tree, like.alike)
 
 -- ---- a made head
@@ -85,7 +85,7 @@ merged_head s e pushed new takes =
       found = taken.0.found;
       kept = kept;
       base_complete = takes.sound.kept.complete base kept;
-      head_complete = takes.sound.kept.complete (head_of s.kept) (head_kept s.kept takes.sound.kept.some_kept);
+      head_complete = takes.sound.kept.complete (head_of s.state.kept) (head_kept s.state.kept takes.sound.kept.some_kept);
       pushed_complete = taken.0.complete;
     } in
     let head = head_after s e takes.call pushed new takes.asked takes.updates takes.answers takes.unknown in
@@ -102,7 +102,7 @@ merged_head s e pushed new takes =
                   let moved_on : IsTreeAt (apply s e).objects pushed is.1 = subst (λ A. IsTreeAt A pushed is.1) (sym same_objects) is.3 in
                   (is.0, is.1, is.2, subst (λ id. IsTreeAt (apply s e).objects id is.1) (sym forward.1) moved_on, is.4);
             },
-            inl (same_id-true base (head_of s.kept) forward.0, forward.1, same_objects),
+            inl (same_id-true base (head_of s.state.kept) forward.0, forward.1, same_objects),
           )
       | inr made ↦
           let made_is = made_tree s e.moment made.0 base pushed new e made.1 in

@@ -21,7 +21,7 @@ sound_after s [] (suc n) legal sound = sound
 sound_after s (e ∷ es) (suc n) legal sound = sound_after (apply s e) es n legal.1 (sound_apply s e legal.0.permits sound)
 
 -- from the first place on
-along : (id : List ℕ) (s : State) (es : List Entry) (n : ℕ) → Legal s es → IsSound s → ((k : ℕ) → k ≤ n → is_kept (after s es k).kept id ≡ true)
+along : (id : List ℕ) (s : State) (es : List Entry) (n : ℕ) → Legal s es → IsSound s → ((k : ℕ) → k ≤ n → is_kept (after s es k).state.kept id ≡ true)
     → AgreeOn (needs s.objects id) s.objects (after s es n).objects
 along id s es zero legal sound kept = agrees_itself (needs s.objects id) s.objects
 along id s [] (suc n) legal sound kept = agrees_itself (needs s.objects id) s.objects
@@ -32,7 +32,7 @@ along id s (e ∷ es) (suc n) legal sound kept =
 
 -- what a commit needs keeps its bytes while the commit is kept
 pub agrees_between : (id : List ℕ) (s : State) (es : List Entry) (from to : ℕ) → Legal s es → IsSound s → from ≤ to
-    → ((k : ℕ) → from ≤ k → k ≤ to → is_kept (after s es k).kept id ≡ true)
+    → ((k : ℕ) → from ≤ k → k ≤ to → is_kept (after s es k).state.kept id ≡ true)
     → AgreeOn (needs (after s es from).objects id) (after s es from).objects (after s es to).objects
 agrees_between id s es zero to legal sound le kept = along id s es to legal sound (λ k le. kept k (omega arith) le)
 agrees_between id s [] (suc from) zero legal sound le kept = agrees_itself (needs s.objects id) s.objects

@@ -1,3 +1,4 @@
+pub mod CallsLemmas
 pub mod Bears
 pub mod Histories
 pub mod Keeping

@@ -27,7 +27,6 @@ use Rattle.object_graph.specs.Traversal.{IsComplete}
 use Rattle.object_graph.specs.declared.fault.TreeFault.TheVariants.{Unreadable}
 use Rattle.object_graph.proofs.Commits.{commit_root}
 use Rattle.library_rules.specs.LibraryState.{State, is_kept, users_of, IsSound}
-use Rattle.library_rules.specs.Recovery.{written_part}
 use Rattle.library_rules.proofs.Members.{or_left, or_right, same_id-true, same_id-itself}
 
 -- ---- no commit is read that is named by forty zeros
@@ -135,17 +134,17 @@ some_length (x ∷ xs) some = at_least (length xs)
     at_least : (k : ℕ) → 1 ≤ suc k
     at_least k = omega arith
 
-pub sound_is_proper : (s : State) → IsSound s → IsProper (written_part s)
+pub sound_is_proper : (s : State) → IsSound s → IsProper s.state
 sound_is_proper s sound = record {
   collection = sound.numbers.collections;
   days = sound.numbers.day_count;
-  some_kept = some_length s.kept sound.kept.some_kept;
-  kept = All-from_recursion IsProperInstall s.kept (proper_installs s.kept (λ id e. complete_not_zeros s.objects id (sound.kept.complete id e)));
+  some_kept = some_length s.state.kept sound.kept.some_kept;
+  kept = All-from_recursion IsProperInstall s.state.kept (proper_installs s.state.kept (λ id e. complete_not_zeros s.objects id (sound.kept.complete id e)));
   name = sound.numbers.name_size;
   opened = sound.numbers.opened;
   opening = sound.numbers.openings;
   tokens = record {
-    each = All-from_recursion (IsProperToken s.collection) s.tokens (proper_tokens s.collection s.tokens sound.tokens.lasts sound.tokens.users);
+    each = All-from_recursion (IsProperToken s.state.collection) s.state.tokens (proper_tokens s.state.collection s.state.tokens sound.tokens.lasts sound.tokens.users);
     few = sound.tokens.few;
     distinct = sound.tokens.secrets;
   };

@@ -9,7 +9,7 @@ use Rattle.object_graph.specs.Objects.{same_id}
 use Rattle.object_graph.specs.Traversal.{is_in, needs, IsComplete}
 use Rattle.object_graph.specs.Unchanged.{Keeps}
 use Rattle.library_rules.specs.LibraryState.{State, kept_commits, is_stored, is_needed, IsSound, last_number}
-use Rattle.library_rules.specs.Recovery.{written_part, StandsFor, opened}
+use Rattle.library_rules.specs.Recovery.{StandsFor, opened}
 use Rattle.library_rules.proofs.Keeping.{agrees_grown, still_complete, same_needs, needs_stored}
 use Rattle.library_rules.proofs.Members.{or_left, or_right, fails, apart, same_id-itself}
 
@@ -19,7 +19,7 @@ next_opening n less = omega arith
 one_more : (n : ℕ) → 1 ≤ n + 1
 one_more n = omega arith
 
-pub sound_opened : (s : State) (lying : Objects) (faults : ℕ) → IsSound s → Keeps s.objects lying → s.opening < last_number → IsSound (opened lying faults s)
+pub sound_opened : (s : State) (lying : Objects) (faults : ℕ) → IsSound s → Keeps s.objects lying → s.state.opening < last_number → IsSound (opened lying faults s)
 sound_opened s lying faults sound keeps less = record {
   kept = record {
     some_kept = sound.kept.some_kept;
@@ -29,8 +29,8 @@ sound_opened s lying faults sound keeps less = record {
   tokens = sound.tokens;
   numbers = record {
     collections = sound.numbers.collections;
-    opened = one_more s.opening;
-    openings = next_opening s.opening less;
+    opened = one_more s.state.opening;
+    openings = next_opening s.state.opening less;
     day_count = sound.numbers.day_count;
     name_size = sound.numbers.name_size;
   };
@@ -54,24 +54,24 @@ any_at P (x ∷ ids) e = by (P x) refl e (λ h. any_at P ids h)
     by false is e rest = later (rest e)
 
 -- what a kept commit needs is stored
-pub needed_stored : (s : State) → IsSound s → (key : Key) → is_needed s.objects s.kept key ≡ true → is_stored s.objects key ≡ true
+pub needed_stored : (s : State) → IsSound s → (key : Key) → is_needed s.objects s.state.kept key ≡ true → is_stored s.objects key ≡ true
 needed_stored s sound key e =
-    let found = any_at (λ commit. is_in (needs s.objects commit) key) (kept_commits s.kept) e in
+    let found = any_at (λ commit. is_in (needs s.objects commit) key) (kept_commits s.state.kept) e in
     needs_stored s.objects found.id (sound.kept.complete found.id found.among) key found.passes
 
 -- where the text and the objects of a sound state are there, what else lies there is garbage
-pub stands_by_its_objects : (s : State) (slot : Option (List ℕ)) (lying : Objects) → IsSound s → slot ≡ Some (text_of (written_part s))
-    → read_state (text_of (written_part s)) ≡ Ok (written_part s) → Keeps s.objects lying → StandsFor slot lying s
+pub stands_by_its_objects : (s : State) (slot : Option (List ℕ)) (lying : Objects) → IsSound s → slot ≡ Some (text_of s.state)
+    → read_state (text_of s.state) ≡ Ok s.state → Keeps s.objects lying → StandsFor slot lying s
 stands_by_its_objects s slot lying sound text reads keeps = record {
   text = text;
   reads = reads;
   lies = keeps;
-  garbage = λ key absent. fails (is_needed lying s.kept key) (λ e. apart (is_stored s.objects key) (there key e) absent);
+  garbage = λ key absent. fails (is_needed lying s.state.kept key) (λ e. apart (is_stored s.objects key) (there key e) absent);
 }
   where
-    there : (key : Key) → is_needed lying s.kept key ≡ true → is_stored s.objects key ≡ true
+    there : (key : Key) → is_needed lying s.state.kept key ≡ true → is_stored s.objects key ≡ true
     there key e =
-        let found = any_at (λ commit. is_in (needs lying commit) key) (kept_commits s.kept) e in
+        let found = any_at (λ commit. is_in (needs lying commit) key) (kept_commits s.state.kept) e in
         let complete : IsComplete s.objects found.id = sound.kept.complete found.id found.among in
         let same = same_needs s.objects lying found.id (agrees_grown s.objects lying found.id complete keeps) in
         needs_stored s.objects found.id complete key (subst (λ keys. is_in keys key ≡ true) same found.passes)

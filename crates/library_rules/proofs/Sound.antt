@@ -11,7 +11,6 @@ use Rattle.library_state.specs.Retention.{kept_for}
 use Rattle.library_state.specs.Tokens.{secrets_of}
 use Rattle.library_state.specs.declared.call.Act.{Act}
 use Rattle.library_state.specs.declared.call.Act.TheVariants as act
-use Rattle.library_state.specs.declared.call.Op.{Op}
 use Rattle.library_state.specs.declared.call.Op.TheVariants as op
 use Rattle.library_state.specs.declared.history.Install.{Install}
 use Rattle.library_state.specs.declared.reply.Reply.{Reply}
@@ -19,7 +18,7 @@ use Rattle.library_state.specs.declared.token.Token.{Token}
 use Rattle.object_graph.specs.Traversal.{IsComplete, is_in}
 use Rattle.object_graph.proofs.Keys.{same_key, same_key-true}
 use Rattle.library_rules.specs.Calls.{keys_of}
-use Rattle.library_rules.specs.Changes.{with_added, without, keys_added, fresher, told_fresh, moved, with_last, seen_by, checked, told_by, stored_keys, head_in, installed, act_changes, begun, turn_counted, swept, ended, counted}
+use Rattle.library_rules.specs.Changes.{with_added, without, keys_added, fresher, moved, with_last, seen_by, told_by, stored_keys, head_in, with_install, act_changes, begun, turn_counted, swept, ended, counted}
 use Rattle.library_rules.specs.LibraryState.{State, Running, is_kept, is_stored, is_needed, is_fresh, AreKept, AreTokens, AreNumbers, IsSound, users_of, last_number, is_day_count}
 use Rattle.library_rules.specs.declared.entry.Stored.{Stored}
 use Rattle.library_rules.proofs.Keeping.{added_stored, still_stored, agrees_moved, still_complete}
@@ -174,41 +173,41 @@ numbers_limited collection opening days new name fits are = record {
 -- ---- states
 
 pub sound_moved : (s : State) (added : List Stored) (removed : List Key)
-    → ((key : Key) → is_in removed key ≡ true → is_needed s.objects s.kept key ≡ false)
+    → ((key : Key) → is_in removed key ≡ true → is_needed s.objects s.state.kept key ≡ false)
     → ((key : Key) → is_in removed key ≡ true → is_fresh s.running key ≡ false)
     → (added ≡ []) ⊎ (removed ≡ []) → IsSound s → IsSound (moved s added removed)
 sound_moved s added removed unneeded not_fresh one sound = record {
-  kept = kept_moved s.objects s.kept s.running sound.kept added removed unneeded not_fresh one;
+  kept = kept_moved s.objects s.state.kept s.running sound.kept added removed unneeded not_fresh one;
   tokens = sound.tokens;
   numbers = sound.numbers;
 }
 
-pub sound_told : (s : State) (keys : List Key) → ((key : Key) → is_in keys key ≡ true → is_stored s.objects key ≡ true) → IsSound s → IsSound (told_fresh keys s)
-sound_told s keys stored sound = record { kept = kept_told s.objects s.kept s.running sound.kept keys stored; tokens = sound.tokens; numbers = sound.numbers }
+pub sound_told : (s : State) (keys : List Key) → ((key : Key) → is_in keys key ≡ true → is_stored s.objects key ≡ true) → IsSound s → IsSound (record s { running = option_map (fresher keys) s.running })
+sound_told s keys stored sound = record { kept = kept_told s.objects s.state.kept s.running sound.kept keys stored; tokens = sound.tokens; numbers = sound.numbers }
 
-pub sound_checked : (s : State) (secret : Option (List ℕ)) (o : Op) → IsSound s → IsSound (checked secret o s)
-sound_checked s secret op.Upload sound = record { kept = sound.kept; tokens = tokens_seen secret s.collection s.tokens sound.tokens; numbers = sound.numbers }
-sound_checked s secret op.Download sound = sound
+pub sound_checked : (s : State) (secret : Option (List ℕ)) → IsSound s → IsSound (record s { state = record s.state { tokens = seen_by secret s.state.collection s.state.tokens } })
+sound_checked s secret sound = record { kept = sound.kept; tokens = tokens_seen secret s.state.collection s.state.tokens sound.tokens; numbers = sound.numbers }
 
-pub sound_installed : (s : State) (head pushed : List ℕ) (moment : ℕ) → IsComplete s.objects head → IsComplete s.objects pushed → IsSound s → IsSound (installed head pushed moment s)
+pub sound_installed : (s : State) (head pushed : List ℕ) (moment : ℕ) → IsComplete s.objects head → IsComplete s.objects pushed → IsSound s
+    → IsSound (record s { state = with_install head pushed moment s.state })
 sound_installed s head pushed moment head_is pushed_is sound = record {
-  kept = kept_installed s.objects s.kept s.running sound.kept head pushed moment head_is pushed_is;
+  kept = kept_installed s.objects s.state.kept s.running sound.kept head pushed moment head_is pushed_is;
   tokens = sound.tokens;
   numbers = sound.numbers;
 }
 
-pub sound_begun : (s : State) (moment : ℕ) → s.collection < last_number → IsSound s → IsSound (begun moment s)
+pub sound_begun : (s : State) (moment : ℕ) → s.state.collection < last_number → IsSound s → IsSound (begun moment s)
 sound_begun s moment less sound = record {
-  kept = kept_begun s.objects s.kept s.running sound.kept s.days moment (map.len s.objects);
-  tokens = tokens_begun s.collection s.tokens sound.tokens;
-  numbers = numbers_begun s.collection s.opening s.days s.name less sound.numbers;
+  kept = kept_begun s.objects s.state.kept s.running sound.kept s.state.days moment (map.len s.objects);
+  tokens = tokens_begun s.state.collection s.state.tokens sound.tokens;
+  numbers = numbers_begun s.state.collection s.state.opening s.state.days s.state.name less sound.numbers;
 }
 
 pub sound_swept : (s : State) (refused : Bool) → IsSound s → IsSound (swept refused s)
-sound_swept s refused sound = record { kept = kept_swept s.objects s.kept s.running sound.kept refused; tokens = sound.tokens; numbers = sound.numbers }
+sound_swept s refused sound = record { kept = kept_swept s.objects s.state.kept s.running sound.kept refused; tokens = sound.tokens; numbers = sound.numbers }
 
 pub sound_ended : (s : State) → IsSound s → IsSound (ended s)
-sound_ended s sound = record { kept = kept_ended s.objects s.kept s.running sound.kept; tokens = sound.tokens; numbers = sound.numbers }
+sound_ended s sound = record { kept = kept_ended s.objects s.state.kept s.running sound.kept; tokens = sound.tokens; numbers = sound.numbers }
 
 pub sound_counted : (s : State) (faults : ℕ) → IsSound s → IsSound (counted faults s)
 sound_counted s faults sound = record { kept = sound.kept; tokens = sound.tokens; numbers = sound.numbers }
@@ -223,7 +222,7 @@ Bears m act.Head r = ⊤
 Bears m (act.Get key) r = ⊤
 Bears m (act.Put key bytes) r = (k : Key) → is_in (told_by key r) k ≡ true → is_stored m.objects k ≡ true
 Bears m (act.Missing k ids) r = ⊤
-Bears m (act.Update pushed) r = is_kept m.kept pushed ≡ false → IsComplete m.objects (head_in r pushed) × IsComplete m.objects pushed
+Bears m (act.Update pushed) r = is_kept m.state.kept pushed ≡ false → IsComplete m.objects (head_in r pushed) × IsComplete m.objects pushed
 Bears m (act.Limit days) r = is_day_count days ≡ true
 Bears m (act.Ids server client) r = ⊤
 
@@ -242,19 +241,20 @@ stored_in_keys A (k ∷ keys) key e = by (is_stored A k) refl (λ h. stored_in_k
     by false is rest e = rest e
 
 pub sound_act : (secret : Option (List ℕ)) (moment : ℕ) (a : Act) (r : Reply) (m : State) → Bears m a r → IsSound m → IsSound (act_changes secret moment a r m)
-sound_act secret moment (act.Check o) r m bears sound = sound_checked m secret o sound
+sound_act secret moment (act.Check op.Upload) r m bears sound = sound_checked m secret sound
+sound_act secret moment (act.Check op.Download) r m bears sound = sound
 sound_act secret moment act.Head r m bears sound = sound
 sound_act secret moment (act.Get key) r m bears sound = sound
 sound_act secret moment (act.Put key bytes) r m bears sound = sound_told m (told_by key r) bears sound
 sound_act secret moment (act.Missing k ids) r m bears sound = sound_told m (stored_keys m.objects (keys_of k ids)) (stored_in_keys m.objects (keys_of k ids)) sound
-sound_act secret moment (act.Update pushed) r m bears sound = by (is_kept m.kept pushed) refl
+sound_act secret moment (act.Update pushed) r m bears sound = by (is_kept m.state.kept pushed) refl
   where
-    by : (b : Bool) → is_kept m.kept pushed ≡ b → IsSound (if b then m else installed (head_in r pushed) pushed moment m)
+    by : (b : Bool) → is_kept m.state.kept pushed ≡ b → IsSound (record m { state = if b then m.state else with_install (head_in r pushed) pushed moment m.state })
     by true is = sound
     by false is = sound_installed m (head_in r pushed) pushed moment (bears is).0 (bears is).1 sound
 sound_act secret moment (act.Limit days) r m bears sound = record {
   kept = sound.kept;
   tokens = sound.tokens;
-  numbers = numbers_limited m.collection m.opening m.days days m.name bears sound.numbers;
+  numbers = numbers_limited m.state.collection m.state.opening m.state.days days m.state.name bears sound.numbers;
 }
 sound_act secret moment (act.Ids server client) r m bears sound = sound

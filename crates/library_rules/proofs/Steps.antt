@@ -2,12 +2,10 @@
 use Rattle.std.proofs.Common.{◌≡◌, ◌⊎◌, inl, inr, ℕ, Bool, true, false, if◌then◌else◌, List, [], refl, sym, ap, ◌∙◌, subst, true≢false, Option, None, Some}
 use Rattle.ids.specs.declared.key.Key.{Key}
 use Rattle.library_state.specs.declared.call.Act.{Act}
-use Rattle.library_state.specs.declared.call.Act.TheVariants as act
-use Rattle.library_state.specs.declared.call.Op.TheVariants as op
 use Rattle.library_state.specs.declared.reply.Reply.{Reply}
 use Rattle.object_graph.specs.Traversal.{is_in, needs}
 use Rattle.object_graph.specs.Unchanged.{AgreeOn}
-use Rattle.library_rules.specs.Changes.{with_added, without, moved, is_refused, head_in, installed, act_changes, step_changes, apply}
+use Rattle.library_rules.specs.Changes.{with_added, without, moved, is_refused, act_changes, step_changes, apply}
 use Rattle.library_rules.specs.CollectionSteps.{SweepPermits}
 use Rattle.library_rules.specs.History.{StepPermits, Permits}
 use Rattle.library_rules.specs.LibraryState.{State, Running, is_kept, is_needed, is_fresh, IsSound}
@@ -20,7 +18,7 @@ use Rattle.library_rules.proofs.Sound.{sound_moved, sound_act, sound_begun, soun
 
 -- what leaves is unneeded and isn't fresh, nothing leaves where no collection runs, and nothing comes where something leaves
 pub record Spares (s : State) (e : Entry) : Type 0 where
-  pub unneeded : (key : Key) → is_in e.removed key ≡ true → is_needed s.objects s.kept key ≡ false
+  pub unneeded : (key : Key) → is_in e.removed key ≡ true → is_needed s.objects s.state.kept key ≡ false
   pub not_fresh : (key : Key) → is_in e.removed key ≡ true → is_fresh s.running key ≡ false
   pub idle : s.running ≡ None → e.removed ≡ []
   pub one : (e.added ≡ []) ⊎ (e.removed ≡ [])
@@ -52,19 +50,7 @@ spares s e p = step_spares s e e.step p
 -- ---- objects
 
 pub act_objects : (secret : Option (List ℕ)) (moment : ℕ) (a : Act) (r : Reply) (m : State) → (act_changes secret moment a r m).objects ≡ m.objects
-act_objects secret moment (act.Check op.Upload) r m = refl
-act_objects secret moment (act.Check op.Download) r m = refl
-act_objects secret moment act.Head r m = refl
-act_objects secret moment (act.Get key) r m = refl
-act_objects secret moment (act.Put key bytes) r m = refl
-act_objects secret moment (act.Missing k ids) r m = refl
-act_objects secret moment (act.Update pushed) r m = by (is_kept m.kept pushed)
-  where
-    by : (b : Bool) → (if b then m else installed (head_in r pushed) pushed moment m).objects ≡ m.objects
-    by true = refl
-    by false = refl
-act_objects secret moment (act.Limit days) r m = refl
-act_objects secret moment (act.Ids server client) r m = refl
+act_objects secret moment a r m = refl
 
 pub step_objects : (moment : ℕ) (st : Step) (r : Reply) (m : State) → (step_changes moment st r m).objects ≡ m.objects
 step_objects moment (step.Asked call) r m = by (is_refused r)
@@ -102,7 +88,7 @@ sound_apply s e p sound =
     (sound_step s e e.step p (sound_entered s e (spares s e p) sound))
 
 -- what a kept commit needs keeps its bytes
-pub agrees_after : (s : State) (e : Entry) → Permits s e → IsSound s → (id : List ℕ) → is_kept s.kept id ≡ true → AgreeOn (needs s.objects id) s.objects (apply s e).objects
+pub agrees_after : (s : State) (e : Entry) → Permits s e → IsSound s → (id : List ℕ) → is_kept s.state.kept id ≡ true → AgreeOn (needs s.objects id) s.objects (apply s e).objects
 agrees_after s e p sound id is_one =
     subst (AgreeOn (needs s.objects id) s.objects) (sym (objects_after s e))
-    (agrees_moved s.objects s.kept e.added e.removed id is_one (sound.kept.complete id is_one) (spares s e p).unneeded (spares s e p).one)
+    (agrees_moved s.objects s.state.kept e.added e.removed id is_one (sound.kept.complete id is_one) (spares s e p).unneeded (spares s e p).one)

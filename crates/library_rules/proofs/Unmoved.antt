@@ -5,17 +5,14 @@ use Rattle.std.specs.Str.{bytes_eq}
 use Rattle.ids.specs.Key.{key_cmp}
 use Rattle.ids.specs.declared.key.Key.{Key}
 use Rattle.ids.proofs.KeyOrder.{key_cmp_total, key_cmp_exact}
-use Rattle.library_state.specs.declared.call.Act.{Act}
-use Rattle.library_state.specs.declared.call.Act.TheVariants as act
 use Rattle.library_state.specs.declared.call.Call.{Call}
-use Rattle.library_state.specs.declared.call.Op.TheVariants as op
 use Rattle.library_state.specs.declared.reply.Reply.{Reply}
 use Rattle.library_state.specs.declared.token.Token.{Token}
 use Rattle.object_graph.specs.Traversal.{is_in}
 use Rattle.library_rules.specs.Calls.{token_of}
-use Rattle.library_rules.specs.Changes.{add_all, fresher, told_fresh, moved, is_refused, with_last, head_in, installed, act_changes, step_changes, counted, apply}
+use Rattle.library_rules.specs.Changes.{add_all, fresher, moved, is_refused, with_last, act_changes, step_changes, counted, apply}
 use Rattle.library_rules.specs.History.{lone}
-use Rattle.library_rules.specs.LibraryState.{State, Running, is_kept}
+use Rattle.library_rules.specs.LibraryState.{State, Running}
 use Rattle.library_rules.specs.declared.entry.Step.{Step}
 use Rattle.library_rules.specs.declared.entry.Step.TheVariants as step
 use Rattle.library_rules.proofs.Members.{in_all}
@@ -28,27 +25,12 @@ with_none_more (Some r) = refl
 pub moved_nothing : (s : State) → moved s [] [] ≡ s
 moved_nothing s = ap (λ o. record s { running = o }) (with_none_more s.running)
 
-act_faults : (secret : Option (List ℕ)) (moment : ℕ) (a : Act) (r : Reply) (m : State) → (act_changes secret moment a r m).faults ≡ m.faults
-act_faults secret moment (act.Check op.Upload) r m = refl
-act_faults secret moment (act.Check op.Download) r m = refl
-act_faults secret moment act.Head r m = refl
-act_faults secret moment (act.Get key) r m = refl
-act_faults secret moment (act.Put key bytes) r m = refl
-act_faults secret moment (act.Missing k ids) r m = refl
-act_faults secret moment (act.Update pushed) r m = by (is_kept m.kept pushed)
-  where
-    by : (b : Bool) → (if b then m else installed (head_in r pushed) pushed moment m).faults ≡ m.faults
-    by true = refl
-    by false = refl
-act_faults secret moment (act.Limit days) r m = refl
-act_faults secret moment (act.Ids server client) r m = refl
-
 pub step_faults : (moment : ℕ) (st : Step) (r : Reply) (m : State) → (step_changes moment st r m).faults ≡ m.faults
 step_faults moment (step.Asked call) r m = by (is_refused r)
   where
     by : (b : Bool) → (if b then m else act_changes call.secret moment call.act r m).faults ≡ m.faults
     by true = refl
-    by false = act_faults call.secret moment call.act r m
+    by false = refl
 step_faults moment step.Began r m = refl
 step_faults moment step.Swept r m = refl
 step_faults moment step.Ended r m = refl
@@ -73,8 +55,8 @@ add_again keys fresh there = set.same_set key_cmp_total key_cmp_exact (add_all k
     by key false is = refl
 
 pub all_told_again : (s : State) (keys : List Key) → ((key : Key) → is_in keys key ≡ true → (running : Running) → s.running ≡ Some running → set.contains running.fresh key ≡ true)
-    → told_fresh keys s ≡ s
-all_told_again s keys there = ap (λ o. record s { running = o }) (by s.running refl)
+    → option_map (fresher keys) s.running ≡ s.running
+all_told_again s keys there = by s.running refl
   where
     by : (o : Option Running) → s.running ≡ o → option_map (fresher keys) o ≡ o
     by None is = refl

@@ -25,6 +25,7 @@ use Rattle.library_rules.specs.MergeBase.{Based, Base, NoBase, refusal_of, by_pa
 use Rattle.library_rules.specs.declared.entry.Entry.{Entry}
 use Rattle.library_rules.specs.declared.entry.Step.TheVariants as step
 use Rattle.library_rules.proofs.UploadsLate.{TellsLate, tells_late}
+use Rattle.library_rules.proofs.CallsLemmas.{update_due-is}
 
 module _ (s : State) (token : Token) where
   -- ---- no base
@@ -60,10 +61,10 @@ module _ (s : State) (token : Token) where
   no_base_cause : (why : Refusal) (left n : ℕ) (id : List ℕ) → base_from s left n id ≡ NoBase why → IsCauseOf s token why
   unfolding base_from
   no_base_cause why zero n id e =
-      base_cause why (is_kept s.kept id) id (by_commit (λ parent. NoBase (refusal.Unrelated n)) n (commit_at s.objects id)) e
+      base_cause why (is_kept s.state.kept id) id (by_commit (λ parent. NoBase (refusal.Unrelated n)) n (commit_at s.objects id)) e
       (commit_cause why (λ parent. NoBase (refusal.Unrelated n)) n id (map.get s.objects (commit_key id)) refl (far why n))
   no_base_cause why (suc left) n id e =
-      base_cause why (is_kept s.kept id) id (by_commit (base_from s left (n + 1)) n (commit_at s.objects id)) e
+      base_cause why (is_kept s.state.kept id) id (by_commit (base_from s left (n + 1)) n (commit_at s.objects id)) e
       (commit_cause why (base_from s left (n + 1)) n id (map.get s.objects (commit_key id)) refl (no_base_cause why left (n + 1)))
 
   -- ---- a fault of the pushed commit
@@ -85,17 +86,17 @@ module _ (s : State) (token : Token) where
 
     by_fault : (user base : List ℕ) (f : Option TreeFault) → (walk_commit s.objects pushed).fault ≡ f → TellsLate why (complete_due s user base pushed f) → IsCauseOf s token why
     by_fault user base (Some f) is told = let same : refusal_of f ≡ why = cc in subst (IsCauseOf s token) same (fault_cause pushed f is)
-    by_fault user base None is told = by_same user base (same_id base (head_of s.kept)) told
+    by_fault user base None is told = by_same user base (same_id base (head_of s.state.kept)) told
 
     by_base : (d : Based) → base_of s pushed ≡ d → TellsLate why (base_due s token.user pushed d) → IsCauseOf s token why
     by_base (NoBase reason) is told = let same : reason ≡ why = cc in subst (IsCauseOf s token) same (no_base_cause reason 128 0 pushed is)
     by_base (Base base) is told = by_fault token.user base (walk_commit s.objects pushed).fault refl told
 
-    by_stale : (b : Bool) → nat_lt token.last s.collection ≡ b
-        → TellsLate why (cond b (Says (reply.Refused (refusal.Stale token.last s.collection))) (base_due s token.user pushed (base_of s pushed))) → IsCauseOf s token why
+    by_stale : (b : Bool) → nat_lt token.last s.state.collection ≡ b
+        → TellsLate why (cond b (Says (reply.Refused (refusal.Stale token.last s.state.collection))) (base_due s token.user pushed (base_of s pushed))) → IsCauseOf s token why
     by_stale true is told =
-        let same : refusal.Stale token.last s.collection ≡ why = cc in
-        let below : token.last < s.collection = began token.last s.collection is in
+        let same : refusal.Stale token.last s.state.collection ≡ why = cc in
+        let below : token.last < s.state.collection = began token.last s.state.collection is in
         subst (IsCauseOf s token) same (refl, refl, below)
       where
         began : (m n : ℕ) → nat_lt m n ≡ true → m < n
@@ -103,19 +104,19 @@ module _ (s : State) (token : Token) where
     by_stale false is told = by_base (base_of s pushed) refl told
 
     by_known : (b : Bool)
-        → TellsLate why (cond b (Says (reply.Updated (head_of s.kept))) (cond (nat_lt token.last s.collection) (Says (reply.Refused (refusal.Stale token.last s.collection))) (base_due s token.user pushed (base_of s pushed)))) → IsCauseOf s token why
+        → TellsLate why (cond b (Says (reply.Updated (head_of s.state.kept))) (cond (nat_lt token.last s.state.collection) (Says (reply.Refused (refusal.Stale token.last s.state.collection))) (base_due s token.user pushed (base_of s pushed)))) → IsCauseOf s token why
     by_known true told = cc
-    by_known false told = by_stale (nat_lt token.last s.collection) refl told
+    by_known false told = by_stale (nat_lt token.last s.state.collection) refl told
 
     by_right : (b : Bool) → TellsLate why (cond b (update_due s token pushed) Denies) → IsCauseOf s token why
-    by_right true told = by_known (is_kept s.kept pushed) told
+    by_right true told = by_known (is_kept s.state.kept pushed) (subst (TellsLate why) (update_due-is s token pushed) told)
     by_right false told = absurd told
 
-pub has_cause : (s : State) (e : Entry) (call : Call) (token : Token) (pushed : List ℕ) → Permits s e → e.step ≡ step.Asked call → call.act ≡ act.Update pushed → token_of s.tokens call.secret ≡ Some token
+pub has_cause : (s : State) (e : Entry) (call : Call) (token : Token) (pushed : List ℕ) → Permits s e → e.step ≡ step.Asked call → call.act ≡ act.Update pushed → token_of s.state.tokens call.secret ≡ Some token
     → (why : Refusal) → IsLate why → e.reply ≡ reply.Refused why → IsCauseOf s token why
 has_cause s e call token pushed permits asked updates known why late answers =
     let asked_permits : StepPermits s e (step.Asked call) = subst (StepPermits s e) asked permits in
     let told = tells_late s e why late answers (due s call) asked_permits.0 in
-    let P : Act → Type 0 = λ a. TellsLate why (token_due s a (token_of s.tokens call.secret)) in
+    let P : Act → Type 0 = λ a. TellsLate why (token_due s a (token_of s.state.tokens call.secret)) in
     let Q : Option Token → Type 0 = λ o. TellsLate why (token_due s (act.Update pushed) o) in
     by_right s token why pushed (may token (act.Update pushed)) (subst Q known (subst P updates told))

@@ -30,6 +30,7 @@ use Rattle.library_rules.specs.Uploads.{is_shielded, is_safe, IsUploaded}
 use Rattle.library_rules.specs.LateUpdates.{IsLate}
 use Rattle.library_rules.specs.declared.entry.Entry.{Entry}
 use Rattle.library_rules.specs.declared.entry.Step.TheVariants as step
+use Rattle.library_rules.proofs.CallsLemmas.{update_due-is}
 
 -- ---- such a refusal is no fault
 
@@ -114,14 +115,14 @@ module _ (s : State) where
   base_fine : (why : Refusal) (left n : ℕ) (id : List ℕ) → SafeIds (chain_from s left id) → base_from s left n id ≡ NoBase why → IsLate why → ⊥
   unfolding base_from chain_from
   base_fine why zero n id safe e late =
-      base_or why (is_kept s.kept id) id (by_commit (λ parent. NoBase (refusal.Unrelated n)) n (commit_at s.objects id)) e
+      base_or why (is_kept s.state.kept id) id (by_commit (λ parent. NoBase (refusal.Unrelated n)) n (commit_at s.objects id)) e
       (λ unknown other more.
       let P : Bool → Type 0 = λ b. SafeIds (cond b [] (id ∷ [])) in
       let here = subst P unknown safe in
       commit_late why (λ parent. NoBase (refusal.Unrelated n)) n id (map.get s.objects (commit_key id)) (safe_stored (commit_key id) here.0)
       (λ parent is far l. let same : refusal.Unrelated n ≡ why = cc in subst IsLate (sym same) l) other more) late
   base_fine why (suc left) n id safe e late =
-      base_or why (is_kept s.kept id) id (by_commit (base_from s left (n + 1)) n (commit_at s.objects id)) e
+      base_or why (is_kept s.state.kept id) id (by_commit (base_from s left (n + 1)) n (commit_at s.objects id)) e
       (λ unknown other more.
       let P : Bool → Type 0 = λ b. SafeIds (cond b [] (id ∷ along (chain_from s left) (parents_of (commit_at s.objects id)))) in
       let here = subst P unknown safe in
@@ -153,35 +154,35 @@ module _ (s : State) (why : Refusal) (late : IsLate why) (pushed : List ℕ) (up
 
   by_fault : (user base : List ℕ) (f : Option TreeFault) → (walk_commit s.objects pushed).fault ≡ f → TellsLate why (complete_due s user base pushed f) → ⊥
   by_fault user base (Some f) is told = let same : refusal_of f ≡ why = cc in fault_fine s pushed f is uploaded (subst IsLate (sym same) late)
-  by_fault user base None is told = by_same user base (same_id base (head_of s.kept)) told
+  by_fault user base None is told = by_same user base (same_id base (head_of s.state.kept)) told
 
   by_base : (user : List ℕ) (d : Based) → base_of s pushed ≡ d → TellsLate why (base_due s user pushed d) → ⊥
   by_base user (NoBase reason) is told = let same : reason ≡ why = cc in base_fine s reason 128 0 pushed uploaded.chain is (subst IsLate (sym same) late)
   by_base user (Base base) is told = by_fault user base (walk_commit s.objects pushed).fault refl told
 
-  by_stale : (token : Token) (b : Bool) → nat_lt token.last s.collection ≡ b → token.last ≡ s.collection
-      → TellsLate why (cond b (Says (reply.Refused (refusal.Stale token.last s.collection))) (base_due s token.user pushed (base_of s pushed))) → ⊥
-  by_stale token true is seen told = never token.last s.collection seen is
+  by_stale : (token : Token) (b : Bool) → nat_lt token.last s.state.collection ≡ b → token.last ≡ s.state.collection
+      → TellsLate why (cond b (Says (reply.Refused (refusal.Stale token.last s.state.collection))) (base_due s token.user pushed (base_of s pushed))) → ⊥
+  by_stale token true is seen told = never token.last s.state.collection seen is
     where
       never : (m n : ℕ) → m ≡ n → nat_lt m n ≡ true → ⊥
       never m n same below = grind (arith, nat_tests)
   by_stale token false is seen told = by_base token.user (base_of s pushed) refl told
 
-  by_known : (token : Token) (b : Bool) → token.last ≡ s.collection
-      → TellsLate why (cond b (Says (reply.Updated (head_of s.kept))) (cond (nat_lt token.last s.collection) (Says (reply.Refused (refusal.Stale token.last s.collection))) (base_due s token.user pushed (base_of s pushed)))) → ⊥
+  by_known : (token : Token) (b : Bool) → token.last ≡ s.state.collection
+      → TellsLate why (cond b (Says (reply.Updated (head_of s.state.kept))) (cond (nat_lt token.last s.state.collection) (Says (reply.Refused (refusal.Stale token.last s.state.collection))) (base_due s token.user pushed (base_of s pushed)))) → ⊥
   by_known token true seen told = cc
-  by_known token false seen told = by_stale token (nat_lt token.last s.collection) refl seen told
+  by_known token false seen told = by_stale token (nat_lt token.last s.state.collection) refl seen told
 
-  by_right : (token : Token) (b : Bool) → token.last ≡ s.collection → TellsLate why (cond b (update_due s token pushed) Denies) → ⊥
-  by_right token true seen told = by_known token (is_kept s.kept pushed) seen told
+  by_right : (token : Token) (b : Bool) → token.last ≡ s.state.collection → TellsLate why (cond b (update_due s token pushed) Denies) → ⊥
+  by_right token true seen told = by_known token (is_kept s.state.kept pushed) seen (subst (TellsLate why) (update_due-is s token pushed) told)
   by_right token false seen told = told
 
 -- the update isn't refused as stale, and not as incomplete
-pub not_late : (s : State) (e : Entry) (call : Call) (token : Token) (pushed : List ℕ) → Permits s e → e.step ≡ step.Asked call → call.act ≡ act.Update pushed → token_of s.tokens call.secret ≡ Some token → token.last ≡ s.collection
+pub not_late : (s : State) (e : Entry) (call : Call) (token : Token) (pushed : List ℕ) → Permits s e → e.step ≡ step.Asked call → call.act ≡ act.Update pushed → token_of s.state.tokens call.secret ≡ Some token → token.last ≡ s.state.collection
     → IsUploaded s pushed → (why : Refusal) → IsLate why → e.reply ≢ reply.Refused why
 not_late s e call token pushed permits asked updates known seen uploaded why late answers =
     let asked_permits : StepPermits s e (step.Asked call) = subst (StepPermits s e) asked permits in
     let told = tells_late s e why late answers (due s call) asked_permits.0 in
-    let P : Act → Type 0 = λ a. TellsLate why (token_due s a (token_of s.tokens call.secret)) in
+    let P : Act → Type 0 = λ a. TellsLate why (token_due s a (token_of s.state.tokens call.secret)) in
     let Q : Option Token → Type 0 = λ o. TellsLate why (token_due s (act.Update pushed) o) in
     by_right s why late pushed uploaded token (may token (act.Update pushed)) seen (subst Q known (subst P updates told))

@@ -6,15 +6,14 @@ use Rattle.std.proofs.lemmas.Bool.{and_parts, and_from}
 use Rattle.ids.specs.declared.key.Key.{Key}
 use Rattle.library_state.specs.declared.call.Act.{Act}
 use Rattle.library_state.specs.declared.call.Act.TheVariants as act
-use Rattle.library_state.specs.declared.call.Op.TheVariants as op
 use Rattle.library_state.specs.declared.reply.Reply.{Reply}
 use Rattle.object_graph.specs.Objects.{same_id}
 use Rattle.object_graph.specs.Traversal.{is_in, needs}
 use Rattle.library_rules.specs.Calls.{keys_of}
-use Rattle.library_rules.specs.Changes.{with_added, without, keys_added, fresher, told_by, stored_keys, moved, is_refused, installed, head_in, act_changes, turn_counted, step_changes, apply}
+use Rattle.library_rules.specs.Changes.{with_added, without, keys_added, fresher, told_by, stored_keys, moved, is_refused, act_changes, turn_counted, step_changes, apply}
 use Rattle.library_rules.specs.CollectionSteps.{SweepPermits}
 use Rattle.library_rules.specs.History.{StepPermits, Permits}
-use Rattle.library_rules.specs.LibraryState.{State, Running, IsSound, kept_commits, is_kept, is_stored, is_needed}
+use Rattle.library_rules.specs.LibraryState.{State, Running, IsSound, kept_commits, is_stored, is_needed}
 use Rattle.library_rules.specs.Uploads.{is_shielded, is_safe}
 use Rattle.library_rules.specs.declared.entry.Entry.{Entry}
 use Rattle.library_rules.specs.declared.entry.Step.{Step}
@@ -41,15 +40,15 @@ some_passing P (x ∷ ids) e = elim (or_cases (P x) (list_any P ids) e) [
       record { id = found.id; there = or_right (same_id found.id x) (list_any (same_id found.id) ids) found.there; passes = found.passes }
 ]
 
-needed_stays : (s : State) (e : Entry) → IsSound s → Permits s e → e.step ≢ step.Began → (key : Key) → is_needed s.objects s.kept key ≡ true → is_needed (apply s e).objects (apply s e).kept key ≡ true
+needed_stays : (s : State) (e : Entry) → IsSound s → Permits s e → e.step ≢ step.Began → (key : Key) → is_needed s.objects s.state.kept key ≡ true → is_needed (apply s e).objects (apply s e).state.kept key ≡ true
 needed_stays s e sound permits other key needed =
-    let found = some_passing (λ commit. is_in (needs s.objects commit) key) (kept_commits s.kept) needed in
+    let found = some_passing (λ commit. is_in (needs s.objects commit) key) (kept_commits s.state.kept) needed in
     let id = found.id in
-    let agree = agrees_moved s.objects s.kept e.added e.removed id found.there (sound.kept.complete id found.there) (spares s e permits).unneeded (spares s e permits).one in
+    let agree = agrees_moved s.objects s.state.kept e.added e.removed id found.there (sound.kept.complete id found.there) (spares s e permits).unneeded (spares s e permits).one in
     let B = without (with_added s.objects e.added) e.removed in
     let there : is_in (needs B id) key ≡ true = ap (λ keys. is_in keys key) (same_needs s.objects B id agree) ∙ found.passes in
     let kept = kept_stays s e id found.there (λ began. absurd (other began)) in
-    ap (λ A. is_needed A (apply s e).kept key) (objects_after s e) ∙ kept_needs B (apply s e).kept id key kept there
+    ap (λ A. is_needed A (apply s e).state.kept key) (objects_after s e) ∙ kept_needs B (apply s e).state.kept id key kept there
 
 -- ---- what is fresh stays fresh
 
@@ -89,14 +88,12 @@ covers_either key true run x y p q = p
 covers_either key false run x y p q = q
 
 pub covers_act : (key : Key) (secret : Option (List ℕ)) (moment : ℕ) (a : Act) (r : Reply) (s : State) → Covers key s.running (act_changes secret moment a r s).running
-covers_act key secret moment (act.Check op.Upload) r s = covers_itself key s.running
-covers_act key secret moment (act.Check op.Download) r s = covers_itself key s.running
+covers_act key secret moment (act.Check o) r s = covers_itself key s.running
 covers_act key secret moment act.Head r s = covers_itself key s.running
 covers_act key secret moment (act.Get k) r s = covers_itself key s.running
 covers_act key secret moment (act.Put k bytes) r s = covers_told key (told_by k r) s.running
 covers_act key secret moment (act.Missing kind ids) r s = covers_told key (stored_keys s.objects (keys_of kind ids)) s.running
-covers_act key secret moment (act.Update pushed) r s =
-    covers_either key (is_kept s.kept pushed) s.running s (installed (head_in r pushed) pushed moment s) (covers_itself key s.running) (covers_itself key s.running)
+covers_act key secret moment (act.Update pushed) r s = covers_itself key s.running
 covers_act key secret moment (act.Limit days) r s = covers_itself key s.running
 covers_act key secret moment (act.Ids server client) r s = covers_itself key s.running
 
@@ -114,13 +111,13 @@ covers_step key s e other =
 
 -- ---- what is safe stays safe
 
-shielded_then : (s t : State) (key : Key) (run now : Option Running) → Covers key run now → (is_needed s.objects s.kept key ≡ true → is_needed t.objects t.kept key ≡ true) → is_shielded s run key ≡ true → is_shielded t now key ≡ true
+shielded_then : (s t : State) (key : Key) (run now : Option Running) → Covers key run now → (is_needed s.objects s.state.kept key ≡ true → is_needed t.objects t.state.kept key ≡ true) → is_shielded s run key ≡ true → is_shielded t now key ≡ true
 shielded_then s t key run None covers needed e = refl
 shielded_then s t key None (Some now) covers needed e = absurd covers
 shielded_then s t key (Some before) (Some now) covers needed e =
-    elim (or_cases (is_needed s.objects s.kept key) (set.contains before.fresh key) e) [
-      | inl is ↦ or_left (is_needed t.objects t.kept key) (set.contains now.fresh key) (needed is)
-      | inr is ↦ or_right (is_needed t.objects t.kept key) (set.contains now.fresh key) (covers is)
+    elim (or_cases (is_needed s.objects s.state.kept key) (set.contains before.fresh key) e) [
+      | inl is ↦ or_left (is_needed t.objects t.state.kept key) (set.contains now.fresh key) (needed is)
+      | inr is ↦ or_right (is_needed t.objects t.state.kept key) (set.contains now.fresh key) (covers is)
     ]
 
 nothing_leaves : (s : State) (e : Entry) (key : Key) → e.removed ≡ [] → is_in e.removed key ≡ false
@@ -129,8 +126,8 @@ nothing_leaves s e key none = ap (λ keys. is_in keys key) none
 sweep_spares : (s : State) (e : Entry) (key : Key) (run : Option Running) → SweepPermits s e run → is_shielded s run key ≡ true → is_in e.removed key ≡ false
 sweep_spares s e key None p shielded = nothing_leaves s e key p.0
 sweep_spares s e key (Some running) p shielded = fails (is_in e.removed key) (λ there.
-    elim (or_cases (is_needed s.objects s.kept key) (set.contains running.fresh key) shielded) [
-      | inl is ↦ apart (is_needed s.objects s.kept key) is (p.unneeded key there)
+    elim (or_cases (is_needed s.objects s.state.kept key) (set.contains running.fresh key) shielded) [
+      | inl is ↦ apart (is_needed s.objects s.state.kept key) is (p.unneeded key there)
       | inr is ↦ apart (set.contains running.fresh key) is (p.not_fresh key there)
     ])
 

@@ -16,7 +16,7 @@ use Rattle.object_graph.specs.Objects.{same_id, is_nil}
 use Rattle.object_graph.specs.Traversal.{is_in, distinct_from}
 use Rattle.object_graph.proofs.Keys.{same_key, same_key-true, same_key-itself, in_distinct}
 use Rattle.library_rules.specs.Answered.{Fails}
-use Rattle.library_rules.specs.Calls.{Due, Denies, Says, Stores, Installs, Merges, keys_of, ids_of, first_refusal, put_refusals, taken, put_by, put_due, absent, token_of, may, token_due, due}
+use Rattle.library_rules.specs.Calls.{Due, Denies, Says, Stores, Installs, Merges, keys_of, ids_of, first_refusal, put_refusals, put_due, absent, token_of, may, token_due, due}
 use Rattle.library_rules.specs.Changes.{with_added, without, keys_added, fresher, told_by, stored_keys, moved, act_changes, step_changes, apply}
 use Rattle.library_rules.specs.History.{StepPermits, Permits}
 use Rattle.library_rules.specs.LibraryState.{State, Running, is_stored, is_needed}
@@ -29,6 +29,7 @@ use Rattle.library_rules.specs.declared.entry.Stored.{Stored}
 use Rattle.library_rules.proofs.Keeping.{added_stored}
 use Rattle.library_rules.proofs.Members.{same_id-true, same_id-itself, or_cases, or_left, or_right, in_all, apart}
 use Rattle.library_rules.proofs.Steps.{objects_after}
+use Rattle.library_rules.proofs.CallsLemmas.{put_due-is, taken, put_by}
 
 -- ---- fresh, where a collection runs
 
@@ -46,7 +47,7 @@ still_told key keys (Some running) e = in_all keys running.fresh key ∙ or_righ
 
 told_shielded : (s : State) (key : Key) (run : Option Running) → IsTold key run → is_shielded s run key ≡ true
 told_shielded s key None e = refl
-told_shielded s key (Some running) e = or_right (is_needed s.objects s.kept key) (set.contains running.fresh key) e
+told_shielded s key (Some running) e = or_right (is_needed s.objects s.state.kept key) (set.contains running.fresh key) e
 
 safe_by : (s : State) (key : Key) → is_stored s.objects key ≡ true → IsTold key s.running → is_safe s key ≡ true
 safe_by s key stored told = and_from (is_stored s.objects key) (is_shielded s s.running key) stored (told_shielded s key s.running told)
@@ -90,7 +91,8 @@ module _ (s : State) (e : Entry) (key : Key) (bytes : List ℕ) (new : Bool) (an
   by_refusal None told = by_stored (is_stored s.objects key) refl told
 
   by_right : (token : Token) (b : Bool) → TellsStored s e key bytes new (cond b (put_due s key bytes) Denies) → Put
-  by_right token true told = by_refusal (first_refusal (put_refusals s.lib key.kind key bytes ++ taken s key bytes ∷ [])) told
+  by_right token true told =
+      by_refusal (first_refusal (put_refusals s.state.lib key.kind key bytes ++ taken s key bytes ∷ [])) (subst (TellsStored s e key bytes new) (put_due-is s key bytes) told)
   by_right token false told = absurd told
 
   by_token : (o : Option Token) → TellsStored s e key bytes new (token_due s (act.Put key bytes) o) → Put
@@ -126,9 +128,9 @@ pub put_is_safe : (s : State) (e : Entry) (call : Call) (key : Key) (bytes : Lis
     → is_safe (apply s e) key ≡ true
 put_is_safe s e call key bytes new permits asked acts answers =
     let asked_permits : StepPermits s e (step.Asked call) = subst (StepPermits s e) asked permits in
-    let P : Act → Type 0 = λ a. TellsStored s e key bytes new (token_due s a (token_of s.tokens call.secret)) in
+    let P : Act → Type 0 = λ a. TellsStored s e key bytes new (token_due s a (token_of s.state.tokens call.secret)) in
     let told = tells_stored s e key bytes new answers (due s call) asked_permits.0 in
-    let put = by_token s e key bytes new answers (token_of s.tokens call.secret) (subst P acts told) in
+    let put = by_token s e key bytes new answers (token_of s.state.tokens call.secret) (subst P acts told) in
     let running = put_told s e call key bytes new asked acts answers in
     let T : Option Running → Type 0 = λ run. IsTold key run in
     elim put as (λ _. is_safe (apply s e) key ≡ true) [
@@ -237,8 +239,8 @@ pub asked_is_safe : (s : State) (e : Entry) (call : Call) (k : Kind) (ids listed
 asked_is_safe s e call k ids listed permits asked acts answers id among other unlisted =
     let key : Key = record { kind = k; id = id } in
     let asked_permits : StepPermits s e (step.Asked call) = subst (StepPermits s e) asked permits in
-    let P : Act → Type 0 = λ a. TellsAbsent s e listed (token_due s a (token_of s.tokens call.secret)) in
-    let lists = absent_token s e listed answers k ids (token_of s.tokens call.secret) (subst P acts (tells_absent s e listed answers (due s call) asked_permits.0)) in
+    let P : Act → Type 0 = λ a. TellsAbsent s e listed (token_due s a (token_of s.state.tokens call.secret)) in
+    let lists = absent_token s e listed answers k ids (token_of s.state.tokens call.secret) (subst P acts (tells_absent s e listed answers (due s call) asked_permits.0)) in
     let stored = unlisted_stored s k ids key (asked_key k ids id among other) (ap (list_any (same_id id)) lists.0 ∙ unlisted) in
     let adds = lists.1 in
     let m = moved s e.added e.removed in

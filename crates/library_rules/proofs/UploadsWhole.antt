@@ -10,10 +10,11 @@ use Rattle.library_state.specs.declared.call.Op.TheVariants as op
 use Rattle.library_state.specs.declared.refusal.Refusal.{Refusal}
 use Rattle.library_state.specs.declared.reply.Reply.{Reply}
 use Rattle.library_state.specs.declared.reply.Reply.TheVariants as reply
+use Rattle.library_state.specs.declared.state.LibState.{LibState}
 use Rattle.library_state.specs.declared.token.Token.{Token}
 use Rattle.object_graph.specs.Objects.{commit_key}
 use Rattle.object_graph.specs.Traversal.{walk_commit}
-use Rattle.library_rules.specs.Changes.{with_last, seen_by, is_refused, installed, head_in, moved, act_changes, step_changes, apply}
+use Rattle.library_rules.specs.Changes.{with_last, seen_by, is_refused, with_install, head_in, moved, act_changes, step_changes, apply}
 use Rattle.library_rules.specs.History.{Permits, Legal, after}
 use Rattle.library_rules.specs.LateUpdates.{IsLate, IsUpToDate, NoneBegins, WasSafe, WasUploaded}
 use Rattle.library_rules.specs.LibraryState.{State, IsSound, is_kept}
@@ -91,20 +92,25 @@ up_to_date_seen (Some y) c tokens (Some x) is =
 
 -- the same of a state
 abbrev pub UpToDateAt : State → Option (List ℕ) → Type 0
-UpToDateAt s secret = IsUpToDate s.tokens s.collection secret
+UpToDateAt s secret = IsUpToDate s.state.tokens s.state.collection secret
 
 up_to_date_either : (secret : Option (List ℕ)) (b : Bool) (x y : State) → UpToDateAt x secret → UpToDateAt y secret → UpToDateAt (cond b x y) secret
 up_to_date_either secret true x y p q = p
 up_to_date_either secret false x y p q = q
 
+up_to_date_next : (secret : Option (List ℕ)) (b : Bool) (x y : LibState) → IsUpToDate x.tokens x.collection secret → IsUpToDate y.tokens y.collection secret
+    → IsUpToDate (cond b x y).tokens (cond b x y).collection secret
+up_to_date_next secret true x y p q = p
+up_to_date_next secret false x y p q = q
+
 up_to_date_act : (by : Option (List ℕ)) (moment : ℕ) (a : Act) (r : Reply) (s : State) (secret : Option (List ℕ)) → UpToDateAt s secret → UpToDateAt (act_changes by moment a r s) secret
-up_to_date_act by moment (act.Check op.Upload) r s secret is = up_to_date_seen by s.collection s.tokens secret is
+up_to_date_act by moment (act.Check op.Upload) r s secret is = up_to_date_seen by s.state.collection s.state.tokens secret is
 up_to_date_act by moment (act.Check op.Download) r s secret is = is
 up_to_date_act by moment act.Head r s secret is = is
 up_to_date_act by moment (act.Get key) r s secret is = is
 up_to_date_act by moment (act.Put key bytes) r s secret is = is
 up_to_date_act by moment (act.Missing k ids) r s secret is = is
-up_to_date_act by moment (act.Update pushed) r s secret is = up_to_date_either secret (is_kept s.kept pushed) s (installed (head_in r pushed) pushed moment s) is is
+up_to_date_act by moment (act.Update pushed) r s secret is = up_to_date_next secret (is_kept s.state.kept pushed) s.state (with_install (head_in r pushed) pushed moment s.state) is is
 up_to_date_act by moment (act.Limit days) r s secret is = is
 up_to_date_act by moment (act.Ids server client) r s secret is = is
 
@@ -154,7 +160,7 @@ module _ (start : State) (es : List Entry) (from to : ℕ) (legal : Legal start 
 
 -- since the upload was checked no collection began, and each key was safe at some time
 pub upload_holds : (start : State) (es : List Entry) (from to : ℕ) → Legal start es → IsSound start → from ≤ to → NoneBegins es from to
-    → (call : Call) (pushed : List ℕ) → IsUpToDate (after start es from).tokens (after start es from).collection call.secret → WasUploaded start es from to pushed
+    → (call : Call) (pushed : List ℕ) → IsUpToDate (after start es from).state.tokens (after start es from).state.collection call.secret → WasUploaded start es from to pushed
     → (e : Entry) → e.step ≡ step.Asked call → call.act ≡ act.Update pushed → Permits (after start es to) e → (why : Refusal) → IsLate why → e.reply ≢ reply.Refused why
 upload_holds start es from to legal sound order none call pushed checked was e asked updates permits why late =
     let now = up_to_date_between start es from to call.secret order none checked in

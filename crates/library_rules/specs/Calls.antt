@@ -1,6 +1,6 @@
 -- What a call of a library is due: which answer, or which change. Our own. The refusals of a list come in its order.
--- Read Due, then act_due and due.
-use Rattle.std.specs.Prelude.{ℕ, nat_lt, nat_le, Bool, false, not, ◌||◌, if◌then◌else◌, List, [], ◌∷◌, ◌++◌, filter, find, map as map_list, Option, None, Some, Result, Ok, Err}
+-- Read Due and decided, then act_due and due.
+use Rattle.std.specs.Prelude.{ℕ, nat_lt, nat_le, Bool, false, not, if◌then◌else◌, List, [], ◌∷◌, ◌++◌, filter, find, map as map_list, Option, None, Some, option_map, Result, Ok, Err}
 use Rattle.std.specs.Bool.{then_some}
 use Rattle.std.specs.FinMap as map
 use Rattle.std.specs.Str.{bytes_eq}
@@ -27,6 +27,8 @@ use Rattle.library_state.specs.declared.reply.Reply.{Reply}
 use Rattle.library_state.specs.declared.reply.Reply.TheVariants as reply
 use Rattle.library_state.specs.declared.right.Right.{Right}
 use Rattle.library_state.specs.declared.right.Right.TheVariants as right
+use Rattle.library_state.specs.declared.history.Install.{Install}
+use Rattle.library_state.specs.declared.state.LibState.{LibState}
 use Rattle.library_state.specs.declared.token.Token.{Token}
 use Rattle.object_graph.specs.FsIds.{fs_ids}
 use Rattle.object_graph.specs.Objects.{commit_key, same_id, is_nil}
@@ -115,19 +117,65 @@ put_refusals lib kind.Block key bytes = other_name key bytes ∷ []
 put_refusals lib kind.Fs key bytes = other_name key bytes ∷ not_fs (fs_of bytes) ∷ []
 put_refusals lib kind.Commit key bytes = not_commit lib key.id (commit_of bytes)
 
-module _ (s : State) where
-  -- other bytes are stored under the key, or it has forty zeros
-  abbrev pub taken : Key → List ℕ → Option Refusal
-  taken key bytes = then_some (is_nil key.id || other_bytes (map.get s.objects key) bytes) (refusal.Taken key.id)
+-- ---- what the state alone decides, whatever is stored
 
-  -- an object that isn't refused is stored, or was stored already
-  abbrev pub put_by : Key → List ℕ → Option Refusal → Due
-  put_by key bytes (Some why) = Says (reply.Refused why)
-  put_by key bytes None = if is_stored s.objects key then Says (reply.Stored false) else Stores (record { key = key; bytes = bytes })
+-- an update of a kept commit: it was pushed already; and one whose upload was checked before the last collection began
+abbrev pub update_decided : LibState → Token → List ℕ → Option Reply
+update_decided state token pushed =
+    if is_kept state.kept pushed then Some (reply.Updated (head_of state.kept))
+    else if nat_lt token.last state.collection then Some (reply.Refused (refusal.Stale token.last state.collection))
+    else None
+
+-- a put is refused for its bytes, or since its id has forty zeros
+abbrev pub put_decided : List ℕ → Key → List ℕ → Option Reply
+put_decided lib key bytes = option_map reply.Refused (first_refusal (put_refusals lib key.kind key bytes ++ then_some (is_nil key.id) (refusal.Taken key.id) ∷ []))
+
+-- a list of a commit that isn't kept
+abbrev pub ids_decided : List Install → List ℕ → Option Reply
+ids_decided kept server = if is_kept kept server then None else Some (reply.Refused (refusal.NoObject (commit_key server)))
+
+-- the answer to an act of one whose right is enough, or none where the objects decide
+abbrev pub act_decided : LibState → Token → Act → Option Reply
+act_decided state token (act.Check o) = Some reply.Checked
+act_decided state token act.Head = Some (reply.HeadIs (head_of state.kept))
+act_decided state token (act.Get key) = None
+act_decided state token (act.Put key bytes) = put_decided state.lib key bytes
+act_decided state token (act.Missing k ids) = None
+act_decided state token (act.Update commit) = update_decided state token commit
+act_decided state token (act.Limit days) = Some (if is_day_count days then reply.Limited else reply.Refused (refusal.BadDays days))
+act_decided state token (act.Ids server client) = ids_decided state.kept server
+
+abbrev pub token_decided : LibState → Act → Option Token → Option Reply
+token_decided state a None = Some (reply.Refused refusal.Denied)
+token_decided state a (Some token) = if may token a then act_decided state token a else Some (reply.Refused refusal.Denied)
+
+-- the answer to a call that the state alone decides
+abbrev pub decided : LibState → Call → Option Reply
+decided state call = token_decided state call.act (token_of state.tokens call.secret)
+
+-- the answer that the state decides, or else the one that the objects decide
+abbrev pub said_by : Option Reply → Reply → Reply
+said_by (Some r) later = r
+said_by None later = later
+
+-- the same of what is due
+abbrev pub by_state : Option Reply → Due → Due
+by_state (Some r) later = Says r
+by_state None later = later
+
+module _ (s : State) where
+  -- ---- what the objects decide
+
+  -- other bytes are stored under the key; else the object is stored, or was stored already
+  abbrev pub put_by_objects : Key → List ℕ → Due
+  put_by_objects key bytes =
+      if other_bytes (map.get s.objects key) bytes then Says (reply.Refused (refusal.Taken key.id))
+      else if is_stored s.objects key then Says (reply.Stored false)
+      else Stores (record { key = key; bytes = bytes })
 
   -- what a put is due: its first refusal, if one comes; that the key has other bytes is looked for last
   abbrev pub put_due : Key → List ℕ → Due
-  put_due key bytes = put_by key bytes (first_refusal (put_refusals s.lib key.kind key bytes ++ taken key bytes ∷ []))
+  put_due key bytes = by_state (put_decided s.state.lib key bytes) (put_by_objects key bytes)
 
   -- the ids that name nothing that is stored, in the order asked, each once
   abbrev pub absent : Kind → List (List ℕ) → List (List ℕ)
@@ -136,43 +184,44 @@ module _ (s : State) where
   -- a client's commit that isn't kept counts as none
   abbrev pub kept_alone : Option (List ℕ) → Option (List ℕ)
   kept_alone None = None
-  kept_alone (Some commit) = if is_kept s.kept commit then Some commit else None
+  kept_alone (Some commit) = if is_kept s.state.kept commit then Some commit else None
 
-  -- the files and directories that a kept commit needs and a client's doesn't, or that the commit isn't kept
+  -- the files and directories that a kept commit needs and a client's doesn't
   abbrev pub listed : List ℕ → Option (List ℕ) → Reply
-  listed server client = if is_kept s.kept server then reply.Listed (fs_ids s.objects server (kept_alone client)) else reply.Refused (refusal.NoObject (commit_key server))
+  listed server client = reply.Listed (fs_ids s.objects server (kept_alone client))
 
   -- ---- update
 
   -- a pushed commit that is complete becomes the head where its base is the head, and else is merged into it
   abbrev pub complete_due : (user base pushed : List ℕ) → Option TreeFault → Due
   complete_due user base pushed (Some fault) = Says (reply.Refused (refusal_of fault))
-  complete_due user base pushed None = if same_id base (head_of s.kept) then Installs pushed else Merges user base pushed
+  complete_due user base pushed None = if same_id base (head_of s.state.kept) then Installs pushed else Merges user base pushed
 
   -- without a merge base the update is refused as the search for it is; else the pushed commit must be complete
   abbrev pub base_due : (user pushed : List ℕ) → Based → Due
   base_due user pushed (NoBase why) = Says (reply.Refused why)
   base_due user pushed (Base base) = complete_due user base pushed (walk_commit s.objects pushed).fault
 
-  -- a kept commit was pushed already; an upload that was checked before the last collection began is stale
+  -- a commit that isn't kept is taken in from its merge base
   abbrev pub update_due : Token → List ℕ → Due
-  update_due token pushed =
-      if is_kept s.kept pushed then Says (reply.Updated (head_of s.kept))
-      else if nat_lt token.last s.collection then Says (reply.Refused (refusal.Stale token.last s.collection))
-      else base_due token.user pushed (base_of s pushed)
+  update_due token pushed = by_state (update_decided s.state token pushed) (base_due token.user pushed (base_of s pushed))
 
   -- ---- all calls
 
+  -- what the objects decide of an act; of a check, the head and a limit the state decides all
+  abbrev pub act_by_objects : Token → Act → Due
+  act_by_objects token (act.Check o) = Denies
+  act_by_objects token act.Head = Denies
+  act_by_objects token (act.Get key) = Says (got key (map.get s.objects key))
+  act_by_objects token (act.Put key bytes) = put_by_objects key bytes
+  act_by_objects token (act.Missing k ids) = Says (reply.Absent (absent k ids))
+  act_by_objects token (act.Update commit) = base_due token.user commit (base_of s commit)
+  act_by_objects token (act.Limit days) = Denies
+  act_by_objects token (act.Ids server client) = Says (listed server client)
+
   -- what an act is due, of one whose right is enough
   abbrev pub act_due : Token → Act → Due
-  act_due token (act.Check o) = Says reply.Checked
-  act_due token act.Head = Says (reply.HeadIs (head_of s.kept))
-  act_due token (act.Get key) = Says (got key (map.get s.objects key))
-  act_due token (act.Put key bytes) = put_due key bytes
-  act_due token (act.Missing k ids) = Says (reply.Absent (absent k ids))
-  act_due token (act.Update commit) = update_due token commit
-  act_due token (act.Limit days) = Says (if is_day_count days then reply.Limited else reply.Refused (refusal.BadDays days))
-  act_due token (act.Ids server client) = Says (listed server client)
+  act_due token a = by_state (act_decided s.state token a) (act_by_objects token a)
 
   -- an unknown secret is denied, and so is a right that isn't enough
   abbrev pub token_due : Act → Option Token → Due
@@ -181,4 +230,4 @@ module _ (s : State) where
 
   -- what a call is due, by the token of its secret
   abbrev pub due : Call → Due
-  due call = token_due call.act (token_of s.tokens call.secret)
+  due call = token_due call.act (token_of s.state.tokens call.secret)

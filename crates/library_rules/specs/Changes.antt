@@ -8,10 +8,10 @@ use Rattle.ids.specs.declared.key.Key.{Key}
 use Rattle.library_state.specs.Retention.{kept_for}
 use Rattle.library_state.specs.declared.call.Act.{Act}
 use Rattle.library_state.specs.declared.call.Act.TheVariants as act
-use Rattle.library_state.specs.declared.call.Op.{Op}
 use Rattle.library_state.specs.declared.call.Op.TheVariants as op
 use Rattle.library_state.specs.declared.reply.Reply.{Reply}
 use Rattle.library_state.specs.declared.reply.Reply.TheVariants as reply
+use Rattle.library_state.specs.declared.state.LibState.{LibState}
 use Rattle.library_state.specs.declared.token.Token.{Token}
 use Rattle.library_rules.specs.Calls.{keys_of}
 use Rattle.library_rules.specs.LibraryState.{State, Running, is_kept, is_stored}
@@ -51,10 +51,6 @@ add_all (key ∷ more) keys = add_all more (set.insert keys key)
 abbrev pub fresher : List Key → Running → Running
 fresher keys running = record running { fresh = add_all keys running.fresh }
 
--- where a collection runs, the keys are fresh
-abbrev pub told_fresh : List Key → State → State
-told_fresh keys s = record s { running = option_map (fresher keys) s.running }
-
 -- objects come and go; those that come are fresh
 abbrev pub moved : State → List Stored → List Key → State
 moved s added removed = record s { objects = without (with_added s.objects added) removed; running = option_map (fresher (keys_added added)) s.running }
@@ -83,11 +79,6 @@ abbrev pub seen_by : Option (List ℕ) → ℕ → List Token → List Token
 seen_by None collection tokens = tokens
 seen_by (Some secret) collection tokens = with_last secret collection tokens
 
--- an upload check tells the token of the last collection; a download check changes nothing
-abbrev pub checked : Option (List ℕ) → Op → State → State
-checked secret op.Upload s = record s { tokens = seen_by secret s.collection s.tokens }
-checked secret op.Download s = s
-
 -- a key that was told present by a put; what was put new is fresh as an object that came
 abbrev pub told_by : Key → Reply → List Key
 told_by key (reply.Stored false) = key ∷ []
@@ -102,28 +93,45 @@ abbrev pub head_in : Reply → List ℕ → List ℕ
 head_in (reply.Updated head) pushed = head
 head_in other pushed = pushed
 
--- one head update more
-abbrev pub installed : (head pushed : List ℕ) → (moment : ℕ) → State → State
-installed head pushed moment s = record s { kept = s.kept ++ record { head = head; pushed = pushed; at = moment } ∷ [] }
+-- the state with one head update more
+abbrev pub with_install : (head pushed : List ℕ) → ℕ → LibState → LibState
+with_install head pushed moment state = record state { kept = state.kept ++ record { head = head; pushed = pushed; at = moment } ∷ [] }
+
+-- the state after an act that is answered so and isn't refused: an upload check tells the token of the last collection,
+-- and an update of a commit that isn't kept is one head update more
+abbrev pub next_by : LibState → Option (List ℕ) → ℕ → Act → Reply → LibState
+next_by state secret moment (act.Check op.Upload) r = record state { tokens = seen_by secret state.collection state.tokens }
+next_by state secret moment (act.Check op.Download) r = state
+next_by state secret moment act.Head r = state
+next_by state secret moment (act.Get key) r = state
+next_by state secret moment (act.Put key bytes) r = state
+next_by state secret moment (act.Missing k ids) r = state
+next_by state secret moment (act.Update pushed) r = if is_kept state.kept pushed then state else with_install (head_in r pushed) pushed moment state
+next_by state secret moment (act.Limit days) r = record state { days = days }
+next_by state secret moment (act.Ids server client) r = state
+
+-- where a collection runs, the keys that an act told present are fresh: that of a put, and those that were asked for and
+-- are stored
+abbrev pub fresher_by : Objects → Act → Reply → Option Running → Option Running
+fresher_by objects (act.Check o) r running = running
+fresher_by objects act.Head r running = running
+fresher_by objects (act.Get key) r running = running
+fresher_by objects (act.Put key bytes) r running = option_map (fresher (told_by key r)) running
+fresher_by objects (act.Missing k ids) r running = option_map (fresher (stored_keys objects (keys_of k ids))) running
+fresher_by objects (act.Update pushed) r running = running
+fresher_by objects (act.Limit days) r running = running
+fresher_by objects (act.Ids server client) r running = running
 
 -- what a call that isn't refused changes, beside objects that come
 abbrev pub act_changes : Option (List ℕ) → ℕ → Act → Reply → State → State
-act_changes secret moment (act.Check o) r s = checked secret o s
-act_changes secret moment act.Head r s = s
-act_changes secret moment (act.Get key) r s = s
-act_changes secret moment (act.Put key bytes) r s = told_fresh (told_by key r) s
-act_changes secret moment (act.Missing k ids) r s = told_fresh (stored_keys s.objects (keys_of k ids)) s
-act_changes secret moment (act.Update pushed) r s = if is_kept s.kept pushed then s else installed (head_in r pushed) pushed moment s
-act_changes secret moment (act.Limit days) r s = record s { days = days }
-act_changes secret moment (act.Ids server client) r s = s
+act_changes secret moment a r s = record s { state = next_by s.state secret moment a r; running = fresher_by s.objects a r s.running }
 
 -- ---- collections
 
 -- history is cut, the collection has the next number, and no key is fresh
 abbrev pub begun : ℕ → State → State
 begun moment s = record s {
-  kept = kept_for s.days moment s.kept;
-  collection = s.collection + 1;
+  state = record s.state { kept = kept_for s.state.days moment s.state.kept; collection = s.state.collection + 1 };
   running = Some (record { fresh = set.empty; stored = map.len s.objects; turned = 0 });
 }
 

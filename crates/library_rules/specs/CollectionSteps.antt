@@ -17,7 +17,7 @@ use Rattle.library_rules.specs.declared.entry.Entry.{Entry}
 pub record Begins (s : State) (e : Entry) : Type 0 where
   pub says : Plain s e reply.Checked
   pub idle : s.running ≡ None
-  pub next : s.collection < last_number
+  pub next : s.state.collection < last_number
   pub adds : e.added ≡ []
   pub removes : e.removed ≡ []
 
@@ -25,7 +25,7 @@ pub record Begins (s : State) (e : Entry) : Type 0 where
 -- twice as many turns that aren't refused as objects were stored when it began
 pub record Sweeps (s : State) (running : Running) (e : Entry) : Type 0 where
   pub stored : (key : Key) → is_in e.removed key ≡ true → is_stored s.objects key ≡ true
-  pub unneeded : (key : Key) → is_in e.removed key ≡ true → is_needed s.objects s.kept key ≡ false
+  pub unneeded : (key : Key) → is_in e.removed key ≡ true → is_needed s.objects s.state.kept key ≡ false
   pub not_fresh : (key : Key) → is_in e.removed key ≡ true → set.contains running.fresh key ≡ false
   pub once : IsDistinct (eq_by_cmp key_cmp) e.removed
   pub few : e.reply ≡ reply.Checked → running.turned < 2 * running.stored
@@ -33,12 +33,12 @@ pub record Sweeps (s : State) (running : Running) (e : Entry) : Type 0 where
 
 -- where none runs nothing leaves, and the turn is refused: by a fault, or since the last collection began already
 abbrev pub SweepPermits : State → Entry → Option Running → Type 0
-SweepPermits s e None = (e.removed ≡ []) × (Fails s e ⊎ (Plain s e (reply.Refused refusal.Spent) × (s.collection ≡ last_number)))
+SweepPermits s e None = (e.removed ≡ []) × (Fails s e ⊎ (Plain s e (reply.Refused refusal.Spent) × (s.state.collection ≡ last_number)))
 SweepPermits s e (Some running) = Sweeps s running e
 
 -- what is stored is needed by a kept commit or fresh
 pub record IsClean (s : State) : Type 0 where
-  pub each : (key : Key) → is_stored s.objects key ≡ true → (is_needed s.objects s.kept key || is_fresh s.running key) ≡ true
+  pub each : (key : Key) → is_stored s.objects key ≡ true → (is_needed s.objects s.state.kept key || is_fresh s.running key) ≡ true
 
 -- a collection ends where one runs and nothing is left for it
 pub record Ends (s : State) (e : Entry) : Type 0 where

@@ -1,4 +1,4 @@
--- A new library, and a token more. Our own. Read created and with_token.
+-- A new library, and a token more. Our own. Read first_state, then created and with_token.
 use Rattle.std.specs.Prelude.{ℕ, negsuc, false, List, [], ◌∷◌, ◌++◌, codes, None}
 use Rattle.ids.specs.Key.{Objects}
 use Rattle.ids.specs.ObjectId.{nil}
@@ -7,6 +7,7 @@ use Rattle.commit_objects.specs.Spelling.{text_of}
 use Rattle.commit_objects.specs.declared.commit.Commit.{Commit}
 use Rattle.library_state.specs.declared.right.Right.{Right}
 use Rattle.library_state.specs.declared.right.Right.TheVariants.{Owner}
+use Rattle.library_state.specs.declared.state.LibState.{LibState}
 use Rattle.object_graph.specs.Objects.{commit_key}
 use Rattle.library_rules.specs.Changes.{put_new}
 use Rattle.library_rules.specs.LibraryState.{State}
@@ -20,18 +21,24 @@ opening_commit lib user moment = made lib nil None None user (codes "Created lib
 abbrev pub opening_object : Commit → Stored
 opening_object commit = record { key = commit_key commit.id; bytes = text_of commit }
 
--- a new library: its history is the opening commit, all of it is retained, and one token has every right
+-- the state of a new library: its history is one head update, all of it is retained, and one token has every right
+abbrev pub first_state : (lib name user secret head : List ℕ) → ℕ → LibState
+first_state lib name user secret head moment = record {
+  lib = lib;
+  name = name;
+  kept = record { head = head; pushed = head; at = moment } ∷ [];
+  days = negsuc 0;
+  collection = 0;
+  opening = 1;
+  tokens = record { secret = secret; user = user; right = Owner; last = 0 } ∷ [];
+}
+
+-- a new library, whose history is the opening commit
 abbrev pub created_at : Commit → (lib name user secret : List ℕ) → ℕ → Objects → ℕ → State
 created_at commit lib name user secret moment objects faults = record {
   objects = put_new objects (opening_object commit);
-  kept = record { head = commit.id; pushed = commit.id; at = moment } ∷ [];
-  collection = 0;
+  state = first_state lib name user secret commit.id moment;
   running = None;
-  days = negsuc 0;
-  tokens = record { secret = secret; user = user; right = Owner; last = 0 } ∷ [];
-  opening = 1;
-  lib = lib;
-  name = name;
   faults = faults;
 }
 
@@ -39,6 +46,10 @@ created_at commit lib name user secret moment objects faults = record {
 abbrev pub created : (lib name user secret : List ℕ) → ℕ → Objects → ℕ → State
 created lib name user secret moment objects faults = created_at (opening_commit lib user moment) lib name user secret moment objects faults
 
--- one token more, which saw no collection
+-- the state with one token more, which saw no collection
+abbrev pub with_new_token : (user secret : List ℕ) → Right → LibState → LibState
+with_new_token user secret right state = record state { tokens = state.tokens ++ record { secret = secret; user = user; right = right; last = 0 } ∷ [] }
+
+-- the library with one token more
 abbrev pub with_token : (user secret : List ℕ) → Right → State → State
-with_token user secret right s = record s { tokens = s.tokens ++ record { secret = secret; user = user; right = right; last = 0 } ∷ [] }
+with_token user secret right s = record s { state = with_new_token user secret right s.state }

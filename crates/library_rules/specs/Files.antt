@@ -12,7 +12,7 @@ use Rattle.library_rules.specs.declared.entry.Entry.{Entry}
 
 -- a commit is kept at each of these places of a history
 pub record IsKeptBetween (start : State) (es : List Entry) (from to : ℕ) (commit : List ℕ) : Type 0 where
-  pub each : (n : ℕ) → from ≤ n → n ≤ to → is_kept (after start es n).kept commit ≡ true
+  pub each : (n : ℕ) → from ≤ n → n ≤ to → is_kept (after start es n).state.kept commit ≡ true
 
 -- what a commit needs is stored at both places, with equal bytes, and its tree stays the same, byte for byte
 pub record KeepsFiles (old new : Objects) (commit : List ℕ) : Type 0 where

@@ -25,7 +25,7 @@ IsLate other = ⊥
 
 -- why such a refusal may come: a collection began since the token's upload was checked; or nothing is stored under the key
 abbrev pub IsCauseOf : State → Token → Refusal → Type 0
-IsCauseOf s token (refusal.Stale last now) = (last ≡ token.last) × (now ≡ s.collection) × (token.last < s.collection)
+IsCauseOf s token (refusal.Stale last now) = (last ≡ token.last) × (now ≡ s.state.collection) × (token.last < s.state.collection)
 IsCauseOf s token (refusal.Incomplete key) = is_stored s.objects key ≡ false
 IsCauseOf s token other = ⊤
 

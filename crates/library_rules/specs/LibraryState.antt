@@ -9,6 +9,7 @@ use Rattle.ids.specs.declared.key.Key.{Key}
 pub use Rattle.library_state.specs.StateText.{last_number, is_day_count}
 use Rattle.library_state.specs.Tokens.{secrets_of}
 use Rattle.library_state.specs.declared.history.Install.{Install}
+use Rattle.library_state.specs.declared.state.LibState.{LibState}
 use Rattle.library_state.specs.declared.token.Token.{Token}
 use Rattle.object_graph.specs.Objects.{same_id}
 use Rattle.object_graph.specs.Traversal.{IsComplete, is_in, needs}
@@ -20,19 +21,12 @@ pub record Running : Type 0 where
   pub stored : ℕ
   pub turned : ℕ
 
--- what a library is: its objects; the head updates that are retained, of which the last one has the head; how many
--- collections began, and the one that runs; for how many days history is retained; who may ask; how often it was
--- opened; its id and its name; and how often its storage failed
+-- what a library is: its objects; the state that is written into its text, with the head updates that are retained, of
+-- which the last one has the head; the collection that runs; and how often its storage failed
 pub record State : Type 0 where
   pub objects : Objects
-  pub kept : List Install
-  pub collection : ℕ
+  pub state : LibState
   pub running : Option Running
-  pub days : ℤ
-  pub tokens : List Token
-  pub opening : ℕ
-  pub lib : List ℕ
-  pub name : List ℕ
   pub faults : ℕ
 
 -- ---- kept commits, and what they need
@@ -94,6 +88,6 @@ pub record AreNumbers (collection opening : ℕ) (days : ℤ) (name : List ℕ) 
 
 -- a sound state
 pub record IsSound (s : State) : Type 0 where
-  pub kept : AreKept s.objects s.kept s.running
-  pub tokens : AreTokens s.tokens s.collection
-  pub numbers : AreNumbers s.collection s.opening s.days s.name
+  pub kept : AreKept s.objects s.state.kept s.running
+  pub tokens : AreTokens s.state.tokens s.state.collection
+  pub numbers : AreNumbers s.state.collection s.state.opening s.state.days s.state.name

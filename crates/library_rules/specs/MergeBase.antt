@@ -45,8 +45,8 @@ along next (Some parent) = next parent
 module _ (s : State) where
   -- from a commit on, which is n steps from the pushed one, with at most `left` steps to go
   unfoldable pub base_from : (left n : ℕ) → List ℕ → Based
-  base_from zero n id = if is_kept s.kept id then Base id else by_commit (λ parent. NoBase (refusal.Unrelated n)) n (commit_at s.objects id)
-  base_from (suc left) n id = if is_kept s.kept id then Base id else by_commit (base_from left (n + 1)) n (commit_at s.objects id)
+  base_from zero n id = if is_kept s.state.kept id then Base id else by_commit (λ parent. NoBase (refusal.Unrelated n)) n (commit_at s.objects id)
+  base_from (suc left) n id = if is_kept s.state.kept id then Base id else by_commit (base_from left (n + 1)) n (commit_at s.objects id)
 
   -- the merge base of a pushed commit, at most 128 steps from it
   abbrev pub base_of : List ℕ → Based
@@ -54,8 +54,8 @@ module _ (s : State) where
 
   -- the commits that are looked at: from a commit along first parents, up to but without a kept one
   unfoldable pub chain_from : ℕ → List ℕ → List (List ℕ)
-  chain_from zero id = if is_kept s.kept id then [] else id ∷ []
-  chain_from (suc left) id = if is_kept s.kept id then [] else id ∷ along (chain_from left) (parents_of (commit_at s.objects id))
+  chain_from zero id = if is_kept s.state.kept id then [] else id ∷ []
+  chain_from (suc left) id = if is_kept s.state.kept id then [] else id ∷ along (chain_from left) (parents_of (commit_at s.objects id))
 
   -- the commits from a pushed one to its merge base, without that one
   abbrev pub chain_of : List ℕ → List (List ℕ)

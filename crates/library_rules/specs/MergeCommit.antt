@@ -52,12 +52,12 @@ has_conflict sides = some_in (conflicts naming sides)
 -- a fact on the trees of the merge base, the head and the pushed commit
 abbrev pub OfTrees : State → (base pushed : List ℕ) → (Sides → Type 0) → Type 0
 OfTrees s base pushed P =
-    (b h p : Tree) → IsTreeAt s.objects base b → IsTreeAt s.objects (head_of s.kept) h → IsTreeAt s.objects pushed p
+    (b h p : Tree) → IsTreeAt s.objects base b → IsTreeAt s.objects (head_of s.state.kept) h → IsTreeAt s.objects pushed p
     → P (record { base = b; head = h; pushed = p })
 
 -- the commit of a merge: its parents are the old head and the pushed commit, it is by the user of the token, at the moment
 abbrev pub merge_commit : State → ℕ → (user pushed root : List ℕ) → Bool → Commit
-merge_commit s moment user pushed root conflict = made s.lib root (Some (head_of s.kept)) (Some pushed) user (codes "Auto merge by system") moment conflict
+merge_commit s moment user pushed root conflict = made s.state.lib root (Some (head_of s.state.kept)) (Some pushed) user (codes "Auto merge by system") moment conflict
 
 -- a directory object, under its own name. It has an entry: an empty directory has no object
 pub record IsDirectoryObject (x : Stored) : Type 0 where
@@ -79,31 +79,6 @@ IsMade s moment user pushed root conflict x = IsDirectoryObject x ⊎ IsCommitOb
 abbrev pub IsNilWhereNoPath : Tree → List ℕ → Type 0
 IsNilWhereNoPath tree root = (root ≡ nil) ↔ ((path : PathV) → map.get tree path ≡ None)
 
--- the new head is a complete commit whose tree is the merge, told as a conflict where a conflict name was given; the
--- objects that come with it are those that it needs and that weren't stored, each once and under its own name
-pub record Makes (s : State) (moment : ℕ) (user base pushed new : List ℕ) (added : List Stored) : Type 0 where
-  pub root : List ℕ
-  pub conflict : Bool
-  pub is_commit : commit_at (with_added s.objects added) new ≡ Ok (merge_commit s moment user pushed root conflict)
-  pub complete : IsComplete (with_added s.objects added) new
-  pub tree : OfTrees s base pushed (λ sides. (t : Tree) × (merge_of sides ≡ MergedTree t) × IsTreeOf (with_added s.objects added) root t)
-  pub zeros : OfTrees s base pushed (λ sides. (t : Tree) → merge_of sides ≡ MergedTree t → IsNilWhereNoPath t root)
-  pub told : OfTrees s base pushed (λ sides. conflict ≡ has_conflict sides)
-  pub needed : AllByRecursion (λ x. is_in (needs (with_added s.objects added) new) x.key ≡ true) added
-  pub were_gone : AllByRecursion (λ x. is_stored s.objects x.key ≡ false) added
-  pub named : AllByRecursion (IsMade s moment user pushed root conflict) added
-  pub once : IsDistinct (eq_by_cmp key_cmp) (keys_added added)
-
--- some of the objects that a merge would make, each once
-pub record Partly (s : State) (moment : ℕ) (user base pushed : List ℕ) (added : List Stored) : Type 0 where
-  pub new : List ℕ
-  pub all : List Stored
-  pub would : Makes s moment user base pushed new all
-  pub part : AllByRecursion (Contains all) added
-  pub once : IsDistinct (eq_by_cmp key_cmp) (keys_added added)
-
--- ---- objects that can't be stored
-
 -- a directory's id is forty zeros exactly where the tree has nothing in it
 abbrev pub IsNilWhereNone : Tree → PathV → List ℕ → Type 0
 IsNilWhereNone tree dir id = (id ≡ nil) ↔ ((name : List ℕ) → map.get tree (dir ++ name ∷ []) ≡ None)
@@ -120,6 +95,37 @@ pub record IsDirectoryOf (objects : Objects) (tree : Tree) (entries : List Diren
 pub record IsMergedDirectory (s : State) (tree : Tree) (x : Stored) : Type 0 where
   pub object : IsDirectoryObject x
   pub within : IsDirectoryOf s.objects tree object.entries
+
+-- an object that the merge into this tree makes: a directory of it, or the commit
+abbrev pub IsMadeOf : State → ℕ → (user pushed root : List ℕ) → Bool → Tree → Stored → Type 0
+IsMadeOf s moment user pushed root conflict tree x = IsMergedDirectory s tree x ⊎ IsCommitObject s moment user pushed root conflict x
+
+-- the new head is a complete commit whose tree is the merge, told as a conflict where a conflict name was given; the
+-- objects that come with it are those that it needs and that weren't stored, each once and under its own name: the commit,
+-- and directories of the merged tree, in which an entry of an empty directory has forty zeros
+pub record Makes (s : State) (moment : ℕ) (user base pushed new : List ℕ) (added : List Stored) : Type 0 where
+  pub root : List ℕ
+  pub conflict : Bool
+  pub is_commit : commit_at (with_added s.objects added) new ≡ Ok (merge_commit s moment user pushed root conflict)
+  pub complete : IsComplete (with_added s.objects added) new
+  pub tree : OfTrees s base pushed (λ sides. (t : Tree) × (merge_of sides ≡ MergedTree t) × IsTreeOf (with_added s.objects added) root t)
+  pub zeros : OfTrees s base pushed (λ sides. (t : Tree) → merge_of sides ≡ MergedTree t → IsNilWhereNoPath t root)
+  pub told : OfTrees s base pushed (λ sides. conflict ≡ has_conflict sides)
+  pub needed : AllByRecursion (λ x. is_in (needs (with_added s.objects added) new) x.key ≡ true) added
+  pub were_gone : AllByRecursion (λ x. is_stored s.objects x.key ≡ false) added
+  pub named : AllByRecursion (IsMade s moment user pushed root conflict) added
+  pub of_merge : OfTrees s base pushed (λ sides. (t : Tree) → merge_of sides ≡ MergedTree t → AllByRecursion (IsMadeOf s moment user pushed root conflict t) added)
+  pub once : IsDistinct (eq_by_cmp key_cmp) (keys_added added)
+
+-- some of the objects that a merge would make, each once
+pub record Partly (s : State) (moment : ℕ) (user base pushed : List ℕ) (added : List Stored) : Type 0 where
+  pub new : List ℕ
+  pub all : List Stored
+  pub would : Makes s moment user base pushed new all
+  pub part : AllByRecursion (Contains all) added
+  pub once : IsDistinct (eq_by_cmp key_cmp) (keys_added added)
+
+-- ---- objects that can't be stored
 
 -- the commit of the merged tree: with some directory objects its root has this tree
 pub record IsMergedCommit (s : State) (moment : ℕ) (user pushed : List ℕ) (conflict : Bool) (tree : Tree) (x : Stored) : Type 0 where

@@ -4,31 +4,18 @@ use Rattle.ids.specs.Key.{Objects}
 use Rattle.ids.specs.declared.key.Key.{Key}
 use Rattle.library_state.specs.StateSpelling.{text_of}
 use Rattle.library_state.specs.StateText.{state_of as read_state}
-use Rattle.library_state.specs.declared.state.LibState.{LibState}
 use Rattle.object_graph.specs.Unchanged.{Keeps}
 use Rattle.library_rules.specs.LibraryState.{State, is_stored, is_needed}
 
--- what the state text holds of a state: all but its objects, the collection that runs and the count of faults
-abbrev pub written_part : State → LibState
-written_part s = record {
-  lib = s.lib;
-  name = s.name;
-  kept = s.kept;
-  days = s.days;
-  collection = s.collection;
-  opening = s.opening;
-  tokens = s.tokens;
-}
-
--- the state's text stands in the shelf's slot and is read as the state's, each object of the state lies there with its bytes, and what else lies
--- there no kept commit needs
+-- the text of the state stands in the shelf's slot and is read as it, each object of the library lies there with its
+-- bytes, and what else lies there no kept commit needs
 pub record StandsFor (slot : Option (List ℕ)) (lying : Objects) (s : State) : Type 0 where
-  pub text : slot ≡ Some (text_of (written_part s))
-  pub reads : read_state (text_of (written_part s)) ≡ Ok (written_part s)
+  pub text : slot ≡ Some (text_of s.state)
+  pub reads : read_state (text_of s.state) ≡ Ok s.state
   pub lies : Keeps s.objects lying
-  pub garbage : (key : Key) → is_stored s.objects key ≡ false → is_needed lying s.kept key ≡ false
+  pub garbage : (key : Key) → is_stored s.objects key ≡ false → is_needed lying s.state.kept key ≡ false
 
 -- the state that is opened from such a shelf: with all objects that lie there, no collection running, and the next
 -- opening number
 abbrev pub opened : Objects → ℕ → State → State
-opened lying faults s = record s { objects = lying; running = None; opening = s.opening + 1; faults = faults }
+opened lying faults s = record s { objects = lying; state = record s.state { opening = s.state.opening + 1 }; running = None; faults = faults }

@@ -31,16 +31,16 @@ pub record IsUpdate (e : Entry) (pushed : List ℕ) : Type 0 where
 -- the call is an update of this commit, by one who may
 pub record MayUpdate (s : State) (call : Call) (pushed : List ℕ) : Type 0 where
   pub token : Token
-  pub known : token_of s.tokens call.secret ≡ Some token
+  pub known : token_of s.state.tokens call.secret ≡ Some token
   pub right : may token call.act ≡ true
   pub updates : call.act ≡ act.Update pushed
 
 -- no collection that began from one place up to another cut away every head update of the commit
 pub record IsRetained (start : State) (es : List Entry) (from to : ℕ) (commit : List ℕ) : Type 0 where
   pub each : (n : ℕ) (e : Entry) → from ≤ n → n < to → entry_at es n ≡ Some e → e.step ≡ step.Began
-      → is_kept (kept_for (after start es n).days e.moment (after start es n).kept) commit ≡ true
+      → is_kept (kept_for (after start es n).state.days e.moment (after start es n).state.kept) commit ≡ true
 
 -- the answer is the head, or a fault, and nothing changes but the count of faults
 pub record SaysHead (s : State) (e : Entry) : Type 0 where
-  pub answers : (e.reply ≡ reply.Updated (head_of s.kept)) ⊎ Fails s e
+  pub answers : (e.reply ≡ reply.Updated (head_of s.state.kept)) ⊎ Fails s e
   pub stays : apply s e ≡ counted e.faults s

@@ -11,7 +11,7 @@ use Rattle.library_rules.specs.MergeBase.{chain_of}
 -- while a collection runs, a key is shielded from it that is needed by a kept commit or fresh
 abbrev pub is_shielded : State → Option Running → Key → Bool
 is_shielded s None key = true
-is_shielded s (Some running) key = is_needed s.objects s.kept key || set.contains running.fresh key
+is_shielded s (Some running) key = is_needed s.objects s.state.kept key || set.contains running.fresh key
 
 -- a stored key that no collection takes until the next one begins
 abbrev pub is_safe : State → Key → Bool

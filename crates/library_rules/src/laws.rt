@@ -16,7 +16,7 @@ ghost use Rattle.library_rules.specs.Creation.{created, opening_commit, opening_
 ghost use Rattle.library_rules.specs.Files.{IsKeptBetween, KeepsFiles};
 ghost use Rattle.library_rules.specs.History.{after, Legal, Permits, Stands, StepSo};
 ghost use Rattle.library_rules.specs.LibraryState.{State, IsSound, last_number};
-ghost use Rattle.library_rules.specs.Recovery.{StandsFor, opened, written_part};
+ghost use Rattle.library_rules.specs.Recovery.{StandsFor, opened};
 ghost use Rattle.library_rules.specs.declared.entry.Entry.{Entry};
 ghost use Rattle.library_rules.specs.declared.entry.Step.{Step};
 ghost use Rattle.library_rules.specs.declared.entry.Step.TheVariants.{Asked};
@@ -73,24 +73,24 @@ pub fn a_new_library_is_sound()
 
 /// A sound library with a token more is sound: no other token has its secret, there is room, and its user is within its limits.
 pub fn a_sound_library_with_a_token_more_is_sound()
-    ensures { (s : State) → (user : List ℕ) → (secret : List ℕ) → (right : Right) → IsSound s → is_taken s.tokens secret ≡ false
-        → length s.tokens < 1000 → 1 ≤ length user → length user ≤ 255 → IsSound (with_token user secret right s) }
+    ensures { (s : State) → (user : List ℕ) → (secret : List ℕ) → (right : Right) → IsSound s → is_taken s.state.tokens secret ≡ false
+        → length s.state.tokens < 1000 → 1 ≤ length user → length user ≤ 255 → IsSound (with_token user secret right s) }
 {}
 
-/// Where the text and the objects of a sound state are there, and the text is read as the state's, the shelf stands for it:
-/// no kept commit needs what else lies there.
+/// Where the text and the objects of a sound state are there, the shelf stands for it: no kept commit needs what else lies
+/// there. The text reads back where the state is proper, as that of each typed state does.
 pub fn a_shelf_stands_for_a_state_by_its_text_and_its_objects()
-    ensures { (s : State) → (slot : Option (List ℕ)) → (lying : Objects) → IsSound s → slot ≡ Some (text_of (written_part s))
-        → state_of (text_of (written_part s)) ≡ Ok (written_part s) → Keeps s.objects lying → StandsFor slot lying s }
+    ensures { (s : State) → (slot : Option (List ℕ)) → (lying : Objects) → IsSound s → (IsProper s.state → state_of (text_of s.state) ≡ Ok s.state)
+        → slot ≡ Some (text_of s.state) → Keeps s.objects lying → StandsFor slot lying s }
 {}
 
 /// A sound state is written as a proper one.
 pub fn a_sound_state_is_written_as_a_proper_one()
-    ensures { (s : State) → IsSound s → IsProper (written_part s) }
+    ensures { (s : State) → IsSound s → IsProper s.state }
 {}
 
 /// What is opened from a shelf that stands for a sound state is sound, whatever else lies there.
 pub fn a_library_that_is_opened_again_is_sound()
     ensures { (s : State) → (slot : Option (List ℕ)) → (lying : Objects) → (faults : ℕ) → IsSound s → StandsFor slot lying s
-        → s.opening < last_number → IsSound (opened lying faults s) }
+        → s.state.opening < last_number → IsSound (opened lying faults s) }
 {}

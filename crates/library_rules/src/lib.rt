@@ -1,6 +1,6 @@
 //! The rules of one library: its state, what each call answers and changes, collections, and its history.
 //!
-//! Shown upward: `Entry`, `Step`, `Stored`, the small tables `right_needed`, `refusal_of` and `is_refused`, the theorems
+//! Shown upward: `Entry`, `Step`, `Stored`, the table `right_needed`, the theorems
 //! of `laws` and `upload_laws`, and the definitions of `specs/`: read LibraryState, Calls, Changes, Permitted and
 //! History, in this order.
 //! It answers no call and keeps no object: it says what an answer may be.
@@ -8,8 +8,8 @@
 
 mod entry;
 pub mod laws;
-mod tables;
+mod rights;
 pub mod upload_laws;
 
 pub use crate::entry::{Entry, Step, Stored};
-pub use crate::tables::{is_refused, refusal_of, right_needed};
+pub use crate::rights::right_needed;

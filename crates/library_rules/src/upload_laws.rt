@@ -25,18 +25,18 @@ ghost use Rattle.library_rules.specs.declared.entry.Step.TheVariants as step;
 pub fn as_a_collection_ends_what_is_stored_is_needed_or_fresh()
     ensures { (s : State) → (e : Entry) → Permits s e → e.step ≡ step.Ended → (key : Key)
         → is_stored (apply s e).objects key ≡ true
-        → (is_needed (apply s e).objects (apply s e).kept key || is_fresh s.running key) ≡ true }
+        → (is_needed (apply s e).objects (apply s e).state.kept key || is_fresh s.running key) ≡ true }
 {}
 
 /// Nothing leaves that a kept commit needs, or that was put or told present since the collection began.
 pub fn nothing_needed_or_fresh_is_removed()
     ensures { (s : State) → (e : Entry) → Permits s e → (key : Key) → is_in e.removed key ≡ true
-        → (is_needed s.objects s.kept key || is_fresh s.running key) ≡ false }
+        → (is_needed s.objects s.state.kept key || is_fresh s.running key) ≡ false }
 {}
 
 /// An update that was answered keeps its commit.
 pub fn an_answered_update_keeps_its_commit()
-    ensures { (s : State) → (e : Entry) → (pushed : List ℕ) → IsUpdate e pushed → is_kept (apply s e).kept pushed ≡ true }
+    ensures { (s : State) → (e : Entry) → (pushed : List ℕ) → IsUpdate e pushed → is_kept (apply s e).state.kept pushed ≡ true }
 {}
 
 /// An update that is sent again, since its reply was lost, is answered with the head, or by a fault, to whoever may update,
@@ -80,8 +80,8 @@ pub fn what_was_not_listed_as_absent_is_safe()
 /// commit all is safe: what its traversal visits, and the commits on the way along first parents to a kept one.
 pub fn an_update_whose_keys_are_safe_is_neither_stale_nor_incomplete()
     ensures { (s : State) → (e : Entry) → (call : Call) → (token : Token) → (pushed : List ℕ) → Permits s e
-        → e.step ≡ step.Asked call → call.act ≡ act.Update pushed → token_of s.tokens call.secret ≡ Some token
-        → token.last ≡ s.collection → IsUploaded s pushed → (why : Refusal) → IsLate why → e.reply ≢ reply.Refused why }
+        → e.step ≡ step.Asked call → call.act ≡ act.Update pushed → token_of s.state.tokens call.secret ≡ Some token
+        → token.last ≡ s.state.collection → IsUploaded s pushed → (why : Refusal) → IsLate why → e.reply ≢ reply.Refused why }
 {}
 
 /// Over a legal history: an update is refused neither as stale nor as incomplete, where no collection began since its
@@ -90,7 +90,7 @@ pub fn an_update_whose_keys_are_safe_is_neither_stale_nor_incomplete()
 pub fn an_upload_holds_until_the_next_collection_begins()
     ensures { (start : State) → (es : List Entry) → (from : ℕ) → (to : ℕ) → Legal start es → IsSound start → from ≤ to
         → NoneBegins es from to → (call : Call) → (pushed : List ℕ)
-        → IsUpToDate (after start es from).tokens (after start es from).collection call.secret → WasUploaded start es from to pushed
+        → IsUpToDate (after start es from).state.tokens (after start es from).state.collection call.secret → WasUploaded start es from to pushed
         → (e : Entry) → e.step ≡ step.Asked call → call.act ≡ act.Update pushed → Permits (after start es to) e
         → (why : Refusal) → IsLate why → e.reply ≢ reply.Refused why }
 {}
@@ -99,6 +99,6 @@ pub fn an_upload_holds_until_the_next_collection_begins()
 /// incomplete only with a key under which nothing is stored.
 pub fn a_stale_or_incomplete_update_has_its_cause()
     ensures { (s : State) → (e : Entry) → (call : Call) → (token : Token) → (pushed : List ℕ) → Permits s e
-        → e.step ≡ step.Asked call → call.act ≡ act.Update pushed → token_of s.tokens call.secret ≡ Some token
+        → e.step ≡ step.Asked call → call.act ≡ act.Update pushed → token_of s.state.tokens call.secret ≡ Some token
         → (why : Refusal) → IsLate why → e.reply ≡ reply.Refused why → IsCauseOf s token why }
 {}

@@ -2,8 +2,8 @@
 -- left_unopened and left_kept.
 use Rattle.std.proofs.Common.{◌≡◌, ℕ, inl, inr, Bool, true, false, List, Option, Some, option_map, refl, sym, ap, subst, ◌∙◌}
 use Rattle.std.specs.Prelude.{◌⊎◌}
-use Rattle.depot.specs.Opening.{LeftUnmade, LeftUnmadeBy, begun, stored, untouched}
-use Rattle.depot.specs.Reopening.{LeftUnopened, LeftUnopenedBy, next_opening, raised, untouched as unraised}
+use Rattle.depot.specs.Make.{LeftUnmade, LeftUnmadeBy, begun, stored, untouched}
+use Rattle.depot.specs.Start.{LeftUnopened, LeftUnopenedBy, next_opening, raised, untouched as unraised}
 use Rattle.depot.specs.Writing.{written}
 use Rattle.depot.specs.declared.error.MakeFault.{MakeFault}
 use Rattle.depot.specs.declared.error.MakeFault.TheVariants as make

@@ -16,7 +16,7 @@ use Rattle.ids.specs.declared.key.Kind.{Kind}
 use Rattle.ids.specs.declared.key.Kind.TheVariants.{Commit, Fs, Block}
 use Rattle.library_rules.proofs.Members.{same_id-true}
 use Rattle.library_rules.proofs.Steps.{objects_after}
-use Rattle.library_rules.specs.Calls.{Due, Denies, Says, Stores, Installs, Merges, act_due, base_due, complete_due, due, first_refusal, may, other_name, put_by, put_due, put_refusals, taken, token_due, token_of, update_due}
+use Rattle.library_rules.specs.Calls.{Due, Denies, Says, Stores, Installs, Merges, act_due, base_due, complete_due, due, first_refusal, listed, may, other_name, put_due, put_refusals, token_due, token_of, update_due, by_state, update_decided, ids_decided}
 use Rattle.library_rules.specs.Changes.{apply, put_new, with_added, without}
 use Rattle.library_rules.specs.History.{Permits, StepPermits, StepSo}
 use Rattle.library_rules.specs.LibraryState.{State, head_of, is_kept, is_stored}
@@ -39,6 +39,7 @@ use Rattle.object_graph.specs.Traversal.{walk_commit}
 use Rattle.object_graph.specs.declared.fault.TreeFault.{TreeFault}
 use Rattle.object_store.proofs.MapLemmas.{tied_key}
 use Rattle.object_store.specs.Store.{HasNames, has_other_name, is_named_by_bytes, same_bytes}
+use Rattle.library_rules.proofs.CallsLemmas.{put_due-is, taken, put_by}
 
 -- ---- one object
 
@@ -150,7 +151,7 @@ module _ (s : State) (e : Entry) where
   own_named k key bytes e =
       own_hash k key.id bytes (same_id-true (sha1 bytes) key.id (not_some (same_id (sha1 bytes) key.id) (refusal.Wrong (sha1 bytes)) e))
 
-  unrefused : (k : Kind) (key : Key) (bytes : List ℕ) (rest : List (Option Refusal)) → first_refusal (put_refusals s.lib k key bytes ++ rest) ≡ None
+  unrefused : (k : Kind) (key : Key) (bytes : List ℕ) (rest : List (Option Refusal)) → first_refusal (put_refusals s.state.lib k key bytes ++ rest) ≡ None
       → (is_named_by_bytes k && not (same_bytes (sha1 bytes) key.id)) ≡ false
   unrefused Commit key bytes rest e = refl
   unrefused Fs key bytes rest e = own_named Fs key bytes (first_none (other_name key bytes) _ e)
@@ -158,11 +159,16 @@ module _ (s : State) (e : Entry) where
 
   put_named : (key : Key) (bytes : List ℕ) → IsNamedDue (put_due s key bytes)
   put_named key bytes =
-      by_refusal key bytes (first_refusal (put_refusals s.lib key.kind key bytes ++ taken s key bytes ∷ [])) (λ e. unrefused key.kind key bytes (taken s key bytes ∷ []) e)
+      subst IsNamedDue (sym (put_due-is s key bytes))
+      (by_refusal key bytes (first_refusal (put_refusals s.state.lib key.kind key bytes ++ taken s key bytes ∷ [])) (λ e. unrefused key.kind key bytes (taken s key bytes ∷ []) e))
+
+  state_named : (o : Option Reply) (later : Due) → IsNamedDue later → IsNamedDue (by_state o later)
+  state_named (Some r) later named = tt
+  state_named None later named = named
 
   complete_named : (user base pushed : List ℕ) (o : Option TreeFault) → IsNamedDue (complete_due s user base pushed o)
   complete_named user base pushed (Some fault) = tt
-  complete_named user base pushed None = by (same_id base (head_of s.kept))
+  complete_named user base pushed None = by (same_id base (head_of s.state.kept))
     where
       by : (b : Bool) → IsNamedDue (cond b (Installs pushed) (Merges user base pushed))
       by true = tt
@@ -173,13 +179,8 @@ module _ (s : State) (e : Entry) where
   base_named user pushed (Base base) = complete_named user base pushed (walk_commit s.objects pushed).fault
 
   update_named : (token : Token) (pushed : List ℕ) → IsNamedDue (update_due s token pushed)
-  update_named token pushed = by (is_kept s.kept pushed) (nat_lt token.last s.collection)
-    where
-      by : (b d : Bool) → IsNamedDue (cond b (Says (reply.Updated (head_of s.kept)))
-          (cond d (Says (reply.Refused (refusal.Stale token.last s.collection))) (base_due s token.user pushed (base_of s pushed))))
-      by true d = tt
-      by false true = tt
-      by false false = base_named token.user pushed (base_of s pushed)
+  update_named token pushed =
+      state_named (update_decided s.state token pushed) (base_due s token.user pushed (base_of s pushed)) (base_named token.user pushed (base_of s pushed))
 
   act_named : (token : Token) (a : Act) → IsNamedDue (act_due s token a)
   act_named token (act.Check o) = tt
@@ -189,7 +190,7 @@ module _ (s : State) (e : Entry) where
   act_named token (act.Missing k ids) = tt
   act_named token (act.Update commit) = update_named token commit
   act_named token (act.Limit days) = tt
-  act_named token (act.Ids server client) = tt
+  act_named token (act.Ids server client) = state_named (ids_decided s.state.kept server) (Says (listed s server client)) tt
 
   token_named : (a : Act) (o : Option Token) → IsNamedDue (token_due s a o)
   token_named a None = tt
@@ -205,7 +206,7 @@ module _ (s : State) (e : Entry) where
   names_entered call is p names =
       let asked : StepPermits s e (step.Asked call) = subst (StepPermits s e) is p in
       subst HasNames (sym (objects_after s e ∙ ap (without (with_added s.objects e.added)) asked.1))
-      (names_added s.objects e.added names (added_named (due s call) (token_named call.act (token_of s.tokens call.secret)) asked.0))
+      (names_added s.objects e.added names (added_named (due s call) (token_named call.act (token_of s.state.tokens call.secret)) asked.0))
 
 -- what a call leaves
 pub names_stepped : (s : State) (call : Call) (moment : ℕ) (r : Reply) (t : State) (es : List Entry) → StepSo s (step.Asked call) moment r t es

@@ -5,7 +5,8 @@ use Rattle.std.specs.Str.{bytes_eq}
 use Rattle.std.proofs.lemmas.Bool.{false_from_ne_true}
 use Rattle.std.proofs.lemmas.Slice.Eq.{bytes_eq-Decides}
 use Rattle.ids.specs.Key.{Objects}
-use Rattle.depot.specs.Reopening.{IsDueOr, IsNextOf, IsOpened, IsTextFault, first_incomplete, next_opening, start_refusal, text_refusal}
+use Rattle.depot.specs.Start.{IsDueOr, IsGiven, IsNextOf, IsOpened, IsTextFault, first_incomplete, next_opening, start_refusal, text_refusal}
+use Rattle.depot.proofs.StartLemmas.{fault_before}
 use Rattle.depot.specs.declared.error.StartFault.{StartFault}
 use Rattle.depot.specs.declared.error.StartFault.TheVariants as start
 use Rattle.library_rules.specs.LibraryState.{kept_commits, last_number}
@@ -13,11 +14,13 @@ use Rattle.library_state.specs.StateText.{state_of as read_state}
 use Rattle.library_state.specs.declared.state.LibState.{LibState}
 use Rattle.library_state.specs.declared.state_fault.StateKey.{StateKey}
 use Rattle.object_graph.specs.declared.fault.TreeFault.{TreeFault}
-use Rattle.object_store.specs.Shelf.{Contents}
+use Rattle.object_store.specs.Shelf.{Contents, GivesNoMore}
 use Rattle.object_store.specs.StoreView.{StoreView, status_of}
 use Rattle.object_store.specs.declared.shelf.Slot.{Slot}
+use Rattle.object_store.specs.declared.shelf.Slot.TheVariants.{Status}
 use Rattle.server_words.specs.declared.command.Place.{Place}
-use Rattle.library_server.specs.LibraryOpening.{GivesOther, IsDueOpening, IsOpenedState, IsTextOf, of_text, opening_refusal, read_refusal}
+use Rattle.library_server.specs.LibraryOpening.{GivesOther, IsDueOpening, IsNotStarted, IsOpenedState, IsTextOf, of_text, opening_refusal, read_refusal}
+use Rattle.library_server.specs.declared.not_done.NotStarted.{NotStarted}
 use Rattle.library_server.specs.declared.not_done.NotStarted.TheVariants as unstarted
 
 -- another id
@@ -44,9 +47,21 @@ pub started_none : (lib : List ℕ) (objects : Objects) (status : Option (List �
 started_none lib objects status is due = started_due lib objects status is ∙ ap (option_map unstarted.Fault) due
 
 -- the state that was opened is that of a text of the library that was named
-pub opened_state : {S : Type 0} (may_give : S → Slot → Option (List ℕ) → Type 0) (place : Place) (lib : List ℕ) (shows : ℕ → Type 0) (state : LibState)
-    → ((before : S) × IsNextOf (may_give before) state) → state.lib ≡ lib → IsOpenedState may_give place lib shows state
-opened_state may_give place lib shows state given named = of_text given.0 given.1 named
+pub opened_state : {S : Type 0} (may_give : S → Slot → Option (List ℕ) → Type 0) (place : Place) (lib : List ℕ) (shows : ℕ → Type 0) (state : LibState) (shelf : S)
+    → IsNextOf (may_give shelf) state → state.lib ≡ lib → IsOpenedState may_give place lib shows state
+opened_state may_give place lib shows state shelf given named = of_text shelf given named
+
+-- ---- what a shelf may give after it was read it might give before
+
+pub given_before : {before now : Slot → Option (List ℕ) → Type 0} (state : LibState) → GivesNoMore before now → IsGiven now state → IsGiven before state
+given_before state gives is = record { text = is.text; gives = gives Status (Some is.text) is.gives; reads = is.reads }
+
+pub next_before : {before now : Slot → Option (List ℕ) → Type 0} (state : LibState) → GivesNoMore before now → IsNextOf now state → IsNextOf before state
+next_before state gives is = record { found = is.found; given = given_before is.found gives is.given; next = is.next }
+
+pub unstarted_before : {before now : Slot → Option (List ℕ) → Type 0} (lib : List ℕ) (why : NotStarted) → GivesNoMore before now → IsNotStarted now lib why → IsNotStarted before lib why
+unstarted_before lib (unstarted.Fault fault) gives is = fault_before fault gives is
+unstarted_before lib unstarted.Other gives is = record { state = is.state; given = given_before is.state gives is.given; other = is.other }
 
 ok_same : (a b : LibState) → ◌≡◌ {A = Result LibState StateKey} (Ok a) (Ok b) → a ≡ b
 ok_same a b e = cc

@@ -87,14 +87,14 @@ usage_alone Version printed e two = absurd (zero_two (sym (ap (λ z. z.status) (
     zero_two e = omega arith
 usage_alone Usage printed e two = (refl, ap (λ z. z.text) (unwrapped (line_printed line.Usage) printed e))
 
-module _ {S : Type 0} (contents : S → Option Contents) (may_give : S → Slot → Option (List ℕ) → Type 0) (faults : S → ℕ) (shows : ℕ → Type 0) where
+module _ {S : Type 0} (contents : S → Option Contents) (may_give : S → Slot → Option (List ℕ) → Type 0) (texts faults : S → ℕ) (shows : ℕ → Type 0) where
   no_service : (depot after : DepotView S) (before now : LinkView) (status : ℕ)
-      → ServesOpened contents may_give faults shows depot after before now status → status ≡ 2 → ⊥
+      → ServesOpened contents may_give texts faults shows depot after before now status → status ≡ 2 → ⊥
   no_service depot after before now status service two = no_end service.how (sym service.status_is ∙ two)
 
   -- the status 2 comes with the usage line alone
   pub runs_usage : (command : Command) (old new : GroundView) (before now : LinkView) (out_before out_now : SinkView) (status : ℕ)
-      → RunsSo contents may_give faults shows command old new before now out_before out_now status → status ≡ 2
+      → RunsSo contents may_give texts faults shows command old new before now out_before out_now status → status ≡ 2
       → (command ≡ Usage) × (out_now.given ≡ append_known out_before.given (line_text line.Usage))
   runs_usage command old new before now out_before out_now status (creates place lib name user secret is made left) two =
       absurd (no_print (line_printed (created_line lib made.created)) out_before out_now status made.prints (no_creation lib made.created) two)

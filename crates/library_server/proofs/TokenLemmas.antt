@@ -11,7 +11,6 @@ use Rattle.depot.specs.Writing.{LeftOpen, RewritesSo, Slot, again, nothing, open
 use Rattle.depot.specs.declared.error.TokenFault.{TokenFault}
 use Rattle.depot.specs.declared.error.TokenFault.TheVariants as token
 use Rattle.library_rules.specs.LibraryState.{State}
-use Rattle.library_rules.specs.Recovery.{written_part}
 use Rattle.object_store.specs.Shelf.{Contents}
 use Rattle.object_store.specs.Store.{is_free, is_of_shelf}
 use Rattle.object_store.specs.StoreView.{indexed, objects_of, status_of}
@@ -107,7 +106,7 @@ module _ {S : Type 0} (contents : S → Option Contents) (faults : S → ℕ) wh
 
   -- the objects stay, and the text is one of these
   text_stands : (old now : DepotView S) (held : Contents) (after : Option Standing) (t : State) → contents old.store.shelf ≡ Some held
-      → objects_of contents now.store ≡ objects_of contents old.store → status_of contents now.store ≡ Some (Some (text_of (written_part t)))
+      → objects_of contents now.store ≡ objects_of contents old.store → status_of contents now.store ≡ Some (Some (text_of t.state))
       → ((h : Contents) → contents now.store.shelf ≡ Some h → after ≡ Some (Kept h)) → StandsWithText after (state_on old held) t
   text_stands old now held after t there kept text back =
       let objects : objects_of contents now.store ≡ Some (indexed old.store.index held) = kept ∙ ap (option_map (indexed old.store.index)) there in
@@ -118,7 +117,7 @@ module _ {S : Type 0} (contents : S → Option Contents) (faults : S → ℕ) wh
         held = left.0;
         there = back left.0 left.1;
         lies = subst (λ objs. Keeps objs left.0.objects) same (indexed_lies now.store.index left.0);
-        text = some_same left.0.status (Some (text_of (written_part t))) (sym (ap (option_map (λ (c : Contents). c.status)) left.1) ∙ text);
+        text = some_same left.0.status (Some (text_of t.state)) (sym (ap (option_map (λ (c : Contents). c.status)) left.1) ∙ text);
       }
 
   -- the refusal of a token, of the library that was opened

@@ -12,8 +12,8 @@ use Rattle.ids.specs.declared.key.Key.{Key}
 use Rattle.depot.specs.Answering.{AnswersBySome}
 use Rattle.depot.specs.DepotView.{DepotView, running_library, state_of}
 use Rattle.depot.specs.ObjectCalls.{Counts, IsToldDamage}
-use Rattle.depot.specs.Opening.{is_make_counted, is_make_free, make_refusal}
-use Rattle.depot.specs.Reopening.{first_incomplete, state_refusal}
+use Rattle.depot.specs.Make.{is_make_counted, is_make_free, make_refusal}
+use Rattle.depot.specs.Start.{first_incomplete, state_refusal}
 use Rattle.depot.specs.Tokens.{is_token_counted, is_token_free, token_refusal}
 use Rattle.depot.specs.declared.error.MakeFault.{MakeFault}
 use Rattle.depot.specs.declared.error.MakeFault.TheVariants as make
@@ -231,10 +231,10 @@ added_whole (Err why) whole = whole
 
 -- ---- connections
 
-module _ {S : Type 0} (contents : S → Option Contents) (may_give : S → Slot → Option (List ℕ) → Type 0) (faults : S → ℕ) (shows : ℕ → Type 0) where
+module _ {S : Type 0} (contents : S → Option Contents) (may_give : S → Slot → Option (List ℕ) → Type 0) (texts faults : S → ℕ) (shows : ℕ → Type 0) where
   -- no reply is a refusal by storage that never fails
   pub calls_whole : (depot after : DepotView S) (calls : List (Told ⊤)) → NeverFails faults → NamesIn contents depot
-      → Ran (AtAMoment shows (AnswersOn contents may_give faults)) depot calls after → NoneOfStorage calls
+      → Ran (AtAMoment shows (AnswersOn contents may_give texts faults)) depot calls after → NoneOfStorage calls
   calls_whole depot after [] steady names ran = tt
   calls_whole depot after (t ∷ calls) steady names ran =
       let whole = ran.1.2.whole steady names in

@@ -7,7 +7,6 @@ use Rattle.depot.specs.declared.error.TokenFault.TheVariants as token
 use Rattle.folder_storage.specs.Ground.{Kept, Standing}
 use Rattle.library_rules.specs.Creation.{with_token}
 use Rattle.library_rules.specs.LibraryState.{State}
-use Rattle.library_rules.specs.Recovery.{written_part}
 use Rattle.library_state.specs.StateSpelling.{text_of}
 use Rattle.library_state.specs.declared.state.LibState.{LibState}
 use Rattle.object_graph.specs.Unchanged.{Keeps}
@@ -30,13 +29,13 @@ pub record StandsWithText (standing : Option Standing) (s t : State) : Type 0 wh
   pub held : Contents
   pub there : standing ≡ Some (Kept held)
   pub lies : Keeps s.objects held.objects
-  pub text : held.status ≡ Some (text_of (written_part t))
+  pub text : held.status ≡ Some (text_of t.state)
 
 -- why a token is not added to the library that was opened, and how that stands then: as it was opened, but that where the
 -- storage failed its text may be the one with the token
 abbrev pub RefusesToken : NewToken → State → TokenFault → Option Standing → Type 0
-RefusesToken new s token.SecretTaken after = (is_taken s.tokens new.secret ≡ true) × StandsAs after s
-RefusesToken new s token.Full after = (is_taken s.tokens new.secret ≡ false) × (1000 ≤ length s.tokens) × StandsAs after s
+RefusesToken new s token.SecretTaken after = (is_taken s.state.tokens new.secret ≡ true) × StandsAs after s
+RefusesToken new s token.Full after = (is_taken s.state.tokens new.secret ≡ false) × (1000 ≤ length s.state.tokens) × StandsAs after s
 RefusesToken new s (token.Store why) after = IsTrue (is_free why) × (StandsWithText after s s ⊎ (IsTrue (is_of_shelf why) × StandsWithText after s (with_new new s)))
 
 -- over told libraries, as one stood before and stands after: what was opened is there with the token, or the token is

@@ -17,9 +17,9 @@ use Rattle.worker_server.specs.declared.host.Answer.{Answer}
 
 -- the library answered: by the rules where its shelf tells what it holds, and over every shelf with its cause; one who may
 -- not ask is denied whatever the shelf does; and what is left can be opened again
-pub record IsAnswered {S : Type 0} (contents : S → Option Contents) (may_give : S → Slot → Option (List ℕ) → Type 0) (faults : S → ℕ)
+pub record IsAnswered {S : Type 0} (contents : S → Option Contents) (may_give : S → Slot → Option (List ℕ) → Type 0) (texts faults : S → ℕ)
     (old : DepotView S) (call : Call) (moment : ℕ) (r : Reply) (new : DepotView S) : Type 0 where
-  pub serves : Serves contents may_give faults old call moment r new
+  pub serves : Serves contents may_give texts faults old call moment r new
   pub denied : permits (token_of old.state.tokens call.secret) call.act ≡ false → r ≡ reply.Refused refusal.Denied
   pub good : IsGood contents faults new
 
@@ -48,9 +48,9 @@ NamesIn contents depot = (objects : Objects) × (objects_of contents depot.store
 -- a call on a library, asked at a moment: the library that is served answers it, and there is no other. It keeps no record
 -- of operations and no count of changes. Where the storage never fails and objects lie under their own names, no answer is a
 -- refusal by the storage, and so they lie afterwards
-pub record AnswersOn {S : Type 0} (contents : S → Option Contents) (may_give : S → Slot → Option (List ℕ) → Type 0) (faults : S → ℕ)
+pub record AnswersOn {S : Type 0} (contents : S → Option Contents) (may_give : S → Slot → Option (List ℕ) → Type 0) (texts faults : S → ℕ)
     (old : DepotView S) (lib : List ℕ) (call : Call) (moment : ℕ) (answer : Answer) (lines : List ⊤) (new : DepotView S) : Type 0 where
-  pub here : lib ≡ old.state.lib → IsAnswered contents may_give faults old call moment answer.reply new
+  pub here : lib ≡ old.state.lib → IsAnswered contents may_give texts faults old call moment answer.reply new
   pub elsewhere : lib ≢ old.state.lib → (answer.reply ≡ reply.Refused refusal.NoLibrary) × (new ≡ old)
   pub whole : NeverFails faults → NamesIn contents old → (is_storage_reply answer.reply ≡ false) × NamesIn contents new
   pub no_lines : lines ≡ []

@@ -36,12 +36,12 @@ status_of WriteFault = 1
 status_of NoMemory = 3
 
 -- one connection with a library that was opened; the connection's end gives the status
-pub record ServesOpened {S : Type 0} (contents : S → Option Contents) (may_give : S → Slot → Option (List ℕ) → Type 0) (faults : S → ℕ)
+pub record ServesOpened {S : Type 0} (contents : S → Option Contents) (may_give : S → Slot → Option (List ℕ) → Type 0) (texts faults : S → ℕ)
     (shows : ℕ → Type 0) (depot after : DepotView S) (before now : LinkView) (status : ℕ) : Type 0 where
   pub how : Served
   pub session : (input : List ℕ) → before.left ≡ Some input
-      → Session (AtAMoment shows (AnswersOn contents may_give faults)) input before.given now.given depot after how
-  pub ran : (calls : List (Told ⊤)) × Ran (AtAMoment shows (AnswersOn contents may_give faults)) depot calls after
+      → Session (AtAMoment shows (AnswersOn contents may_give texts faults)) input before.given now.given depot after how
+  pub ran : (calls : List (Told ⊤)) × Ran (AtAMoment shows (AnswersOn contents may_give texts faults)) depot calls after
   pub count : CountsEnd before.faults now.faults how
   pub status_is : status ≡ status_of how
 
@@ -55,13 +55,13 @@ pub record IsUnopened {S : Type 0} (contents : S → Option Contents) (may_give 
 
 -- one connection with the library that a command names, and with no other: it was opened, served and is back, with what its
 -- shelf then holds; or it was not opened, which gives the status, and the link is left alone
-pub data ServesPlace {S : Type 0} (contents : S → Option Contents) (may_give : S → Slot → Option (List ℕ) → Type 0) (faults : S → ℕ)
+pub data ServesPlace {S : Type 0} (contents : S → Option Contents) (may_give : S → Slot → Option (List ℕ) → Type 0) (texts faults : S → ℕ)
     (place : Place) (lib : List ℕ) (shows : ℕ → Type 0) (old new : GroundView) (before now : LinkView) (status : ℕ) : Type 0 where
   opened : (depot after : DepotView S) → IsOpenedState may_give place lib shows depot.state
       → ((standing : Standing) → old.stands (place_text place) lib ≡ Some standing → (s : State) × (state_of contents faults depot ≡ Some s) × OpensTo place lib shows standing s)
-      → ServesOpened contents may_give faults shows depot after before now status
+      → ServesOpened contents may_give texts faults shows depot after before now status
       → IsGood contents faults after → ComesBack old.stands new.stands (place_text place) lib (contents after.store.shelf)
-      → ServesPlace contents may_give faults place lib shows old new before now status
+      → ServesPlace contents may_give texts faults place lib shows old new before now status
   unopened : (why : NotOpened) → IsUnopened contents may_give place lib shows old new why
       → status ≡ fault_status (fault_of_not_opened why) → now ≡ before
-      → ServesPlace contents may_give faults place lib shows old new before now status
+      → ServesPlace contents may_give texts faults place lib shows old new before now status

@@ -9,7 +9,7 @@ use Rattle.library_state.specs.declared.state.LibState.{LibState}
 use Rattle.library_state.specs.declared.state_fault.StateKey.{StateKey}
 use Rattle.object_graph.specs.Unchanged.{Keeps}
 use Rattle.depot.specs.DepotView.{DepotView, library, state_of}
-use Rattle.depot.specs.Reopening.{IsGiven, IsNextOf, IsStartFault, IsStartFree, LeftUnopenedBy, next_opening, is_start_counted, state_refusal}
+use Rattle.depot.specs.Start.{IsGiven, IsNextOf, IsStartFault, IsStartFree, LeftUnopenedBy, next_opening, is_start_counted, state_refusal}
 use Rattle.depot.specs.declared.error.StartFault.{StartFault}
 use Rattle.depot.specs.declared.error.StartFault.TheVariants as start
 use Rattle.folder_storage.specs.Ground.{Absent, Kept, Standing}
@@ -115,10 +115,10 @@ pub record GivesOther (may_give : Slot → Option (List ℕ) → Type 0) (lib : 
   pub given : IsGiven may_give state
   pub other : state.lib ≢ lib
 
--- the cause of each refusal, over any shelf; that of another library may have been given by the shelf as it was before
-abbrev pub IsNotStarted : {S : Type 0} → (S → Slot → Option (List ℕ) → Type 0) → S → List ℕ → NotStarted → Type 0
-IsNotStarted may_give shelf lib (unstarted.Fault why) = IsStartFault (may_give shelf) why
-IsNotStarted {S} may_give shelf lib unstarted.Other = (before : S) × GivesOther (may_give before) lib
+-- the cause of each refusal, over any shelf, in what it may give as it is handed in
+abbrev pub IsNotStarted : (Slot → Option (List ℕ) → Type 0) → List ℕ → NotStarted → Type 0
+IsNotStarted may_give lib (unstarted.Fault why) = IsStartFault may_give why
+IsNotStarted may_give lib unstarted.Other = GivesOther may_give lib
 
 -- the failure that the storage counts
 abbrev pub is_unstarted_counted : NotStarted → Bool
@@ -167,7 +167,7 @@ OpensSo contents faults place lib shows standing (Err why) after = RefusesOpenin
 abbrev pub IsNotOpened : {S : Type 0} → (S → Slot → Option (List ℕ) → Type 0) → Place → List ℕ → (ℕ → Type 0) → NotOpened → Type 0
 IsNotOpened may_give place lib shows (unopened.Storage failed) = ⊤
 IsNotOpened may_give place lib shows unopened.Absent = IsFolder place
-IsNotOpened {S} may_give place lib shows (unopened.Refused why) = (shelf : S) × IsNotStarted may_give shelf lib why
+IsNotOpened {S} may_give place lib shows (unopened.Refused why) = (shelf : S) × IsNotStarted (may_give shelf) lib why
 IsNotOpened may_give place lib shows (unopened.Unmade why) = IsMemory place × (moment : ℕ) × shows moment × IsNotMade may_give (memory_library lib) moment why
 
 -- the failure that the storage counts

@@ -4,7 +4,7 @@ use Rattle.std.specs.FinMap as map
 use Rattle.ids.specs.FaultCount.{Rose}
 use Rattle.ids.specs.Key.{Objects}
 use Rattle.depot.specs.DepotView.{DepotView, state_of}
-use Rattle.depot.specs.Opening.{IsMakeFault, first_state, is_make_counted, is_make_free, make_refusal}
+use Rattle.depot.specs.Make.{IsMakeFault, first_state, is_make_counted, is_make_free, make_refusal}
 use Rattle.depot.specs.declared.error.MakeFault.{MakeFault}
 use Rattle.folder_storage.specs.Ground.{Absent, Kept, Standing, no_contents}
 use Rattle.library_rules.specs.Creation.{created, opening_commit, opening_object}

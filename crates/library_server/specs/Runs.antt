@@ -109,19 +109,19 @@ pub record AddsToken {S : Type 0} (contents : S → Option Contents) (may_give :
 
 -- a command makes a library, adds a token, or serves a connection and prints nothing; or it prints its text and leaves the
 -- libraries and the link alone; or there was no memory for the words, and nothing was done
-pub data RunsSo {S : Type 0} (contents : S → Option Contents) (may_give : S → Slot → Option (List ℕ) → Type 0) (faults : S → ℕ)
+pub data RunsSo {S : Type 0} (contents : S → Option Contents) (may_give : S → Slot → Option (List ℕ) → Type 0) (texts faults : S → ℕ)
     (shows : ℕ → Type 0) (command : Command) (old new : GroundView) (before now : LinkView) (out_before out_now : SinkView) (status : ℕ)
     : Type 0 where
   creates : (place : Place) (lib name user secret : List ℕ) → command ≡ Create place lib name user secret
       → CreatesLibrary contents may_give shows place (record { lib = lib; name = name; user = user; secret = secret }) old new out_before out_now status
-      → now ≡ before → RunsSo contents may_give faults shows command old new before now out_before out_now status
+      → now ≡ before → RunsSo contents may_give texts faults shows command old new before now out_before out_now status
   adds : (place : Place) (lib : List ℕ) (token : NewToken) → command ≡ Token place lib token.user token.secret token.right
       → AddsToken contents may_give shows place lib token old new out_before out_now status
-      → now ≡ before → RunsSo contents may_give faults shows command old new before now out_before out_now status
+      → now ≡ before → RunsSo contents may_give texts faults shows command old new before now out_before out_now status
   serves : (place : Place) (lib : List ℕ) → command ≡ Inetd place lib
-      → ServesPlace contents may_give faults place lib shows old new before now status
-      → out_now ≡ out_before → RunsSo contents may_give faults shows command old new before now out_before out_now status
+      → ServesPlace contents may_give texts faults place lib shows old new before now status
+      → out_now ≡ out_before → RunsSo contents may_give texts faults shows command old new before now out_before out_now status
   prints : (printed : Printed) → printed_of command ≡ Some printed → PrintsSo printed out_before out_now status
-      → new ≡ old → now ≡ before → RunsSo contents may_give faults shows command old new before now out_before out_now status
+      → new ≡ old → now ≡ before → RunsSo contents may_give texts faults shows command old new before now out_before out_now status
   unread : status ≡ 3 → new ≡ old → now ≡ before → out_now ≡ out_before
-      → RunsSo contents may_give faults shows command old new before now out_before out_now status
+      → RunsSo contents may_give texts faults shows command old new before now out_before out_now status

@@ -29,7 +29,7 @@ pub(crate) fn inetd<G: Ground, L: Link, C: Clock>(
     link: &mut L,
     clock: &C,
 ) -> u8
-    ensures serves { (service : ServesPlace G.S.contents G.S.may_give G.S.faults place.now lib (C.shows clock.now)
+    ensures serves { (service : ServesPlace G.S.contents G.S.may_give G.S.texts G.S.faults place.now lib (C.shows clock.now)
         (record { stands = G.stands libraries.old; faults = G.faults libraries.old })
         (record { stands = G.stands libraries.new; faults = G.faults libraries.new })
         (record { left = L.left link.old; given = L.given link.old; faults = L.faults link.old })
@@ -53,7 +53,7 @@ fn serve_opened<S: Shelf, L: Link, C: Clock>(
     link: &mut L,
     clock: &C,
 ) -> u8
-    ensures serves { ServesOpened S.contents S.may_give S.faults (C.shows clock.now) depot.old depot.new
+    ensures serves { ServesOpened S.contents S.may_give S.texts S.faults (C.shows clock.now) depot.old depot.new
         (record { left = L.left link.old; given = L.given link.old; faults = L.faults link.old })
         (record { left = L.left link.new; given = L.given link.new; faults = L.faults link.new }) result }
 {

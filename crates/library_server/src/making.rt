@@ -2,7 +2,7 @@
 ghost use Rattle.std.specs.Prelude.{◌≡◌, ◌≤◌, ℕ, List, IfOk, IfErr, OnOk, Option, Some, Err, length, ⊤};
 ghost use Rattle.ids.specs.FaultCount.{FailsBy};
 ghost use Rattle.depot.specs.DepotView.{IsGood, state_of};
-ghost use Rattle.depot.specs.Opening.{IsMakeFault, RefusesWith, is_make_counted, is_make_free, make_refusal};
+ghost use Rattle.depot.specs.Make.{IsMakeFault, RefusesWith, is_make_counted, is_make_free, make_refusal};
 ghost use Rattle.folder_storage.specs.Ground.{Standing};
 ghost use Rattle.library_rules.specs.Creation.{created, opening_commit, opening_object};
 ghost use Rattle.object_store.specs.Shelf.{Contents};

@@ -3,10 +3,10 @@ ghost use Rattle.std.specs.Prelude.{◌≡◌, ℕ, List, IfOk, IfErr, OnOk, Opt
 ghost use Rattle.ids.specs.FaultCount.{FailsBy};
 ghost use Rattle.ids.specs.Key.{Objects};
 ghost use Rattle.depot.specs.DepotView.{IsGood, state_of};
-ghost use Rattle.depot.specs.Reopening.{IsNextOf, OpensTold, without_store};
+ghost use Rattle.depot.specs.Start.{IsNextOf, OpensTold, without_store};
 ghost use Rattle.folder_storage.specs.Ground.{Absent, Standing, TakesBack, count_sum};
 ghost use Rattle.object_store.specs.Shelf.{Contents};
-ghost use Rattle.object_store.specs.StoreView.{Keeps, objects_of, status_of};
+ghost use Rattle.object_store.specs.StoreView.{Keeps, ReadsShelf, objects_of, status_of};
 ghost use Rattle.server_words.specs.Spelling.{place_text};
 ghost use Rattle.library_server.specs.Answering.{NeverFails};
 ghost use Rattle.library_server.specs.LibraryOpening.{IsDueOpening, IsMemory, IsNotOpened, IsNotStarted, IsOpenedState, IsTextOf, LeavesShelf, LeftUnstarted, OpensAs, OpensFrom, OpensSo, is_unopened_counted, is_unstarted_counted, memory_library};
@@ -154,12 +154,12 @@ fn memory_library(alloc: Global, lib: LibId) -> Result<NewLibrary, AllocError>
 fn open_on<S: Shelf>(alloc: Global, shelf: S, lib: &LibId) -> Result<Depot<S>, (S, NotStarted)>
     ensures settled { IfOk result (λ depot. depot.unsettled ≡ false) }
     ensures named { IfOk result (λ depot. depot.state.lib ≡ lib.now) }
-    ensures given { IfOk result (λ depot. (before : S) × IsNextOf (S.may_give before) depot.state) }
+    ensures given { IfOk result (λ depot. IsNextOf (S.may_give shelf) depot.state) }
     ensures good { IfOk result (IsGood S.contents S.faults) }
     ensures told { (held : Contents) → S.contents shelf ≡ Some held → IfOk result (OpensFrom S.contents S.faults lib.now held) }
     ensures refused { (held : Contents) → S.contents shelf ≡ Some held → OpensAs lib.now held.objects held.status (without_store result) }
     ensures left { (held : Contents) → S.contents shelf ≡ Some held → IfErr result (λ refused. LeavesShelf refused.1 held (S.contents refused.0)) }
-    ensures cause { IfErr result (λ refused. IsNotStarted S.may_give refused.0 lib.now refused.1) }
+    ensures cause { IfErr result (λ refused. IsNotStarted (S.may_give shelf) lib.now refused.1) }
     ensures faults { IfErr result (λ refused. FailsBy {T = ⊤} is_unstarted_counted (S.faults shelf) (S.faults refused.0) (Err refused.1)) }
 {
     let mut store = match Store::start(alloc, shelf) {
@@ -182,7 +182,8 @@ fn check_named<S: Shelf>(alloc: Global, store: &mut Store<S>, lib: &LibId) -> Re
     ensures kept { Keeps S.contents store.old store.new }
     ensures refused { (objects : Objects) → (status : Option (List ℕ)) → status_of S.contents store.old ≡ Some status
         → IfErr result (IsDueOpening lib.now objects status) }
-    ensures cause { IfErr result (IsNotStarted S.may_give store.new.shelf lib.now) }
+    ensures reads { ReadsShelf S.may_give S.texts store.old.shelf store.new.shelf }
+    ensures cause { IfErr result (IsNotStarted (S.may_give store.old.shelf) lib.now) }
     ensures faults { FailsBy is_unstarted_counted (S.faults store.old.shelf) (S.faults store.new.shelf) result }
 {
     match read_state(alloc, store) {
@@ -204,7 +205,7 @@ fn start_named<S: Shelf>(
 ) -> Result<Depot<S>, (Store<S>, NotStarted)>
     ensures settled { IfOk result (λ depot. depot.unsettled ≡ false) }
     ensures named { IfOk result (λ depot. depot.state.lib ≡ lib.now) }
-    ensures given { IfOk result (λ depot. (before : S) × IsNextOf (S.may_give before) depot.state) }
+    ensures given { IfOk result (λ depot. IsNextOf (S.may_give store.shelf) depot.state) }
     ensures good { IfOk result (IsGood S.contents S.faults) }
     ensures told { (objects : Objects) → objects_of S.contents store ≡ Some objects → IfOk result (OpensTold S.contents S.faults store objects) }
     ensures refused { (objects : Objects) → (status : Option (List ℕ)) → objects_of S.contents store ≡ Some objects → status_of S.contents store ≡ Some status
@@ -212,7 +213,7 @@ fn start_named<S: Shelf>(
     ensures left { (status : Option (List ℕ)) → status_of S.contents store ≡ Some status → IsTextOf lib.now status
         → IfErr result (λ refused. LeftUnstarted S.contents store refused.0 refused.1) }
     ensures kept { IfErr result (λ refused. objects_of S.contents refused.0 ≡ objects_of S.contents store) }
-    ensures cause { IfErr result (λ refused. IsNotStarted S.may_give refused.0.shelf lib.now refused.1) }
+    ensures cause { IfErr result (λ refused. IsNotStarted (S.may_give store.shelf) lib.now refused.1) }
     ensures faults { IfErr result (λ refused. FailsBy {T = ⊤} is_unstarted_counted (S.faults store.shelf) (S.faults refused.0.shelf) (Err refused.1)) }
 {
     match Depot::start(alloc, store) {

@@ -5,12 +5,12 @@ ghost use Rattle.server_words.specs.CommandLine.{NamesFit, command_of};
 ghost use Rattle.server_words.specs.Lines.{line_text};
 ghost use Rattle.server_words.specs.declared.line.Line.TheVariants as lines;
 ghost use Rattle.folder_storage.specs.Ground.{Standing};
+ghost use Rattle.folder_storage.specs.SteadyShelf.{SteadyShelfState};
 ghost use Rattle.server_words.specs.Spelling.{place_text};
 ghost use Rattle.library_server.specs.Answering.{NeverFails};
 ghost use Rattle.library_server.specs.Connections.{LinkView};
 ghost use Rattle.library_server.specs.Runs.{AddsToken, CreatesLibrary, PrintsSo, RunsSo, SinkView, added_line, created_line, help_printed, line_printed, version_printed};
 ghost use Rattle.library_server.specs.Standing.{GroundView};
-ghost use Rattle.object_store.specs.Shelf.{Contents};
 ghost use Rattle.library_server.specs.Whole.{AreWhole, IsWhole, empty_ground, holds_in};
 ghost use Rattle.library_server.specs.WholeRuns.{RunsWhole, is_storage_line};
 
@@ -47,7 +47,7 @@ pub fn run<G: Ground, L: Link, C: Clock, O: Sink, R>(
     clock: &C,
     out: &mut O,
 ) -> u8
-    ensures runs { RunsSo G.S.contents G.S.may_give G.S.faults (C.shows clock.now) (command_of words.now)
+    ensures runs { RunsSo G.S.contents G.S.may_give G.S.texts G.S.faults (C.shows clock.now) (command_of words.now)
         (record { stands = G.stands libraries.old; faults = G.faults libraries.old })
         (record { stands = G.stands libraries.new; faults = G.faults libraries.new })
         (record { left = L.left link.old; given = L.given link.old; faults = L.faults link.old })
@@ -56,7 +56,7 @@ pub fn run<G: Ground, L: Link, C: Clock, O: Sink, R>(
         (record { given = O.given out.new; faults = O.faults out.new }) result }
 
     // Over storage that never fails, in which each object lies under its own name, no line and no reply is a fault of it.
-    ensures whole { NeverFails G.S.faults → AreWhole (G.stands libraries.old) → (done : RunsSo G.S.contents G.S.may_give G.S.faults (C.shows clock.now) (command_of words.now)
+    ensures whole { NeverFails G.S.faults → AreWhole (G.stands libraries.old) → (done : RunsSo G.S.contents G.S.may_give G.S.texts G.S.faults (C.shows clock.now) (command_of words.now)
         (record { stands = G.stands libraries.old; faults = G.faults libraries.old })
         (record { stands = G.stands libraries.new; faults = G.faults libraries.new })
         (record { left = L.left link.old; given = L.given link.old; faults = L.faults link.old })
@@ -85,12 +85,12 @@ pub fn run_in_memory<L: Link, C: Clock, O: Sink, R>(
     clock: &C,
     out: &mut O,
 ) -> u8
-    ensures runs { (after : GroundView) × RunsSo {S = Contents} Some holds_in (λ shelf. 0) (C.shows clock.now) (command_of words.now) empty_ground after
+    ensures runs { (after : GroundView) × RunsSo {S = SteadyShelfState} (λ shelf. Some shelf.contents) (λ shelf. holds_in shelf.contents) (λ shelf. shelf.texts) (λ shelf. 0) (C.shows clock.now) (command_of words.now) empty_ground after
         (record { left = L.left link.old; given = L.given link.old; faults = L.faults link.old })
         (record { left = L.left link.new; given = L.given link.new; faults = L.faults link.new })
         (record { given = O.given out.old; faults = O.faults out.old })
         (record { given = O.given out.new; faults = O.faults out.new }) result }
-    ensures whole { (after : GroundView) × (done : RunsSo {S = Contents} Some holds_in (λ shelf. 0) (C.shows clock.now) (command_of words.now) empty_ground after
+    ensures whole { (after : GroundView) × (done : RunsSo {S = SteadyShelfState} (λ shelf. Some shelf.contents) (λ shelf. holds_in shelf.contents) (λ shelf. shelf.texts) (λ shelf. 0) (C.shows clock.now) (command_of words.now) empty_ground after
         (record { left = L.left link.old; given = L.given link.old; faults = L.faults link.old })
         (record { left = L.left link.new; given = L.given link.new; faults = L.faults link.new })
         (record { given = O.given out.old; faults = O.faults out.old })
@@ -110,14 +110,14 @@ fn perform<G: Ground, L: Link, C: Clock, O: Sink>(
     out: &mut O,
 ) -> u8
     requires fits { NamesFit command }
-    ensures runs { RunsSo G.S.contents G.S.may_give G.S.faults (C.shows clock.now) command
+    ensures runs { RunsSo G.S.contents G.S.may_give G.S.texts G.S.faults (C.shows clock.now) command
         (record { stands = G.stands libraries.old; faults = G.faults libraries.old })
         (record { stands = G.stands libraries.new; faults = G.faults libraries.new })
         (record { left = L.left link.old; given = L.given link.old; faults = L.faults link.old })
         (record { left = L.left link.new; given = L.given link.new; faults = L.faults link.new })
         (record { given = O.given out.old; faults = O.faults out.old })
         (record { given = O.given out.new; faults = O.faults out.new }) result }
-    ensures whole { NeverFails G.S.faults → AreWhole (G.stands libraries.old) → (done : RunsSo G.S.contents G.S.may_give G.S.faults (C.shows clock.now) command
+    ensures whole { NeverFails G.S.faults → AreWhole (G.stands libraries.old) → (done : RunsSo G.S.contents G.S.may_give G.S.texts G.S.faults (C.shows clock.now) command
         (record { stands = G.stands libraries.old; faults = G.faults libraries.old })
         (record { stands = G.stands libraries.new; faults = G.faults libraries.new })
         (record { left = L.left link.old; given = L.given link.old; faults = L.faults link.old })

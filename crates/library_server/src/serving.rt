@@ -38,7 +38,7 @@ impl<S: Shelf, C: Clock> Host for Alone<'_, S, C> {
 
     ghost shows = { λ host moment. C.shows host.clock.now moment };
 
-    ghost asks = { AnswersOn S.contents S.may_give S.faults };
+    ghost asks = { AnswersOn S.contents S.may_give S.texts S.faults };
 
     fn ask(&self, alloc: Global, pass: &mut Depot<S>, lib: LibId, call: Call) -> Answer {
         let _ = alloc;
@@ -53,7 +53,7 @@ impl<S: Shelf, C: Clock> Host for Alone<'_, S, C> {
 
 /// The reply to a call on a library. `NoLibrary` comes exactly where it is not the one that is served.
 fn answer<S: Shelf>(depot: &mut Depot<S>, lib: LibId, call: &Call, moment: u64) -> Reply
-    ensures here { lib ≡ depot.old.state.lib → IsAnswered S.contents S.may_give S.faults depot.old call.now moment result depot.new }
+    ensures here { lib ≡ depot.old.state.lib → IsAnswered S.contents S.may_give S.texts S.faults depot.old call.now moment result depot.new }
     ensures elsewhere { lib ≢ depot.old.state.lib → (result ≡ Reply.Refused Refusal.NoLibrary) × (depot.new ≡ depot.old) }
     ensures whole { NeverFails S.faults → NamesIn S.contents depot.old → (is_storage_reply result ≡ false) × NamesIn S.contents depot.new }
 {
@@ -77,10 +77,10 @@ pub fn serve_link<S: Shelf, L: Link, C: Clock>(
     // Where the link tells what it has left: the bytes given are the texts of the library's replies to the requests
     // that those bytes spell.
     ensures session { (input : List ℕ) → L.left link.old ≡ Some input
-        → Session (AtAMoment (C.shows clock.now) (AnswersOn S.contents S.may_give S.faults)) input (L.given link.old) (L.given link.new) depot.old depot.new result }
+        → Session (AtAMoment (C.shows clock.now) (AnswersOn S.contents S.may_give S.texts S.faults)) input (L.given link.old) (L.given link.new) depot.old depot.new result }
 
     // Of every link: the calls that were asked.
-    ensures ran { (calls : List (Told ⊤)) × Ran (AtAMoment (C.shows clock.now) (AnswersOn S.contents S.may_give S.faults)) depot.old calls depot.new }
+    ensures ran { (calls : List (Told ⊤)) × Ran (AtAMoment (C.shows clock.now) (AnswersOn S.contents S.may_give S.texts S.faults)) depot.old calls depot.new }
 
     // The link's count of faults rose in the first two cases, and stayed in every other.
     ensures read_fault { result ≡ Served.ReadFault → Rose (L.faults link.old) (L.faults link.new) }

@@ -11,6 +11,7 @@ use Rattle.std.specs.Str.{bytes_eq}
 use Rattle.hex.specs.Hex.{encode_lower}
 use Rattle.uuid.specs.Text.{hyphenated_text, lower}
 use Rattle.ids.specs.ObjectId.{nil}
+use Rattle.ids.proofs.Facts.{AllByRecursion-middle}
 use Rattle.serde_json.specs.Data.{Data, number, string, array, unsigned}
 use Rattle.serde_json.specs.Find.{get, of_integer}
 use Rattle.serde_json.specs.View.{items_of}
@@ -32,6 +33,7 @@ use Rattle.library_state.specs.declared.state.LibState.{LibState}
 use Rattle.library_state.specs.declared.token.Token.{Token}
 use Rattle.library_state.proofs.StateChecks.{Passes, state_in-found}
 use Rattle.library_state.proofs.TokenLemmas.{tokens_after-ok, is_taken-secrets}
+use Rattle.library_state.specs.declared.state.TheConstants.{MAX_STATE_NAME, MAX_TOKENS}
 
 at_most : (n m : ℕ) → n ≤ m → nat_le n m ≡ true
 at_most n m below = grind (arith, nat_tests)
@@ -85,9 +87,9 @@ secret_in-found : (d : Data) (secret : List ℕ) → get (codes "secret") d ≡ 
 unfolding secret_in
 secret_in-found d secret is reads = rw (text_field-found (codes "secret") d (encode_lower secret) is, reads)
 
-user_in-found : (d : Data) (user : List ℕ) → get (codes "user") d ≡ Some (string user) → 1 ≤ length user → length user ≤ 255 → user_in d ≡ Ok user
+user_in-found : (d : Data) (user : List ℕ) → get (codes "user") d ≡ Some (string user) → 1 ≤ length user → length user ≤ MAX_STATE_NAME → user_in d ≡ Ok user
 unfolding user_in
-user_in-found d user is least most = rw (text_field-found (codes "user") d user is, between 1 (length user) 255 least most)
+user_in-found d user is least most = rw (text_field-found (codes "user") d user is, between 1 (length user) MAX_STATE_NAME least most)
 
 parts_of-data : (collection : ℕ) (token : Token) → IsTypedToken token → IsProperToken collection token → parts_of collection (token_data token) ≡ Ok token
 unfolding parts_of token_with has_only
@@ -105,14 +107,10 @@ token_of-data : (collection : ℕ) (others : List Token) (token : Token) → IsT
 unfolding token_of
 token_of-data collection others token typed proper new = rw (parts_of-data collection token typed proper, new)
 
-apart_there : (n : List ℕ) (secrets : List (List ℕ)) (secret : List ℕ) (later : List (List ℕ)) → AllByRecursion (λ y. bytes_eq n y ≡ false) (secrets ++ secret ∷ later) → bytes_eq n secret ≡ false
-apart_there n [] secret later all = all.0
-apart_there n (m ∷ secrets) secret later all = apart_there n secrets secret later all.1
-
 not_before : (secrets : List (List ℕ)) (secret : List ℕ) (later : List (List ℕ)) → IsDistinct bytes_eq (secrets ++ secret ∷ later) → list_any (bytes_eq secret) secrets ≡ false
 not_before [] secret later distinct = refl
 not_before (n ∷ secrets) secret later distinct =
-    let apart : bytes_eq secret n ≡ false = nat_list_eq_equiv.symm secret n ∙ apart_there n secrets secret later (IsDistinct-head bytes_eq n (secrets ++ secret ∷ later) distinct) in
+    let apart : bytes_eq secret n ≡ false = nat_list_eq_equiv.symm secret n ∙ AllByRecursion-middle (λ y. bytes_eq n y ≡ false) secrets secret later (IsDistinct-head bytes_eq n (secrets ++ secret ∷ later) distinct) in
     rw apart (not_before secrets secret later (IsDistinct-tail bytes_eq n (secrets ++ secret ∷ later) distinct))
 
 tokens_read : (collection : ℕ) (earlier tokens : List Token) → AllByRecursion IsTypedToken tokens → AllByRecursion (IsProperToken collection) tokens → IsDistinct bytes_eq (secrets_of (earlier ++ tokens))
@@ -131,10 +129,10 @@ tokens_read collection earlier (token ∷ tokens) typed proper distinct =
 tokens_in-found : (collection : ℕ) (d : Data) (tokens : List Token) → get (codes "tokens") d ≡ Some (array (items_of (map token_data tokens))) → All IsTypedToken tokens → AreProperTokens collection tokens → tokens_in collection d ≡ Ok tokens
 unfolding tokens_in
 tokens_in-found collection d tokens is typed proper =
-    let few : length (map token_data tokens) ≤ 1000 = rw (length-map tokens token_data) proper.few in
+    let few : length (map token_data tokens) ≤ MAX_TOKENS = rw (length-map tokens token_data) proper.few in
     rw (
       array_field-found (codes "tokens") d (map token_data tokens) is,
-      at_most (length (map token_data tokens)) 1000 few,
+      at_most (length (map token_data tokens)) MAX_TOKENS few,
       tokens_read collection [] tokens (recursion_from_All IsTypedToken tokens typed) (recursion_from_All (IsProperToken collection) tokens proper.each) proper.distinct,
     )
 
@@ -160,9 +158,9 @@ library_in-found : (d : Data) (lib : List ℕ) → get (codes "lib") d ≡ Some 
 unfolding library_in
 library_in-found d lib is reads = rw (text_field-found (codes "lib") d (hyphenated_text lower lib) is, reads)
 
-name_in-found : (d : Data) (name : List ℕ) → get (codes "name") d ≡ Some (string name) → length name ≤ 255 → name_in d ≡ Ok name
+name_in-found : (d : Data) (name : List ℕ) → get (codes "name") d ≡ Some (string name) → length name ≤ MAX_STATE_NAME → name_in d ≡ Ok name
 unfolding name_in
-name_in-found d name is fits = rw (text_field-found (codes "name") d name is, at_most (length name) 255 fits)
+name_in-found d name is fits = rw (text_field-found (codes "name") d name is, at_most (length name) MAX_STATE_NAME fits)
 
 passes-data : (state : LibState) → IsTyped state → IsProper state → Passes (state_data state) state
 unfolding state_with

@@ -1,17 +1,13 @@
 -- What is written of a state has no float, and nests two levels at most.
-use Rattle.std.proofs.Common.{◌≡◌, ◌≤◌, ℤ, pos, negsuc, List, [], ◌∷◌, map, false, refl, arith}
+use Rattle.std.proofs.Common.{◌≡◌, ◌≤◌, List, [], ◌∷◌, map, false, refl, arith}
+use Rattle.json_words.proofs.FoundLemmas.{is_float-of_integer}
 use Rattle.serde_json.specs.Data.{depth, items_depth}
-use Rattle.serde_json.specs.Find.{is_float, of_integer}
 use Rattle.serde_json.specs.View.{items_of}
 use Rattle.serde_json.specs.Written.{has_float, items_have_float}
 use Rattle.library_state.specs.StateSpelling.{install_with, install_data, token_with, token_data, state_with, state_data}
 use Rattle.library_state.specs.declared.history.Install.{Install}
 use Rattle.library_state.specs.declared.state.LibState.{LibState}
 use Rattle.library_state.specs.declared.token.Token.{Token}
-
-is_float-of_integer : (z : ℤ) → is_float (of_integer z) ≡ false
-is_float-of_integer (pos n) = refl
-is_float-of_integer (negsuc n) = refl
 
 no_float_installs : (installs : List Install) → items_have_float (items_of (map install_data installs)) ≡ false
 unfolding install_with

@@ -9,6 +9,7 @@ use Rattle.library_state.specs.Tokens.{secrets_of}
 use Rattle.library_state.specs.declared.history.Install.{Install}
 use Rattle.library_state.specs.declared.state.LibState.{LibState}
 use Rattle.library_state.specs.declared.token.Token.{Token}
+use Rattle.library_state.specs.declared.state.TheConstants.{MAX_STATE_NAME, MAX_TOKENS}
 
 -- a head update names its commits by no forty zeros
 pub record IsProperInstall (install : Install) : Type 0 where
@@ -19,12 +20,12 @@ pub record IsProperInstall (install : Install) : Type 0 where
 pub record IsProperToken (collection : ℕ) (token : Token) : Type 0 where
   pub last : token.last ≤ collection
   pub least : 1 ≤ length token.user
-  pub most : length token.user ≤ 255
+  pub most : length token.user ≤ MAX_STATE_NAME
 
 -- there is a token for each secret, at most 1,000 of them
 pub record AreProperTokens (collection : ℕ) (tokens : List Token) : Type 0 where
   pub each : All (IsProperToken collection) tokens
-  pub few : length tokens ≤ 1000
+  pub few : length tokens ≤ MAX_TOKENS
   pub distinct : IsDistinct bytes_eq (secrets_of tokens)
 
 -- there is a head, and the numbers and texts are within their limits
@@ -33,7 +34,7 @@ pub record IsProper (state : LibState) : Type 0 where
   pub days : is_day_count state.days ≡ true
   pub some_kept : 1 ≤ length state.kept
   pub kept : All IsProperInstall state.kept
-  pub name : length state.name ≤ 255
+  pub name : length state.name ≤ MAX_STATE_NAME
   pub opened : 1 ≤ state.opening
   pub opening : state.opening ≤ last_number
   pub tokens : AreProperTokens state.collection state.tokens

@@ -1,6 +1,6 @@
 -- What the bytes of a state text are read as, or the first failing check. docs/FORMATS.md, "State text".
 -- Read state_of first; version 1.
-use Rattle.std.specs.Prelude.{ℕ, ◌==◌, ◌^◌, ◌&&◌, nat_le, ℤ, negsuc, pos, int_le, Bool, not, List, [], ◌∷◌, ◌++◌, length, codes, Result, Ok, Err, ⊤}
+use Rattle.std.specs.Prelude.{ℕ, ◌==◌, ◌^◌, ◌&&◌, nat_le, ℤ, negsuc, int_le, Bool, not, List, [], ◌∷◌, ◌++◌, length, codes, Result, Ok, Err, ⊤}
 use Rattle.serde_json.specs.Data.{Data}
 use Rattle.json_words.specs.Check.{◌>>=◌, holds, ok_or, each}
 use Rattle.json_words.specs.Fields.{is_object, field, number_field, number_between, integer_field, text_field, array_field, has_only}
@@ -16,6 +16,7 @@ use Rattle.library_state.specs.declared.state.LibState.{LibState}
 use Rattle.library_state.specs.declared.state_fault.StateKey.{StateKey}
 use Rattle.library_state.specs.declared.state_fault.StateKey.TheVariants.{Whole, Version, Collection, Days, Kept, Lib, LibName, Opening, Tokens, Extra}
 use Rattle.library_state.specs.declared.token.Token.{Token}
+use Rattle.library_state.specs.declared.state.TheConstants.{MAX_DAYS, MAX_STATE_NAME, MAX_TOKENS}
 
 -- openings and collections are counted up to this number
 abbrev pub last_number : ℕ
@@ -36,7 +37,7 @@ collection_in d = at_key Collection (number_between 0 last_number (codes "collec
 
 -- a number of days, or -1 for ever
 abbrev pub is_day_count : ℤ → Bool
-is_day_count days = int_le (negsuc 0) days && int_le days (pos 36500)
+is_day_count days = int_le (negsuc 0) days && int_le days MAX_DAYS
 
 unfoldable pub days_in : Data → Result ℤ StateKey
 days_in d = do
@@ -74,7 +75,7 @@ library_in d = do
 unfoldable pub name_in : Data → Result (List ℕ) StateKey
 name_in d = do
   text ← at_key LibName (text_field (codes "name") d)
-  fits ← holds (nat_le (length text) 255) LibName
+  fits ← holds (nat_le (length text) MAX_STATE_NAME) LibName
   Ok text
 
 unfoldable pub opening_in : Data → Result ℕ StateKey
@@ -84,7 +85,7 @@ opening_in d = at_key Opening (number_between 1 last_number (codes "opening") d)
 unfoldable pub user_in : Data → Result (List ℕ) StateKey
 user_in d = do
   text ← at_key Tokens (text_field (codes "user") d)
-  fits ← holds (nat_le 1 (length text) && nat_le (length text) 255) Tokens
+  fits ← holds (nat_le 1 (length text) && nat_le (length text) MAX_STATE_NAME) Tokens
   Ok text
 
 unfoldable pub right_in : Data → Result Right StateKey
@@ -123,7 +124,7 @@ tokens_after collection earlier (d ∷ ds) = token_of collection earlier d >>= (
 unfoldable pub tokens_in : ℕ → Data → Result (List Token) StateKey
 tokens_in collection d = do
   items ← at_key Tokens (array_field (codes "tokens") d)
-  few ← holds (nat_le (length items) 1000) Tokens
+  few ← holds (nat_le (length items) MAX_TOKENS) Tokens
   tokens_after collection [] items
 
 -- the keys of a state text

@@ -1,5 +1,5 @@
--- What the types of the program tell of a state: that ids are ids and texts are texts, and that numbers are within their
--- types. Our own. Read IsTyped first.
+-- What the types of the program tell of a state: that ids are ids and texts are texts, and that days and moments are within
+-- their types. Our own. Read IsTyped first.
 use Rattle.std.specs.Prelude.{◌≡◌, ◌<◌, ◌^◌, All, FitsSigned, IsUtf8, Some}
 use Rattle.std.specs.Int.{w64}
 use Rattle.uuid.specs.Text.{hyphenated_text, lower}

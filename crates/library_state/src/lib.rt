@@ -29,7 +29,7 @@ pub use crate::refusal::Refusal;
 pub use crate::reply::Reply;
 pub use crate::right::Right;
 pub use crate::secret::Secret;
-pub use crate::state::{LAST, LibState, MAX_DAYS, MAX_TOKENS};
+pub use crate::state::{LAST, LibState, MAX_DAYS, MAX_STATE_NAME, MAX_TOKENS};
 pub use crate::state_fault::{StateFault, StateKey};
 pub use crate::tag::Tag;
 pub use crate::token::Token;

@@ -1,5 +1,6 @@
 //! Secrets, by which a library knows who asks.
 ghost use Rattle.std.specs.Prelude.{◌≡◌, ◌↔◌, IsOk, IfOk, IfErr, IsUtf8, Ok};
+ghost use Rattle.std.specs.Str.{bytes_eq};
 ghost use Rattle.hex.specs.Hex.{decode_of, encode_lower};
 ghost use Rattle.ids.specs.Digits.{digits_form};
 ghost use Rattle.ids.specs.Form.{IsOf, IsLongestBeginning};
@@ -42,6 +43,17 @@ impl Secret {
             Ok(bytes) => Ok(Secret(bytes)),
             Err(bad) => Err(bad),
         }
+    }
+
+    /// Whether both are the same. It looks at all bytes, wherever the first difference lies.
+    pub fn is(&self, other: &Secret) -> bool
+        ensures value { result ≡ bytes_eq self.now other.now }
+    {
+        let mut same = true;
+        for place in 0..20 {
+            same &= self.0[place] == other.0[place];
+        }
+        same
     }
 
     /// The text: 40 lower-case hexadecimal digits. It takes no memory.

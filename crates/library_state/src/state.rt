@@ -12,7 +12,7 @@ use std::alloc::{AllocError, Global};
 #[derive(Drop)]
 pub struct LibState {
     pub lib: LibId,
-    /// At most 255 bytes.
+    /// At most `MAX_STATE_NAME` bytes.
     pub name: Text,
     /// The retained head updates, at least one.
     pub kept: History,
@@ -28,6 +28,9 @@ pub struct LibState {
 
 /// Openings and collections are counted up to this number: 2^63.
 pub const LAST: u64 = 9_223_372_036_854_775_808;
+
+/// The greatest number of bytes of a library's name, and of a user's.
+pub const MAX_STATE_NAME: usize = 255;
 
 /// The greatest number of tokens of a library.
 pub const MAX_TOKENS: usize = 1_000;

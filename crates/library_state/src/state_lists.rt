@@ -10,13 +10,13 @@ ghost use Rattle.library_state.specs.ProperState.{IsProperInstall, IsProperToken
 ghost use Rattle.library_state.specs.StateText.{at_key, stored_id_field, install_of, kept_in, user_in, right_in, secret_in, parts_of, token_of, tokens_after, tokens_in};
 ghost use Rattle.library_state.specs.Tokens.{is_taken};
 ghost use Rattle.library_state.specs.TokenReading.{parts_seen};
+ghost use Rattle.library_state.specs.declared.state.TheConstants.{MAX_TOKENS, MAX_STATE_NAME};
 
 use crate::history::{History, Install};
 use crate::right::Right;
 use crate::secret::Secret;
-use crate::state::MAX_TOKENS;
+use crate::state::{MAX_STATE_NAME, MAX_TOKENS};
 use crate::state_fault::{StateFault, StateKey};
-use crate::state_reading::MAX_NAME;
 use crate::token::Token;
 use ids::{Items, ObjId, Text};
 use json_words::{
@@ -118,7 +118,7 @@ pub fn tokens_in(alloc: Global, value: &Value, collection: u64) -> Result<Items<
 
 /// The tokens that the items of an array are, of which there are few.
 fn read_tokens(alloc: Global, items: &[Value], collection: u64) -> Result<Items<Token>, StateFault>
-    requires fits { length items.now ≤ 1000 }
+    requires fits { length items.now ≤ MAX_TOKENS }
     ensures value { Answers result (tokens_after collection [] (map view items.now)) }
     ensures proper { IfOk result (AreProperTokens collection) }
 {
@@ -186,7 +186,7 @@ pub fn is_taken(tokens: &[Token], secret: &Secret) -> bool
 fn parts_of<'a>(value: &'a Value, collection: u64) -> Result<TokenParts<'a>, StateKey>
     ensures value { result_map parts_seen result ≡ parts_of collection (view value.now) }
     ensures last { IfOk result (λ parts. parts.last ≤ collection) }
-    ensures user { IfOk result (λ parts. (1 ≤ length parts.user.now) × (length parts.user.now ≤ 255)) }
+    ensures user { IfOk result (λ parts. (1 ≤ length parts.user.now) × (length parts.user.now ≤ MAX_STATE_NAME)) }
 {
     if !has_only(value, &["last", "right", "secret", "user"]) {
         return Err(StateKey::Tokens);
@@ -242,10 +242,10 @@ fn secret_of(text: &str) -> Option<Secret>
 #[tactic(auto, unfolding(crate::specs::StateText::user_in))]
 fn user_in<'a>(value: &'a Value) -> Result<&'a str, StateKey>
     ensures value { result_map (λ text. text.now) result ≡ user_in (view value.now) }
-    ensures bound { IfOk result (λ text. (1 ≤ length text.now) × (length text.now ≤ 255)) }
+    ensures bound { IfOk result (λ text. (1 ≤ length text.now) × (length text.now ≤ MAX_STATE_NAME)) }
 {
     match text_field(value, "user") {
-        Ok(text) => if 1 <= text.len() && text.len() <= MAX_NAME {
+        Ok(text) => if 1 <= text.len() && text.len() <= MAX_STATE_NAME {
             Ok(text)
         } else {
             Err(StateKey::Tokens)

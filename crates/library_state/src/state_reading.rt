@@ -5,8 +5,9 @@ ghost use Rattle.json_words.specs.Answer.{Answers};
 ghost use Rattle.json_words.specs.Check.{result_map};
 ghost use Rattle.library_state.specs.ProperState.{IsProper};
 ghost use Rattle.library_state.specs.StateText.{last_number, right_version, collection_in, is_day_count, days_in, library_in, name_in, opening_in, state_in};
+ghost use Rattle.library_state.specs.declared.state.TheConstants.{MAX_STATE_NAME};
 
-use crate::state::{LAST, LibState, MAX_DAYS};
+use crate::state::{LAST, LibState, MAX_DAYS, MAX_STATE_NAME};
 use crate::state_fault::{StateFault, StateKey};
 use crate::state_lists::{kept_in, tokens_in};
 use ids::{LibId, Text};
@@ -15,9 +16,6 @@ use json_words::{
 };
 use serde_json::Value;
 use std::alloc::Global;
-
-/// The greatest number of bytes of a library's name, and of a user's.
-pub const MAX_NAME: usize = 255;
 
 /// The state that a JSON object is.
 #[tactic(auto, unfolding(crate::specs::StateText::state_in))]
@@ -125,10 +123,10 @@ fn library_in(value: &Value) -> Result<LibId, StateKey>
 #[tactic(auto, unfolding(crate::specs::StateText::name_in))]
 fn name_in<'a>(value: &'a Value) -> Result<&'a str, StateKey>
     ensures value { result_map (λ text. text.now) result ≡ name_in (view value.now) }
-    ensures bound { IfOk result (λ text. length text.now ≤ 255) }
+    ensures bound { IfOk result (λ text. length text.now ≤ MAX_STATE_NAME) }
 {
     match text_field(value, "name") {
-        Ok(text) => if text.len() <= MAX_NAME {
+        Ok(text) => if text.len() <= MAX_STATE_NAME {
             Ok(text)
         } else {
             Err(StateKey::LibName)

@@ -14,6 +14,7 @@ ghost use Rattle.fs_objects.specs.Mode.{is_file_mode};
 
 use crate::fault::{IndexFault, IndexKey};
 use crate::index::Known;
+use fs_objects::is_file_mode;
 use ids::{ObjId, Text};
 use json_words::{
     FieldFault, ReadFault, array_field, has_only, id_field, integer_field, number_between,
@@ -22,10 +23,6 @@ use json_words::{
 use serde_json::Value;
 use std::alloc::{AllocError, Global};
 use tree_model::{Name, NameFault, Path, PathTable};
-
-const TYPE_BITS: u32 = 0o170000;
-
-const FILE: u32 = 0o100000;
 
 /// The entries, no two at one path, each in a directory of them.
 #[tactic(auto, unfolding(crate::specs::IndexText::entries_in))]
@@ -211,7 +208,7 @@ fn mode_in(item: &Value) -> Result<u32, IndexKey>
     ensures proper { IfOk result (λ mode. is_file_mode mode ≡ true) }
 {
     let mode = at_entries(number_between(item, "mode", 0, u64::from(u32::MAX)))? as u32;
-    if mode & TYPE_BITS == FILE {
+    if is_file_mode(mode) {
         Ok(mode)
     } else {
         Err(IndexKey::Entries)

@@ -57,8 +57,9 @@ impl Index {
 
     /// Reads an index text; the entries may stand in any order. Of several failing checks the first is answered.
     ///
-    /// While it reads it holds the text as a JSON value, in which each entry takes some 600 bytes: of an index with many
-    /// directories of short names up to fifty times the memory of the bytes. It takes n log n steps for n entries.
+    /// While it reads it holds the text as a JSON value, in which by reckoning each entry takes some 600 bytes: of an index
+    /// with many directories of short names up to fifty times the memory of the bytes. It takes n log n steps for n entries.
+    /// No clause says these.
     #[tactic(auto, unfolding(crate::specs::IndexText::index_of))]
     pub fn read(alloc: Global, text: &[u8]) -> Result<Index, IndexFault>
         ensures value { Answers result (index_of text.now) }

@@ -5,6 +5,7 @@ use Rattle.std.specs.FinMap as map
 use Rattle.ids.specs.Key.{Objects}
 use Rattle.ids.specs.declared.key.Key.{Key}
 use Rattle.tree_model.specs.Path.{PathV}
+use Rattle.tree_model.specs.declared.limits.TheConstants.{MAX_PATHS}
 use Rattle.fs_objects.specs.declared.dirent.Dirent.{Dirent}
 use Rattle.fs_objects.specs.declared.file_object.FileObject.{FileObject}
 use Rattle.fs_objects.specs.declared.fs_object.FsObject.{FsObject}
@@ -43,7 +44,7 @@ module _ (V : List Key → List Key → Type 0) (push : Pushes V) where
 
   alike_counted : Respects V counted counted
   unfolding counted_with
-  alike_counted = record { respects = λ w v alike. subst (λ b. Alike V (counted w) (counted_with v b)) (ap (λ n. nat_lt 1000000 (n + 1)) alike.paths) (by w v alike (nat_lt 1000000 (w.paths + 1))) }
+  alike_counted = record { respects = λ w v alike. subst (λ b. Alike V (counted w) (counted_with v b)) (ap (λ n. nat_lt MAX_PATHS (n + 1)) alike.paths) (by w v alike (nat_lt MAX_PATHS (w.paths + 1))) }
     where
       by : (w v : Walk) → Alike V w v → (b : Bool) → Alike V (counted_with w b) (counted_with v b)
       by w v alike true = record { keys = alike.keys; paths = ap (λ n. n + 1) alike.paths; fault = ap (λ n. Some (TooMany (n + 1))) alike.paths }

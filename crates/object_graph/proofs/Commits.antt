@@ -3,6 +3,7 @@ use Rattle.std.proofs.Common.{◌≡◌, ℕ, true, List, [], refl, sym, ap, ◌
 use Rattle.ids.specs.Key.{Objects}
 use Rattle.tree_model.specs.Path.{PathV}
 use Rattle.tree_model.specs.Tree.{Tree}
+use Rattle.tree_model.specs.declared.limits.TheConstants.{MAX_NAMES}
 use Rattle.commit_objects.specs.declared.commit.Commit.{Commit}
 use Rattle.object_graph.specs.Objects.{commit_key, commit_at, node_below, IsTreeOf}
 use Rattle.object_graph.specs.Traversal.{Walk, start, visited, then_read, walk_root, walk_object, walk_below, walk_commit, needs, IsComplete, IsCompleteRoot}
@@ -53,7 +54,7 @@ tree_of_commit_stays A B id commit tree complete read agree is path =
     let one : own.commit ≡ commit = cc (own.read, read) in
     let on : AgreeOn (walk_root true A own.commit.root (visited (commit_key id) start)).visits A B = subst (λ (w : Walk). AgreeOn w.visits A B) own.is (agree_needs A B id agree) in
     let ran = ran_root true A own.commit.root (visited (commit_key id) start) own.none in
-    let same : node_below B path own.commit.root ≡ node_below A path own.commit.root = same_below A B 100 [] own.commit.root (walk_root true A own.commit.root (visited (commit_key id) start)).visits ran on path in
+    let same : node_below B path own.commit.root ≡ node_below A path own.commit.root = same_below A B MAX_NAMES [] own.commit.root (walk_root true A own.commit.root (visited (commit_key id) start)).visits ran on path in
     is path ∙ sym (subst (λ (c : Commit). node_below B path c.root ≡ node_below A path c.root) one same)
 
 pub below_grown : (A B : Objects) (room : ℕ) (path : PathV) (id : List ℕ) → (walk_object true A (walk_below true A room) true path id start).fault ≡ None → Keeps A B

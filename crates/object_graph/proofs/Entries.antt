@@ -1,6 +1,6 @@
 -- The entries of one directory in the order of their names. The key lemmas are named_in_order, apart_in_order and
 -- named_member.
-use Rattle.std.proofs.Common.{◌≡◌, ◌⊎◌, ◌&&◌, ℕ, Bool, true, false, T, if◌then◌else◌, cond, List, [], ◌∷◌, refl, sym, ap, ap₂, ◌∙◌, subst, Option, None, Some, Ordering, Less, Equal, Greater, inl, inr, length, arith}
+use Rattle.std.proofs.Common.{◌≡◌, ◌⊎◌, ◌&&◌, ℕ, Bool, true, false, T, if◌then◌else◌, cond, List, [], ◌∷◌, refl, sym, ap, ap₂, ◌∙◌, subst, Option, None, Some, Ordering, Less, Equal, Greater, inl, inr}
 use Rattle.std.specs.List.{AllByRecursion}
 use Rattle.std.specs.Prelude.{map as list_map}
 use Rattle.std.specs.FinMap as map
@@ -8,7 +8,9 @@ use Rattle.std.specs.FinMap.Entries.{by_order, below_all}
 use Rattle.std.specs.FinMap.{slice_cmp-IsAntisymmetric, nat_cmp-IsAntisymmetric}
 use Rattle.std.specs.Cmp.{IsTotalOrder, Equal-is}
 use Rattle.std.specs.Cmp.Lexicographic.{nat_list_cmp_total}
-use Rattle.std.specs.Ordering.{eq_by_cmp, is_eq, is_lt}
+use Rattle.std.specs.Ordering.{eq_by_cmp, is_lt}
+use Rattle.std.proofs.lemmas.List.{nil_from_length}
+use Rattle.ids.proofs.Facts.{apart_from_is_lt}
 use Rattle.fs_objects.specs.declared.dirent.Dirent.{Dirent}
 use Rattle.object_graph.specs.Objects.{name_cmp, entry_named, by_name, in_name_order}
 
@@ -62,12 +64,8 @@ keyed-put e (p ∷ entries) all = by (name_cmp e.name p.0) refl (keyed-put e ent
     by Equal is more = (sym (names_exact e.name p.0 is), all.1)
     by Greater is more = (all.0, more)
 
-no_items : {X : Type 0} (xs : List X) → length xs ≡ 0 → xs ≡ []
-no_items [] e = refl
-no_items (x ∷ xs) e = absurd (omega arith)
-
 entries-empty : map.entries (map.empty {X = Dirent} {R = name_cmp}) ≡ []
-entries-empty = no_items (map.entries (map.empty {X = Dirent} {R = name_cmp})) (sym (map.len-entries (map.empty {X = Dirent} {R = name_cmp})) ∙ map.len-empty name_cmp Dirent)
+entries-empty = nil_from_length (map.entries (map.empty {X = Dirent} {R = name_cmp})) (sym (map.len-entries (map.empty {X = Dirent} {R = name_cmp})) ∙ map.len-empty name_cmp Dirent)
 
 keyed-by_name : (entries : List Dirent) → Keyed (map.entries (by_name entries))
 unfolding Keyed
@@ -108,11 +106,6 @@ unfoldable pub Apart : List Dirent → Type 0
 Apart [] = Unit {0}
 Apart (e ∷ entries) = (entry_named e.name entries ≡ None) × Apart entries
 
-lt_not_eq : (o : Ordering) → T (is_lt o) → is_eq o ≡ false
-lt_not_eq Less h = refl
-lt_not_eq Equal h = absurd h
-lt_not_eq Greater h = refl
-
 both_parts : (a b : Bool) → T (a && b) → T a × T b
 both_parts true b h = (tt, h)
 both_parts false b h = absurd h
@@ -122,7 +115,7 @@ unfolding Keyed
 none_below p [] same all below = refl
 none_below p (q ∷ entries) same all below =
     let parts = both_parts (is_lt (name_cmp p.0 q.0)) (below_all name_cmp p.0 entries) below in
-    let here : eq_by_cmp name_cmp p.1.name q.1.name ≡ false = ap₂ (eq_by_cmp name_cmp) (sym same) (sym all.0) ∙ lt_not_eq (name_cmp p.0 q.0) parts.0 in
+    let here : eq_by_cmp name_cmp p.1.name q.1.name ≡ false = ap₂ (eq_by_cmp name_cmp) (sym same) (sym all.0) ∙ apart_from_is_lt (name_cmp p.0 q.0) parts.0 in
     ap (λ (b : Bool). if b then Some q.1 else entry_named p.1.name (values_of entries)) here ∙ none_below p entries same all.1 parts.1
 
 apart_values : (entries : List (List ℕ × Dirent)) → Keyed entries → T (map.is_sorted name_cmp entries) → Apart (values_of entries)

@@ -8,6 +8,7 @@ use Rattle.tree_model.specs.Name.{IsName}
 use Rattle.tree_model.specs.Path.{PathV}
 use Rattle.tree_model.specs.PathOrder.{paths_total, paths_exact}
 use Rattle.tree_model.specs.Tree.{Tree, IsTree, Fits, is_dir}
+use Rattle.tree_model.specs.declared.limits.TheConstants.{MAX_PATHS, MAX_NAMES}
 use Rattle.fs_objects.specs.FsObject.{fs_of}
 use Rattle.fs_objects.specs.Mode.{is_directory_mode}
 use Rattle.fs_objects.specs.declared.dirent.Dirent.{Dirent}
@@ -122,27 +123,27 @@ module _ (A : Objects) where
   one_tree root t u first second = map.same_map paths_total paths_exact t u (λ q. first q ∙ sym (second q))
 
   module _ (root : List ℕ) (complete : IsCompleteRoot A root) where
-    ran : Ran (walk_object true A (walk_below true A 100) true [] root) (walk_root true A root start).visits
+    ran : Ran (walk_object true A (walk_below true A MAX_NAMES) true [] root) (walk_root true A root start).visits
     ran = ran_root true A root start complete
 
     abbrev root_tree : Tree
-    root_tree = tree_of A (listed A 100 root)
+    root_tree = tree_of A (listed A MAX_NAMES root)
 
     root_tree_is : IsTreeOf A root root_tree
-    root_tree_is q = get-tree_of A q (listed A 100 root) ∙ ap (option_map (node_of A)) (found_listed true A q 100 [] root (walk_root true A root start).visits ran)
+    root_tree_is q = get-tree_of A q (listed A MAX_NAMES root) ∙ ap (option_map (node_of A)) (found_listed true A q MAX_NAMES [] root (walk_root true A root start).visits ran)
 
-    root_few : map.len root_tree ≤ 1000000
+    root_few : map.len root_tree ≤ MAX_PATHS
     root_few =
-        let counted : (walk_root true A root start).paths ≡ 0 + length (listed A 100 root) = counts_below true A 100 [] root start complete in
-        let few : (walk_root true A root start).paths ≤ 1000000 = root_bounded true A root start (omega arith) complete in
-        omega (arith, len-tree_of A (listed A 100 root), counted, few)
+        let counted : (walk_root true A root start).paths ≡ 0 + length (listed A MAX_NAMES root) = counts_below true A MAX_NAMES [] root start complete in
+        let few : (walk_root true A root start).paths ≤ MAX_PATHS = root_bounded true A root start (omega arith) complete in
+        omega (arith, len-tree_of A (listed A MAX_NAMES root), counted, few)
 
-    root_depth : (q : PathV) → IsSome (map.get root_tree q) → length q ≤ 100
+    root_depth : (q : PathV) → IsSome (map.get root_tree q) → length q ≤ MAX_NAMES
     root_depth q there = by (entry_below A q root) refl (some_entry (entry_below A q root) (ap is_some (sym (root_tree_is q)) ∙ there))
       where
-        by : (o : Option Entry) → entry_below A q root ≡ o → is_some o ≡ true → length q ≤ 100
+        by : (o : Option Entry) → entry_below A q root ≡ o → is_some o ≡ true → length q ≤ MAX_NAMES
         by None is there = cc
-        by (Some x) is there = (reaches true A q 100 [] root (walk_root true A root start).visits ran x is).1
+        by (Some x) is there = (reaches true A q MAX_NAMES [] root (walk_root true A root start).visits ran x is).1
 
     -- a complete root has a tree, which fits the limits
     pub root_fits : (t : Tree) × IsTreeOf A root t × Fits t

@@ -2,7 +2,9 @@
 use Rattle.std.proofs.Common.{◌≡◌, ℕ, ◌==◌, Bool, true, false, not, if◌then◌else◌, is_none, List, [], ◌∷◌, ◌++◌, length, refl, sym, ap, ◌∙◌, subst, Option, None, Some, Result, Ok, Err}
 use Rattle.std.specs.List.{AllByRecursion}
 use Rattle.serde_json.specs.Data.{Data}
-use Rattle.json_words.specs.Check.{◌>>=◌, holds, ok_or, result_map}
+use Rattle.json_words.specs.Check.{holds, ok_or, result_map}
+use Rattle.json_words.proofs.CheckLemmas.{went_on}
+pub use Rattle.json_words.proofs.CheckLemmas.{WentOn}
 use Rattle.json_words.specs.Fields.{is_object, array_field, integer_field, text_field}
 use Rattle.json_words.specs.IdText.{id_field}
 use Rattle.json_words.specs.JsonText.{json_of}
@@ -18,16 +20,6 @@ use Rattle.fs_objects.specs.declared.fault.BadFs.TheVariants.{NotJson, WrongType
 use Rattle.fs_objects.specs.declared.fault.FsKey.TheVariants.{KDirents, KId, KMtime, KName}
 use Rattle.fs_objects.specs.declared.file_object.FileObject.{FileObject}
 use Rattle.fs_objects.specs.declared.fs_object.FsObject.TheVariants.{File, Dir}
-
--- what a step that gave a value had before it
-pub record WentOn {A B E : Type 0} (first : Result A E) (next : A → Result B E) (y : B) : Type 0 where
-  pub value : A
-  pub gave : first ≡ Ok value
-  pub goes : next value ≡ Ok y
-
-went_on : {A B E : Type 0} (first : Result A E) (next : A → Result B E) (y : B) → (first >>= next) ≡ Ok y → WentOn first next y
-went_on (Ok a) next y is = record { value = a; gave = refl; goes = is }
-went_on (Err e) next y is = cc
 
 abbrev Good : List Dirent → Type 0
 Good entries = AllByRecursion (λ (e : Dirent). IsName e.name) entries

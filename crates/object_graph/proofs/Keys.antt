@@ -5,6 +5,8 @@ use Rattle.std.specs.Ordering.{eq_by_cmp, is_eq}
 use Rattle.ids.specs.Key.{key_cmp}
 use Rattle.ids.specs.declared.key.Key.{Key}
 use Rattle.ids.proofs.KeyOrder.{key_cmp_total, key_cmp_exact}
+use Rattle.std.proofs.lemmas.Bool.{or_right, or_left}
+use Rattle.std.proofs.Math.Bool.{or-false, or_assoc}
 use Rattle.object_graph.specs.Traversal.{is_in, distinct_from}
 
 abbrev pub same_key : Key → Key → Bool
@@ -26,26 +28,15 @@ within_itself keys = record { there = λ key e. e }
 pub within_then : {a b c : List Key} → Within a b → Within b c → Within a c
 within_then ab bc = record { there = λ key e. bc.there key (ab.there key e) }
 
-or_assoc : (a b c : Bool) → (a || (b || c)) ≡ ((a || b) || c)
-or_assoc true b c = refl
-or_assoc false b c = refl
-
 pub in_append : (xs ys : List Key) (key : Key) → is_in (xs ++ ys) key ≡ (is_in xs key || is_in ys key)
 in_append [] ys key = refl
-in_append (x ∷ xs) ys key = ap (λ b. same_key key x || b) (in_append xs ys key) ∙ or_assoc (same_key key x) (is_in xs key) (is_in ys key)
-
-in_left : (a b : Bool) → a ≡ true → (a || b) ≡ true
-in_left a b e = ap (λ c. c || b) e
-
-in_right : (a b : Bool) → b ≡ true → (a || b) ≡ true
-in_right true b e = refl
-in_right false b e = e
+in_append (x ∷ xs) ys key = ap (λ b. same_key key x || b) (in_append xs ys key) ∙ sym (or_assoc (same_key key x) (is_in xs key) (is_in ys key))
 
 pub within_front : (xs ys : List Key) → Within xs (xs ++ ys)
-within_front xs ys = record { there = λ key e. in_append xs ys key ∙ in_left (is_in xs key) (is_in ys key) e }
+within_front xs ys = record { there = λ key e. in_append xs ys key ∙ or_left (is_in xs key) (is_in ys key) e }
 
 pub in_last : (xs : List Key) (key : Key) → is_in (xs ++ key ∷ []) key ≡ true
-in_last xs key = in_append xs (key ∷ []) key ∙ in_right (is_in xs key) (is_in (key ∷ []) key) (ap (λ b. b || false) (same_key-itself key))
+in_last xs key = in_append xs (key ∷ []) key ∙ or_right (is_in xs key) (is_in (key ∷ []) key) (ap (λ b. b || false) (same_key-itself key))
 
 -- what stands in a list with a key behind it is that key, or stood in the list
 pub in_pushed : (xs : List Key) (last key : Key) → is_in (xs ++ last ∷ []) key ≡ true → (is_in xs key ≡ true) ⊎ (key ≡ last)
@@ -89,9 +80,6 @@ pub in_distinct : (keys : List Key) (key : Key) → is_in (distinct_from [] keys
 in_distinct keys key = in_distinct_from [] keys key
 
 -- a key behind others: it is new, or was met
-or_false : (a : Bool) → (a || false) ≡ a
-or_false true = refl
-or_false false = refl
 
 or_shift : (a b c : Bool) → ((a || b) || c) ≡ (b || (a || c))
 or_shift true true c = refl
@@ -104,7 +92,7 @@ if_same t u xs ys e = ap (λ b. if b then xs else ys) e
 
 pub distinct_push : (met xs : List Key) (key : Key)
     → distinct_from met (xs ++ key ∷ []) ≡ (if is_in met key || is_in xs key then distinct_from met xs else distinct_from met xs ++ key ∷ [])
-distinct_push met [] key = if_same (is_in met key) (is_in met key || false) [] (key ∷ []) (sym (or_false (is_in met key)))
+distinct_push met [] key = if_same (is_in met key) (is_in met key || false) [] (key ∷ []) (sym (or-false (is_in met key)))
 distinct_push met (x ∷ xs) key = by (is_in met x) refl (λ more. distinct_push more xs key)
   where
     again : is_in met x ≡ true → (is_in met key || is_in xs key) ≡ (is_in met key || (same_key key x || is_in xs key))

@@ -4,6 +4,7 @@ use Rattle.std.proofs.Common.{◌≡◌, ℕ, ◌+◌, ◌≤◌, ◌<◌, ◌==
 use Rattle.std.specs.FinMap as map
 use Rattle.ids.specs.Key.{Objects}
 use Rattle.tree_model.specs.Path.{PathV}
+use Rattle.tree_model.specs.declared.limits.TheConstants.{MAX_PATHS, MAX_NAMES}
 use Rattle.fs_objects.specs.declared.file_object.FileObject.{FileObject}
 use Rattle.fs_objects.specs.declared.fs_object.FsObject.{FsObject}
 use Rattle.object_graph.specs.Objects.{fs_key, block_key, fs_at, joined}
@@ -18,19 +19,19 @@ counted_with w b = if b then failed (TooMany (w.paths + 1)) (record w { paths = 
 -- where a path may still be counted
 pub counted_none : (w : Walk) → (counted w).fault ≡ None → counted w ≡ record w { paths = w.paths + 1 }
 unfolding counted_with
-counted_none w = by (nat_lt 1000000 (w.paths + 1))
+counted_none w = by (nat_lt MAX_PATHS (w.paths + 1))
   where
     by : (b : Bool) → (counted_with w b).fault ≡ None → counted_with w b ≡ record w { paths = w.paths + 1 }
     by true none = cc
     by false none = refl
 
-pub counted_within : (w : Walk) → (counted w).fault ≡ None → w.paths + 1 ≤ 1000000
+pub counted_within : (w : Walk) → (counted w).fault ≡ None → w.paths + 1 ≤ MAX_PATHS
 unfolding counted_with
-counted_within w = by (nat_lt 1000000 (w.paths + 1)) refl
+counted_within w = by (nat_lt MAX_PATHS (w.paths + 1)) refl
   where
-    by : (b : Bool) → nat_lt 1000000 (w.paths + 1) ≡ b → (counted_with w b).fault ≡ None → w.paths + 1 ≤ 1000000
+    by : (b : Bool) → nat_lt MAX_PATHS (w.paths + 1) ≡ b → (counted_with w b).fault ≡ None → w.paths + 1 ≤ MAX_PATHS
     by true is none = cc
-    by false is none = ltb-false 1000000 (w.paths + 1) is
+    by false is none = ltb-false MAX_PATHS (w.paths + 1) is
 
 -- ---- blocks and sizes count no path
 
@@ -66,29 +67,29 @@ file_paths false A id file w = refl
 -- ---- the limit
 
 pub record Bounded (f : Step) : Type 0 where
-  pub bounded : (w : Walk) → w.paths ≤ 1000000 → (f w).fault ≡ None → (f w).paths ≤ 1000000
+  pub bounded : (w : Walk) → w.paths ≤ MAX_PATHS → (f w).fault ≡ None → (f w).paths ≤ MAX_PATHS
 
 bounded_same : (f : Step) → ((w : Walk) → (f w).paths ≡ w.paths) → Bounded f
-bounded_same f same = record { bounded = λ w few none. subst (λ n. n ≤ 1000000) (sym (same w)) few }
+bounded_same f same = record { bounded = λ w few none. subst (λ n. n ≤ MAX_PATHS) (sym (same w)) few }
 
 bounded_after : (f next : Step) → Bounded f → Bounded next → Bounded (λ w. then_walk (f w) next)
 bounded_after f next first second = record { bounded = bounded }
   where
-    bounded : (w : Walk) → w.paths ≤ 1000000 → (then_walk (f w) next).fault ≡ None → (then_walk (f w) next).paths ≤ 1000000
+    bounded : (w : Walk) → w.paths ≤ MAX_PATHS → (then_walk (f w) next).fault ≡ None → (then_walk (f w) next).paths ≤ MAX_PATHS
     bounded w few none =
         let early = none_before (f w) next none in
         let on = goes_on (f w) next early in
         let late : (next (f w)).fault ≡ None = ap (λ (v : Walk). v.fault) (sym on) ∙ none in
-        subst (λ (v : Walk). v.paths ≤ 1000000) (sym on) (second.bounded (f w) (first.bounded w few early) late)
+        subst (λ (v : Walk). v.paths ≤ MAX_PATHS) (sym on) (second.bounded (f w) (first.bounded w few early) late)
 
 bounded_counted : Bounded counted
-bounded_counted = record { bounded = λ w few none. subst (λ (v : Walk). v.paths ≤ 1000000) (sym (counted_none w none)) (counted_within w none) }
+bounded_counted = record { bounded = λ w few none. subst (λ (v : Walk). v.paths ≤ MAX_PATHS) (sym (counted_none w none)) (counted_within w none) }
 
 bounded_object : (A : Objects) (id : List ℕ) (F : FsObject → Step) → ((object : FsObject) → Bounded (F object))
     → Bounded (λ w. then_read (fs_at A id) F (visited (fs_key id) w))
 bounded_object A id F h = record { bounded = λ w. by (fs_at A id) (visited (fs_key id) w) }
   where
-    by : (r : Result FsObject TreeFault) (w : Walk) → w.paths ≤ 1000000 → (then_read r F w).fault ≡ None → (then_read r F w).paths ≤ 1000000
+    by : (r : Result FsObject TreeFault) (w : Walk) → w.paths ≤ MAX_PATHS → (then_read r F w).fault ≡ None → (then_read r F w).paths ≤ MAX_PATHS
     by (Ok object) w few none = (h object).bounded w few none
     by (Err fault) w few none = few
 
@@ -103,31 +104,31 @@ bounds blocks A = record {
   object = λ id F G h. bounded_object A id F h;
 }
 
-pub root_bounded : (blocks : Bool) (A : Objects) (id : List ℕ) (w : Walk) → w.paths ≤ 1000000 → (walk_root blocks A id w).fault ≡ None → (walk_root blocks A id w).paths ≤ 1000000
+pub root_bounded : (blocks : Bool) (A : Objects) (id : List ℕ) (w : Walk) → w.paths ≤ MAX_PATHS → (walk_root blocks A id w).fault ≡ None → (walk_root blocks A id w).paths ≤ MAX_PATHS
 root_bounded blocks A id = (along_root blocks blocks A A (λ f g. Bounded f) (bounds blocks A) id).bounded
 
 -- ---- from another start, and without the blocks
 
-pub counted_fits : (w : Walk) → w.paths + 1 ≤ 1000000 → counted w ≡ record w { paths = w.paths + 1 }
+pub counted_fits : (w : Walk) → w.paths + 1 ≤ MAX_PATHS → counted w ≡ record w { paths = w.paths + 1 }
 unfolding counted_with
-counted_fits w few = by (nat_lt 1000000 (w.paths + 1)) refl
+counted_fits w few = by (nat_lt MAX_PATHS (w.paths + 1)) refl
   where
-    by : (b : Bool) → nat_lt 1000000 (w.paths + 1) ≡ b → counted_with w b ≡ record w { paths = w.paths + 1 }
-    by true is = absurd (too_many (ltb-true 1000000 (w.paths + 1) is))
+    by : (b : Bool) → nat_lt MAX_PATHS (w.paths + 1) ≡ b → counted_with w b ≡ record w { paths = w.paths + 1 }
+    by true is = absurd (too_many (ltb-true MAX_PATHS (w.paths + 1) is))
       where
-        too_many : 1000000 < w.paths + 1 → ⊥
+        too_many : MAX_PATHS < w.paths + 1 → ⊥
         too_many h = omega arith
     by false is = refl
 
-pub counted_over : (w : Walk) → 1000000 < w.paths + 1 → counted w ≡ failed (TooMany (w.paths + 1)) (record w { paths = w.paths + 1 })
+pub counted_over : (w : Walk) → MAX_PATHS < w.paths + 1 → counted w ≡ failed (TooMany (w.paths + 1)) (record w { paths = w.paths + 1 })
 unfolding counted_with
-counted_over w many = by (nat_lt 1000000 (w.paths + 1)) refl
+counted_over w many = by (nat_lt MAX_PATHS (w.paths + 1)) refl
   where
-    by : (b : Bool) → nat_lt 1000000 (w.paths + 1) ≡ b → counted_with w b ≡ failed (TooMany (w.paths + 1)) (record w { paths = w.paths + 1 })
+    by : (b : Bool) → nat_lt MAX_PATHS (w.paths + 1) ≡ b → counted_with w b ≡ failed (TooMany (w.paths + 1)) (record w { paths = w.paths + 1 })
     by true is = refl
-    by false is = absurd (too_few (ltb-false 1000000 (w.paths + 1) is))
+    by false is = absurd (too_few (ltb-false MAX_PATHS (w.paths + 1) is))
       where
-        too_few : w.paths + 1 ≤ 1000000 → ⊥
+        too_few : w.paths + 1 ≤ MAX_PATHS → ⊥
         too_few h = omega arith
 
 -- where one step has no fault, the other has none, from a start that has counted so many paths less
@@ -139,7 +140,7 @@ module _ (less : ℕ) where
   spares_nothing : Spares less (λ w. w) (λ w. w)
   spares_nothing = record { none = λ w v same clear ends. clear; paths = λ w v same clear ends. same }
 
-  fewer : (w v : Walk) → w.paths ≡ v.paths + less → (counted w).fault ≡ None → v.paths + 1 ≤ 1000000
+  fewer : (w v : Walk) → w.paths ≡ v.paths + less → (counted w).fault ≡ None → v.paths + 1 ≤ MAX_PATHS
   fewer w v same ends = omega (arith, counted_within w ends)
 
   spares_counted : Spares less counted counted
@@ -233,7 +234,7 @@ object_spared A b room wants path id w ends =
     (along_below true b A A (Spares w.paths) (spared w.paths A b) room) wants path id).none w start (omega arith) refl ends
 
 pub root_spared : (A : Objects) (b : Bool) (id : List ℕ) (w : Walk) → (walk_root true A id w).fault ≡ None → (walk_root b A id start).fault ≡ None
-root_spared A b id w ends = object_spared A b 100 true [] id w ends
+root_spared A b id w ends = object_spared A b MAX_NAMES true [] id w ends
 
 -- and both count the same paths
 pub root_same_paths : (A : Objects) (id : List ℕ) → (walk_root true A id start).fault ≡ None → (walk_root true A id start).paths ≡ (walk_root false A id start).paths + 0

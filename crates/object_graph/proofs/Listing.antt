@@ -12,6 +12,7 @@ use Rattle.ids.specs.declared.key.Key.{Key}
 use Rattle.tree_model.specs.Path.{PathV, path_cmp}
 use Rattle.tree_model.specs.PathOrder.{paths_total, paths_tie}
 use Rattle.tree_model.specs.Tree.{Tree}
+use Rattle.tree_model.specs.declared.limits.TheConstants.{MAX_NAMES}
 use Rattle.tree_model.specs.declared.node.Node.{Node}
 use Rattle.fs_objects.specs.Mode.{is_directory_mode}
 use Rattle.fs_objects.specs.declared.dirent.Dirent.{Dirent}
@@ -173,10 +174,10 @@ find-listed q [] = refl
 find-listed q (x ∷ xs) = ap₂ (λ (b : Bool) (o : Option Entry). cond b (Some x.1) o) (sym (paths_tie q x.0)) (find-listed q xs)
 
 pub table_entries : (blocks : Bool) (A : Objects) (root : List ℕ) → (walk_root blocks A root start).fault ≡ None → (path : PathV)
-    → map.get (map.from_entries {R = path_cmp} (listed A 100 root)) path ≡ entry_below A path root
+    → map.get (map.from_entries {R = path_cmp} (listed A MAX_NAMES root)) path ≡ entry_below A path root
 table_entries blocks A root none path =
-    map.get-from_entries paths_total (listed A 100 root) path ∙ find-listed path (listed A 100 root)
-    ∙ found_listed blocks A path 100 [] root (walk_root blocks A root start).visits
+    map.get-from_entries paths_total (listed A MAX_NAMES root) path ∙ find-listed path (listed A MAX_NAMES root)
+    ∙ found_listed blocks A path MAX_NAMES [] root (walk_root blocks A root start).visits
     (record { from = start; none = none; within = within_itself (walk_root blocks A root start).visits })
 
 abbrev pub nodes : Objects → Listed → List (PathV × Node)

@@ -3,6 +3,7 @@ use Rattle.std.proofs.Common.{◌≡◌, ℕ, ◌+◌, ◌==◌, Bool, true, fal
 use Rattle.std.specs.FinMap as map
 use Rattle.ids.specs.Key.{Objects}
 use Rattle.ids.specs.declared.key.Key.{Key}
+use Rattle.tree_model.specs.declared.limits.TheConstants.{MAX_PATHS}
 use Rattle.fs_objects.specs.declared.file_object.FileObject.{FileObject}
 use Rattle.fs_objects.specs.declared.fs_object.FsObject.{FsObject}
 use Rattle.commit_objects.specs.declared.commit.Commit.{Commit}
@@ -27,7 +28,7 @@ counted_with w b = if b then failed (TooMany (w.paths + 1)) (record w { paths = 
 
 pub counted-visits : (w : Walk) → (counted w).visits ≡ w.visits
 unfolding counted_with
-counted-visits w = by (nat_lt 1000000 (w.paths + 1))
+counted-visits w = by (nat_lt MAX_PATHS (w.paths + 1))
   where
     by : (b : Bool) → (counted_with w b).visits ≡ w.visits
     by true = refl

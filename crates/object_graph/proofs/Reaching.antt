@@ -3,7 +3,9 @@ use Rattle.std.proofs.Common.{◌≡◌, ◌||◌, ◌==◌, ◌⊎◌, ℕ, zer
 use Rattle.std.specs.FinMap as map
 use Rattle.ids.specs.Key.{Objects}
 use Rattle.ids.specs.declared.key.Key.{Key}
+use Rattle.std.proofs.lemmas.Bool.{or_cases, or_right}
 use Rattle.tree_model.specs.Path.{PathV}
+use Rattle.tree_model.specs.declared.limits.TheConstants.{MAX_NAMES}
 use Rattle.fs_objects.specs.Mode.{is_directory_mode}
 use Rattle.fs_objects.specs.declared.dirent.Dirent.{Dirent}
 use Rattle.fs_objects.specs.declared.file_object.FileObject.{FileObject}
@@ -22,19 +24,11 @@ use Rattle.object_graph.proofs.Schemes.{Step, goes_on, none_before}
 in_first : (key : Key) (keys : List Key) → is_in (key ∷ keys) key ≡ true
 in_first key keys = ap (λ b. b || is_in keys key) (same_key-itself key)
 
-either : (a b : Bool) → (a || b) ≡ true → (a ≡ true) ⊎ (b ≡ true)
-either true b is = inl refl
-either false b is = inr is
-
 in_parts : (xs ys : List Key) (key : Key) → is_in (xs ++ ys) key ≡ true → (is_in xs key ≡ true) ⊎ (is_in ys key ≡ true)
-in_parts xs ys key is = either (is_in xs key) (is_in ys key) (sym (in_append xs ys key) ∙ is)
+in_parts xs ys key is = or_cases (is_in xs key) (is_in ys key) (sym (in_append xs ys key) ∙ is)
 
 behind : (xs ys : List Key) → Within ys (xs ++ ys)
-behind xs ys = record { there = λ key is. in_append xs ys key ∙ by (is_in xs key) (is_in ys key) is }
-  where
-    by : (a b : Bool) → b ≡ true → (a || b) ≡ true
-    by true b is = refl
-    by false b is = is
+behind xs ys = record { there = λ key is. in_append xs ys key ∙ or_right (is_in xs key) (is_in ys key) is }
 
 -- ---- what is closed under naming has all that is visited
 
@@ -128,7 +122,7 @@ module _ (A : Objects) (P : Key → Type 0) (closed : (above key : Key) → P ab
       first = every_visited (commit_key id) has start (λ key is. cc is)
 
       by : (r : Result Commit TreeFault) → Every (named_by_commit r) → Every (then_read r (λ commit. walk_root true A commit.root) (visited (commit_key id) start)).visits
-      by (Ok commit) own = stays_object (walk_below true A 100) (stays_below 100) true [] commit.root own (visited (commit_key id) start) first
+      by (Ok commit) own = stays_object (walk_below true A MAX_NAMES) (stays_below MAX_NAMES) true [] commit.root own (visited (commit_key id) start) first
       by (Err fault) own = first
 
 -- ---- what a traversal without a fault visits names nothing else
@@ -253,7 +247,7 @@ module _ (A : Objects) where
     where
       by : (r : Result Commit TreeFault) → (then_read r (λ commit. walk_root true A commit.root) (visited (commit_key id) start)).fault ≡ None
           → Ran (named_by_commit r) (commit_key id ∷ []) (then_read r (λ commit. walk_root true A commit.root) (visited (commit_key id) start)).visits
-      by (Ok commit) none = ends_object (walk_below true A 100) (ends_below 100) true [] commit.root (visited (commit_key id) start) none
+      by (Ok commit) none = ends_object (walk_below true A MAX_NAMES) (ends_below MAX_NAMES) true [] commit.root (visited (commit_key id) start) none
       by (Err fault) none = cc none
 
   pub commit_closes : (id : List ℕ) → IsComplete A id → (above key : Key) → is_in (walk_commit A id).visits above ≡ true → is_in (named A above) key ≡ true

@@ -4,6 +4,7 @@ use Rattle.std.proofs.Common.{◌≡◌, ℕ, Bool, true, false, if◌then◌els
 use Rattle.ids.specs.Key.{Objects}
 use Rattle.ids.specs.declared.key.Key.{Key}
 use Rattle.tree_model.specs.Path.{PathV}
+use Rattle.tree_model.specs.declared.limits.TheConstants.{MAX_NAMES}
 use Rattle.tree_model.specs.declared.node.Node.TheVariants as node
 use Rattle.fs_objects.specs.Mode.{is_directory_mode}
 use Rattle.fs_objects.specs.declared.dirent.Dirent.{Dirent}
@@ -22,7 +23,7 @@ use Rattle.object_graph.proofs.Below.{Ran, Reached, grows_found, entry_ran, reac
 
 -- a root's own traversal
 pub ran_root : (blocks : Bool) (A : Objects) (id : List ℕ) (w : Walk) → (walk_root blocks A id w).fault ≡ None
-    → Ran (walk_object blocks A (walk_below blocks A 100) true [] id) (walk_root blocks A id w).visits
+    → Ran (walk_object blocks A (walk_below blocks A MAX_NAMES) true [] id) (walk_root blocks A id w).visits
 ran_root blocks A id w none = record { from = w; none = none; within = within_itself (walk_root blocks A id w).visits }
 
 module _ (blocks : Bool) (A B : Objects) where
@@ -121,4 +122,4 @@ module _ (A B : Objects) where
 
   -- and so each tree of a complete root
   pub same_tree : (root : List ℕ) → IsCompleteRoot A root → AgreeOn (walk_root true A root start).visits A B → (q : PathV) → node_below B q root ≡ node_below A q root
-  same_tree root none agree q = same_below 100 [] root (walk_root true A root start).visits (ran_root true A root start none) agree q
+  same_tree root none agree q = same_below MAX_NAMES [] root (walk_root true A root start).visits (ran_root true A root start none) agree q

@@ -3,6 +3,7 @@
 use Rattle.std.proofs.Common.{◌≡◌, ℕ, zero, suc, Bool, true, false, if◌then◌else◌, List, [], ◌∷◌, ◌++◌, refl, sym, ap, ◌∙◌, Option, None, Some}
 use Rattle.ids.specs.Key.{Objects}
 use Rattle.tree_model.specs.Path.{PathV}
+use Rattle.tree_model.specs.declared.limits.TheConstants.{MAX_NAMES}
 use Rattle.fs_objects.specs.Mode.{is_directory_mode}
 use Rattle.fs_objects.specs.declared.dirent.Dirent.{Dirent}
 use Rattle.fs_objects.specs.declared.file_object.FileObject.{FileObject}
@@ -80,4 +81,4 @@ module _ (a b : Bool) (A B : Objects) (R : Step → Step → Type 0) where
     along_below (suc room) wants path id = along_object (walk_below a A room) (walk_below b B room) (along_below room) wants path id
 
     pub along_root : (id : List ℕ) → R (walk_root a A id) (walk_root b B id)
-    along_root id = along_object (walk_below a A 100) (walk_below b B 100) (along_below 100) true [] id
+    along_root id = along_object (walk_below a A MAX_NAMES) (walk_below b B MAX_NAMES) (along_below MAX_NAMES) true [] id

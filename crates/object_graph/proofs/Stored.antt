@@ -5,6 +5,7 @@ use Rattle.std.specs.FinMap as map
 use Rattle.ids.specs.Key.{Objects}
 use Rattle.ids.specs.declared.key.Key.{Key}
 use Rattle.tree_model.specs.Path.{PathV}
+use Rattle.tree_model.specs.declared.limits.TheConstants.{MAX_PATHS}
 use Rattle.fs_objects.specs.FsObject.{fs_of}
 use Rattle.fs_objects.specs.declared.fault.BadFs.{BadFs}
 use Rattle.fs_objects.specs.declared.file_object.FileObject.{FileObject}
@@ -65,7 +66,7 @@ module _ (A : Objects) where
 
   sure_counted : Sure A counted
   unfolding counted_with
-  sure_counted = record { sure = λ w. by w (nat_lt 1000000 (w.paths + 1)) }
+  sure_counted = record { sure = λ w. by w (nat_lt MAX_PATHS (w.paths + 1)) }
     where
       by : (w : Walk) (b : Bool) → AllStored A w.visits → (counted_with w b).fault ≡ None → AllStored A (counted_with w b).visits
       by w true all none = all
@@ -157,7 +158,7 @@ module _ (A : Objects) where
 
   tells_counted : Tells A counted
   unfolding counted_with
-  tells_counted = record { tells = λ w none. by w none (nat_lt 1000000 (w.paths + 1)) }
+  tells_counted = record { tells = λ w none. by w none (nat_lt MAX_PATHS (w.paths + 1)) }
     where
       by : (w : Walk) → w.fault ≡ None → (b : Bool) → (key : Key) → (counted_with w b).fault ≡ Some (Incomplete key) → IsTold A (counted_with w b) key
       by w none true key is = cc

@@ -8,6 +8,7 @@ use Rattle.std.specs.Ordering.{eq_by_cmp}
 use Rattle.ids.specs.Key.{Objects, key_cmp}
 use Rattle.ids.specs.declared.key.Key.{Key}
 use Rattle.tree_model.specs.Path.{PathV}
+use Rattle.tree_model.specs.declared.limits.TheConstants.{MAX_PATHS, MAX_NAMES}
 use Rattle.fs_objects.specs.Mode.{is_directory_mode}
 use Rattle.fs_objects.specs.declared.dirent.Dirent.{Dirent}
 use Rattle.fs_objects.specs.declared.file_object.FileObject.{FileObject}
@@ -34,7 +35,7 @@ failed fault w = record w { fault = Some fault }
 
 -- one path more, and at most 1,000,000
 abbrev pub counted : Walk → Walk
-counted w = if nat_lt 1000000 (w.paths + 1) then failed (TooMany (w.paths + 1)) (record w { paths = w.paths + 1 }) else record w { paths = w.paths + 1 }
+counted w = if nat_lt MAX_PATHS (w.paths + 1) then failed (TooMany (w.paths + 1)) (record w { paths = w.paths + 1 }) else record w { paths = w.paths + 1 }
 
 -- the next step, unless a fault came
 abbrev pub next_by : Option TreeFault → (Walk → Walk) → Walk → Walk
@@ -91,7 +92,7 @@ module _ (blocks : Bool) (objects : Objects) where
 
   -- the traversal of a root, below which a path has at most 100 names
   abbrev pub walk_root : List ℕ → Walk → Walk
-  walk_root id w = walk_object (walk_below 100) true [] id w
+  walk_root id w = walk_object (walk_below MAX_NAMES) true [] id w
 
 module _ (objects : Objects) where
   -- the traversal of a commit: its own key, and then its root with all blocks; parents aren't followed
@@ -108,7 +109,7 @@ module _ (objects : Objects) where
 
   -- the traversal of a file object on its own, with its blocks
   abbrev pub walk_file_at : List ℕ → Walk → Walk
-  walk_file_at id w = walk_object true objects (walk_below true objects 100) false [] id w
+  walk_file_at id w = walk_object true objects (walk_below true objects MAX_NAMES) false [] id w
 
 -- whether a key is one of these
 abbrev pub is_in : List Key → Key → Bool

@@ -4,3 +4,6 @@ pub mod IndexLemmas
 pub mod MemoryLemmas
 pub mod RefusalLemmas
 pub mod StrayLemmas
+pub mod ShelfLemmas
+pub mod OddLemmas
+mod Walks

@@ -8,17 +8,19 @@ use Rattle.object_store.specs.declared.shelf.ShelfFailed.TheVariants.{Shelf, NoM
 use Rattle.object_store.specs.declared.shelf.Slot.{Slot}
 
 -- `left` is the number of calls that it still passes on; where it stops `late`, a put or a removal at which it stops is
--- done all the same
+-- done all the same; `texts` counts the puts of the status text, in proofs alone
 pub record FuseShelfState : Type 0 where
   pub inner : MemoryShelfState
   pub left : ℕ
   pub late : Bool
   pub faults : ℕ
+  pub texts : ℕ
 
 -- it is stored as its fields
 abbrev pub fuse_shelf_code : Coded FuseShelfState
-fuse_shelf_code = code_by (MemoryShelfState × (ℕ × (Bool × ℕ))) (coded× memory_shelf_code (coded× coded_ℕ (coded× coded_bool coded_ℕ)))
-    (λ shelf. (shelf.inner, (shelf.left, (shelf.late, shelf.faults)))) (λ t. record { inner = t.0; left = t.1.0; late = t.1.1.0; faults = t.1.1.1 }) (λ _. refl)
+fuse_shelf_code = code_by (MemoryShelfState × (ℕ × (Bool × (ℕ × ℕ)))) (coded× memory_shelf_code (coded× coded_ℕ (coded× coded_bool (coded× coded_ℕ coded_ℕ))))
+    (λ shelf. (shelf.inner, (shelf.left, (shelf.late, (shelf.faults, shelf.texts)))))
+    (λ t. record { inner = t.0; left = t.1.0; late = t.1.1.0; faults = t.1.1.1.0; texts = t.1.1.1.1 }) (λ _. refl)
 
 -- the shelf once the next call was counted
 abbrev pub burnt : FuseShelfState → FuseShelfState

@@ -16,18 +16,19 @@ use Rattle.object_store.specs.declared.shelf.ShelfFailed.{ShelfFailed}
 use Rattle.object_store.specs.declared.shelf.ShelfFailed.TheVariants.{Shelf, NoMemory}
 use Rattle.object_store.specs.declared.shelf.Slot.{Slot}
 
--- `calls` counts the calls so far, up to 2 ^ 64 - 1
+-- `calls` counts the calls so far, up to 2 ^ 64 - 1, and `texts` the puts of the status text, in proofs alone
 pub record MemoryShelfState : Type 0 where
   pub contents : Contents
   pub fails : List ℕ
   pub calls : ℕ
   pub faults : ℕ
+  pub texts : ℕ
 
 -- it is stored as its fields
 abbrev pub memory_shelf_code : Coded MemoryShelfState
-memory_shelf_code = code_by (Contents × (List ℕ × (ℕ × ℕ))) (coded× contents_code (coded× (coded_list coded_ℕ) (coded× coded_ℕ coded_ℕ)))
-    (λ shelf. (shelf.contents, (shelf.fails, (shelf.calls, shelf.faults))))
-    (λ t. record { contents = t.0; fails = t.1.0; calls = t.1.1.0; faults = t.1.1.1 }) (λ _. refl)
+memory_shelf_code = code_by (Contents × (List ℕ × (ℕ × (ℕ × ℕ)))) (coded× contents_code (coded× (coded_list coded_ℕ) (coded× coded_ℕ (coded× coded_ℕ coded_ℕ))))
+    (λ shelf. (shelf.contents, (shelf.fails, (shelf.calls, (shelf.faults, shelf.texts)))))
+    (λ t. record { contents = t.0; fails = t.1.0; calls = t.1.1.0; faults = t.1.1.1.0; texts = t.1.1.1.1 }) (λ _. refl)
 
 -- one more, up to 2 ^ 64 - 1
 abbrev pub counted : ℕ → ℕ
@@ -60,10 +61,10 @@ contents_after old changed (Ok done) = changed
 contents_after old changed (Err failed) = old
 
 -- a call that is to fail answers Shelf, and no other does; what it leaves is the counted shelf, with these contents
--- where it is answered as done
+-- where it is answered as done, and with some count of texts
 pub record Answers {T : Type 0} (old new : MemoryShelfState) (changed : Contents) (result : Result T ShelfFailed) : Type 0 where
   pub fails : (IsFailure result) ↔ IsTrue (fails_next old)
-  pub after : new ≡ record (begun old) { contents = contents_after old.contents changed result }
+  pub after : new ≡ record (begun old) { contents = contents_after old.contents changed result; texts = new.texts }
 
 -- every id of the objects has 20 bytes
 abbrev pub HasIds : Objects → Type 0

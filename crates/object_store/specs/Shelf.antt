@@ -1,6 +1,7 @@
--- What a shelf holds, and what its calls do to it. Our own. Read Contents first, then Changes and FindsNext.
+-- What a shelf holds, and what its calls do to it. Our own. Read Contents first, then Changes and FindsNext, then
+-- GivesNoMore and GivesAlso.
 -- What is told is an Option: a shelf in memory tells its contents, an adapter over a real one tells None.
-use Rattle.std.specs.Prelude.{◌≡◌, ◌⊎◌, ℕ, Bool, true, false, List, length, Option, None, Some, IsSome, Result, Ok, Err, ⊤, option_map, refl}
+use Rattle.std.specs.Prelude.{◌≡◌, ◌⊎◌, ◌+◌, ℕ, Bool, true, false, List, length, Option, None, Some, IsSome, Result, Ok, Err, ⊤, option_map, refl}
 use Rattle.std.specs.Coded.{Coded, code_by, coded×, coded_list, coded_option, coded_ℕ}
 use Rattle.std.specs.FinMap as map
 use Rattle.std.specs.Ordering.{is_gt}
@@ -75,3 +76,23 @@ is_counted NoMemory = false
 -- a call answers Shelf only where the count rose, and else the count stays
 abbrev pub CountsFaults : {T : Type 0} → ℕ → ℕ → Result T ShelfFailed → Type 0
 CountsFaults before now result = FailsBy is_counted before now result
+
+-- ---- what a fetch may give, after a call and before it
+
+-- a shelf with these contents gives what lies there
+abbrev pub Tells : Contents → Slot → Option (List ℕ) → Type 0
+Tells held slot given = given ≡ lies_in held slot
+
+-- what may be given after a call might be given before it
+abbrev pub GivesNoMore : (Slot → Option (List ℕ) → Type 0) → (Slot → Option (List ℕ) → Type 0) → Type 0
+GivesNoMore before now = (slot : Slot) (given : Option (List ℕ)) → now slot given → before slot given
+
+-- the same, but for one slot and what the call lays there
+abbrev pub GivesAlso : (Slot → Option (List ℕ) → Type 0) → (Slot → Option (List ℕ) → Type 0) → Slot → Option (List ℕ) → Type 0
+GivesAlso before now slot laid =
+    (at : Slot) (given : Option (List ℕ)) → now at given → before at given ⊎ ((at ≡ slot) × (given ≡ laid))
+
+-- the number of status texts that were put, once one is put into this slot
+abbrev pub texts_after : Slot → ℕ → ℕ
+texts_after (Object key) texts = texts
+texts_after Status texts = texts + 1

@@ -6,12 +6,13 @@ use Rattle.std.specs.FinMap as map
 use Rattle.ids.specs.Key.{Objects, key_cmp}
 use Rattle.ids.specs.contracts.key.Key as key_contracts
 use Rattle.ids.specs.declared.key.Key.{Key}
-use Rattle.object_store.specs.Shelf.{Contents, put_known, removed_known}
+use Rattle.object_store.specs.Shelf.{Contents, GivesAlso, GivesNoMore, put_known, removed_known, texts_after}
 use Rattle.object_store.specs.Store.{CountsShelf}
 use Rattle.object_store.specs.declared.error.StoreFault.{StoreFault}
 use Rattle.object_store.specs.declared.error.StoreFault.TheVariants.{Taken, Wrong, Damaged, Shelf, NoMemory}
 use Rattle.object_store.specs.declared.put.Put.{Put}
 use Rattle.object_store.specs.declared.put.Put.TheVariants.{New, Same}
+use Rattle.object_store.specs.declared.shelf.Slot.{Slot}
 use Rattle.object_store.specs.declared.shelf.Slot.TheVariants.{Object, Status}
 
 -- the keys that a store knows, each with the size of its object
@@ -130,6 +131,25 @@ NoteChanges contents old new text (Err NoMemory) = Keeps contents old new
 NoteChanges contents old new text (Err (Taken id)) = ⊥
 NoteChanges contents old new text (Err (Wrong id)) = ⊥
 NoteChanges contents old new text (Err (Damaged want got)) = ⊥
+
+-- ---- what the shelf may give after a call, and the texts that were put on it
+
+-- a call that reads: the shelf may give no more than before, and no status text was put
+pub record ReadsShelf {S : Type 0} (may_give : S → Slot → Option (List ℕ) → Type 0) (texts : S → ℕ) (old new : S) : Type 0 where
+  pub gives : GivesNoMore (may_give old) (may_give new)
+  pub written : texts new ≡ texts old
+
+-- a call that may change one slot: the shelf may give no more than before, but what was laid there, and a status text was
+-- put exactly where the slot is its
+pub record ChangesShelf {S : Type 0} (may_give : S → Slot → Option (List ℕ) → Type 0) (texts : S → ℕ) (old new : S)
+    (slot : Slot) (laid : Option (List ℕ)) : Type 0 where
+  pub gives : GivesAlso (may_give old) (may_give new) slot laid
+  pub written : texts new ≡ texts_after slot (texts old)
+
+-- a start only reads, and so it does where it gives the shelf back
+abbrev pub StartReads : {S : Type 0} → (S → Slot → Option (List ℕ) → Type 0) → (S → ℕ) → S → Result (StoreView S) (S × StoreFault) → Type 0
+StartReads may_give texts shelf (Ok store) = ReadsShelf may_give texts shelf store.shelf
+StartReads may_give texts shelf (Err refused) = ReadsShelf may_give texts shelf refused.0
 
 -- a store that was started holds all that lies on its shelf, and the shelf is as it was
 pub record IsStarted {S : Type 0} (contents : S → Option Contents) (given : S) (store : StoreView S) : Type 0 where

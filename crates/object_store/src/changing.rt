@@ -1,10 +1,10 @@
 //! The changes of one slot, in the index and on the shelf together.
-ghost use Rattle.std.specs.Prelude.{◌≡◌, None, length};
+ghost use Rattle.std.specs.Prelude.{◌≡◌, None, Some, length};
 ghost use Rattle.std.specs.FinMap as map;
 ghost use Rattle.object_store.specs.Shelf.{put_known, removed_known};
 ghost use Rattle.object_store.specs.Steps.{ChangesBoth};
 ghost use Rattle.object_store.specs.Store.{CountsShelf};
-ghost use Rattle.object_store.specs.StoreView.{IsIndexed};
+ghost use Rattle.object_store.specs.StoreView.{ChangesShelf, IsIndexed};
 
 use crate::error::StoreFault;
 use crate::fetching::fault_of;
@@ -23,6 +23,7 @@ pub(crate) fn put_new<S: Shelf>(
     ensures ready { IsIndexed S.contents shelf.new index.new }
     ensures value { ChangesBoth index.old (map.insert index.old key.now (length bytes.now)) index.old index.new
         (S.contents shelf.old) (put_known (S.contents shelf.old) (Slot.Object key.now) bytes.now) (S.contents shelf.new) result }
+    ensures shelf { ChangesShelf S.may_give S.texts shelf.old shelf.new (Slot.Object key.now) (Some bytes.now) }
     ensures faults { CountsShelf (S.faults shelf.old) (S.faults shelf.new) result }
 {
     let size = bytes.len() as u64;
@@ -49,6 +50,7 @@ pub(crate) fn remove_object<S: Shelf>(
     ensures ready { IsIndexed S.contents shelf.new index.new }
     ensures value { ChangesBoth index.old (map.remove index.old key.now) (map.remove index.old key.now) index.new
         (S.contents shelf.old) (removed_known (S.contents shelf.old) (Slot.Object key.now)) (S.contents shelf.new) result }
+    ensures shelf { ChangesShelf S.may_give S.texts shelf.old shelf.new (Slot.Object key.now) None }
     ensures faults { CountsShelf (S.faults shelf.old) (S.faults shelf.new) result }
 {
     match shelf.remove(Slot::Object(*key)) {

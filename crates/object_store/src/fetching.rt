@@ -2,6 +2,7 @@
 ghost use Rattle.std.specs.Prelude.{◌≡◌};
 ghost use Rattle.object_store.specs.Steps.{FetchesWhole, PutsStored, fault_of, judged, other_name};
 ghost use Rattle.object_store.specs.Store.{CountsShelf, name_refusal};
+ghost use Rattle.object_store.specs.StoreView.{ReadsShelf};
 
 use crate::error::StoreFault;
 use crate::put::Put;
@@ -59,6 +60,7 @@ fn judged(key: &Key, bytes: Bytes) -> Result<Bytes, StoreFault>
 pub(crate) fn fetch_whole<S: Shelf>(shelf: &mut S, key: &Key) -> Result<Bytes, StoreFault>
     ensures value { FetchesWhole (S.may_give shelf.new) key.now result }
     ensures kept { S.contents shelf.new ≡ S.contents shelf.old }
+    ensures shelf { ReadsShelf S.may_give S.texts shelf.old shelf.new }
     ensures faults { CountsShelf (S.faults shelf.old) (S.faults shelf.new) result }
 {
     match shelf.fetch(Slot::Object(*key)) {
@@ -79,6 +81,7 @@ pub(crate) fn put_stored<S: Shelf>(
 ) -> Result<Put, StoreFault>
     ensures value { PutsStored (S.may_give shelf.new) key.now bytes.now result }
     ensures kept { S.contents shelf.new ≡ S.contents shelf.old }
+    ensures shelf { ReadsShelf S.may_give S.texts shelf.old shelf.new }
     ensures faults { CountsShelf (S.faults shelf.old) (S.faults shelf.new) result }
 {
     let stored = match fetch_whole(shelf, key) {

@@ -1,10 +1,11 @@
 //! A shelf that stops after so many calls, as a machine that loses power.
-ghost use Rattle.std.specs.Prelude.{◌≡◌, ◌<◌, ◌^◌, ◌-◌, ℕ, List, IfOk, Some, nat_lt};
+ghost use Rattle.std.specs.Prelude.{◌≡◌, ◌<◌, ◌^◌, ◌-◌, ℕ, List, IfOk, None, Some, nat_lt};
 ghost use Rattle.object_store.specs.FuseShelf.{PassesChange, PassesRead, burnt, failed_by};
-ghost use Rattle.object_store.specs.Shelf.{Changes, Contents, CountsFaults, FindsNext, lies_in, put_known, removed_known, with_put, without};
+ghost use Rattle.object_store.specs.Shelf.{Changes, Contents, CountsFaults, FindsNext, GivesAlso, GivesNoMore, Tells, lies_in, put_known, removed_known, texts_after, with_put, without};
 
 use crate::memory_shelf::MemoryShelf;
 use crate::shelf::{Found, Shelf, ShelfFailed, Slot};
+use crate::text_count::TextCount;
 use ids::{Bytes, Kind, ObjId};
 use std::marker::Model;
 
@@ -16,6 +17,7 @@ pub struct FuseShelf {
     left: u64,
     late: bool,
     faults: u64,
+    texts: TextCount,
 }
 
 impl Model for FuseShelf {
@@ -25,19 +27,20 @@ impl Model for FuseShelf {
 
     ghost coded = { fuse_shelf_code };
 
-    ghost view = { λ a. record { inner = a.inner; left = a.left; late = a.late; faults = a.faults } };
+    ghost view = { λ a. record { inner = a.inner; left = a.left; late = a.late; faults = a.faults; texts = a.texts.count } };
 }
 
 impl FuseShelf {
     /// A shelf that passes so many calls on. Where it is late, the first call that fails is done if it changes a slot.
     pub fn new(inner: MemoryShelf, passes: u64, late: bool) -> FuseShelf
-        ensures value { result ≡ record { inner = inner; left = passes; late = late; faults = 0 } }
+        ensures value { result ≡ record { inner = inner; left = passes; late = late; faults = 0; texts = 0 } }
     {
         FuseShelf {
             inner,
             left: passes,
             late,
             faults: 0,
+            texts: TextCount::new(),
         }
     }
 
@@ -77,36 +80,13 @@ impl FuseShelf {
         }
         failed
     }
-}
 
-impl Shelf for FuseShelf {
-    ghost use Rattle.object_store.specs.FuseShelf.{fuse_told};
-
-    ghost contents = { λ shelf. Some shelf.inner.contents };
-
-    ghost may_give = { λ shelf slot given. given ≡ lies_in shelf.inner.contents slot };
-
-    ghost faults = { λ shelf. shelf.faults };
-
-    fn fetch(&mut self, slot: Slot) -> Result<Option<Bytes>, ShelfFailed>
-        ensures found { IfOk result (λ given. given ≡ lies_in self.new.inner.contents slot) }
-        ensures kept { Some self.new.inner.contents ≡ Some self.old.inner.contents }
-        ensures faults { CountsFaults self.old.faults self.new.faults result }
-        ensures value { PassesRead self.old self.new result }
-    {
-        if !self.burn() {
-            return Err(ShelfFailed::Shelf);
-        }
-        match self.inner.fetch(slot) {
-            Ok(given) => Ok(given),
-            Err(failed) => Err(self.fail(failed)),
-        }
-    }
-
-    fn put(&mut self, slot: Slot, bytes: &[u8]) -> Result<(), ShelfFailed>
+    /// A put, but for the count of texts.
+    fn put_through(&mut self, slot: Slot, bytes: &[u8]) -> Result<(), ShelfFailed>
         ensures ok { Changes (Some self.old.inner.contents) (put_known (Some self.old.inner.contents) slot bytes.now) (Some self.new.inner.contents) result }
         ensures faults { CountsFaults self.old.faults self.new.faults result }
         ensures value { PassesChange self.old self.new (with_put self.old.inner.contents slot bytes.now) result }
+        ensures texts { self.new.texts ≡ self.old.texts }
     {
         let late = self.late;
         if !self.burn() {
@@ -121,10 +101,52 @@ impl Shelf for FuseShelf {
             Err(failed) => Err(self.fail(failed)),
         }
     }
+}
+
+impl Shelf for FuseShelf {
+    ghost use Rattle.object_store.specs.FuseShelf.{fuse_told};
+
+    ghost contents = { λ shelf. Some shelf.inner.contents };
+
+    ghost may_give = { λ shelf slot given. given ≡ lies_in shelf.inner.contents slot };
+
+    ghost faults = { λ shelf. shelf.faults };
+
+    ghost texts = { λ shelf. shelf.texts };
+
+    fn fetch(&mut self, slot: Slot) -> Result<Option<Bytes>, ShelfFailed>
+        ensures found { IfOk result (λ given. given ≡ lies_in self.new.inner.contents slot) }
+        ensures kept { Some self.new.inner.contents ≡ Some self.old.inner.contents }
+        ensures faults { CountsFaults self.old.faults self.new.faults result }
+        ensures gives { GivesNoMore (Tells self.old.inner.contents) (Tells self.new.inner.contents) }
+        ensures texts { self.new.texts ≡ self.old.texts }
+        ensures value { PassesRead self.old self.new result }
+    {
+        if !self.burn() {
+            return Err(ShelfFailed::Shelf);
+        }
+        match self.inner.fetch(slot) {
+            Ok(given) => Ok(given),
+            Err(failed) => Err(self.fail(failed)),
+        }
+    }
+
+    fn put(&mut self, slot: Slot, bytes: &[u8]) -> Result<(), ShelfFailed>
+        ensures ok { Changes (Some self.old.inner.contents) (put_known (Some self.old.inner.contents) slot bytes.now) (Some self.new.inner.contents) result }
+        ensures faults { CountsFaults self.old.faults self.new.faults result }
+        ensures gives { GivesAlso (Tells self.old.inner.contents) (Tells self.new.inner.contents) slot (Some bytes.now) }
+        ensures texts { self.new.texts ≡ texts_after slot self.old.texts }
+        ensures value { PassesChange self.old self.new (with_put self.old.inner.contents slot bytes.now) result }
+    {
+        self.texts.count_put(&slot);
+        self.put_through(slot, bytes)
+    }
 
     fn remove(&mut self, slot: Slot) -> Result<(), ShelfFailed>
         ensures ok { Changes (Some self.old.inner.contents) (removed_known (Some self.old.inner.contents) slot) (Some self.new.inner.contents) result }
         ensures faults { CountsFaults self.old.faults self.new.faults result }
+        ensures gives { GivesAlso (Tells self.old.inner.contents) (Tells self.new.inner.contents) slot None }
+        ensures texts { self.new.texts ≡ self.old.texts }
         ensures value { PassesChange self.old self.new (without self.old.inner.contents slot) result }
     {
         let late = self.late;
@@ -145,6 +167,8 @@ impl Shelf for FuseShelf {
         ensures found { (held : Contents) → Some self.old.inner.contents ≡ Some held → IfOk result (FindsNext held.objects kind after) }
         ensures kept { Some self.new.inner.contents ≡ Some self.old.inner.contents }
         ensures faults { CountsFaults self.old.faults self.new.faults result }
+        ensures gives { GivesNoMore (Tells self.old.inner.contents) (Tells self.new.inner.contents) }
+        ensures texts { self.new.texts ≡ self.old.texts }
         ensures value { PassesRead self.old self.new result }
     {
         if !self.burn() {

@@ -3,7 +3,7 @@ ghost use Rattle.std.specs.Prelude.{◌≡◌, IfOk, IfErr, OnOk, IsTrue, Some, 
 ghost use Rattle.object_store.specs.Shelf.{Contents};
 ghost use Rattle.object_store.specs.Steps.{Indexes, is_done, is_read};
 ghost use Rattle.object_store.specs.Store.{CountsShelf, is_free};
-ghost use Rattle.object_store.specs.StoreView.{IsIndexOf};
+ghost use Rattle.object_store.specs.StoreView.{IsIndexOf, ReadsShelf};
 
 use crate::error::StoreFault;
 use crate::fetching::fault_of;
@@ -19,6 +19,7 @@ pub(crate) fn read_index<S: Shelf>(
     ensures value { IfOk result (λ index. (held : Contents) → S.contents shelf.old ≡ Some held → IsIndexOf held.objects index) }
     ensures kept { S.contents shelf.new ≡ S.contents shelf.old }
     ensures refused { IfErr result (λ fault. IsTrue (is_free fault)) }
+    ensures shelf { ReadsShelf S.may_give S.texts shelf.old shelf.new }
     ensures faults { CountsShelf (S.faults shelf.old) (S.faults shelf.new) result }
 {
     let mut index = KeyTable::new(alloc);
@@ -46,6 +47,7 @@ fn read_kind<S: Shelf>(
     ensures ok { OnOk result ((held : Contents) → S.contents shelf.new ≡ Some held → Indexes (is_done kind) held.objects index.new) }
     ensures kept { S.contents shelf.new ≡ S.contents shelf.old }
     ensures refused { IfErr result (λ fault. IsTrue (is_free fault)) }
+    ensures shelf { ReadsShelf S.may_give S.texts shelf.old shelf.new }
     ensures faults { CountsShelf (S.faults shelf.old) (S.faults shelf.new) result }
 {
     let mut last = None;

@@ -17,6 +17,7 @@ mod odd_shelf;
 mod put;
 mod shelf;
 mod store;
+mod text_count;
 
 pub use crate::error::StoreFault;
 pub use crate::fuse_shelf::FuseShelf;
@@ -25,3 +26,4 @@ pub use crate::odd_shelf::OddShelf;
 pub use crate::put::Put;
 pub use crate::shelf::{Found, Shelf, ShelfFailed, Slot};
 pub use crate::store::Store;
+pub use crate::text_count::TextCount;

@@ -2,9 +2,10 @@
 ghost use Rattle.std.specs.Prelude.{◌≡◌, ◌<◌, ◌^◌, ℕ, List, length, IfOk, IfErr, OnErr, Some, None, not, is_some, option_copied};
 ghost use Rattle.std.specs.FinMap as map;
 ghost use Rattle.object_store.specs.MemoryShelf.{Answers, FindsAt, FindsKey, HasIds, IsLeastFrom, begun, fails_next, is_due};
-ghost use Rattle.object_store.specs.Shelf.{Changes, Contents, CountsFaults, FindsNext, lies_in, put_known, removed_known, with_put, without};
+ghost use Rattle.object_store.specs.Shelf.{Changes, Contents, CountsFaults, FindsNext, GivesAlso, GivesNoMore, Tells, lies_in, put_known, removed_known, texts_after, with_put, without};
 
 use crate::shelf::{Found, Shelf, ShelfFailed, Slot};
+use crate::text_count::TextCount;
 use ids::{Bytes, Items, Key, KeyTable, Kind, ObjId};
 use std::alloc::Global;
 use std::marker::Model;
@@ -18,6 +19,7 @@ pub struct MemoryShelf {
     fails: Items<u64>,
     calls: u64,
     faults: u64,
+    texts: TextCount,
 }
 
 impl Model for MemoryShelf {
@@ -32,6 +34,7 @@ impl Model for MemoryShelf {
       fails = a.fails;
       calls = a.calls;
       faults = a.faults;
+      texts = a.texts.count;
     } };
 
     ghost invariant = { λ a. HasIds a.objects };
@@ -46,6 +49,7 @@ impl MemoryShelf {
           fails = fails;
           calls = 0;
           faults = 0;
+          texts = 0;
         } }
     {
         MemoryShelf {
@@ -55,6 +59,7 @@ impl MemoryShelf {
             fails,
             calls: 0,
             faults: 0,
+            texts: TextCount::new(),
         }
     }
 
@@ -72,34 +77,28 @@ impl MemoryShelf {
         }
         true
     }
-}
 
-impl Shelf for MemoryShelf {
-    ghost contents = { λ shelf. Some shelf.contents };
-
-    ghost may_give = { λ shelf slot given. given ≡ lies_in shelf.contents slot };
-
-    ghost faults = { λ shelf. shelf.faults };
-
-    fn fetch(&mut self, slot: Slot) -> Result<Option<Bytes>, ShelfFailed>
-        ensures found { IfOk result (λ given. given ≡ lies_in self.new.contents slot) }
-        ensures kept { Some self.new.contents ≡ Some self.old.contents }
+    /// A removal.
+    fn empty_slot(&mut self, slot: Slot) -> Result<(), ShelfFailed>
         ensures faults { CountsFaults self.old.faults self.new.faults result }
-        ensures value { Answers self.old self.new self.old.contents result }
+        ensures value { Answers self.old self.new (without self.old.contents slot) result }
+        ensures texts { self.new.texts ≡ self.old.texts }
     {
         if !self.begin() {
             return Err(ShelfFailed::Shelf);
         }
         match slot {
-            Slot::Object(key) => copied(self.alloc, self.objects.get(&key)),
-            Slot::Status => copied(self.alloc, self.status.as_ref()),
+            Slot::Object(key) => remove_object(&mut self.objects, &key),
+            Slot::Status => self.status = None,
         }
+        Ok(())
     }
 
-    fn put(&mut self, slot: Slot, bytes: &[u8]) -> Result<(), ShelfFailed>
-        ensures ok { Changes (Some self.old.contents) (put_known (Some self.old.contents) slot bytes.now) (Some self.new.contents) result }
+    /// A put, but for the count of texts.
+    fn put_bytes(&mut self, slot: Slot, bytes: &[u8]) -> Result<(), ShelfFailed>
         ensures faults { CountsFaults self.old.faults self.new.faults result }
         ensures value { Answers self.old self.new (with_put self.old.contents slot bytes.now) result }
+        ensures texts { self.new.texts ≡ self.old.texts }
     {
         if !self.begin() {
             return Err(ShelfFailed::Shelf);
@@ -116,26 +115,61 @@ impl Shelf for MemoryShelf {
             }
         }
     }
+}
 
-    fn remove(&mut self, slot: Slot) -> Result<(), ShelfFailed>
-        ensures ok { Changes (Some self.old.contents) (removed_known (Some self.old.contents) slot) (Some self.new.contents) result }
+impl Shelf for MemoryShelf {
+    ghost contents = { λ shelf. Some shelf.contents };
+
+    ghost may_give = { λ shelf slot given. given ≡ lies_in shelf.contents slot };
+
+    ghost faults = { λ shelf. shelf.faults };
+
+    ghost texts = { λ shelf. shelf.texts };
+
+    fn fetch(&mut self, slot: Slot) -> Result<Option<Bytes>, ShelfFailed>
+        ensures found { IfOk result (λ given. given ≡ lies_in self.new.contents slot) }
+        ensures kept { Some self.new.contents ≡ Some self.old.contents }
         ensures faults { CountsFaults self.old.faults self.new.faults result }
-        ensures value { Answers self.old self.new (without self.old.contents slot) result }
+        ensures gives { GivesNoMore (Tells self.old.contents) (Tells self.new.contents) }
+        ensures texts { self.new.texts ≡ self.old.texts }
+        ensures value { Answers self.old self.new self.old.contents result }
     {
         if !self.begin() {
             return Err(ShelfFailed::Shelf);
         }
         match slot {
-            Slot::Object(key) => remove_object(&mut self.objects, &key),
-            Slot::Status => self.status = None,
+            Slot::Object(key) => copied(self.alloc, self.objects.get(&key)),
+            Slot::Status => copied(self.alloc, self.status.as_ref()),
         }
-        Ok(())
+    }
+
+    fn put(&mut self, slot: Slot, bytes: &[u8]) -> Result<(), ShelfFailed>
+        ensures ok { Changes (Some self.old.contents) (put_known (Some self.old.contents) slot bytes.now) (Some self.new.contents) result }
+        ensures faults { CountsFaults self.old.faults self.new.faults result }
+        ensures gives { GivesAlso (Tells self.old.contents) (Tells self.new.contents) slot (Some bytes.now) }
+        ensures texts { self.new.texts ≡ texts_after slot self.old.texts }
+        ensures value { Answers self.old self.new (with_put self.old.contents slot bytes.now) result }
+    {
+        self.texts.count_put(&slot);
+        self.put_bytes(slot, bytes)
+    }
+
+    fn remove(&mut self, slot: Slot) -> Result<(), ShelfFailed>
+        ensures ok { Changes (Some self.old.contents) (removed_known (Some self.old.contents) slot) (Some self.new.contents) result }
+        ensures faults { CountsFaults self.old.faults self.new.faults result }
+        ensures gives { GivesAlso (Tells self.old.contents) (Tells self.new.contents) slot None }
+        ensures texts { self.new.texts ≡ self.old.texts }
+        ensures value { Answers self.old self.new (without self.old.contents slot) result }
+    {
+        self.empty_slot(slot)
     }
 
     fn next(&mut self, kind: Kind, after: Option<ObjId>) -> Result<Option<Found>, ShelfFailed>
         ensures found { (held : Contents) → Some self.old.contents ≡ Some held → IfOk result (FindsNext held.objects kind after) }
         ensures kept { Some self.new.contents ≡ Some self.old.contents }
         ensures faults { CountsFaults self.old.faults self.new.faults result }
+        ensures gives { GivesNoMore (Tells self.old.contents) (Tells self.new.contents) }
+        ensures texts { self.new.texts ≡ self.old.texts }
         ensures value { Answers self.old self.new self.old.contents result }
     {
         if !self.begin() {

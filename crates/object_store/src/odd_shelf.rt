@@ -2,7 +2,7 @@
 ghost use Rattle.std.specs.Prelude.{◌≡◌, ◌↔◌, ℕ, List, IfOk, IfErr, IsTrue, Some, None, Option};
 ghost use Rattle.object_store.specs.MemoryShelf.{Answers};
 ghost use Rattle.object_store.specs.OddShelf.{GivesOdd, KeepsOdd, OddAfter, odd_or};
-ghost use Rattle.object_store.specs.Shelf.{Changes, Contents, CountsFaults, FindsNext, put_known, removed_known, with_put, without};
+ghost use Rattle.object_store.specs.Shelf.{Changes, Contents, CountsFaults, FindsNext, GivesAlso, GivesNoMore, put_known, removed_known, texts_after, with_put, without};
 
 use crate::memory_shelf::MemoryShelf;
 use crate::shelf::{Found, Shelf, ShelfFailed, Slot};
@@ -53,10 +53,14 @@ impl Shelf for OddShelf {
 
     ghost faults = { λ shelf. shelf.inner.faults };
 
+    ghost texts = { λ shelf. shelf.inner.texts };
+
     fn fetch(&mut self, slot: Slot) -> Result<Option<Bytes>, ShelfFailed>
         ensures found { IfOk result (GivesOdd self.new slot) }
         ensures kept { ◌≡◌ {A = Option Contents} None None }
         ensures faults { CountsFaults self.old.inner.faults self.new.inner.faults result }
+        ensures gives { GivesNoMore (GivesOdd self.old) (GivesOdd self.new) }
+        ensures texts { self.new.inner.texts ≡ self.old.inner.texts }
         ensures value { Answers self.old.inner self.new.inner self.old.inner.contents result }
         ensures odd { KeepsOdd self.old self.new }
     {
@@ -74,6 +78,8 @@ impl Shelf for OddShelf {
     fn put(&mut self, slot: Slot, bytes: &[u8]) -> Result<(), ShelfFailed>
         ensures ok { Changes None (put_known None slot bytes.now) None result }
         ensures faults { CountsFaults self.old.inner.faults self.new.inner.faults result }
+        ensures gives { GivesAlso (GivesOdd self.old) (GivesOdd self.new) slot (Some bytes.now) }
+        ensures texts { self.new.inner.texts ≡ texts_after slot self.old.inner.texts }
         ensures value { Answers self.old.inner self.new.inner (with_put self.old.inner.contents slot bytes.now) result }
         ensures odd { OddAfter self.old self.new slot result }
     {
@@ -91,6 +97,8 @@ impl Shelf for OddShelf {
     fn remove(&mut self, slot: Slot) -> Result<(), ShelfFailed>
         ensures ok { Changes None (removed_known None slot) None result }
         ensures faults { CountsFaults self.old.inner.faults self.new.inner.faults result }
+        ensures gives { GivesAlso (GivesOdd self.old) (GivesOdd self.new) slot None }
+        ensures texts { self.new.inner.texts ≡ self.old.inner.texts }
         ensures value { Answers self.old.inner self.new.inner (without self.old.inner.contents slot) result }
         ensures odd { OddAfter self.old self.new slot result }
     {
@@ -109,6 +117,8 @@ impl Shelf for OddShelf {
         ensures found { (held : Contents) → None ≡ Some held → IfOk result (FindsNext held.objects kind after) }
         ensures kept { ◌≡◌ {A = Option Contents} None None }
         ensures faults { CountsFaults self.old.inner.faults self.new.inner.faults result }
+        ensures gives { GivesNoMore (GivesOdd self.old) (GivesOdd self.new) }
+        ensures texts { self.new.inner.texts ≡ self.old.inner.texts }
         ensures value { Answers self.old.inner self.new.inner self.old.inner.contents result }
         ensures told { IfOk result (FindsNext self.old.inner.contents.objects kind after) }
         ensures odd { KeepsOdd self.old self.new }

@@ -1,5 +1,5 @@
 //! The objects of a library: a finite map from keys to bytes, kept on a shelf.
-ghost use Rattle.std.specs.Prelude.{◌≡◌, ℕ, List, length, IfOk, IfErr, OnOk, OnErr, IsTrue, IsFalse, IsSome, is_some, option_map, Some, Option, if◌then◌else◌};
+ghost use Rattle.std.specs.Prelude.{◌≡◌, ℕ, List, length, IfOk, IfErr, OnOk, OnErr, IsTrue, IsFalse, IsSome, is_some, option_map, None, Some, Option, if◌then◌else◌};
 ghost use Rattle.std.specs.FinMap as map;
 ghost use Rattle.sha1.specs.Sha1.{sha1};
 ghost use Rattle.ids.specs.Key.{Objects};
@@ -7,7 +7,7 @@ ghost use Rattle.ids.specs.MapView.{IsNext};
 ghost use Rattle.ids.specs.ObjectId.{nil};
 ghost use Rattle.ids.specs.Outcome.{ExactlyWith, RefusesAs};
 ghost use Rattle.object_store.specs.Store.{CountsShelf, IsFoundSame, IsGetFault, IsOfStored, IsPutFault, IsWhole, damage_at, has_other_name, is_free, is_of_shelf, is_want, put_refusal, same_bytes};
-ghost use Rattle.object_store.specs.StoreView.{AddsNoStray, HasNoStray, IsStarted, Keeps, NoteChanges, PutChanges, RemovalChanges, StartsSo, StraysBy, left_after, objects_of, status_of, with_object};
+ghost use Rattle.object_store.specs.StoreView.{AddsNoStray, ChangesShelf, HasNoStray, IsStarted, Keeps, NoteChanges, PutChanges, ReadsShelf, RemovalChanges, StartReads, StartsSo, StraysBy, left_after, objects_of, status_of, with_object};
 
 use crate::changing::{put_new, remove_object};
 use crate::error::StoreFault;
@@ -48,6 +48,7 @@ impl<S: Shelf> Store<S> {
         ensures lying { IfOk result (HasNoStray S.contents) }
         ensures err { IfErr result (λ refused. S.contents refused.0 ≡ S.contents shelf) }
         ensures refused { IfErr result (λ refused. IsTrue (is_free refused.1)) }
+        ensures shelf { StartReads S.may_give S.texts shelf result }
         ensures faults { StartsSo S.faults shelf result }
     {
         let mut shelf = shelf;
@@ -79,6 +80,7 @@ impl<S: Shelf> Store<S> {
         ensures stored { IfErr result (IsOfStored (map.get self.old.index key) key) }
         ensures refused { (objects : Objects) → objects_of S.contents self.old ≡ Some objects
             → RefusesAs is_free result (put_refusal objects key bytes.now) }
+        ensures shelf { ChangesShelf S.may_give S.texts self.old.shelf self.new.shelf (Slot.Object key) (Some bytes.now) }
         ensures faults { CountsShelf (S.faults self.old.shelf) (S.faults self.new.shelf) result }
     {
         if let Some(fault) = name_refusal(&key, bytes) {
@@ -108,6 +110,7 @@ impl<S: Shelf> Store<S> {
         ensures stored { IfErr result (IsOfStored (map.get self.old.index key) key) }
         ensures refused { (objects : Objects) → objects_of S.contents self.old ≡ Some objects
             → RefusesAs is_free result (damage_at objects key) }
+        ensures shelf { ReadsShelf S.may_give S.texts self.old.shelf self.new.shelf }
         ensures faults { CountsShelf (S.faults self.old.shelf) (S.faults self.new.shelf) result }
     {
         if !self.index.has(&key) {
@@ -155,6 +158,7 @@ impl<S: Shelf> Store<S> {
         ensures kept { status_of S.contents self.new ≡ status_of S.contents self.old }
         ensures changes { RemovalChanges S.contents self.old self.new key result }
         ensures lying { StraysBy is_of_shelf S.contents self.old self.new result }
+        ensures shelf { ChangesShelf S.may_give S.texts self.old.shelf self.new.shelf (Slot.Object key) None }
         ensures faults { CountsShelf (S.faults self.old.shelf) (S.faults self.new.shelf) result }
     {
         remove_object(&mut self.shelf, &mut self.index, &key)
@@ -166,6 +170,7 @@ impl<S: Shelf> Store<S> {
         ensures changes { NoteChanges S.contents self.old self.new text.now result }
         ensures lying { AddsNoStray S.contents self.old self.new }
         ensures kept { objects_of S.contents self.new ≡ objects_of S.contents self.old }
+        ensures shelf { ChangesShelf S.may_give S.texts self.old.shelf self.new.shelf Slot.Status (Some text.now) }
         ensures faults { CountsShelf (S.faults self.old.shelf) (S.faults self.new.shelf) result }
     {
         match self.shelf.put(Slot::Status, text) {
@@ -181,6 +186,7 @@ impl<S: Shelf> Store<S> {
         ensures value { IfOk result (S.may_give self.new.shelf Slot.Status) }
         ensures kept { Keeps S.contents self.old self.new }
         ensures refused { IfErr result (λ fault. IsTrue (is_free fault)) }
+        ensures shelf { ReadsShelf S.may_give S.texts self.old.shelf self.new.shelf }
         ensures faults { CountsShelf (S.faults self.old.shelf) (S.faults self.new.shelf) result }
     {
         match self.shelf.fetch(Slot::Status) {

@@ -1,17 +1,16 @@
 //! Chunks of known bytes, whole and in pieces.
 
 use block_chunker::{Chunker, Cuts};
-use ids::Items;
+use ids::{Bytes, Items};
 use std::alloc::{AllocError, Global};
-use std::test::Fail;
 
-/// The lengths of the chunks of `bytes`, which come in pieces of `size` bytes.
-fn chunk_lengths(
+/// The chunks of bytes that come in pieces of this size.
+fn chunks(
     alloc: Global,
     cuts: Cuts,
     bytes: &[u8],
     size: usize,
-) -> Result<Vec<usize>, AllocError> {
+) -> Result<Items<Bytes>, AllocError> {
     let mut chunker = Chunker::new(alloc, cuts);
     let mut chunks = Items::new(alloc);
     for piece in bytes.chunks(size.max(1)) {
@@ -20,11 +19,23 @@ fn chunk_lengths(
     if let Some(last) = chunker.finish()? {
         chunks.push(last)?;
     }
-    let mut lengths = Vec::new(alloc);
+    Ok(chunks)
+}
+
+/// Whether the chunks of bytes that come in pieces of this size have these lengths.
+fn are_cut(
+    alloc: Global,
+    cuts: Cuts,
+    bytes: &[u8],
+    size: usize,
+    lengths: &[usize],
+) -> Result<bool, AllocError> {
+    let chunks = chunks(alloc, cuts, bytes, size)?;
+    let mut told = Vec::new(alloc);
     for chunk in chunks.slice() {
-        lengths.push(chunk.len())?;
+        told.push(chunk.len())?;
     }
-    Ok(lengths)
+    Ok(told.as_slice() == lengths)
 }
 
 /// Bytes of a linear congruential generator: the top byte of each state after `seed`.
@@ -40,98 +51,101 @@ fn generated(alloc: Global, seed: u64, count: usize) -> Result<Vec<u8>, AllocErr
     Ok(bytes)
 }
 
+/// Whether so many of a hundred bytes are cut so in pieces of this size, by the limits 48 and 48.
+fn are_cut_alike(
+    alloc: Global,
+    count: usize,
+    size: usize,
+    lengths: &[usize],
+) -> Result<bool, AllocError> {
+    let bytes = [7; 100];
+    match Cuts::new(48, 48, 44) {
+        Some(cuts) => are_cut(alloc, cuts, &bytes[..count.min(100)], size, lengths),
+        None => Ok(false),
+    }
+}
+
 #[test]
-fn equal_limits_cut_whole_bytes_and_single_bytes_alike(rt: HostRuntime) -> Result<(), Fail> {
-    let cuts = Cuts::new(48, 48, 44).ok_or("in the limits")?;
-    let hundred = [7; 100];
-    for (size, count, expected) in [
-        (100, 100, [48, 48, 4].as_slice()),
-        (1, 100, [48, 48, 4].as_slice()),
-        (1, 0, [].as_slice()),
-    ] {
-        let lengths = chunk_lengths(rt.alloc(), cuts, &hundred[..count], size)?;
-        assert_eq!(rt;
-            lengths.as_slice(),
-            expected,
-            "{count} bytes in pieces of {size}"
+fn equal_limits_cut_whole_bytes_and_single_bytes_alike(rt: HostRuntime) -> Result<(), AllocError> {
+    assert!(rt; are_cut_alike(rt.alloc(), 100, 100, &[48, 48, 4])?);
+    assert!(rt; are_cut_alike(rt.alloc(), 100, 1, &[48, 48, 4])?);
+    assert!(rt; are_cut_alike(rt.alloc(), 0, 1, &[])?);
+    Ok(())
+}
+
+#[test]
+fn a_short_file_is_one_chunk(rt: HostRuntime) -> Result<(), AllocError> {
+    assert!(rt; are_cut(rt.alloc(), Cuts::USUAL, &[7; 100], 33, &[100])?);
+    Ok(())
+}
+
+/// Parameters, and whether they are within their limits.
+const PARAMETERS: [(u32, u32, u32, bool); 6] = [
+    (47, 48, 44, false),
+    (48, 47, 44, false),
+    (48, 48, 0, false),
+    (48, 48, 64, false),
+    (48, 48, 1, true),
+    (48, u32::MAX, 63, true),
+];
+
+#[test]
+fn parameters_outside_their_limits_are_refused(rt: HostRuntime) {
+    for (min, max, shift, is_good) in PARAMETERS {
+        assert!(rt;
+            Cuts::new(min, max, shift).is_some() == is_good,
+            "{min} {max} {shift}"
         );
     }
-    Ok(())
+    assert!(rt; Cuts::new(262_144, 4_194_304, 44) == Some(Cuts::USUAL));
+    assert!(rt; Cuts::usual() == Cuts::USUAL);
 }
 
-#[test]
-fn a_short_file_is_one_chunk(rt: HostRuntime) -> Result<(), Fail> {
-    let lengths = chunk_lengths(rt.alloc(), Cuts::USUAL, &[7; 100], 33)?;
-    assert_eq!(rt; lengths.as_slice(), [100].as_slice());
-    Ok(())
-}
-
-#[test]
-fn parameters_outside_their_limits_are_refused(rt: HostRuntime) -> Result<(), Fail> {
-    for (min, max, shift, is_good) in [
-        (47, 48, 44, false),
-        (48, 47, 44, false),
-        (48, 48, 0, false),
-        (48, 48, 64, false),
-        (48, 48, 1, true),
-        (48, u32::MAX, 63, true),
-    ] {
-        let cuts = Cuts::new(min, max, shift);
-        assert_eq!(rt; cuts.is_some(), is_good, "{min} {max} {shift}");
-    }
-    assert_eq!(rt; Cuts::new(262_144, 4_194_304, 44), Some(Cuts::USUAL));
-    assert_eq!(rt; Cuts::usual(), Cuts::USUAL);
-    Ok(())
-}
+/// Parameters, the seed and number of random bytes, and the lengths of their chunks.
+type Sample = (u32, u32, u32, u64, usize, &'static [usize]);
 
 // The lengths come from a program in another language that sums each window anew.
+const SAMPLES: [Sample; 5] = [
+    (48, 4096, 58, 5, 500, &[115, 91, 58, 63, 95, 52, 26]),
+    (64, 256, 60, 5, 500, &[82, 71, 64, 72, 133, 67, 11]),
+    (100, 1000, 57, 5, 500, &[422, 78]),
+    (
+        1024,
+        8192,
+        53,
+        7,
+        20_000,
+        &[2394, 1093, 5104, 8192, 1829, 1324, 64],
+    ),
+    (48, 100_000, 54, 6, 5000, &[1768, 1101, 894, 195, 1042]),
+];
+
+/// Whether random bytes are cut so, in pieces of 1 byte, of 37, and in one.
+fn are_cut_in_pieces(
+    alloc: Global,
+    cuts: Cuts,
+    bytes: &[u8],
+    lengths: &[usize],
+) -> Result<bool, AllocError> {
+    Ok(
+        are_cut(alloc, cuts, bytes, 1, lengths)?
+            && are_cut(alloc, cuts, bytes, 37, lengths)?
+            && are_cut(alloc, cuts, bytes, bytes.len(), lengths)?,
+    )
+}
+
+fn is_sample(alloc: Global, sample: &Sample) -> Result<bool, AllocError> {
+    let bytes = generated(alloc, sample.3, sample.4)?;
+    match Cuts::new(sample.0, sample.1, sample.2) {
+        Some(cuts) => are_cut_in_pieces(alloc, cuts, bytes.as_slice(), sample.5),
+        None => Ok(false),
+    }
+}
+
 #[test]
-fn random_bytes_are_cut_where_a_plain_sum_cuts_them(rt: HostRuntime) -> Result<(), Fail> {
-    for (min, max, shift, seed, count, expected) in [
-        (
-            48,
-            4096,
-            58,
-            5,
-            500,
-            [115, 91, 58, 63, 95, 52, 26].as_slice(),
-        ),
-        (
-            64,
-            256,
-            60,
-            5,
-            500,
-            [82, 71, 64, 72, 133, 67, 11].as_slice(),
-        ),
-        (100, 1000, 57, 5, 500, [422, 78].as_slice()),
-        (
-            1024,
-            8192,
-            53,
-            7,
-            20_000,
-            [2394, 1093, 5104, 8192, 1829, 1324, 64].as_slice(),
-        ),
-        (
-            48,
-            100_000,
-            54,
-            6,
-            5000,
-            [1768, 1101, 894, 195, 1042].as_slice(),
-        ),
-    ] {
-        let cuts = Cuts::new(min, max, shift).ok_or("in the limits")?;
-        let bytes = generated(rt.alloc(), seed, count)?;
-        for size in [1, 37, count] {
-            let lengths = chunk_lengths(rt.alloc(), cuts, bytes.as_slice(), size)?;
-            assert_eq!(rt;
-                lengths.as_slice(),
-                expected,
-                "{min} {max} {shift} by {size}"
-            );
-        }
+fn random_bytes_are_cut_where_a_plain_sum_cuts_them(rt: HostRuntime) -> Result<(), AllocError> {
+    for sample in SAMPLES {
+        assert!(rt; is_sample(rt.alloc(), &sample)?, "{}", sample.4);
     }
     Ok(())
 }
@@ -139,12 +153,9 @@ fn random_bytes_are_cut_where_a_plain_sum_cuts_them(rt: HostRuntime) -> Result<(
 #[test]
 fn usual_parameters_cut_random_bytes_where_a_plain_sum_cuts_them(
     rt: HostRuntime,
-) -> Result<(), Fail> {
+) -> Result<(), AllocError> {
     let bytes = generated(rt.alloc(), 8, 3_000_000)?;
-    let lengths = chunk_lengths(rt.alloc(), Cuts::USUAL, bytes.as_slice(), 65_536)?;
-    assert_eq!(rt;
-        lengths.as_slice(),
-        [486_782, 861_137, 572_225, 526_281, 553_575].as_slice()
-    );
+    let lengths = [486_782, 861_137, 572_225, 526_281, 553_575];
+    assert!(rt; are_cut(rt.alloc(), Cuts::USUAL, bytes.as_slice(), 65_536, &lengths)?);
     Ok(())
 }

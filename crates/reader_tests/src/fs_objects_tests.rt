@@ -2,7 +2,7 @@
 use fs_objects::FsObject;
 use ids::ObjId;
 use json_words::ReadFault;
-use std::alloc::Global;
+use std::alloc::{AllocError, Global};
 use std::test::Fail;
 
 const FILE: &[u8] =
@@ -12,11 +12,11 @@ const DIRECTORY: &[u8] =
     b"{\"dirents\":[{\"id\":\"0000000000000000000000000000000000000000\",\"mode\":16384,\"mtime\":5,\"name\":\"b\"},{\"id\":\"0000000000000000000000000000000000000000\",\"mode\":33188,\"modifier\":\"me\",\"mtime\":5,\"name\":\"a\",\"size\":0}],\"type\":3,\"version\":1}";
 
 /// Whether a text is refused with this fault, as it is printed, and this code.
-fn is_refused(alloc: Global, text: &str, wanted: &str, code: u64) -> Result<bool, Fail> {
+fn is_refused(alloc: Global, text: &str, wanted: &str, code: u64) -> Result<bool, AllocError> {
     match FsObject::read(alloc, text.as_bytes()) {
         Err(ReadFault::Bad(bad)) => {
-            let told = format!(in alloc; "{bad:?}")?;
-            Ok(told.as_bytes() == wanted.as_bytes() && bad.code() == code)
+            let is_told = format!(in alloc; "{bad:?}")?.as_bytes() == wanted.as_bytes();
+            Ok(is_told && bad.code() == code)
         }
         _ => Ok(false),
     }
@@ -61,37 +61,44 @@ const REFUSED: [(&str, &str, u64); 10] = [
 ];
 
 #[test]
-fn the_first_failing_check_is_answered(rt: HostRuntime) -> Result<(), Fail> {
+fn the_first_failing_check_is_answered(rt: HostRuntime) -> Result<(), AllocError> {
     for (text, wanted, code) in REFUSED {
         assert!(rt; is_refused(rt.alloc(), text, wanted, code)?, "{text}");
     }
     Ok(())
 }
 
+fn is_file_of_abc(object: &FsObject) -> bool {
+    match object {
+        FsObject::File(file) => {
+            file.size == 3 && file.blocks.slice() == [ObjId::of(b"abc")].as_slice()
+        }
+        FsObject::Dir(_) => false,
+    }
+}
+
+/// Whether a text is read as an object that is written as the other.
+fn is_written(alloc: Global, text: &[u8], wanted: &[u8]) -> Result<bool, Fail> {
+    let object = FsObject::read(alloc, text)?;
+    let written = object.write(alloc)?;
+    Ok(written.slice() == wanted)
+}
+
 #[test]
 fn a_file_object_of_one_block_has_88_bytes(rt: HostRuntime) -> Result<(), Fail> {
-    assert_eq!(rt; FILE.len(), 88);
-    let object = FsObject::read(rt.alloc(), FILE)?;
-    let text = object.write(rt.alloc())?;
-    assert!(rt; text.slice() == FILE);
-    match &object {
-        FsObject::File(file) => {
-            assert_eq!(rt; file.size, 3);
-            assert!(rt; file.blocks.slice() == [ObjId::of(b"abc")].as_slice());
-        }
-        FsObject::Dir(_) => return Err("a directory".into()),
-    }
+    assert!(rt; FILE.len() == 88);
+    assert!(rt; is_written(rt.alloc(), FILE, FILE)?);
+    assert!(rt; is_file_of_abc(&FsObject::read(rt.alloc(), FILE)?));
     Ok(())
 }
 
 // A text as stock clients write it, with blanks and a further key, and with the entries the other way round.
+const STOCK: &[u8] =
+    b"{\"dirents\": [{\"id\": \"0000000000000000000000000000000000000000\", \"mode\": 33188, \"modifier\": \"me\", \"mtime\": 5, \"name\": \"a\", \"size\": 0}, {\"id\": \"0000000000000000000000000000000000000000\", \"mode\": 16384, \"modifier\": \"me\", \"mtime\": 5, \"name\": \"b\", \"size\": 7}], \"type\": 3, \"version\": 1, \"more\": null}";
+
 #[test]
 fn entries_are_written_in_descending_order(rt: HostRuntime) -> Result<(), Fail> {
-    let text =
-        b"{\"dirents\": [{\"id\": \"0000000000000000000000000000000000000000\", \"mode\": 33188, \"modifier\": \"me\", \"mtime\": 5, \"name\": \"a\", \"size\": 0}, {\"id\": \"0000000000000000000000000000000000000000\", \"mode\": 16384, \"modifier\": \"me\", \"mtime\": 5, \"name\": \"b\", \"size\": 7}], \"type\": 3, \"version\": 1, \"more\": null}";
-    let written = FsObject::read(rt.alloc(), text)?.write(rt.alloc())?;
-    assert!(rt; written.slice() == DIRECTORY);
-    let again = FsObject::read(rt.alloc(), DIRECTORY)?.write(rt.alloc())?;
-    assert!(rt; again.slice() == DIRECTORY);
+    assert!(rt; is_written(rt.alloc(), STOCK, DIRECTORY)?);
+    assert!(rt; is_written(rt.alloc(), DIRECTORY, DIRECTORY)?);
     Ok(())
 }

@@ -1,11 +1,13 @@
 //! Outside vectors, and each public call once with ample memory.
 use ids::*;
-use std::test::Fail;
+use std::alloc::{AllocError, Global};
 
 /// Whether these are the digits of the bytes' id, and are read as it.
 fn is_named(bytes: &str, digits: &str) -> bool {
-    let id = ObjId::of(bytes.as_bytes());
-    id.digits().as_slice() == digits.as_bytes() && ObjId::read(digits) == Ok(id)
+    match ObjId::read(digits) {
+        Ok(id) => id == ObjId::of(bytes.as_bytes()) && id.digits().as_slice() == digits.as_bytes(),
+        Err(_) => false,
+    }
 }
 
 #[test]
@@ -24,7 +26,10 @@ fn an_id_is_the_sha1_of_the_bytes(rt: HostRuntime) {
 }
 
 fn is_bad_object_id(text: &str, at: usize) -> bool {
-    ObjId::read(text) == Err(BadId { at })
+    match ObjId::read(text) {
+        Ok(_) => false,
+        Err(bad) => bad.at == at,
+    }
 }
 
 #[test]
@@ -41,29 +46,31 @@ fn a_text_that_is_no_object_id_is_refused_at_its_place(rt: HostRuntime) {
     }
 }
 
+/// Whether this is the text of the library's id with these bytes, and is read as it.
+fn is_library(text: &str, bytes: [u8; 16]) -> bool {
+    match LibId::read(text) {
+        Ok(id) => {
+            id == LibId::from_bytes(bytes)
+                && id.as_bytes() == bytes.as_slice()
+                && id.digits().as_slice() == text.as_bytes()
+        }
+        Err(_) => false,
+    }
+}
+
 #[test]
-fn a_library_id_is_read_and_written(rt: HostRuntime) -> Result<(), Fail> {
-    let text = "11111111-2222-4333-8444-555555555555";
-    let id = LibId::read(text).ok().ok_or("refused")?;
-    assert_eq!(rt; id.digits().as_slice(), text.as_bytes());
-    assert_eq!(rt;
-        id.as_bytes(),
-        [
-            17, 17, 17, 17, 34, 34, 67, 51, 132, 68, 85, 85, 85, 85, 85, 85
-        ]
-        .as_slice()
-    );
-    assert_eq!(rt;
-        LibId::from_bytes([
-            17, 17, 17, 17, 34, 34, 67, 51, 132, 68, 85, 85, 85, 85, 85, 85
-        ]),
-        id
-    );
-    Ok(())
+fn a_library_id_is_read_and_written(rt: HostRuntime) {
+    let bytes = [
+        17, 17, 17, 17, 34, 34, 67, 51, 132, 68, 85, 85, 85, 85, 85, 85,
+    ];
+    assert!(rt; is_library("11111111-2222-4333-8444-555555555555", bytes));
 }
 
 fn is_bad_library_id(text: &str, at: usize) -> bool {
-    LibId::read(text) == Err(BadId { at })
+    match LibId::read(text) {
+        Ok(_) => false,
+        Err(bad) => bad.at == at,
+    }
 }
 
 #[test]
@@ -81,12 +88,11 @@ fn a_text_that_is_no_library_id_is_refused_at_its_place(rt: HostRuntime) {
 }
 
 #[test]
-fn nil_is_twenty_zeros(rt: HostRuntime) -> Result<(), Fail> {
-    assert_eq!(rt; ObjId::NIL.as_bytes(), [0; 20].as_slice());
+fn nil_is_twenty_zeros(rt: HostRuntime) {
+    assert!(rt; ObjId::NIL.as_bytes() == [0; 20].as_slice());
     assert!(rt; ObjId::NIL.is_nil());
     assert!(rt; !ObjId::of(b"").is_nil());
-    assert_eq!(rt; ObjId::from_bytes([0; 20]), ObjId::NIL);
-    Ok(())
+    assert!(rt; ObjId::from_bytes([0; 20]) == ObjId::NIL);
 }
 
 fn key(kind: Kind, id: ObjId) -> Key {
@@ -103,57 +109,99 @@ fn keys_go_by_kind_and_then_by_id(rt: HostRuntime) {
 }
 
 #[test]
-fn a_list_keeps_what_is_pushed(rt: HostRuntime) -> Result<(), Fail> {
+fn a_list_keeps_what_is_pushed(rt: HostRuntime) -> Result<(), AllocError> {
     let mut ids = IdList::new(rt.alloc());
     assert!(rt; ids.is_empty());
     ids.push(ObjId::NIL)?;
-    assert_eq!(rt; ids.slice(), [ObjId::NIL].as_slice());
+    assert!(rt; ids.slice() == [ObjId::NIL].as_slice());
+    Ok(())
+}
+
+fn is_abc(bytes: &Bytes) -> bool {
+    bytes.len() == 3 && bytes.slice() == b"abc".as_slice()
+}
+
+#[test]
+fn bytes_are_kept_as_they_are(rt: HostRuntime) -> Result<(), AllocError> {
     let bytes = Bytes::copy(rt.alloc(), b"abc")?;
-    assert_eq!(rt; bytes.len(), 3);
-    let bytes = Bytes::from_vec(bytes.into_vec());
-    assert_eq!(rt; bytes.slice(), b"abc".as_slice());
+    assert!(rt; is_abc(&bytes));
+    assert!(rt; is_abc(&Bytes::from_vec(bytes.into_vec())));
     Ok(())
 }
 
-#[test]
-fn a_text_keeps_its_bytes(rt: HostRuntime) -> Result<(), Fail> {
-    let mut text = Text::new(rt.alloc());
-    assert!(rt; text.is_empty());
+/// A text of three bytes that was pushed to an empty one.
+fn pushed(alloc: Global) -> Result<Text, AllocError> {
+    let mut text = Text::new(alloc);
     text.push_str("né")?;
-    assert_eq!(rt; text.slice(), "né");
-    assert_eq!(rt; text.len(), 3);
-    let text = Text::from_string(Text::copy(rt.alloc(), text.slice())?.into_string());
-    assert_eq!(rt; text.as_bytes(), "né".as_bytes());
-    Ok(())
+    Ok(text)
+}
+
+fn is_of_three_bytes(text: &Text) -> bool {
+    text.slice() == "né" && text.len() == 3 && text.as_bytes() == "né".as_bytes()
 }
 
 #[test]
-fn a_table_finds_what_was_put_in_the_order_of_the_keys(rt: HostRuntime) -> Result<(), Fail> {
-    let first = Key {
-        kind: Kind::Commit,
-        id: ObjId::of(b"a"),
-    };
-    let second = Key {
-        kind: Kind::Block,
-        id: ObjId::NIL,
-    };
+fn a_text_keeps_its_bytes(rt: HostRuntime) -> Result<(), AllocError> {
+    assert!(rt; Text::new(rt.alloc()).is_empty());
+    assert!(rt; is_of_three_bytes(&pushed(rt.alloc())?));
+    assert!(rt; is_of_three_bytes(&Text::copy(rt.alloc(), "né")?));
+    let moved = Text::from_string(String::from_str(rt.alloc(), "né")?);
+    assert!(rt; is_of_three_bytes(&moved));
+    Ok(())
+}
+
+fn first() -> Key {
+    key(Kind::Commit, ObjId::of(b"a"))
+}
+
+fn second() -> Key {
+    key(Kind::Block, ObjId::NIL)
+}
+
+/// A table of 2 at the second of these keys and 3 at the first.
+fn filled(alloc: Global) -> Result<KeyTable<u64>, AllocError> {
+    let mut table = KeyTable::new(alloc);
+    table.insert(second(), 2)?;
+    table.insert(first(), 3)?;
+    Ok(table)
+}
+
+#[test]
+fn a_table_tells_what_a_key_had(rt: HostRuntime) -> Result<(), AllocError> {
     let mut table: KeyTable<u64> = KeyTable::new(rt.alloc());
-    assert_eq!(rt; table.next(None), None);
-    assert_eq!(rt; table.insert(second, 2)?, None);
-    assert_eq!(rt; table.insert(first, 1)?, None);
-    assert_eq!(rt; table.insert(first, 3)?, Some(1));
-    assert_eq!(rt; table.len(), 2);
-    assert_eq!(rt; table.get(&first).copied(), Some(3));
-    assert!(rt; table.has(&second));
-    assert_eq!(rt; table.next(None), Some(first));
-    assert_eq!(rt; table.next(Some(first)), Some(second));
-    assert_eq!(rt; table.next(Some(second)), None);
+    assert!(rt; table.insert(second(), 2)?.is_none());
+    assert!(rt; table.insert(first(), 1)?.is_none());
+    assert!(rt; table.insert(first(), 3)? == Some(1));
+    assert!(rt; table.len() == 2);
+    Ok(())
+}
+
+fn has_both(table: &KeyTable<u64>) -> bool {
+    table.get(&first()).copied() == Some(3) && table.has(&second()) && sum(table) == 5
+}
+
+fn is_in_order(table: &KeyTable<u64>) -> bool {
+    table.next(None) == Some(first())
+        && table.next(Some(first())) == Some(second())
+        && table.next(Some(second())).is_none()
+}
+
+/// The sum of the values.
+fn sum(table: &KeyTable<u64>) -> u64 {
     let mut sum = 0u64;
     for (_, value) in table.iter() {
         sum = sum.saturating_add(*value);
     }
-    assert_eq!(rt; sum, 5);
-    assert_eq!(rt; table.remove(&first), Some(3));
-    assert!(rt; !table.has(&first));
+    sum
+}
+
+#[test]
+fn a_table_finds_what_was_put_in_the_order_of_the_keys(rt: HostRuntime) -> Result<(), AllocError> {
+    let mut table = filled(rt.alloc())?;
+    assert!(rt; has_both(&table));
+    assert!(rt; is_in_order(&table));
+    assert!(rt; table.remove(&first()) == Some(3));
+    assert!(rt; !table.has(&first()));
+    assert!(rt; KeyTable::<u64>::new(rt.alloc()).next(None).is_none());
     Ok(())
 }

@@ -1,9 +1,7 @@
-//! Each table once.
+//! The right of each act once.
 use ids::{IdList, Key, Kind, ObjId};
-use library_rules::{is_refused, refusal_of, right_needed};
-use library_state::{Act, Op, Refusal, Reply, Right};
-use object_graph::TreeFault;
-use std::test::Fail;
+use library_rules::right_needed;
+use library_state::{Act, Op, Right};
 
 fn needs(act: Act, right: Right) -> bool {
     right_needed(&act) == right
@@ -25,26 +23,4 @@ fn each_act_needs_its_right(rt: HostRuntime) {
     assert!(rt; needs(Act::Update(id), Right::Write));
     assert!(rt; needs(Act::Limit(30), Right::Owner));
     assert!(rt; needs(Act::Ids(id, None), Right::Read));
-}
-
-#[test]
-fn a_fault_of_a_tree_is_told_as_it_is(rt: HostRuntime) -> Result<(), Fail> {
-    let id = ObjId::of(b"");
-    assert_eq!(rt;
-        refusal_of(TreeFault::WrongSize(id)),
-        Refusal::WrongSize(id)
-    );
-    assert_eq!(rt;
-        refusal_of(TreeFault::TooMany(1_000_001)),
-        Refusal::TooMany(1_000_001)
-    );
-    Ok(())
-}
-
-#[test]
-fn refusals_are_told_from_other_answers(rt: HostRuntime) -> Result<(), Fail> {
-    assert!(rt; is_refused(&Reply::Refused(Refusal::Denied)));
-    assert!(rt; !is_refused(&Reply::Stored(false)));
-    assert!(rt; !is_refused(&Reply::Checked));
-    Ok(())
 }

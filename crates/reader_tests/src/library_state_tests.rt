@@ -1,61 +1,70 @@
 //! Each public call once.
-use ids::{BadId, Items, ObjId};
+use ids::{Items, ObjId};
 use json_words::ReadFault;
 use library_state::*;
-use std::alloc::Global;
+use std::alloc::{AllocError, Global};
 use std::test::Fail;
 
-#[test]
-fn a_secret_is_read_and_written(rt: HostRuntime) -> Result<(), Fail> {
-    let digits = "aaaaaaaaaaaaaaaaaaaaaaaaaaaaaaaaaaaaaaaa";
-    let secret = Secret::read(digits).ok().ok_or("refused")?;
-    assert!(rt; secret == Secret::from_bytes([170; 20]));
-    assert_eq!(rt; secret.digits().as_slice(), digits.as_bytes());
-    Ok(())
+fn is_secret(digits: &str, secret: &Secret) -> bool {
+    match Secret::read(digits) {
+        Ok(read) => read == *secret && read.digits().as_slice() == digits.as_bytes(),
+        Err(_) => false,
+    }
 }
 
 #[test]
-fn a_text_that_is_no_secret_is_refused_at_its_place(rt: HostRuntime) -> Result<(), Fail> {
-    for (text, at) in [
-        ("", 0),
-        ("aaaa-", 4),
-        ("aaaaaaaaaaaaaaaaaaaaaaaaaaaaaaaaaaaaaaaaa", 40),
-    ] {
-        assert_eq!(rt; Secret::read(text), Err(BadId { at }), "{text}");
+fn a_secret_is_read_and_written(rt: HostRuntime) {
+    let secret = Secret::from_bytes([170; 20]);
+    assert!(rt; is_secret("aaaaaaaaaaaaaaaaaaaaaaaaaaaaaaaaaaaaaaaa", &secret));
+}
+
+fn is_bad_secret(text: &str, at: usize) -> bool {
+    match Secret::read(text) {
+        Ok(_) => false,
+        Err(bad) => bad.at == at,
     }
-    Ok(())
+}
+
+#[test]
+fn a_text_that_is_no_secret_is_refused_at_its_place(rt: HostRuntime) {
+    assert!(rt; is_bad_secret("", 0));
+    assert!(rt; is_bad_secret("aaaa-", 4));
+    assert!(rt; is_bad_secret("aaaaaaaaaaaaaaaaaaaaaaaaaaaaaaaaaaaaaaaaa", 40));
 }
 
 #[test]
 fn a_secret_is_not_printed(rt: HostRuntime) -> Result<(), Fail> {
     let secret = Secret::from_bytes([170; 20]);
     let printed = format!(in rt.alloc(); "{secret:?}")?;
-    assert_eq!(rt; printed.as_str(), "Secret(..)");
+    assert!(rt; printed.as_str() == "Secret(..)");
     Ok(())
+}
+
+fn is_right(text: &str, right: Right) -> bool {
+    match Right::of(text) {
+        Some(told) => told == right,
+        None => false,
+    }
 }
 
 #[test]
 fn rights_rise_from_reading_to_owning(rt: HostRuntime) {
     assert!(rt; Right::Read < Right::Write && Right::Write < Right::Owner);
-    for (text, right) in [
-        ("r", Some(Right::Read)),
-        ("rw", Some(Right::Write)),
-        ("own", Some(Right::Owner)),
-        ("w", None),
-        ("", None),
-    ] {
-        assert_eq!(rt; Right::of(text), right, "{text}");
-    }
+    assert!(rt; is_right("r", Right::Read));
+    assert!(rt; is_right("rw", Right::Write));
+    assert!(rt; is_right("own", Right::Owner));
+    assert!(rt; Right::of("w").is_none());
+    assert!(rt; Right::of("").is_none());
+}
+
+/// A clock of one moment.
+fn clock(alloc: Global) -> Result<ListClock, AllocError> {
+    Ok(ListClock::new(Items::copy(alloc, &[7])?))
 }
 
 #[test]
-fn a_clock_of_a_list_shows_one_of_its_moments(rt: HostRuntime) -> Result<(), Fail> {
-    let mut moments = Items::new(rt.alloc());
-    moments.push(7u64)?;
-    if moments.is_empty() {
-        return Err("empty".into());
-    }
-    assert_eq!(rt; ListClock::new(moments).now(), 7);
+fn a_clock_of_a_list_shows_one_of_its_moments(rt: HostRuntime) -> Result<(), AllocError> {
+    assert!(rt; clock(rt.alloc())?.now() == 7);
     Ok(())
 }
 
@@ -63,22 +72,35 @@ fn a_clock_of_a_list_shows_one_of_its_moments(rt: HostRuntime) -> Result<(), Fai
 const STATE: &str =
     "{\"collection\":0,\"days\":-1,\"kept\":[{\"at\":5,\"head\":\"cccccccccccccccccccccccccccccccccccccccc\",\"pushed\":\"cccccccccccccccccccccccccccccccccccccccc\"}],\"lib\":\"11111111-2222-4333-8444-555555555555\",\"name\":\"docs\",\"opening\":1,\"tokens\":[{\"last\":0,\"right\":\"own\",\"secret\":\"aaaaaaaaaaaaaaaaaaaaaaaaaaaaaaaaaaaaaaaa\",\"user\":\"me\"}],\"version\":1}";
 
+fn has_numbers(state: &LibState) -> bool {
+    state.days == -1 && state.collection == 0 && state.opening == 1
+}
+
+fn has_one_commit(state: &LibState) -> bool {
+    state.name.slice() == "docs" && state.kept.slice() == [install(0xcc, 5)].as_slice()
+}
+
+fn is_of_owner(token: &Token) -> bool {
+    token.secret == Secret::from_bytes([170; 20])
+        && token.user.slice() == "me"
+        && token.right == Right::Owner
+        && token.last == 0
+}
+
+fn has_one_token(state: &LibState) -> bool {
+    match state.tokens.slice() {
+        [token] => is_of_owner(token),
+        _ => false,
+    }
+}
+
 #[test]
 fn a_state_text_is_read_and_written(rt: HostRuntime) -> Result<(), Fail> {
     let state = LibState::read(rt.alloc(), STATE.as_bytes())?;
-    assert_eq!(rt; (state.days, state.collection, state.opening), (-1, 0, 1));
-    assert_eq!(rt; state.name.slice(), "docs");
-    assert!(rt; state.kept.slice() == [install(0xcc, 5)].as_slice());
-    for token in state.tokens.slice() {
-        assert!(rt; token.secret == Secret::from_bytes([170; 20]));
-        assert_eq!(rt;
-            (token.user.slice(), token.right, token.last),
-            ("me", Right::Owner, 0)
-        );
-    }
-    assert_eq!(rt; state.tokens.len(), 1);
-    let text = state.write(rt.alloc())?;
-    assert!(rt; text.slice() == STATE.as_bytes());
+    assert!(rt; has_numbers(&state));
+    assert!(rt; has_one_commit(&state));
+    assert!(rt; has_one_token(&state));
+    assert!(rt; state.write(rt.alloc())?.slice() == STATE.as_bytes());
     Ok(())
 }
 
@@ -91,12 +113,14 @@ fn install(byte: u8, at: u64) -> Install {
     }
 }
 
-/// The key whose check fails first, as it is printed; no text where none fails.
-fn fault_of(alloc: Global, text: &str) -> Result<String, Fail> {
+/// Whether this is the key whose check fails first, as it is printed; no text where none fails.
+fn has_fault(alloc: Global, text: &str, wanted: &str) -> Result<bool, AllocError> {
     match LibState::read(alloc, text.as_bytes()) {
-        Err(ReadFault::Bad(key)) => Ok(format!(in alloc; "{key:?}")?),
-        Err(ReadFault::NoMemory) => Err(Fail::from("no memory")),
-        Ok(_) => Ok(String::new(alloc)),
+        Err(ReadFault::Bad(key)) => Ok(
+            format!(in alloc; "{key:?}")?.as_bytes() == wanted.as_bytes(),
+        ),
+        Err(ReadFault::NoMemory) => Err(AllocError),
+        Ok(_) => Ok(wanted.is_empty()),
     }
 }
 
@@ -116,48 +140,58 @@ const CHANGED: [(&str, &str, &str); 11] = [
     ("n\":1}", "n\":1,\"version\":1}", ""),
 ];
 
+/// The state text with this changed.
+fn changed(alloc: Global, from: &str, to: &str) -> Result<String, AllocError> {
+    match STATE.split_once(from) {
+        Some((front, rest)) => format!(in alloc; "{front}{to}{rest}"),
+        None => Ok(String::new(alloc)),
+    }
+}
+
 #[test]
-fn the_first_failing_check_of_a_state_text_is_answered(rt: HostRuntime) -> Result<(), Fail> {
+fn the_first_failing_check_of_a_state_text_is_answered(rt: HostRuntime) -> Result<(), AllocError> {
     for (from, to, wanted) in CHANGED {
-        let text = replaced(rt.alloc(), STATE, from, to)?;
-        let told = fault_of(rt.alloc(), text.as_str())?;
-        assert!(rt; told.as_bytes() == wanted.as_bytes(), "{to}");
+        let text = changed(rt.alloc(), from, to)?;
+        assert!(rt; has_fault(rt.alloc(), text.as_str(), wanted)?, "{to}");
     }
     Ok(())
 }
 
-fn replaced(alloc: Global, text: &str, from: &str, to: &str) -> Result<String, Fail> {
-    let (front, rest) = text.split_once(from).ok_or("not there")?;
-    Ok(format!(in alloc; "{front}{to}{rest}")?)
+const DAY: u64 = 86_400;
+
+/// Three head updates, at 100, 200 and 100 days.
+fn three(alloc: Global) -> Result<History, AllocError> {
+    let mut history = History::new(alloc);
+    history.push(install(1, 100 * DAY))?;
+    history.push(install(2, 200 * DAY))?;
+    history.push(install(3, 100 * DAY))?;
+    Ok(history)
 }
 
-/// Whether of three head updates, at 100, 200 and 100 days, these are left at 200 days and a second.
-fn keeps(alloc: Global, days: i64, kept: &[u8]) -> Result<bool, Fail> {
-    let day = 86_400u64;
-    let mut history = History::new(alloc);
-    history.push(install(1, 100 * day))?;
-    history.push(install(2, 200 * day))?;
-    history.push(install(3, 100 * day))?;
-    history.cut(days, 200 * day + 1);
-    let mut left = Vec::new(alloc);
+/// The first bytes of the heads.
+fn heads(alloc: Global, history: &History) -> Result<Vec<u8>, AllocError> {
+    let mut heads = Vec::new(alloc);
     for install in history.slice() {
-        left.push(install.head.as_bytes().first().copied().unwrap_or(0))?;
+        heads.push(install.head.as_bytes().first().copied().unwrap_or(0))?;
     }
-    Ok(left.as_slice() == kept)
+    Ok(heads)
+}
+
+/// Whether of those head updates these are left at 200 days and a second.
+fn keeps(alloc: Global, days: i64, kept: &[u8]) -> Result<bool, AllocError> {
+    let mut history = three(alloc)?;
+    history.cut(days, 200 * DAY + 1);
+    Ok(heads(alloc, &history)?.as_slice() == kept)
 }
 
 #[test]
-fn history_is_cut_to_the_retained_days(rt: HostRuntime) -> Result<(), Fail> {
-    for (days, kept) in [
-        (-1i64, [1u8, 2, 3].as_slice()),
-        (0, [3].as_slice()),
-        (1, [2, 3].as_slice()),
-        (99, [2, 3].as_slice()),
-        (100, [2, 3].as_slice()),
-        (101, [1, 2, 3].as_slice()),
-        (36_500, [1, 2, 3].as_slice()),
-    ] {
-        assert!(rt; keeps(rt.alloc(), days, kept)?, "{days}");
-    }
+fn history_is_cut_to_the_retained_days(rt: HostRuntime) -> Result<(), AllocError> {
+    assert!(rt; keeps(rt.alloc(), -1, &[1, 2, 3])?);
+    assert!(rt; keeps(rt.alloc(), 0, &[3])?);
+    assert!(rt; keeps(rt.alloc(), 1, &[2, 3])?);
+    assert!(rt; keeps(rt.alloc(), 99, &[2, 3])?);
+    assert!(rt; keeps(rt.alloc(), 100, &[2, 3])?);
+    assert!(rt; keeps(rt.alloc(), 101, &[1, 2, 3])?);
+    assert!(rt; keeps(rt.alloc(), 36_500, &[1, 2, 3])?);
     Ok(())
 }

@@ -3,7 +3,6 @@ use ids::{Items, Key, Kind, LibId, ObjId, Text};
 use library_state::{Right, Secret, StateKey};
 use server_words::*;
 use std::alloc::{AllocError, Global};
-use std::test::Fail;
 
 const LIB: &str = "11111111-2222-4333-8444-555555555555";
 
@@ -17,22 +16,30 @@ fn read(alloc: Global, texts: &[&str]) -> Result<Command, AllocError> {
     read_command(alloc, words.slice())
 }
 
-fn lib() -> Result<LibId, Fail> {
-    Ok(LibId::read(LIB).ok().ok_or("no library id")?)
+fn lib() -> LibId {
+    LibId::from_bytes([
+        17, 17, 17, 17, 34, 34, 67, 51, 132, 68, 85, 85, 85, 85, 85, 85,
+    ])
 }
 
-/// The folder that a place is.
-fn folder_of(place: &Place) -> Option<&str> {
+/// Whether a place is the folder `F`.
+fn is_folder(place: &Place) -> bool {
     match place {
-        Place::Memory => None,
-        Place::Folder(path) => Some(path.slice()),
+        Place::Memory => false,
+        Place::Folder(path) => path.slice() == "F",
     }
 }
 
-#[test]
-fn a_library_is_created_in_a_folder(rt: HostRuntime) -> Result<(), Fail> {
-    let words = ["create", "F", LIB, "docs", "\u{e9}", TOKEN];
-    match read(rt.alloc(), &words)? {
+fn is_memory(place: &Place) -> bool {
+    matches!(place, Place::Memory)
+}
+
+fn is_secret(secret: &Secret) -> bool {
+    *secret == Secret::from_bytes([170; 20])
+}
+
+fn is_create(command: &Command) -> bool {
+    match command {
         Command::Create {
             place,
             lib: id,
@@ -40,105 +47,122 @@ fn a_library_is_created_in_a_folder(rt: HostRuntime) -> Result<(), Fail> {
             user,
             secret,
         } => {
-            assert_eq!(rt; folder_of(&place), Some("F"));
-            assert!(rt; id == lib()?);
-            assert_eq!(rt; name.slice(), "docs");
-            assert_eq!(rt; user.slice(), "\u{e9}");
-            assert!(rt; secret == Secret::from_bytes([170; 20]));
+            is_folder(place)
+                && *id == lib()
+                && name.slice() == "docs"
+                && user.slice() == "\u{e9}"
+                && is_secret(secret)
         }
-        _ => return Err("no create".into()),
+        _ => false,
     }
+}
+
+#[test]
+fn a_library_is_created_in_a_folder(rt: HostRuntime) -> Result<(), AllocError> {
+    let words = ["create", "F", LIB, "docs", "\u{e9}", TOKEN];
+    assert!(rt; is_create(&read(rt.alloc(), &words)?));
+    Ok(())
+}
+
+fn is_token(command: &Command, wanted: Right) -> bool {
+    match command {
+        Command::Token { user, right, .. } => user.slice() == "bob@x.org" && *right == wanted,
+        _ => false,
+    }
+}
+
+/// Whether a token of this word is of this right.
+fn is_of(alloc: Global, word: &str, right: Right) -> Result<bool, AllocError> {
+    let command = read(alloc, &["token", "F", LIB, "bob@x.org", TOKEN, word])?;
+    Ok(is_token(&command, right))
+}
+
+#[test]
+fn a_token_is_added_with_each_right(rt: HostRuntime) -> Result<(), AllocError> {
+    assert!(rt; is_of(rt.alloc(), "r", Right::Read)?);
+    assert!(rt; is_of(rt.alloc(), "rw", Right::Write)?);
+    assert!(rt; is_of(rt.alloc(), "own", Right::Owner)?);
+    Ok(())
+}
+
+fn is_inetd(command: &Command) -> bool {
+    match command {
+        Command::Inetd { place, lib: id } => is_memory(place) && *id == lib(),
+        _ => false,
+    }
+}
+
+#[test]
+fn a_connection_is_served_from_memory(rt: HostRuntime) -> Result<(), AllocError> {
+    assert!(rt; is_inetd(&read(rt.alloc(), &["inetd", ":memory:", LIB])?));
     Ok(())
 }
 
 #[test]
-fn a_token_is_added_with_each_right(rt: HostRuntime) -> Result<(), Fail> {
-    for (word, wanted) in [
-        ("r", Right::Read),
-        ("rw", Right::Write),
-        ("own", Right::Owner),
-    ] {
-        match read(rt.alloc(), &["token", "F", LIB, "bob@x.org", TOKEN, word])? {
-            Command::Token { user, right, .. } => {
-                assert_eq!(rt; user.slice(), "bob@x.org");
-                assert_eq!(rt; right, wanted);
-            }
-            _ => return Err("no token".into()),
-        }
-    }
-    Ok(())
-}
-
-#[test]
-fn a_connection_is_served_from_memory(rt: HostRuntime) -> Result<(), Fail> {
-    match read(rt.alloc(), &["inetd", ":memory:", LIB])? {
-        Command::Inetd { place, lib: id } => {
-            assert!(rt; folder_of(&place).is_none());
-            assert!(rt; id == lib()?);
-        }
-        _ => return Err("no inetd".into()),
-    }
-    Ok(())
-}
-
-#[test]
-fn help_and_version_stand_alone(rt: HostRuntime) -> Result<(), Fail> {
+fn help_and_version_stand_alone(rt: HostRuntime) -> Result<(), AllocError> {
     assert!(rt; matches!(read(rt.alloc(), &["--help"])?, Command::Help));
     assert!(rt; matches!(read(rt.alloc(), &["--version"])?, Command::Version));
     Ok(())
 }
 
+const CAPITALS: &str = "AAAAAAAAAAAAAAAAAAAAAAAAAAAAAAAAAAAAAAAA";
+
+/// Words that are no command.
+const USAGE: [&[&str]; 24] = [
+    &[],
+    &[""],
+    &["x"],
+    &["inetd"],
+    &["inetd", ":memory:"],
+    &["inetd", "", LIB],
+    &["inetd", ":memory:", LIB, LIB],
+    &["inetd", ":memory:", "x"],
+    &["INETD", ":memory:", LIB],
+    &["serve", "F", "8082", "1", "1", LIB],
+    &["create", "F", LIB, "docs", "me"],
+    &["create", "F", LIB, "", "me", TOKEN],
+    &["create", "F", LIB, "docs", "", TOKEN],
+    &["create", "F", LIB, "a\tb", "me", TOKEN],
+    &["create", "F", LIB, "docs", "a\u{7f}", TOKEN],
+    &["create", "F", LIB, "docs", "me", CAPITALS],
+    &["create", "", LIB, "docs", "me", TOKEN],
+    &["create", "F", "x", "docs", "me", TOKEN],
+    &["create", "F", LIB, "docs", "me", TOKEN, "x"],
+    &["token", "F", LIB, "me", TOKEN, "w"],
+    &["token", "F", LIB, "me", TOKEN],
+    &["token", "F", LIB, "me", "x", "r"],
+    &["make", ":memory:", LIB, "1", "0"],
+    &["--help", "--help"],
+];
+
+fn is_usage(alloc: Global, words: &[&str]) -> Result<bool, AllocError> {
+    Ok(matches!(read(alloc, words)?, Command::Usage))
+}
+
 #[test]
-fn words_that_are_no_command_are_usage(rt: HostRuntime) -> Result<(), Fail> {
-    let capitals = "AAAAAAAAAAAAAAAAAAAAAAAAAAAAAAAAAAAAAAAA";
-    let tables: [&[&str]; 24] = [
-        &[],
-        &[""],
-        &["x"],
-        &["inetd"],
-        &["inetd", ":memory:"],
-        &["inetd", "", LIB],
-        &["inetd", ":memory:", LIB, LIB],
-        &["inetd", ":memory:", "x"],
-        &["INETD", ":memory:", LIB],
-        &["serve", "F", "8082", "1", "1", LIB],
-        &["create", "F", LIB, "docs", "me"],
-        &["create", "F", LIB, "", "me", TOKEN],
-        &["create", "F", LIB, "docs", "", TOKEN],
-        &["create", "F", LIB, "a\tb", "me", TOKEN],
-        &["create", "F", LIB, "docs", "a\u{7f}", TOKEN],
-        &["create", "F", LIB, "docs", "me", capitals],
-        &["create", "", LIB, "docs", "me", TOKEN],
-        &["create", "F", "x", "docs", "me", TOKEN],
-        &["create", "F", LIB, "docs", "me", TOKEN, "x"],
-        &["token", "F", LIB, "me", TOKEN, "w"],
-        &["token", "F", LIB, "me", TOKEN],
-        &["token", "F", LIB, "me", "x", "r"],
-        &["make", ":memory:", LIB, "1", "0"],
-        &["--help", "--help"],
-    ];
-    for words in tables {
-        assert!(rt;
-            matches!(read(rt.alloc(), words)?, Command::Usage),
-            "{words:?}"
-        );
+fn words_that_are_no_command_are_usage(rt: HostRuntime) -> Result<(), AllocError> {
+    for words in USAGE {
+        assert!(rt; is_usage(rt.alloc(), words)?, "{words:?}");
     }
     Ok(())
 }
 
+/// Whether a library is made with a name and a user of so many bytes.
+fn is_created(alloc: Global, name: usize, user: usize) -> Result<bool, AllocError> {
+    let name = "n".repeat(alloc, name)?;
+    let user = "n".repeat(alloc, user)?;
+    let command = read(
+        alloc,
+        &["create", "F", LIB, name.as_str(), user.as_str(), TOKEN],
+    )?;
+    Ok(matches!(command, Command::Create { .. }))
+}
+
 #[test]
-fn names_have_up_to_255_bytes(rt: HostRuntime) -> Result<(), Fail> {
-    let longest = "n".repeat(rt.alloc(), 255)?;
-    let longer = "n".repeat(rt.alloc(), 256)?;
-    let (longest, longer) = (longest.as_str(), longer.as_str());
-    for (name, user, good) in [
-        (longest, longest, true),
-        (longer, "me", false),
-        ("docs", longer, false),
-    ] {
-        let command = read(rt.alloc(), &["create", "F", LIB, name, user, TOKEN])?;
-        assert_eq!(rt; matches!(command, Command::Create { .. }), good);
-    }
+fn names_have_up_to_255_bytes(rt: HostRuntime) -> Result<(), AllocError> {
+    assert!(rt; is_created(rt.alloc(), 255, 255)?);
+    assert!(rt; !is_created(rt.alloc(), 256, 2)?);
+    assert!(rt; !is_created(rt.alloc(), 4, 256)?);
     Ok(())
 }
 
@@ -150,62 +174,64 @@ fn key(kind: Kind) -> Key {
     Key { kind, id: id() }
 }
 
-const FAULTS: [(Fault, &str); 4] = [
-    (Fault::LibraryExists, "library exists"),
-    (Fault::SecretTaken, "secret taken"),
-    (Fault::Store, "store fault"),
-    (Fault::BadState(StateKey::LibName), "bad state LibName"),
-];
+/// Whether a line has this text and this status.
+fn is_line(line: Line, text: &str, status: u8) -> bool {
+    line.text().slice() == text.as_bytes() && line.status() == status
+}
 
-#[test]
-fn a_fault_is_printed_with_status_one(rt: HostRuntime) -> Result<(), Fail> {
-    for (fault, words) in FAULTS {
-        let line = Line::Fault(fault);
-        let wanted = format!(in rt.alloc(); "seaf-server: {words}\n")?;
-        assert_eq!(rt; line.text().slice(), wanted.as_bytes());
-        assert_eq!(rt; line.status(), 1);
-    }
-    Ok(())
+fn is_fault(fault: Fault, text: &str) -> bool {
+    is_line(Line::Fault(fault), text, 1)
 }
 
 #[test]
-fn a_fault_names_its_object(rt: HostRuntime) -> Result<(), Fail> {
-    for (fault, words) in [
-        (Fault::Incomplete(key(Kind::Fs)), "incomplete fs"),
-        (Fault::Unreadable(key(Kind::Commit)), "unreadable commit"),
-        (Fault::WrongKind(id()), "wrong kind"),
-        (Fault::WrongSize(id()), "wrong size"),
-        (Fault::Damaged(id()), "damaged"),
-        (Fault::Taken(id()), "taken"),
-    ] {
-        let wanted = format!(in rt.alloc();
-            "seaf-server: {words} cccccccccccccccccccccccccccccccccccccccc\n"
-        )?;
-        assert_eq!(rt; Line::Fault(fault).text().slice(), wanted.as_bytes());
-    }
-    Ok(())
+fn a_fault_is_printed_with_status_one(rt: HostRuntime) {
+    assert!(rt; is_fault(Fault::LibraryExists, "seaf-server: library exists\n"));
+    assert!(rt; is_fault(Fault::SecretTaken, "seaf-server: secret taken\n"));
+    assert!(rt; is_fault(Fault::Store, "seaf-server: store fault\n"));
+    assert!(rt;
+        is_fault(
+            Fault::BadState(StateKey::LibName),
+            "seaf-server: bad state LibName\n"
+        )
+    );
 }
 
 #[test]
-fn lines_have_their_statuses(rt: HostRuntime) -> Result<(), Fail> {
+fn a_fault_names_its_object(rt: HostRuntime) {
+    assert!(rt; is_fault(Fault::Incomplete(key(Kind::Fs)), INCOMPLETE));
+    assert!(rt; is_fault(Fault::Unreadable(key(Kind::Commit)), UNREADABLE));
+    assert!(rt; is_fault(Fault::WrongKind(id()), WRONG_KIND));
+    assert!(rt; is_fault(Fault::WrongSize(id()), WRONG_SIZE));
+    assert!(rt; is_fault(Fault::Damaged(id()), DAMAGED));
+    assert!(rt; is_fault(Fault::Taken(id()), TAKEN));
+}
+
+const INCOMPLETE: &str = "seaf-server: incomplete fs cccccccccccccccccccccccccccccccccccccccc\n";
+
+const UNREADABLE: &str =
+    "seaf-server: unreadable commit cccccccccccccccccccccccccccccccccccccccc\n";
+
+const WRONG_KIND: &str = "seaf-server: wrong kind cccccccccccccccccccccccccccccccccccccccc\n";
+
+const WRONG_SIZE: &str = "seaf-server: wrong size cccccccccccccccccccccccccccccccccccccccc\n";
+
+const DAMAGED: &str = "seaf-server: damaged cccccccccccccccccccccccccccccccccccccccc\n";
+
+const TAKEN: &str = "seaf-server: taken cccccccccccccccccccccccccccccccccccccccc\n";
+
+const CREATED: &str =
+    "created 11111111-2222-4333-8444-555555555555 cccccccccccccccccccccccccccccccccccccccc\n";
+
+#[test]
+fn lines_have_their_statuses(rt: HostRuntime) {
     let created = Line::Created {
-        lib: lib()?,
+        lib: lib(),
         head: id(),
     };
-    for (line, text, status) in [
-        (
-            created,
-            "created 11111111-2222-4333-8444-555555555555 cccccccccccccccccccccccccccccccccccccccc\n",
-            0,
-        ),
-        (Line::TokenAdded, "token added\n", 0),
-        (Line::Usage, "seaf-server: usage\n", 2),
-        (Line::Fault(Fault::NoMemory), "seaf-server: no memory\n", 3),
-    ] {
-        assert_eq!(rt; line.text().slice(), text.as_bytes());
-        assert_eq!(rt; line.status(), status);
-    }
+    assert!(rt; is_line(created, CREATED, 0));
+    assert!(rt; is_line(Line::TokenAdded, "token added\n", 0));
+    assert!(rt; is_line(Line::Usage, "seaf-server: usage\n", 2));
+    assert!(rt; is_line(Line::Fault(Fault::NoMemory), "seaf-server: no memory\n", 3));
     assert!(rt; help_text().starts_with(b"usage: seaf-server "));
-    assert_eq!(rt; version_text(), b"seaf-server 0.1\n".as_slice());
-    Ok(())
+    assert!(rt; version_text() == b"seaf-server 0.1\n".as_slice());
 }

@@ -1,7 +1,6 @@
 //! Names, orders of paths and tables with ample memory.
-use std::alloc::Global;
+use std::alloc::{AllocError, Global};
 use std::cmp::Ordering;
-use std::process::Abort;
 use std::test::Fail;
 use tree_model::{Name, NameFault, Path, PathTable};
 
@@ -14,33 +13,42 @@ fn path(alloc: Global, names: &[&str]) -> Result<Path, NameFault> {
     Ok(path)
 }
 
-/// The fault of a name, as it is printed; no text where the name is good.
-fn fault_of(alloc: Global, text: &str) -> Result<String, Fail> {
+/// Whether this is the fault of a name, as it is printed; no text where the name is good.
+fn has_fault(alloc: Global, text: &str, wanted: &str) -> Result<bool, AllocError> {
     match Name::check(text) {
-        Err(fault) => Ok(format!(in alloc; "{fault:?}")?),
-        Ok(()) => Ok(String::new(alloc)),
+        Err(fault) => Ok(format!(in alloc; "{fault:?}")?.as_bytes() == wanted.as_bytes()),
+        Ok(()) => Ok(wanted.is_empty()),
     }
+}
+
+fn is_text(name: &Name, text: &str) -> bool {
+    name.as_str() == text && name.bytes() == text.as_bytes()
 }
 
 /// Whether a name is refused with this fault, or read as it is where there is none.
-fn is_read(alloc: Global, text: &str, wanted: &str) -> Result<bool, Fail> {
+fn is_read(alloc: Global, text: &str, wanted: &str) -> Result<bool, AllocError> {
     match Name::read(alloc, text) {
-        Ok(name) => Ok(
-            wanted.is_empty() && name.as_str() == text && name.bytes() == text.as_bytes(),
-        ),
+        Ok(name) => Ok(wanted.is_empty() && is_text(&name, text)),
         Err(NameFault::Bad(told)) => {
-            let told = format!(in alloc; "{told:?}")?;
-            Ok(told.as_bytes() == wanted.as_bytes())
+            Ok(format!(in alloc; "{told:?}")?.as_bytes() == wanted.as_bytes())
         }
-        Err(NameFault::NoMemory) => Ok(false),
+        Err(NameFault::NoMemory) => Err(AllocError),
     }
 }
 
-fn expect_fault(rt: &(impl Abort + AllocGlobal), text: &str, wanted: &str) -> Result<(), Fail> {
-    let told = fault_of(rt.alloc(), text)?;
-    assert!(rt; told.as_bytes() == wanted.as_bytes(), "{text}");
-    assert!(rt; is_read(rt.alloc(), text, wanted)?, "{text}");
-    Ok(())
+fn is_told(alloc: Global, text: &str, wanted: &str) -> Result<bool, AllocError> {
+    Ok(has_fault(alloc, text, wanted)? && is_read(alloc, text, wanted)?)
+}
+
+/// The same for a name of so many of these letters.
+fn is_told_long(
+    alloc: Global,
+    letter: &str,
+    count: usize,
+    wanted: &str,
+) -> Result<bool, AllocError> {
+    let text = letter.repeat(alloc, count)?;
+    is_told(alloc, text.as_str(), wanted)
 }
 
 const FAULTS: [(&str, &str); 8] = [
@@ -55,74 +63,153 @@ const FAULTS: [(&str, &str); 8] = [
 ];
 
 #[test]
-fn the_first_fault_of_a_name_is_told(rt: HostRuntime) -> Result<(), Fail> {
+fn the_first_fault_of_a_name_is_told(rt: HostRuntime) -> Result<(), AllocError> {
     for (text, wanted) in FAULTS {
-        expect_fault(&rt, text, wanted)?;
+        assert!(rt; is_told(rt.alloc(), text, wanted)?, "{text}");
     }
-    let longest = "a".repeat(rt.alloc(), 255)?;
-    expect_fault(&rt, longest.as_str(), "")?;
-    let too_long = "a".repeat(rt.alloc(), 256)?;
-    expect_fault(&rt, too_long.as_str(), "TooLong(256)")?;
-    let slashed = "/".repeat(rt.alloc(), 256)?;
-    expect_fault(&rt, slashed.as_str(), "TooLong(256)")
+    assert!(rt; is_told_long(rt.alloc(), "a", 255, "")?);
+    assert!(rt; is_told_long(rt.alloc(), "a", 256, "TooLong(256)")?);
+    assert!(rt; is_told_long(rt.alloc(), "/", 256, "TooLong(256)")?);
+    Ok(())
+}
+
+/// Whether a path has this text and so many names.
+fn is_path(alloc: Global, path: &Path, text: &str, count: usize) -> Result<bool, AllocError> {
+    Ok(path.text(alloc)?.slice() == text && path.names().len() == count)
 }
 
 #[test]
-fn paths_stand_in_the_byte_order_of_their_texts(rt: HostRuntime) -> Result<(), Fail> {
+fn a_path_has_the_text_of_its_names(rt: HostRuntime) -> Result<(), NameFault> {
     let alloc = rt.alloc();
-    let dashed = path(alloc, ["a-b"].as_slice())?;
-    let below = path(alloc, ["a", "b"].as_slice())?;
-    let above = path(alloc, ["a"].as_slice())?;
-    assert!(rt; dashed < below, "a-b stands before a/b");
-    assert!(rt;
-        above < dashed && above < below,
-        "a stands before what is below it"
-    );
-    assert_eq!(rt; below.cmp(&below.copy(alloc)?), Ordering::Equal);
-    assert_eq!(rt; below.text(alloc)?.slice(), "a/b");
-    let mut grown = above.copy(alloc)?;
-    grown.push(Name::read(alloc, "b")?)?;
-    assert!(rt; grown == below, "a grows by b");
-    assert_eq!(rt; Path::root(alloc).text(alloc)?.slice(), "");
-    assert_eq!(rt; below.names().len(), 2);
-    assert!(rt; below.parent(alloc)? == above && above.parent(alloc)? == Path::root(alloc));
-    assert_eq!(rt; Path::root(alloc).parent(alloc)?.names().len(), 0);
-    assert!(rt; Path::root(alloc).split_last().is_none());
-    match below.copy(alloc)?.split_last() {
-        Some((dir, name)) => assert!(rt; dir == above && name.as_str() == "b"),
-        None => assert!(rt; false, "a/b is not the root"),
-    }
-    let name = Name::read(alloc, "a")?;
-    assert!(rt; name == name.copy(alloc)? && name < Name::read(alloc, "a!")?);
+    assert!(rt; is_path(alloc, &Path::root(alloc), "", 0)?);
+    assert!(rt; is_path(alloc, &path(alloc, &["a", "b"])?, "a/b", 2)?);
+    Ok(())
+}
+
+/// Whether the first path is the same as its copy and stands before the second.
+fn is_before(alloc: Global, first: &Path, second: &Path) -> Result<bool, AllocError> {
+    Ok(*first < *second && first.cmp(&first.copy(alloc)?) == Ordering::Equal)
+}
+
+// The path `a` stands before what is below it, and `a-b` before `a/b`.
+#[test]
+fn paths_stand_in_the_byte_order_of_their_texts(rt: HostRuntime) -> Result<(), NameFault> {
+    let alloc = rt.alloc();
+    let dashed = path(alloc, &["a-b"])?;
+    let below = path(alloc, &["a", "b"])?;
+    let above = path(alloc, &["a"])?;
+    assert!(rt; is_before(alloc, &dashed, &below)?);
+    assert!(rt; is_before(alloc, &above, &dashed)?);
+    assert!(rt; is_before(alloc, &above, &below)?);
     Ok(())
 }
 
 #[test]
-fn a_table_is_gone_over_in_the_byte_order_of_its_paths(rt: HostRuntime) -> Result<(), Fail> {
+fn a_path_grows_by_a_name(rt: HostRuntime) -> Result<(), NameFault> {
     let alloc = rt.alloc();
+    let mut grown = path(alloc, &["a"])?;
+    grown.push(Name::read(alloc, "b")?)?;
+    assert!(rt; grown == path(alloc, &["a", "b"])?);
+    Ok(())
+}
+
+/// Whether the parent of a path is the other.
+fn is_child(alloc: Global, path: &Path, parent: &Path) -> Result<bool, AllocError> {
+    Ok(path.parent(alloc)? == *parent)
+}
+
+#[test]
+fn the_root_is_its_own_parent(rt: HostRuntime) -> Result<(), NameFault> {
+    let alloc = rt.alloc();
+    let root = Path::root(alloc);
+    let above = path(alloc, &["a"])?;
+    assert!(rt; is_child(alloc, &path(alloc, &["a", "b"])?, &above)?);
+    assert!(rt; is_child(alloc, &above, &root)?);
+    assert!(rt; is_child(alloc, &root, &root)?);
+    Ok(())
+}
+
+/// Whether a path is split into this directory and last name.
+fn is_split(path: Path, dir: &Path, last: &str) -> bool {
+    match path.split_last() {
+        Some((front, name)) => front == *dir && name.as_str() == last,
+        None => false,
+    }
+}
+
+#[test]
+fn a_path_but_the_root_is_split(rt: HostRuntime) -> Result<(), NameFault> {
+    let alloc = rt.alloc();
+    let dir = path(alloc, &["a"])?;
+    assert!(rt; is_split(path(alloc, &["a", "b"])?, &dir, "b"));
+    assert!(rt; Path::root(alloc).split_last().is_none());
+    Ok(())
+}
+
+#[test]
+fn names_stand_in_their_byte_order(rt: HostRuntime) -> Result<(), NameFault> {
+    let name = Name::read(rt.alloc(), "a")?;
+    assert!(rt; name == name.copy(rt.alloc())?);
+    assert!(rt; name < Name::read(rt.alloc(), "a!")?);
+    Ok(())
+}
+
+/// A table of 1 at `a/b`, 2 at `a-b` and 3 at `a`.
+fn filled(alloc: Global) -> Result<PathTable<u64>, NameFault> {
     let mut table = PathTable::new(alloc);
-    let below = path(alloc, ["a", "b"].as_slice())?;
-    table.insert(path(alloc, ["a", "b"].as_slice())?, 1)?;
-    table.insert(path(alloc, ["a-b"].as_slice())?, 2)?;
-    table.insert(path(alloc, ["a"].as_slice())?, 3)?;
+    table.insert(path(alloc, &["a", "b"])?, 1)?;
+    table.insert(path(alloc, &["a-b"])?, 2)?;
+    table.insert(path(alloc, &["a"])?, 3)?;
+    Ok(table)
+}
+
+fn values(alloc: Global, table: &PathTable<u64>) -> Result<Vec<u64>, AllocError> {
     let mut values = Vec::new(alloc);
     for (_, value) in table.iter() {
         values.push(*value)?;
     }
-    assert_eq!(rt; values.as_slice(), [3, 2, 1].as_slice());
-    assert!(rt; table.has(&below) && table.len() == 3);
-    assert_eq!(rt; table.get(&below).copied(), Some(1));
-    assert_eq!(rt; table.remove(&below), Some(1));
-    assert!(rt; !table.has(&below) && table.len() == 2);
-    match table.pop_last() {
-        Some((last, value)) => assert!(rt; last.text(alloc)?.slice() == "a-b" && value == 2),
-        None => assert!(rt; false, "the table has two paths"),
-    }
-    assert_eq!(rt; table.len(), 1);
-    table.insert(path(alloc, ["b"].as_slice())?, 4)?;
-    match table.pop_first() {
-        Some((first, value)) => assert!(rt; first.text(alloc)?.slice() == "a" && value == 3),
-        None => assert!(rt; false, "the table has two paths"),
-    }
+    Ok(values)
+}
+
+fn has_one(table: &PathTable<u64>, below: &Path) -> bool {
+    table.has(below) && table.get(below).copied() == Some(1) && table.len() == 3
+}
+
+#[test]
+fn a_table_is_gone_over_in_the_byte_order_of_its_paths(rt: HostRuntime) -> Result<(), NameFault> {
+    let alloc = rt.alloc();
+    let table = filled(alloc)?;
+    assert!(rt; has_one(&table, &path(alloc, &["a", "b"])?));
+    assert!(rt; values(alloc, &table)?.as_slice() == [3, 2, 1].as_slice());
+    Ok(())
+}
+
+#[test]
+fn what_is_removed_of_a_table_is_told(rt: HostRuntime) -> Result<(), NameFault> {
+    let below = path(rt.alloc(), &["a", "b"])?;
+    let mut table = filled(rt.alloc())?;
+    assert!(rt; table.remove(&below) == Some(1));
+    assert!(rt; !table.has(&below));
+    assert!(rt; table.len() == 2);
+    Ok(())
+}
+
+/// Whether this is the value at the path of one name.
+fn is_at(alloc: Global, found: &(Path, u64), name: &str, value: u64) -> Result<bool, AllocError> {
+    Ok(found.0.text(alloc)?.slice() == name && found.1 == value)
+}
+
+#[test]
+fn a_table_gives_its_first_and_its_last(rt: HostRuntime) -> Result<(), Fail> {
+    let alloc = rt.alloc();
+    let mut table = PathTable::new(alloc);
+    table.insert(path(alloc, &["a-b"])?, 2)?;
+    table.insert(path(alloc, &["a"])?, 3)?;
+    let last = table.pop_last().ok_or("no last")?;
+    assert!(rt; is_at(alloc, &last, "a-b", 2)?);
+    assert!(rt; table.len() == 1);
+    table.insert(path(alloc, &["b"])?, 4)?;
+    let first = table.pop_first().ok_or("no first")?;
+    assert!(rt; is_at(alloc, &first, "a", 3)?);
     Ok(())
 }

@@ -3,7 +3,7 @@ mod answer_tests;
 mod update_tests;
 
 use depot::*;
-use ids::{Items, LibId, ObjId, Text};
+use ids::{Bytes, Items, LibId, ObjId, Text};
 use library_state::{Act, Call, Reply, Right, Secret};
 use object_store::{MemoryShelf, Store, StoreFault};
 use std::alloc::Global;
@@ -60,56 +60,86 @@ fn id(digits: &str) -> Result<ObjId, Fail> {
     }
 }
 
+fn has_one_token(depot: &Depot<MemoryShelf>) -> bool {
+    depot.token_at(0) == Some((Secret::from_bytes([170; 20]), Right::Owner))
+        && depot.token_at(1).is_none()
+}
+
+fn is_new(depot: &Depot<MemoryShelf>) -> bool {
+    depot.opening() == 1
+        && depot.lib().digits().as_slice() == LIB.as_bytes()
+        && has_one_token(depot)
+}
+
+/// Whether a store has this text.
+fn is_noted(told: &Result<Option<Bytes>, StoreFault>, text: &str) -> bool {
+    match told {
+        Ok(Some(noted)) => noted.slice() == text.as_bytes(),
+        Ok(None) => false,
+        Err(_) => false,
+    }
+}
+
 #[test]
 fn a_new_library_stands_at_its_opening_commit(rt: HostRuntime) -> Result<(), Fail> {
-    let alloc = rt.alloc();
-    let depot = library_on(alloc, &[])?;
+    let depot = library_on(rt.alloc(), &[])?;
     assert!(rt; depot.head() == id(OPENING)?);
-    assert_eq!(rt; depot.opening(), 1);
-    assert_eq!(rt; depot.lib().digits().as_slice(), LIB.as_bytes());
-    assert!(rt; depot.token_at(0) == Some((Secret::from_bytes([170; 20]), Right::Owner)));
-    assert!(rt; depot.token_at(1) == None);
+    assert!(rt; is_new(&depot));
     let mut store = depot.close();
-    assert_eq!(rt; store.count(), 1);
-    let text = store.noted().ok().ok_or("no text")?.ok_or("empty")?;
-    assert!(rt; text.slice() == STATE.as_bytes());
+    assert!(rt; store.count() == 1);
+    assert!(rt; is_noted(&store.noted(), STATE));
     Ok(())
+}
+
+fn has_state(made: &Result<Depot<MemoryShelf>, (Store<MemoryShelf>, MakeFault)>) -> bool {
+    match made {
+        Ok(_) => false,
+        Err(refused) => refused.1 == MakeFault::HasState,
+    }
 }
 
 #[test]
 fn a_library_is_made_once(rt: HostRuntime) -> Result<(), Fail> {
-    let alloc = rt.alloc();
-    let depot = library_on(alloc, &[])?;
-    let again = made(alloc, depot.close())?;
-    match &again {
-        Err(refused) => assert!(rt; refused.1 == MakeFault::HasState),
-        Ok(_) => return Err(Fail::from("made again")),
-    }
+    let depot = library_on(rt.alloc(), &[])?;
+    assert!(rt; has_state(&made(rt.alloc(), depot.close())?));
     Ok(())
+}
+
+fn is_refused(told: Result<(), TokenFault>, wanted: TokenFault) -> bool {
+    match told {
+        Ok(()) => false,
+        Err(fault) => fault == wanted,
+    }
+}
+
+fn has_second(depot: &Depot<MemoryShelf>, secret: Secret, right: Right) -> bool {
+    depot.token_at(1) == Some((secret, right))
 }
 
 #[test]
 fn a_secret_is_given_once(rt: HostRuntime) -> Result<(), Fail> {
-    let alloc = rt.alloc();
-    let mut depot = library_on(alloc, &[])?;
-    let user = Text::copy(alloc, "bob@x.org")?;
+    let mut depot = library_on(rt.alloc(), &[])?;
+    let user = Text::copy(rt.alloc(), "bob@x.org")?;
     let secret = Secret::from_bytes([187; 20]);
     assert!(rt; depot.add_token(&user, secret, Right::Write).is_ok());
-    assert!(rt; depot.token_at(1) == Some((secret, Right::Write)));
-    assert!(rt; depot.add_token(&user, secret, Right::Read) == Err(TokenFault::SecretTaken));
+    assert!(rt; has_second(&depot, secret, Right::Write));
+    assert!(rt;
+        is_refused(
+            depot.add_token(&user, secret, Right::Read),
+            TokenFault::SecretTaken
+        )
+    );
     Ok(())
 }
 
 #[test]
 fn a_token_that_was_not_written_is_added_again(rt: HostRuntime) -> Result<(), Fail> {
-    let alloc = rt.alloc();
-    let mut depot = library_on(alloc, &[6])?;
-    let user = Text::copy(alloc, "bob@x.org")?;
+    let mut depot = library_on(rt.alloc(), &[6])?;
+    let user = Text::copy(rt.alloc(), "bob@x.org")?;
     let secret = Secret::from_bytes([187; 20]);
-    assert!(rt;
-        depot.add_token(&user, secret, Right::Write) == Err(TokenFault::Store(StoreFault::Shelf))
-    );
-    assert!(rt; depot.token_at(1) == None);
+    let fault = TokenFault::Store(StoreFault::Shelf);
+    assert!(rt; is_refused(depot.add_token(&user, secret, Right::Write), fault));
+    assert!(rt; depot.token_at(1).is_none());
     assert!(rt; depot.add_token(&user, secret, Right::Write).is_ok());
     Ok(())
 }

@@ -1,4 +1,4 @@
-//! Tests of the depot and of what the server does, over their public calls alone.
+//! Tests of the turnstile, of the depot and of what the server does, over their public calls alone.
 //!
 //! They stand apart, since a crate with tests is proved twice. It has no code but its tests.
 #![tactic(auto)]
@@ -7,3 +7,5 @@
 mod depot_tests;
 #[cfg(test)]
 mod library_server_tests;
+#[cfg(test)]
+mod turnstile_tests;

@@ -1,8 +1,9 @@
 //! One sync fails, the server goes on or starts anew, and then the power fails: what stands?
+use crate::library::{done, holds, lib, slot_of, there};
 use crate::lossy_files::LossyFiles;
 use folder_storage::{FileSystem, FolderGround, FolderShelf, Ground};
-use ids::{Key, Kind, LibId, ObjId};
-use object_store::{Shelf, ShelfFailed, Slot};
+use ids::Kind;
+use object_store::{Shelf, Slot};
 use std::alloc::Global;
 use std::process::Abort;
 use std::test::Fail;
@@ -15,32 +16,8 @@ const OBJECTS: [(Kind, &str); 4] = [
     (Kind::Block, "other"),
 ];
 
-fn lib() -> LibId {
-    LibId::from_bytes([0x11; 16])
-}
-
-fn slot_of(kind: Kind, text: &str) -> Slot {
-    let id = ObjId::of(text.as_bytes());
-    Slot::Object(Key { kind, id })
-}
-
-fn there<T: Drop>(answered: Result<Option<T>, ShelfFailed>) -> Result<T, Fail> {
-    match answered {
-        Ok(Some(given)) => Ok(given),
-        Ok(None) => Err("nothing is there".into()),
-        Err(_) => Err("a fault".into()),
-    }
-}
-
-fn done(answered: Result<(), ShelfFailed>) -> Result<(), Fail> {
-    match answered {
-        Ok(()) => Ok(()),
-        Err(_) => Err("a fault".into()),
-    }
-}
-
 /// A new run over these files.
-fn opened(files: LossyFiles) -> Result<FolderShelf<LossyFiles>, Fail> {
+pub(crate) fn opened(files: LossyFiles) -> Result<FolderShelf<LossyFiles>, Fail> {
     there(FolderGround::over(files).find("F", lib()))
 }
 
@@ -53,7 +30,7 @@ fn made(alloc: Global) -> Result<FolderShelf<LossyFiles>, Fail> {
 }
 
 /// The files of a library whose state text is `1`.
-fn with_text(alloc: Global) -> Result<LossyFiles, Fail> {
+pub(crate) fn with_text(alloc: Global) -> Result<LossyFiles, Fail> {
     let mut shelf = made(alloc)?;
     done(shelf.put(Slot::Status, b"1"))?;
     Ok(shelf.files().another()?)
@@ -61,10 +38,7 @@ fn with_text(alloc: Global) -> Result<LossyFiles, Fail> {
 
 /// Whether an object is there, whole.
 fn has(shelf: &mut FolderShelf<LossyFiles>, kind: Kind, text: &str) -> bool {
-    match shelf.fetch(slot_of(kind, text)) {
-        Ok(Some(bytes)) => bytes.slice() == text.as_bytes(),
-        _ => false,
-    }
+    holds(shelf, &slot_of(kind, text), text.as_bytes())
 }
 
 /// Whether all objects are there, whole.
@@ -178,33 +152,33 @@ fn a_new_run_trusts_nothing_that_was_not_synced(rt: HostRuntime) -> Result<(), F
 
 /// The calls of a run that puts the block `abc` and a text.
 const UPDATE: &str = "\
-write F/11111111-1111-1111-1111-111111111111/tmp/spare
-make F/11111111-1111-1111-1111-111111111111/blocks/a9
-rename to F/11111111-1111-1111-1111-111111111111/blocks/a9/993e364706816aba3e25717850c26c9cd0d89d
-write F/11111111-1111-1111-1111-111111111111/syncing
-sync F/11111111-1111-1111-1111-111111111111/blocks/a9/993e364706816aba3e25717850c26c9cd0d89d
-sync F/11111111-1111-1111-1111-111111111111/blocks/a9
-sync F/11111111-1111-1111-1111-111111111111/blocks
-write F/11111111-1111-1111-1111-111111111111/tmp/spare
-sync F/11111111-1111-1111-1111-111111111111/tmp/spare
-rename to F/11111111-1111-1111-1111-111111111111/status
-sync F/11111111-1111-1111-1111-111111111111
+write F/11111111-2222-4333-8444-555555555555/tmp/spare
+make F/11111111-2222-4333-8444-555555555555/blocks/a9
+rename to F/11111111-2222-4333-8444-555555555555/blocks/a9/993e364706816aba3e25717850c26c9cd0d89d
+write F/11111111-2222-4333-8444-555555555555/syncing
+sync F/11111111-2222-4333-8444-555555555555/blocks/a9/993e364706816aba3e25717850c26c9cd0d89d
+sync F/11111111-2222-4333-8444-555555555555/blocks/a9
+sync F/11111111-2222-4333-8444-555555555555/blocks
+write F/11111111-2222-4333-8444-555555555555/tmp/spare
+sync F/11111111-2222-4333-8444-555555555555/tmp/spare
+rename to F/11111111-2222-4333-8444-555555555555/status
+sync F/11111111-2222-4333-8444-555555555555
 sync F
-remove F/11111111-1111-1111-1111-111111111111/syncing
+remove F/11111111-2222-4333-8444-555555555555/syncing
 ";
 
 /// The calls by which a library is made and has its first text.
 const MAKING: &str = "\
-make F/11111111-1111-1111-1111-111111111111.new
-make F/11111111-1111-1111-1111-111111111111.new/tmp
-make F/11111111-1111-1111-1111-111111111111.new/commits
-make F/11111111-1111-1111-1111-111111111111.new/fs
-make F/11111111-1111-1111-1111-111111111111.new/blocks
-write F/11111111-1111-1111-1111-111111111111.new/tmp/spare
-sync F/11111111-1111-1111-1111-111111111111.new/tmp/spare
-rename to F/11111111-1111-1111-1111-111111111111.new/status
-sync F/11111111-1111-1111-1111-111111111111.new
-rename to F/11111111-1111-1111-1111-111111111111
+make F/11111111-2222-4333-8444-555555555555.new
+make F/11111111-2222-4333-8444-555555555555.new/tmp
+make F/11111111-2222-4333-8444-555555555555.new/commits
+make F/11111111-2222-4333-8444-555555555555.new/fs
+make F/11111111-2222-4333-8444-555555555555.new/blocks
+write F/11111111-2222-4333-8444-555555555555.new/tmp/spare
+sync F/11111111-2222-4333-8444-555555555555.new/tmp/spare
+rename to F/11111111-2222-4333-8444-555555555555.new/status
+sync F/11111111-2222-4333-8444-555555555555.new
+rename to F/11111111-2222-4333-8444-555555555555
 sync F
 ";
 

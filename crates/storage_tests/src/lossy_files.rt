@@ -1,98 +1,12 @@
 //! A file system in memory that fails one sync, and loses what was not made durable.
+use crate::lossy_nodes::{Home, NOWHERE, Node};
 use folder_storage::{FileFacts, FileKind, FileSystem};
 use std::alloc::{AllocError, Global};
 use std::io;
 use std::io::ErrorKind;
 
-/// The number of no folder.
-const NOWHERE: u64 = u64::MAX;
-
-/// Where something is named: the number of a folder, and a name in it.
-#[derive(Drop)]
-struct Home {
-    folder: u64,
-    name: String,
-}
-
-impl Home {
-    fn new(alloc: Global, folder: u64, name: &str) -> Result<Home, AllocError> {
-        let name = String::from_str(alloc, name)?;
-        Ok(Home { folder, name })
-    }
-
-    fn copied(&self, alloc: Global) -> Result<Home, AllocError> {
-        Home::new(alloc, self.folder, self.name.as_str())
-    }
-
-    /// Whether something is named so in a folder.
-    fn is_at(&self, folder: u64, name: &str) -> bool {
-        self.folder == folder && self.name.as_str() == name
-    }
-}
-
-/// A file or folder, with what the disk has of it beside what is seen.
-#[derive(Drop)]
-struct Node {
-    number: u64,
-    kind: FileKind,
-    bytes: Vec<u8>,
-    /// Where it is seen, and where the disk has it.
-    seen: Home,
-    disk: Home,
-    /// Whether the disk has its bytes.
-    is_synced: bool,
-    /// Whether a sync of its bytes failed: another one writes nothing.
-    is_broken: bool,
-    /// Whether a sync of its name failed: another one writes nothing, until it is named anew.
-    is_name_broken: bool,
-}
-
-impl Node {
-    fn copied(&self, alloc: Global) -> Result<Node, AllocError> {
-        let bytes = self.bytes.clone()?;
-        let seen = self.seen.copied(alloc)?;
-        let disk = self.disk.copied(alloc)?;
-        Ok(Node {
-            number: self.number,
-            kind: self.kind,
-            bytes,
-            seen,
-            disk,
-            is_synced: self.is_synced,
-            is_broken: self.is_broken,
-            is_name_broken: self.is_name_broken,
-        })
-    }
-
-    /// The disk takes over its name, unless that is its name there, or a sync of it fails or failed.
-    fn sync_name(&mut self, alloc: Global, is_failing: bool) -> Result<(), AllocError> {
-        if self.disk.is_at(self.seen.folder, self.seen.name.as_str()) {
-            return Ok(());
-        }
-        self.is_name_broken = self.is_name_broken || is_failing;
-        if self.is_name_broken {
-            return Ok(());
-        }
-        self.disk = self.seen.copied(alloc)?;
-        Ok(())
-    }
-
-    /// What the disk has of it is seen, and nothing else.
-    fn cut(&mut self, alloc: Global, has_names: bool) -> Result<(), AllocError> {
-        if has_names && self.disk.folder == NOWHERE && !self.is_name_broken {
-            self.disk = self.seen.copied(alloc)?;
-        }
-        self.seen = self.disk.copied(alloc)?;
-        self.is_broken = false;
-        self.is_name_broken = false;
-        if !self.is_synced && self.kind == FileKind::File {
-            self.bytes.clear();
-            self.bytes.push(0)?;
-        }
-        self.is_synced = true;
-        Ok(())
-    }
-}
+/// When a file or folder was changed, unless it is set: long after any time that a row sets.
+const NOW: i64 = 2_000_000_000_000_000_000;
 
 /// Files in memory. The sync with the number `fails`, from 0, fails; what it was to write is never written, unless it is
 /// written anew, though later syncs say that all is well.
@@ -157,6 +71,26 @@ impl LossyFiles {
         self.calls.as_str()
     }
 
+    /// Sets when what stands at a path was changed.
+    pub(crate) fn set_changed(&mut self, path: &str, changed: i64) -> io::Result<()> {
+        let number = self.number_at(path)?;
+        for node in self.nodes.iter_mut() {
+            if node.number == number {
+                node.changed = changed;
+            }
+        }
+        Ok(())
+    }
+
+    fn changed_at(&self, number: u64) -> i64 {
+        for node in self.nodes.iter() {
+            if node.number == number {
+                return node.changed;
+            }
+        }
+        NOW
+    }
+
     /// What stands at a path: its number and kind. The empty path is the folder of all.
     fn find(&self, path: &str) -> Option<(u64, FileKind)> {
         let mut at = (0, FileKind::Folder);
@@ -205,6 +139,7 @@ impl LossyFiles {
         self.nodes.push(Node {
             number,
             kind,
+            changed: NOW,
             bytes: held,
             seen,
             disk,
@@ -277,10 +212,10 @@ impl FileSystem for LossyFiles {
 
     fn look(&mut self, path: &str) -> io::Result<Option<FileFacts>> {
         match self.find(path) {
-            Some((_, kind)) => Ok(Some(FileFacts {
+            Some((number, kind)) => Ok(Some(FileFacts {
                 kind,
                 size: 1,
-                changed: 0,
+                changed: self.changed_at(number),
             })),
             None => Ok(None),
         }

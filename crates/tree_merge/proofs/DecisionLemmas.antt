@@ -4,6 +4,8 @@ use Rattle.std.specs.Bool.{one_answer}
 use Rattle.std.specs.Option.{option_or}
 use Rattle.std.specs.FinMap as map
 use Rattle.ids.specs.Key.{Objects}
+use Rattle.std.proofs.lemmas.Bool.{and_parts, or_cases}
+use Rattle.ids.proofs.Facts.{none_from_is_some}
 use Rattle.tree_model.specs.declared.node.FileVersion.{FileVersion}
 use Rattle.tree_model.specs.declared.node.Node.TheVariants as tree_node
 use Rattle.tree_model.specs.Path.{PathV, path_cmp, parent_of, last_name}
@@ -12,10 +14,10 @@ use Rattle.tree_model.specs.Tree.{file_of, is_dir, has_dir, file_at}
 use Rattle.tree_model.specs.DirectorySurvival.{Sides, choice_at, gets_file, kept_dir, stays, HasKeptEntry}
 use Rattle.tree_model.specs.ConflictCopies.{in_trees, leaver_at}
 use Rattle.tree_model.specs.ThreeWayMerge.{node_at}
-use Rattle.tree_model.proofs.Below.{both_true, parent_last, parent_push}
+use Rattle.tree_model.proofs.Below.{parent_last, parent_push}
 use Rattle.tree_model.proofs.Levels.{stays_levels}
 use Rattle.tree_model.proofs.Listed.{same_path, same_path-true, same_path-itself}
-use Rattle.tree_model.proofs.OneSide.{either, none_of, some_of_dir, some_of_file}
+use Rattle.tree_model.proofs.OneSide.{some_of_dir, some_of_file}
 use Rattle.tree_model.proofs.NothingLost.{chosen_from, stays_in_either}
 use Rattle.tree_model.proofs.Unmoved.{in_second, in_third}
 use Rattle.tree_merge.proofs.PathsInOrder.{before_child}
@@ -88,12 +90,12 @@ or_none_of (Some x) p e = refl
 
 module _ (objects : Objects) (s : Sides) (trees : AreTrees s) (whole : Threes) (seen : AreSeen objects whole s) where
   no_root : map.get whole [] ≡ None
-  no_root = none_of (map.get whole []) (sym (seen.known []) ∙ ap₂ ◌||◌ (ap is_some trees.base.no_root) (ap₂ ◌||◌ (ap is_some trees.head.no_root) (ap is_some trees.pushed.no_root)))
+  no_root = none_from_is_some (map.get whole []) (sym (seen.known []) ∙ ap₂ ◌||◌ (ap is_some trees.base.no_root) (ap₂ ◌||◌ (ap is_some trees.head.no_root) (ap is_some trees.pushed.no_root)))
 
   -- what makes a directory survive is a path of the trees
   keeps_known : (d : PathV) (n : List ℕ) → keeps_at s (d ++ n ∷ []) ≡ true → in_trees s (d ++ n ∷ []) ≡ true
   keeps_known d n e =
-      elim (either (gets_file s q) (stays s q) e) [
+      elim (or_cases (gets_file s q) (stays s q) e) [
         | inl gets ↦ of_file (chosen_from (file_at s.base q) (file_at s.head q) (file_at s.pushed q) gets)
         | inr stay ↦ of_dir (stays_in_either s trees.head trees.pushed q (no_end d n) stay)
       ]
@@ -149,7 +151,7 @@ module _ (objects : Objects) (s : Sides) (trees : AreTrees s) (whole : Threes) (
 
         to : (kept_by three || is_some (map.get marks path)) ≡ true → stays s path ≡ true
         to h =
-            elim (either (kept_by three) (is_some (map.get marks path)) h) [
+            elim (or_cases (kept_by three) (is_some (map.get marks path)) h) [
               | inl kept ↦ (stays_levels s path).1 (inl (kept_seen objects s whole seen path three in_whole ∙ kept))
               | inr marked ↦ (stays_levels s path).1 (inr (so.marked path marked))
             ]
@@ -227,10 +229,10 @@ module _ (objects : Objects) (s : Sides) (trees : AreTrees s) (whole : Threes) (
 
     marked_more : (dir : PathV) → is_some (map.get marks_after dir) ≡ true → HasKeptEntry s dir
     marked_more dir h =
-        elim (either (is_some (map.get marks dir)) (placing.keeps && same_path dir (parent_of path)) (sym (settled.marks dir) ∙ h)) [
+        elim (or_cases (is_some (map.get marks dir)) (placing.keeps && same_path dir (parent_of path)) (sym (settled.marks dir) ∙ h)) [
           | inl old ↦ so.marked dir old
           | inr new ↦
-              let parts = both_true placing.keeps (same_path dir (parent_of path)) new in
+              let parts = and_parts placing.keeps (same_path dir (parent_of path)) new in
               let is : dir ≡ parent_of path = same_path-true dir (parent_of path) parts.1 in
               let whole_path : path ≡ dir ++ last_name path ∷ [] = parent_last path not_root ∙ ap (λ p. p ++ last_name path ∷ []) (sym is) in
               record { name = last_name path; keeps = ap (keeps_at s) (sym whole_path) ∙ sym keeps_here ∙ parts.0 }

@@ -1,17 +1,15 @@
 -- Paths below a directory. The key lemmas are under_is, within_is and dir_above.
-use Rattle.std.proofs.Common.{◌≡◌, ◌≢◌, ℕ, ◌&&◌, Bool, true, false, List, [], ◌∷◌, ◌++◌, nat_eq, refl, sym, ap, ◌∙◌, subst, append_assoc, Option, Some, None, IsSome, suc, ◌-◌, ◌==◌, length, take, arith, eqb-true}
+use Rattle.std.proofs.Common.{◌≡◌, ◌≢◌, ℕ, ◌&&◌, true, List, [], ◌∷◌, ◌++◌, nat_eq, refl, sym, ap, ◌∙◌, subst, append_assoc, Option, Some, None, IsSome, suc, ◌-◌, ◌==◌, length, take, arith, eqb-true}
 use Rattle.std.specs.Cmp.Lexicographic.{pointwise, bytes_decides}
 use Rattle.std.specs.FinMap as map
 use Rattle.tree_model.specs.declared.node.Node.{Node}
 use Rattle.std.specs.List.{AllByRecursion}
+use Rattle.ids.proofs.Facts.{pushed_is_some}
+use Rattle.std.proofs.lemmas.Bool.{and_parts}
 use Rattle.tree_model.specs.Name.{IsName}
 use Rattle.tree_model.specs.Path.{PathV, IsPath, parent_of, last_name}
 use Rattle.tree_model.specs.Tree.{Tree, IsTree, has_dir, is_dir}
 use Rattle.tree_model.specs.DirectorySurvival.{is_within, is_under}
-
-pub both_true : (a b : Bool) → (a && b) ≡ true → (a ≡ true) × (b ≡ true)
-both_true true b e = (refl, e)
-both_true false b e = cc
 
 pub name_itself : (n : List ℕ) → pointwise nat_eq n n ≡ true
 name_itself n = (bytes_decides n n).1 refl
@@ -20,7 +18,7 @@ pub within_is : (d q : PathV) → is_within d q ≡ true → (r : PathV) × (q �
 within_is [] q e = (q, refl)
 within_is (n ∷ d) [] e = cc
 within_is (n ∷ d) (m ∷ q) e =
-    let parts = both_true (pointwise nat_eq n m) (is_within d q) e in
+    let parts = and_parts (pointwise nat_eq n m) (is_within d q) e in
     let below = within_is d q parts.1 in
     (below.0, λ i. sym ((bytes_decides n m).0 parts.0) i ∷ below.1 i)
 
@@ -38,7 +36,7 @@ under_is [] [] e = cc
 under_is [] (m ∷ q) e = record { name = m; rest = q; is = refl }
 under_is (n ∷ d) [] e = cc
 under_is (n ∷ d) (m ∷ q) e =
-    let parts = both_true (pointwise nat_eq n m) (is_under d q) e in
+    let parts = and_parts (pointwise nat_eq n m) (is_under d q) e in
     let below = under_is d q parts.1 in
     record { name = below.name; rest = below.rest; is = λ i. sym ((bytes_decides n m).0 parts.0) i ∷ below.is i }
 
@@ -63,9 +61,9 @@ under_within d r under =
 pub under_under : (d q r : PathV) → is_under d q ≡ true → is_under q r ≡ true → is_under d r ≡ true
 under_under d q r one two = within_under d q r one (under_within q r two)
 
-some_dir : (o : Option Node) → is_dir o ≡ true → IsSome o
-some_dir None e = cc
-some_dir (Some node) e = refl
+pub some_of_dir : (o : Option Node) → is_dir o ≡ true → IsSome o
+some_of_dir None e = cc
+some_of_dir (Some node) e = refl
 
 -- what has a path below it is a directory
 pub dir_above_by : (t : Tree) → IsTree t → (d : PathV) (n : List ℕ) (r : PathV) → d ≢ [] → IsSome (map.get t (d ++ n ∷ r)) → has_dir t d ≡ true
@@ -73,12 +71,8 @@ dir_above_by t tree d n [] other there = tree.in_dirs d n other there
 dir_above_by t tree d n (m ∷ r) other there =
     let split : (d ++ n ∷ []) ++ m ∷ r ≡ d ++ n ∷ m ∷ r = append_assoc d (n ∷ []) (m ∷ r) in
     let next : has_dir t (d ++ n ∷ []) ≡ true =
-    dir_above_by t tree (d ++ n ∷ []) m r (no_end d n) (subst (λ p. IsSome (map.get t p)) (sym split) there) in
-    tree.in_dirs d n other (some_dir (map.get t (d ++ n ∷ [])) next)
-  where
-    no_end : (d : PathV) (n : List ℕ) → d ++ n ∷ [] ≢ []
-    no_end [] n e = cc
-    no_end (m ∷ d) n e = cc
+    dir_above_by t tree (d ++ n ∷ []) m r (pushed_is_some d n) (subst (λ p. IsSome (map.get t p)) (sym split) there) in
+    tree.in_dirs d n other (some_of_dir (map.get t (d ++ n ∷ [])) next)
 
 pub dir_above : (t : Tree) → IsTree t → (d q : PathV) → d ≢ [] → is_under d q ≡ true → IsSome (map.get t q) → has_dir t d ≡ true
 dir_above t tree d q other under there =

@@ -1,6 +1,6 @@
 -- Conflict copies of a merge. The key lemmas are copies_free, copy_of, leaver_from and get-merged_known.
-use Rattle.std.proofs.Common.{◌≡◌, ℕ, suc, ◌+◌, ◌≤◌, Bool, true, false, if◌then◌else◌, List, [], ◌∷◌, ◌++◌, map as map_list, length, All, Contains, refl, sym, ap, ap₂, ◌∙◌, Option, Some, None, is_some, arith, length-append, true≢false, inl, inr}
-use Rattle.std.proofs.lemmas.List.{append_cancel_left}
+use Rattle.std.proofs.Common.{◌≡◌, ℕ, suc, ◌+◌, ◌≤◌, Bool, true, false, if◌then◌else◌, List, [], ◌∷◌, ◌++◌, length, All, Contains, refl, sym, ap, ap₂, ◌∙◌, Option, Some, None, is_some, arith, length-append, true≢false, inl, inr}
+use Rattle.std.proofs.lemmas.List.{append_cancel_left, length-map}
 use Rattle.std.proofs.lemmas.List.Elements.{All-from_recursion}
 use Rattle.std.specs.List.{AllByRecursion}
 use Rattle.std.specs.Option.{option_or}
@@ -23,12 +23,8 @@ contains_in x (y ∷ ys) (inr h) =
     let more = contains_in x ys h in
     (suc more.0, omega (arith, more.1), more.2)
 
-length_map : {X Y : Type 0} (f : X → Y) (xs : List X) → length (map_list f xs) ≡ length xs
-length_map f [] = refl
-length_map f (x ∷ xs) = omega (arith, length_map f xs)
-
 keys_len : {X : Type 0} (m : map.FinMap path_cmp X) → length (map.keys m) ≡ map.len m
-keys_len m = length_map (λ e. e.0) (map.entries m) ∙ sym (map.len-entries m)
+keys_len m = length-map (map.entries m) (λ e. e.0) ∙ sym (map.len-entries m)
 
 -- enough numbers are tried
 pub enough : (s : Sides) → length (paths_of_all s) + length (map.entries (leavers s)) ≤ tries s

@@ -1,9 +1,10 @@
 -- What the choice of files gives. The key lemmas are same_file-itself, same_file-sym and the choices by case.
 use Rattle.std.proofs.Common.{◌≡◌, ◌&&◌, ◌==◌, Bool, true, false, refl, sym, ap, ap₂, ◌∙◌, subst, nat_eq, Option, Some, None, is_some, eqb-true, eq-eqb}
 use Rattle.std.specs.Cmp.Lexicographic.{pointwise, bytes_decides}
+use Rattle.std.proofs.lemmas.Bool.{and_parts}
 use Rattle.tree_model.specs.declared.node.FileVersion.{FileVersion}
 use Rattle.tree_model.specs.FileMerge.{same_version, same_file, choice, choice_by, only, Choice}
-use Rattle.tree_model.proofs.Below.{both_true, name_itself}
+use Rattle.tree_model.proofs.Below.{name_itself}
 
 pub version_itself : (f : FileVersion) → same_version f f ≡ true
 version_itself f = ap₂ ◌&&◌ (name_itself f.bytes) (eq-eqb f.mode f.mode refl)
@@ -14,7 +15,7 @@ same_file-itself (Some f) = version_itself f
 
 version_parts : (f g : FileVersion) → same_version f g ≡ true → (f.bytes ≡ g.bytes) × (f.mode ≡ g.mode)
 version_parts f g e =
-    let parts = both_true (pointwise nat_eq f.bytes g.bytes) (f.mode == g.mode) e in
+    let parts = and_parts (pointwise nat_eq f.bytes g.bytes) (f.mode == g.mode) e in
     ((bytes_decides f.bytes g.bytes).0 parts.0, eqb-true f.mode g.mode parts.1)
 
 version_from : (f g : FileVersion) → f.bytes ≡ g.bytes → f.mode ≡ g.mode → same_version f g ≡ true

@@ -7,6 +7,7 @@ use Rattle.std.specs.Ordering.{is_lt}
 use Rattle.std.specs.Cmp.{tied_itself}
 use Rattle.std.specs.FinMap as map
 use Rattle.std.specs.FinMap.Entries.{below_all}
+use Rattle.tree_model.specs.declared.limits.TheConstants.{MAX_PATHS, MAX_NAME}
 use Rattle.tree_model.specs.declared.node.FileVersion.{FileVersion}
 use Rattle.tree_model.specs.Path.{PathV, path_cmp, last_name}
 use Rattle.tree_model.specs.PathOrder.{paths_total}
@@ -30,7 +31,7 @@ abbrev Copy : Type 0
 Copy = (PathV × FileVersion) × PathV
 
 abbrev long_name : Copy → Bool
-long_name m = nat_lt 255 (length (last_name m.1))
+long_name m = nat_lt MAX_NAME (length (last_name m.1))
 
 -- the first of a list that is too long, with what stands of the others
 record Found (ms : List Copy) (path : PathV) (bytes : ℕ) : Type 0 where
@@ -38,8 +39,8 @@ record Found (ms : List Copy) (path : PathV) (bytes : ℕ) : Type 0 where
   there : In copy ms
   of : copy.0.0 ≡ path
   size : length (last_name copy.1) ≡ bytes
-  long : 255 < bytes
-  first : AllByRecursion (λ (m : Copy). 255 < length (last_name m.1) → path_cmp path m.0.0 ≢ Greater) ms
+  long : MAX_NAME < bytes
+  first : AllByRecursion (λ (m : Copy). MAX_NAME < length (last_name m.1) → path_cmp path m.0.0 ≢ Greater) ms
 
 not_above : (r : Ordering) → r ≡ Less → r ≢ Greater
 not_above r e h = let both : Less ≡ Greater = sym e ∙ h in cc
@@ -48,7 +49,7 @@ not_above_itself : (p : PathV) → path_cmp p p ≢ Greater
 not_above_itself p h = let both : Equal ≡ Greater = sym (tied_itself paths_total p) ∙ h in cc
 
 all_above : (p : PathV) (ms : List Copy) → T (below_all path_cmp p (map_list (λ (m : Copy). m.0) ms))
-    → AllByRecursion (λ (m : Copy). 255 < length (last_name m.1) → path_cmp p m.0.0 ≢ Greater) ms
+    → AllByRecursion (λ (m : Copy). MAX_NAME < length (last_name m.1) → path_cmp p m.0.0 ≢ Greater) ms
 all_above p [] h = tt
 all_above p (m ∷ ms) h = (
   (λ long. not_above (path_cmp p m.0.0) (is_less (path_cmp p m.0.0) (left_holds (is_lt (path_cmp p m.0.0)) (below_all path_cmp p (map_list (λ (m : Copy). m.0) ms)) h))),
@@ -74,14 +75,14 @@ found_first (m ∷ ms) path bytes h e = by (long_name m) refl e (found_first ms 
         let both : here ≡ there = some_same here there e in
         let of : m.0.0 ≡ path = ap (λ (q : PathV × ℕ). q.0) both in
         let size : length (last_name m.1) ≡ bytes = ap (λ (q : PathV × ℕ). q.1) both in
-        let above : 255 < length (last_name m.1) = ltb-true 255 (length (last_name m.1)) is in
+        let above : MAX_NAME < length (last_name m.1) = ltb-true MAX_NAME (length (last_name m.1)) is in
         record {
           copy = m;
           there = inl refl;
           of = of;
           size = size;
           long = omega arith;
-          first = subst (λ (p : PathV). AllByRecursion (λ (k : Copy). 255 < length (last_name k.1) → path_cmp p k.0.0 ≢ Greater) (m ∷ ms)) of
+          first = subst (λ (p : PathV). AllByRecursion (λ (k : Copy). MAX_NAME < length (last_name k.1) → path_cmp p k.0.0 ≢ Greater) (m ∷ ms)) of
               ((λ long. not_above_itself m.0.0), all_above m.0.0 ms (left_holds (below_all path_cmp m.0.0 things) (map.is_sorted path_cmp things) h));
         }
     by false is e more =
@@ -92,7 +93,7 @@ found_first (m ∷ ms) path bytes h e = by (long_name m) refl e (found_first ms 
           of = found.of;
           size = found.size;
           long = found.long;
-          first = ((λ long. absurd (true≢false (sym (lt-ltb 255 (length (last_name m.1)) long) ∙ is))), found.first);
+          first = ((λ long. absurd (true≢false (sym (lt-ltb MAX_NAME (length (last_name m.1)) long) ∙ is))), found.first);
         }
 
 abbrev some_pair : PathV → ℕ → Option (PathV × ℕ)
@@ -103,7 +104,7 @@ long_told (Some long) t path bytes e =
     let of : long.0 ≡ path = cc in
     let size : long.1 ≡ bytes = cc in
     ap₂ (λ (p : PathV) (n : ℕ). some_pair p n) of size
-long_told None t path bytes e = by (nat_lt 1000000 (map.len t)) e
+long_told None t path bytes e = by (nat_lt MAX_PATHS (map.len t)) e
   where
     by : (b : Bool) → cond b (TooMany (map.len t)) (MergedTree t) ≡ TooLong path bytes → None ≡ some_pair path bytes
     by true e = cc
@@ -125,5 +126,5 @@ first_long_is naming b h p path bytes e =
       of = found.of;
       size = found.size;
       long = found.long;
-      first = All-from_recursion (λ (other : Copy). 255 < length (last_name other.1) → path_cmp path other.0.0 ≢ Greater) (conflicts naming s) found.first;
+      first = All-from_recursion (λ (other : Copy). MAX_NAME < length (last_name other.1) → path_cmp path other.0.0 ≢ Greater) (conflicts naming s) found.first;
     }

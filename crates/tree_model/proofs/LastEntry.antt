@@ -9,17 +9,14 @@ use Rattle.std.specs.FinMap as map
 use Rattle.std.proofs.lemmas.List.Elements.{recursion_from_All}
 use Rattle.ids.specs.MapView.{map_of}
 use Rattle.ids.proofs.MapLemmas.{entries-map_of}
-
-push_all : {X : Type 0} (P : X → Type 0) (xs : List X) (x : X) → AllByRecursion P xs → P x → AllByRecursion P (xs ++ x ∷ [])
-push_all P [] x h p = (p, tt)
-push_all P (y ∷ xs) x h p = (h.0, push_all P xs x h.1 p)
+use Rattle.ids.proofs.Facts.{AllByRecursion-push}
 
 -- a key above the others goes to the end
 pub IsStrictlySortedBy-push : {K : Type 0} (R : K → K → Ordering) (ks : List K) (k : K)
     → IsStrictlySortedBy R ks → AllByRecursion (λ q. R q k ≡ Less) ks → IsStrictlySortedBy R (ks ++ k ∷ [])
 unfolding IsStrictlySortedBy
 IsStrictlySortedBy-push R [] k s h = (tt, tt)
-IsStrictlySortedBy-push R (q ∷ ks) k s h = (push_all (λ y. R q y ≡ Less) ks k s.0 h.0, IsStrictlySortedBy-push R ks k s.1 h.1)
+IsStrictlySortedBy-push R (q ∷ ks) k s h = (AllByRecursion-push (λ y. R q y ≡ Less) ks k s.0 h.0, IsStrictlySortedBy-push R ks k s.1 h.1)
 
 keys_push : {K X : Type 0} (es : List (K × X)) (e : K × X) → keys_of (es ++ e ∷ []) ≡ keys_of es ++ e.0 ∷ []
 keys_push [] e = refl

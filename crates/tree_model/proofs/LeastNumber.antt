@@ -1,6 +1,7 @@
 -- Each conflict copy has the least number that is free. The key lemma is least_free_spot.
 use Rattle.std.proofs.Common.{◌≡◌, ℕ, ◌+◌, ◌<◌, ◌≤◌, ◌||◌, Bool, true, false, List, [], ◌∷◌, ◌++◌, map as map_list, length, refl, sym, ap, ◌∙◌, subst, arith}
 use Rattle.std.specs.FinMap as map
+use Rattle.std.proofs.Math.Bool.{or-false}
 use Rattle.tree_model.specs.declared.node.FileVersion.{FileVersion}
 use Rattle.tree_model.specs.Path.{PathV}
 use Rattle.tree_model.specs.DirectorySurvival.{Sides, paths_of_all}
@@ -28,10 +29,6 @@ in_taken q (m ∷ ms) taken = in_taken q ms (m.1 ∷ taken) ∙ swapped (is_in q
     swapped true false c = refl
     swapped false true c = refl
     swapped false false c = refl
-
-or_false : (b : Bool) → (b || false) ≡ b
-or_false true = refl
-or_false false = refl
 
 module _ {X : Type 0} (is_used : PathV → Bool) (spot : X → ℕ → PathV) (used : List PathV) (is_listed : (q : PathV) → is_used q ≡ true → is_in q used ≡ true)
     (apart : (x : X) (i j : ℕ) → spot x (1 + i) ≡ spot x (1 + j) → i ≡ j) (t : ℕ) where
@@ -70,7 +67,7 @@ least_free_spot naming s is_naming before copy after e =
     let at : Stands (in_trees s) (conflict_spot naming) (paths_of_all s) (in_list naming is_naming s) (spots_apart naming is_naming) (tries s) (taken_by before []) copy =
     stands (in_trees s) (conflict_spot naming) (paths_of_all s) (in_list naming is_naming s) (spots_apart naming is_naming) (tries s) before copy after [] (map.entries (leavers s)) (omega (arith, enough s)) e in
     let gone : (q : PathV) → is_gone same_path (in_trees s) (conflict_spot naming) (taken_by before []) q ≡ (in_trees s q || is_among q (places before)) =
-    λ q. ap (λ b. in_trees s q || b) (in_taken q before [] ∙ or_false (is_in q (places before))) in
+    λ q. ap (λ b. in_trees s q || b) (in_taken q before [] ∙ or-false (is_in q (places before))) in
     record {
       number = at.number;
       from_one = at.from_one;

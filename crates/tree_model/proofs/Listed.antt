@@ -5,6 +5,8 @@ use Rattle.std.specs.Option.{option_or}
 use Rattle.std.specs.Ordering.{eq_by_cmp, is_eq}
 use Rattle.std.specs.Cmp.{tied_itself, Equal-is}
 use Rattle.std.specs.FinMap as map
+use Rattle.std.proofs.lemmas.Bool.{or_right}
+use Rattle.std.proofs.Math.Bool.{or_assoc}
 use Rattle.tree_model.specs.Path.{PathV, path_cmp}
 use Rattle.tree_model.specs.PathOrder.{paths_total, paths_exact}
 use Rattle.tree_model.specs.DirectorySurvival.{Sides, paths_of_all}
@@ -33,11 +35,7 @@ is_in q ps = list_any (same_path q) ps
 
 pub any_append : {X : Type 0} (p : X → Bool) (xs ys : List X) → list_any p (xs ++ ys) ≡ (list_any p xs || list_any p ys)
 any_append p [] ys = refl
-any_append p (x ∷ xs) ys = ap (λ b. p x || b) (any_append p xs ys) ∙ or_assoc (p x) (list_any p xs) (list_any p ys)
-  where
-    or_assoc : (a b c : Bool) → (a || (b || c)) ≡ ((a || b) || c)
-    or_assoc true b c = refl
-    or_assoc false b c = refl
+any_append p (x ∷ xs) ys = ap (λ b. p x || b) (any_append p xs ys) ∙ sym (or_assoc (p x) (list_any p xs) (list_any p ys))
 
 pub record IsFound (p : PathV → Bool) (qs : List PathV) : Type 0 where
   pub path : PathV
@@ -54,10 +52,6 @@ any_at p (q ∷ qs) e = by (p q) refl e (any_at p qs)
     by false is e more =
         let found = more e in
         record { path = found.path; there = or_right (same_path found.path q) (is_in found.path qs) found.there; passes = found.passes }
-      where
-        or_right : (a b : Bool) → b ≡ true → (a || b) ≡ true
-        or_right true b e = refl
-        or_right false b e = e
 
 -- and what is in the list and passes makes the test pass
 pub any_of : (p : PathV → Bool) (q : PathV) (qs : List PathV) → is_in q qs ≡ true → p q ≡ true → list_any p qs ≡ true
@@ -67,10 +61,6 @@ any_of p q (r ∷ qs) e passes = by (same_path q r) refl e (any_of p q qs)
     by : (b : Bool) → same_path q r ≡ b → (b || is_in q qs) ≡ true → (is_in q qs ≡ true → p q ≡ true → list_any p qs ≡ true) → (p r || list_any p qs) ≡ true
     by true is e more = ap (λ b. b || list_any p qs) (ap p (sym (same_path-true q r is)) ∙ passes)
     by false is e more = or_right (p r) (list_any p qs) (more e passes)
-      where
-        or_right : (a b : Bool) → b ≡ true → (a || b) ≡ true
-        or_right true b e = refl
-        or_right false b e = e
 
 pub listed : (s : Sides) (q : PathV) → is_in q (paths_of_all s) ≡ in_trees s q
 listed s q =

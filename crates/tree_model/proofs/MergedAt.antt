@@ -4,6 +4,7 @@ use Rattle.std.proofs.lemmas.List.Elements.{All-from_recursion}
 use Rattle.std.specs.List.{AllByRecursion}
 use Rattle.std.specs.Option.{option_or}
 use Rattle.std.specs.FinMap as map
+use Rattle.ids.proofs.Facts.{pushed_is_some}
 use Rattle.tree_model.specs.declared.node.FileVersion.{FileVersion}
 use Rattle.tree_model.specs.declared.node.Node.{Node}
 use Rattle.tree_model.specs.declared.node.Node.TheVariants.{Dir, File}
@@ -42,15 +43,11 @@ module _ (naming : Naming) (is_naming : IsNaming naming) (s : Sides) (base : IsT
       at_copy copy =
           let p : PathV = copy.of.0 in
           let dir : parent_of q ≡ parent_of p = ap parent_of copy.at ∙ parent_push (parent_of p) _ in
-          let some : q ≢ [] = λ e. no_end (parent_of p) _ (sym copy.at ∙ e) in
+          let some : q ≢ [] = λ e. pushed_is_some (parent_of p) _ (sym copy.at ∙ e) in
           let whole : q ≡ parent_of p ++ last_name q ∷ [] = parent_last q some ∙ ap (λ e. e ++ last_name q ∷ []) dir in
           let other : p ≡ parent_of p ++ last_name p ∷ [] = parent_last p (not_root naming is_naming s base head pushed p copy.known) in
           let below : is_under d p ≡ true = ap (is_under d) other ∙ under_sibling d (parent_of p) (last_name p) (last_name q) ∙ ap (is_under d) (sym whole) ∙ under in
           true≢false (sym (stays_over_file s d p copy.known below copy.gets) ∙ gone)
-        where
-          no_end : (d : PathV) (n : List ℕ) → d ++ n ∷ [] ≢ []
-          no_end [] n e = cc
-          no_end (m ∷ d) n e = cc
 
       by : (o : Option Node) → map.get (merged naming s) q ≡ o → map.get (merged naming s) q ≡ None
       by None e = e

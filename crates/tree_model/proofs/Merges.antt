@@ -1,7 +1,10 @@
 -- What a merged tree has at each path. The key lemmas are get-merged, one_side_merge and merge_is.
-use Rattle.std.proofs.Common.{◌≡◌, ◌≢◌, ◌≤◌, Bool, true, false, cond, if◌then◌else◌, List, [], ◌∷◌, ◌++◌, map as map_list, length, refl, sym, ap, ap₂, ◌∙◌, Option, Some, None, IsSome, is_some, option_map, arith, le-ltb, true≢false, ◌⊎◌, inl, inr}
+use Rattle.std.proofs.Common.{◌≡◌, ◌≢◌, ◌≤◌, Bool, true, false, cond, if◌then◌else◌, List, [], ◌∷◌, ◌++◌, map as map_list, refl, sym, ap, ap₂, ◌∙◌, Option, Some, None, IsSome, is_some, option_map, le-ltb, true≢false, ◌⊎◌, inl, inr}
 use Rattle.std.specs.Option.{option_or}
 use Rattle.std.specs.FinMap as map
+use Rattle.std.proofs.lemmas.List.{nil_from_length}
+use Rattle.ids.proofs.Facts.{none_from_is_some}
+use Rattle.tree_model.specs.declared.limits.TheConstants.{MAX_PATHS}
 use Rattle.tree_model.specs.declared.node.FileVersion.{FileVersion}
 use Rattle.tree_model.specs.declared.node.Node.{Node}
 use Rattle.tree_model.specs.declared.node.Node.TheVariants.{Dir, File}
@@ -12,7 +15,7 @@ use Rattle.tree_model.specs.DirectorySurvival.{Sides, main_at, stays, paths_of_a
 use Rattle.tree_model.specs.ConflictCopies.{told, with_told, leaver_at, leavers, in_trees, Naming, conflicts, moves, tries, conflict_spot, first_long}
 use Rattle.tree_model.specs.ThreeWayMerge.{node_at, file_moved, merged, MergedTree, TooMany, merge, merge_by}
 use Rattle.tree_model.proofs.Listed.{listed, find-told, same_path}
-use Rattle.tree_model.proofs.OneSide.{Follows, stays_follows, not_both, none_of}
+use Rattle.tree_model.proofs.OneSide.{Follows, stays_follows, not_both}
 
 find_append : {X : Type 0} (q : PathV) (es fs : List (PathV × X)) → map.find path_cmp q (es ++ fs) ≡ option_or (map.find path_cmp q es) (map.find path_cmp q fs)
 find_append q [] fs = refl
@@ -40,12 +43,8 @@ told_none : {X : Type 0} (f : PathV → Option X) (ks : List PathV) → ((q : Pa
 told_none f [] none = refl
 told_none f (k ∷ ks) none = ap (λ o. with_told k o (told f ks)) (none k) ∙ told_none f ks none
 
-no_items : {A : Type 0} (es : List A) → length es ≡ 0 → es ≡ []
-no_items [] e = refl
-no_items (x ∷ es) e = absurd (omega arith)
-
 no_entries : {X : Type 0} → map.entries (map.empty {X = X} {R = path_cmp}) ≡ []
-no_entries {X} = no_items (map.entries (map.empty {X = X} {R = path_cmp})) (sym (map.len-entries (map.empty {X = X} {R = path_cmp})) ∙ map.len-empty path_cmp X)
+no_entries {X} = nil_from_length (map.entries (map.empty {X = X} {R = path_cmp})) (sym (map.len-entries (map.empty {X = X} {R = path_cmp})) ∙ map.len-empty path_cmp X)
 
 pub no_conflicts : (naming : Naming) (s : Sides) → ((q : PathV) → leaver_at s q ≡ None) → conflicts naming s ≡ []
 no_conflicts naming s none =
@@ -68,7 +67,7 @@ module _ (s : Sides) (x : Tree) (f : Follows s x) where
       ]
     where
       no_main : file_at x q ≡ None → main_at s q ≡ None
-      no_main e = none_of (main_at s q) (f.main q ∙ ap is_some e)
+      no_main e = none_from_is_some (main_at s q) (f.main q ∙ ap is_some e)
 
       hidden : (b : Bool) (o : Option FileVersion) → o ≡ None → (if b then o else None) ≡ None
       hidden true o e = e
@@ -104,13 +103,13 @@ module _ (s : Sides) (x : Tree) (f : Follows s x) where
           ap (λ (d : Bool). if d then Some Dir else option_map File (main_at s q)) (stays_follows s x f q other)
       by false is =
           let none : map.get x q ≡ None = absent q is in
-          let main : main_at s q ≡ None = none_of (main_at s q) (f.main q ∙ ap (λ o. is_some (file_of o)) none) in
+          let main : main_at s q ≡ None = none_from_is_some (main_at s q) (f.main q ∙ ap (λ o. is_some (file_of o)) none) in
           sym (ap₂ (λ (d : Bool) (o : Option FileVersion). if d then Some Dir else option_map File o) (ap is_dir none) main)
 
 pub not_long : (naming : Naming) (b h p : Tree) (x : Tree) → Follows (record { base = b; head = h; pushed = p }) x
-    → map.len (merged naming (record { base = b; head = h; pushed = p })) ≤ 1000000
+    → map.len (merged naming (record { base = b; head = h; pushed = p })) ≤ MAX_PATHS
     → merge naming b h p ≡ MergedTree (merged naming (record { base = b; head = h; pushed = p }))
 not_long naming b h p x f few =
     let s : Sides = record { base = b; head = h; pushed = p } in
     ap (λ ms. merge_by (first_long ms) (merged naming s)) (no_conflicts naming s (no_leaver s x f))
-    ∙ ap (λ (r : Bool). if r then TooMany (map.len (merged naming s)) else MergedTree (merged naming s)) (le-ltb 1000000 (map.len (merged naming s)) few)
+    ∙ ap (λ (r : Bool). if r then TooMany (map.len (merged naming s)) else MergedTree (merged naming s)) (le-ltb MAX_PATHS (map.len (merged naming s)) few)

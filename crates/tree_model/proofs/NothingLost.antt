@@ -2,6 +2,7 @@
 use Rattle.std.proofs.Common.{◌≡◌, ◌≢◌, ◌||◌, ◌&&◌, Bool, true, false, if◌then◌else◌, [], ◌∷◌, ◌++◌, refl, sym, ap, ap₂, ◌∙◌, subst, append-nil, Option, Some, None, IsSome, is_some, option_map, true≢false, ◌⊎◌, inl, inr}
 use Rattle.std.specs.Option.{option_or}
 use Rattle.std.specs.FinMap as map
+use Rattle.std.proofs.lemmas.Bool.{and_parts, or_cases}
 use Rattle.tree_model.specs.declared.node.FileVersion.{FileVersion}
 use Rattle.tree_model.specs.declared.node.Node.{Node}
 use Rattle.tree_model.specs.declared.node.Node.TheVariants.{Dir, File}
@@ -11,9 +12,9 @@ use Rattle.tree_model.specs.Tree.{Tree, IsTree, file_at, has_dir, file_of, is_di
 use Rattle.tree_model.specs.DirectorySurvival.{Sides, main_at, side_at, gets_file, kept_dir, keeps, stays, is_within, is_under, paths_of_all, choice_at}
 use Rattle.tree_model.specs.ConflictCopies.{leaver_at, in_trees, Naming, conflicts}
 use Rattle.tree_model.specs.ThreeWayMerge.{node_at, IsNaming, HasVersion}
-use Rattle.tree_model.proofs.Below.{both_true, within_is, dir_above, dir_above_by}
+use Rattle.tree_model.proofs.Below.{within_is, dir_above, dir_above_by}
 use Rattle.tree_model.proofs.Listed.{any_at}
-use Rattle.tree_model.proofs.OneSide.{either, not_both, some_of_dir, some_of_file}
+use Rattle.tree_model.proofs.OneSide.{not_both, some_of_dir, some_of_file}
 use Rattle.tree_model.proofs.FileMergeLemmas.{same_file-itself, same_file-sym}
 use Rattle.tree_model.proofs.Merges.{get-merged}
 use Rattle.tree_model.proofs.Copies.{contains_in, copy_of, leaver_in, get-merged_known}
@@ -87,13 +88,13 @@ module _ (s : Sides) (head : IsTree s.head) (pushed : IsTree s.pushed) where
   stays_in_either q other e =
       let found = any_at (keeps s q) (paths_of_all s) e in
       let r = found.path in
-      elim (either (is_within q r && kept_dir s r) (is_under q r && gets_file s r) found.passes) [
+      elim (or_cases (is_within q r && kept_dir s r) (is_under q r && gets_file s r) found.passes) [
         | inl h ↦
-            let parts = both_true (is_within q r) (kept_dir s r) h in
+            let parts = and_parts (is_within q r) (kept_dir s r) h in
             let rest = within_is q r parts.0 in
             at_or_below r rest.0 rest.1 (kept_in_either (has_dir s.head r) (has_dir s.pushed r) _ parts.1)
         | inr h ↦
-            let parts = both_true (is_under q r) (gets_file s r) h in
+            let parts = and_parts (is_under q r) (gets_file s r) h in
             dir_of_either q r other parts.0 (file_there r (chosen_from (file_at s.base r) (file_at s.head r) (file_at s.pushed r) parts.1))
       ]
     where

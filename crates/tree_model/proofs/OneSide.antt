@@ -1,9 +1,10 @@
 -- Merges that one side alone decides. The key lemmas are stays_follows, get-merged_follows and same_len.
-use Rattle.std.proofs.Common.{◌≡◌, ◌≢◌, ◌||◌, ◌&&◌, Bool, true, false, cond, if◌then◌else◌, T, List, [], ◌∷◌, ◌++◌, length, refl, sym, ap, ap₂, ◌∙◌, subst, append-nil, Option, Some, None, IsSome, is_some, Ordering, arith, ◌⊎◌, inl, inr}
+use Rattle.std.proofs.Common.{◌≡◌, ◌≢◌, ◌||◌, ◌&&◌, Bool, true, false, cond, if◌then◌else◌, T, List, [], ◌∷◌, ◌++◌, length, refl, sym, ap, ap₂, ◌∙◌, subst, append-nil, Option, Some, None, IsSome, is_some, Ordering, arith, inl, inr}
 use Rattle.std.specs.Bool.{one_answer}
 use Rattle.std.specs.Ordering.{eq_by_cmp, is_lt}
 use Rattle.std.specs.FinMap as map
 use Rattle.std.specs.FinMap.Entries.{below_all, same_entries}
+use Rattle.std.proofs.lemmas.Bool.{or_cases, and_parts}
 use Rattle.tree_model.specs.declared.node.FileVersion.{FileVersion}
 use Rattle.tree_model.specs.declared.node.Node.{Node}
 use Rattle.tree_model.specs.declared.node.Node.TheVariants.{Dir, File}
@@ -12,7 +13,8 @@ use Rattle.tree_model.specs.PathOrder.{paths_total, paths_exact}
 use Rattle.tree_model.specs.Tree.{Tree, IsTree, file_at, has_dir, file_of, is_dir}
 use Rattle.tree_model.specs.DirectorySurvival.{Sides, main_at, side_at, gets_file, kept_dir, keeps, stays, is_within, is_under, paths_of_all}
 use Rattle.tree_model.specs.ConflictCopies.{in_trees}
-use Rattle.tree_model.proofs.Below.{both_true, within_is, within_of, dir_above, dir_above_by}
+use Rattle.tree_model.proofs.Below.{within_is, within_of, dir_above, dir_above_by}
+pub use Rattle.tree_model.proofs.Below.{some_of_dir}
 use Rattle.tree_model.proofs.Listed.{any_at, any_of, is_in, listed}
 
 -- ---- maps of the same keys have the same length
@@ -68,10 +70,6 @@ pub record Follows (s : Sides) (x : Tree) : Type 0 where
   pub given : (q : PathV) → IsSome (map.get x q) → in_trees s q ≡ true
   pub no_root : in_trees s [] ≡ false
 
-pub some_of_dir : (o : Option Node) → is_dir o ≡ true → IsSome o
-some_of_dir None e = cc
-some_of_dir (Some node) e = refl
-
 pub some_of_file : (o : Option Node) → is_some (file_of o) ≡ true → IsSome o
 some_of_file None e = cc
 some_of_file (Some node) e = refl
@@ -81,25 +79,17 @@ not_both None e = refl
 not_both (Some Dir) e = refl
 not_both (Some (File f)) e = cc
 
-pub none_of : {X : Type 0} (o : Option X) → is_some o ≡ false → o ≡ None
-none_of None e = refl
-none_of (Some x) e = cc
-
-pub either : (a b : Bool) → (a || b) ≡ true → (a ≡ true) ⊎ (b ≡ true)
-either true b e = inl refl
-either false b e = inr e
-
 module _ (s : Sides) (x : Tree) (f : Follows s x) where
   under_dir : (d q : PathV) → d ≢ [] → keeps s d q ≡ true → has_dir x d ≡ true
   under_dir d q other e =
-      elim (either (is_within d q && kept_dir s q) (is_under d q && gets_file s q) e) [
+      elim (or_cases (is_within d q && kept_dir s q) (is_under d q && gets_file s q) e) [
         | inl h ↦
-            let parts = both_true (is_within d q) (kept_dir s q) h in
+            let parts = and_parts (is_within d q) (kept_dir s q) h in
             let dir : has_dir x q ≡ true = sym (f.dirs q) ∙ parts.1 in
             let rest = within_is d q parts.0 in
             at_or_below rest.0 rest.1 dir
         | inr h ↦
-            let parts = both_true (is_under d q) (gets_file s q) h in
+            let parts = and_parts (is_under d q) (gets_file s q) h in
             let main : is_some (main_at s q) ≡ true = only_main (is_some (main_at s q)) (side_at s q) (f.side q) parts.1 in
             dir_above x f.tree d q other parts.0 (some_of_file (map.get x q) (sym (f.main q) ∙ main))
       ]

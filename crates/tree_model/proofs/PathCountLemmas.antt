@@ -8,13 +8,16 @@ use Rattle.std.specs.FinMap as map
 use Rattle.std.specs.FinMap.Entries.{below_all}
 use Rattle.std.proofs.lemmas.List.Recursion.{is_sum_by}
 use Rattle.std.proofs.lemmas.Map.Keys.{IsDistinct-head, IsDistinct-tail}
+use Rattle.std.proofs.lemmas.Bool.{or_right}
+use Rattle.ids.proofs.Facts.{apart_from_is_lt}
+use Rattle.std.proofs.lemmas.List.{length-map}
 use Rattle.tree_model.specs.Path.{PathV, path_cmp}
 use Rattle.tree_model.specs.declared.node.Node.{Node}
 use Rattle.tree_model.specs.Tree.{Tree}
 use Rattle.tree_model.specs.DirectorySurvival.{is_under, is_within}
 use Rattle.tree_model.specs.PathCounts.{paths_below, paths_within, Covers, CountsAddUp}
 use Rattle.tree_model.proofs.Below.{name_itself, within_is, under_is, under_of}
-use Rattle.tree_model.proofs.SortedEntries.{left_holds, right_holds, not_tied}
+use Rattle.tree_model.proofs.SortedEntries.{left_holds, right_holds}
 use Rattle.tree_model.proofs.Listed.{same_path, same_path-true, same_path-itself, is_in}
 
 -- ---- sums by recursion
@@ -128,11 +131,7 @@ by_names d ns (q ∷ qs) distinct named =
 in_sub : (P : PathV → Type 0) (qs : List PathV) → ((q : PathV) → is_in q qs ≡ true → P q) → AllByRecursion P qs
 in_sub P [] all = tt
 in_sub P (q ∷ qs) all =
-    (all q (ap (λ b. b || is_in q qs) (same_path-itself q)), in_sub P qs (λ r there. all r (second (same_path r q) (is_in r qs) there)))
-  where
-    second : (a b : Bool) → b ≡ true → (a || b) ≡ true
-    second true b e = refl
-    second false b e = e
+    (all q (ap (λ b. b || is_in q qs) (same_path-itself q)), in_sub P qs (λ r there. all r (or_right (same_path r q) (is_in r qs) there)))
 
 -- the paths below a directory are those within its entries
 pub paths_by_name : (t : Tree) (d : PathV) (ns : List (List ℕ)) → Covers t d ns → paths_below t d ≡ sum_by (λ n. paths_within t (d ++ n ∷ [])) ns
@@ -203,7 +202,7 @@ none_after : {X : Type 0} (p : PathV) (es : List (PathV × X)) → T (below_all 
 unfolding total
 none_after p [] h = refl
 none_after p (e ∷ es) h =
-    ap₂ (λ (b : Bool) (k : ℕ). bit b + k) (not_tied (path_cmp p e.0) (left_holds (is_lt (path_cmp p e.0)) (below_all path_cmp p es) h))
+    ap₂ (λ (b : Bool) (k : ℕ). bit b + k) (apart_from_is_lt (path_cmp p e.0) (left_holds (is_lt (path_cmp p e.0)) (below_all path_cmp p es) h))
     (none_after p es (right_holds (is_lt (path_cmp p e.0)) (below_all path_cmp p es) h))
 
 -- a map has each of its paths once
@@ -238,16 +237,12 @@ unfolding total
 all_counted [] = refl
 all_counted (x ∷ xs) = let more = all_counted xs in omega arith
 
-length_map : {X Y : Type 0} (f : X → Y) (xs : List X) → length (map_list f xs) ≡ length xs
-length_map f [] = refl
-length_map f (x ∷ xs) = let more = length_map f xs in omega arith
-
 -- a tree has as many paths as are below its root
 pub paths_of_root : (t : Tree) → map.get t [] ≡ None → paths_below t [] ≡ map.len t
 paths_of_root t none =
     let at : paths_within t [] ≡ 0 + paths_below t [] = paths_at t [] ∙ ap (λ (o : Option Node). bit (is_some o) + paths_below t []) none in
     let all : paths_within t [] ≡ map.len t =
-    sym (total_is (λ q. bit (is_within [] q)) (map.keys t)) ∙ all_counted (map.keys t) ∙ length_map (λ e. e.0) (map.entries t) ∙ sym (map.len-entries t) in
+    sym (total_is (λ q. bit (is_within [] q)) (map.keys t)) ∙ all_counted (map.keys t) ∙ length-map (map.entries t) (λ e. e.0) ∙ sym (map.len-entries t) in
     omega arith
 
 pub counts_add_up : (t : Tree) → map.get t [] ≡ None → CountsAddUp t

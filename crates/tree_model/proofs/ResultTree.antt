@@ -3,6 +3,9 @@ use Rattle.std.proofs.Common.{◌≡◌, ◌≢◌, ℕ, ◌+◌, ◌≤◌, ◌
 use Rattle.std.specs.List.{AllByRecursion}
 use Rattle.std.specs.Option.{option_or}
 use Rattle.std.specs.FinMap as map
+use Rattle.std.proofs.lemmas.Bool.{or_right, or_left, and_parts, or_cases}
+use Rattle.ids.proofs.Facts.{pushed_is_some}
+use Rattle.tree_model.specs.declared.limits.TheConstants.{MAX_PATHS, MAX_NAMES, MAX_NAME}
 use Rattle.tree_model.specs.declared.node.FileVersion.{FileVersion}
 use Rattle.tree_model.specs.declared.node.Node.{Node}
 use Rattle.tree_model.specs.declared.node.Node.TheVariants.{Dir, File}
@@ -12,9 +15,9 @@ use Rattle.tree_model.specs.Tree.{Tree, IsTree, Fits, has_dir, is_dir}
 use Rattle.tree_model.specs.DirectorySurvival.{Sides, main_at, side_at, gets_file, kept_dir, keeps, stays, is_within, is_under, paths_of_all}
 use Rattle.tree_model.specs.ConflictCopies.{leaver_at, leavers, in_trees, Naming, conflicts, conflict_spot, tries, first_long}
 use Rattle.tree_model.specs.ThreeWayMerge.{node_at, merged, IsNaming, MergedTree, TooLong, TooMany, merge, merge_by}
-use Rattle.tree_model.proofs.Below.{both_true, within_under, under_within, under_under, under_of, parent_last, parent_push, last_push, IsPath-parent}
+use Rattle.tree_model.proofs.Below.{within_under, under_within, under_under, under_of, parent_last, parent_push, last_push, IsPath-parent}
 use Rattle.tree_model.proofs.Listed.{any_at, any_of, listed}
-use Rattle.tree_model.proofs.OneSide.{either, some_of_dir}
+use Rattle.tree_model.proofs.OneSide.{some_of_dir}
 use Rattle.tree_model.proofs.Moving.{In, found_moved, moved_from}
 use Rattle.tree_model.proofs.Merges.{copies, get-merged}
 use Rattle.tree_model.proofs.Copies.{leaver_from, get-merged_known}
@@ -72,26 +75,22 @@ module _ (s : Sides) where
   pub any_keeps : (d r : PathV) → in_trees s r ≡ true → keeps s d r ≡ true → stays s d ≡ true
   any_keeps d r known e = any_of (keeps s d) r (paths_of_all s) (listed s r ∙ known) e
 
-  or_second : (a b : Bool) → b ≡ true → (a || b) ≡ true
-  or_second true b e = refl
-  or_second false b e = e
-
   pub stays_over_file : (d r : PathV) → in_trees s r ≡ true → is_under d r ≡ true → gets_file s r ≡ true → stays s d ≡ true
   stays_over_file d r known under gets =
-      any_keeps d r known (or_second (is_within d r && kept_dir s r) (is_under d r && gets_file s r) (ap₂ ◌&&◌ under gets))
+      any_keeps d r known (or_right (is_within d r && kept_dir s r) (is_under d r && gets_file s r) (ap₂ ◌&&◌ under gets))
 
   pub stays_over_dir : (d q : PathV) → is_under d q ≡ true → stays s q ≡ true → stays s d ≡ true
   stays_over_dir d q under e =
       let found = any_at (keeps s q) (paths_of_all s) e in
       let r = found.path in
       let known : in_trees s r ≡ true = sym (listed s r) ∙ found.there in
-      elim (either (is_within q r && kept_dir s r) (is_under q r && gets_file s r) found.passes) [
+      elim (or_cases (is_within q r && kept_dir s r) (is_under q r && gets_file s r) found.passes) [
         | inl h ↦
-            let parts = both_true (is_within q r) (kept_dir s r) h in
+            let parts = and_parts (is_within q r) (kept_dir s r) h in
             let within : is_within d r ≡ true = under_within d r (within_under d q r under parts.0) in
             any_keeps d r known (ap (λ b. b || (is_under d r && gets_file s r)) (ap₂ ◌&&◌ within parts.1))
         | inr h ↦
-            let parts = both_true (is_under q r) (gets_file s r) h in
+            let parts = and_parts (is_under q r) (gets_file s r) h in
             stays_over_file d r known (under_under d q r under parts.0) parts.1
       ]
 
@@ -101,24 +100,17 @@ known_up s base head pushed d n other e = by (is_some (map.get s.base (d ++ n �
     up : (t : Tree) → IsTree t → is_some (map.get t (d ++ n ∷ [])) ≡ true → is_some (map.get t d) ≡ true
     up t tree there = some_of_dir (map.get t d) (tree.in_dirs d n other there)
 
-    first : (a b : Bool) → a ≡ true → (a || b) ≡ true
-    first a b e = ap (λ r. r || b) e
-
-    second : (a b : Bool) → b ≡ true → (a || b) ≡ true
-    second true b e = refl
-    second false b e = e
-
     by : (a b : Bool) → is_some (map.get s.base (d ++ n ∷ [])) ≡ a → is_some (map.get s.head (d ++ n ∷ [])) ≡ b
         → (is_some (map.get s.base (d ++ n ∷ [])) || (is_some (map.get s.head (d ++ n ∷ [])) || is_some (map.get s.pushed (d ++ n ∷ [])))) ≡ true → in_trees s d ≡ true
-    by true b in_base in_head e = first (is_some (map.get s.base d)) (is_some (map.get s.head d) || is_some (map.get s.pushed d)) (up s.base base in_base)
+    by true b in_base in_head e = or_left (is_some (map.get s.base d)) (is_some (map.get s.head d) || is_some (map.get s.pushed d)) (up s.base base in_base)
     by false true in_base in_head e =
-        second (is_some (map.get s.base d)) (is_some (map.get s.head d) || is_some (map.get s.pushed d))
-        (first (is_some (map.get s.head d)) (is_some (map.get s.pushed d)) (up s.head head in_head))
+        or_right (is_some (map.get s.base d)) (is_some (map.get s.head d) || is_some (map.get s.pushed d))
+        (or_left (is_some (map.get s.head d)) (is_some (map.get s.pushed d)) (up s.head head in_head))
     by false false in_base in_head e =
         let last : is_some (map.get s.pushed (d ++ n ∷ [])) ≡ true =
         sym (ap₂ (λ (a b : Bool). a || (b || is_some (map.get s.pushed (d ++ n ∷ [])))) in_base in_head) ∙ e in
-        second (is_some (map.get s.base d)) (is_some (map.get s.head d) || is_some (map.get s.pushed d))
-        (second (is_some (map.get s.head d)) (is_some (map.get s.pushed d)) (up s.pushed pushed last))
+        or_right (is_some (map.get s.base d)) (is_some (map.get s.head d) || is_some (map.get s.pushed d))
+        (or_right (is_some (map.get s.head d)) (is_some (map.get s.pushed d)) (up s.pushed pushed last))
 
 -- a fact on the paths of each of the three trees
 pub known_by : (s : Sides) (P : PathV → Type 0) (q : PathV) → (IsSome (map.get s.base q) → P q) → (IsSome (map.get s.head q) → P q) → (IsSome (map.get s.pushed q) → P q)
@@ -133,21 +125,17 @@ known_by s P q of_base of_head of_pushed e = by (is_some (map.get s.base q)) (is
 
 -- ---- the merged tree
 
-long_none : (ms : List ((PathV × FileVersion) × PathV)) → first_long ms ≡ None → (m : (PathV × FileVersion) × PathV) → In m ms → length (last_name m.1) ≤ 255
+long_none : (ms : List ((PathV × FileVersion) × PathV)) → first_long ms ≡ None → (m : (PathV × FileVersion) × PathV) → In m ms → length (last_name m.1) ≤ MAX_NAME
 long_none [] e m h = absurd h
-long_none (n ∷ ms) e m h = by (nat_lt 255 (length (last_name n.1))) refl e h (long_none ms)
+long_none (n ∷ ms) e m h = by (nat_lt MAX_NAME (length (last_name n.1))) refl e h (long_none ms)
   where
-    by : (b : Bool) → nat_lt 255 (length (last_name n.1)) ≡ b
-        → option_map {U = PathV × ℕ} (λ (k : (PathV × FileVersion) × PathV). (k.0.0, length (last_name k.1))) (cond b (Some n) (find (λ k. nat_lt 255 (length (last_name k.1))) ms)) ≡ None
-        → In m (n ∷ ms) → (first_long ms ≡ None → (m : (PathV × FileVersion) × PathV) → In m ms → length (last_name m.1) ≤ 255) → length (last_name m.1) ≤ 255
+    by : (b : Bool) → nat_lt MAX_NAME (length (last_name n.1)) ≡ b
+        → option_map {U = PathV × ℕ} (λ (k : (PathV × FileVersion) × PathV). (k.0.0, length (last_name k.1))) (cond b (Some n) (find (λ k. nat_lt MAX_NAME (length (last_name k.1))) ms)) ≡ None
+        → In m (n ∷ ms) → (first_long ms ≡ None → (m : (PathV × FileVersion) × PathV) → In m ms → length (last_name m.1) ≤ MAX_NAME) → length (last_name m.1) ≤ MAX_NAME
     by true is e h more = cc
     by false is e (inl same) more =
-        subst (λ (k : (PathV × FileVersion) × PathV). length (last_name k.1) ≤ 255) (sym same) (ltb-false 255 (length (last_name n.1)) is)
+        subst (λ (k : (PathV × FileVersion) × PathV). length (last_name k.1) ≤ MAX_NAME) (sym same) (ltb-false MAX_NAME (length (last_name n.1)) is)
     by false is e (inr h) more = more e m h
-
-no_end : (d : PathV) (n : List ℕ) → d ++ n ∷ [] ≢ []
-no_end [] n e = cc
-no_end (m ∷ d) n e = cc
 
 pub last_named : (p : PathV) → p ≢ [] → IsPath p → IsName (last_name p)
 last_named p other h = last p other h.named
@@ -186,7 +174,7 @@ module _ (naming : Naming) (is_naming : IsNaming naming) (s : Sides) (base : IsT
     where
       root_is_none : (in_trees s [] ≡ true) ⊎ IsCopy naming s [] → ⊥
       root_is_none (inl known) = true≢false (sym known ∙ no_root_known)
-      root_is_none (inr copy) = no_end (parent_of copy.of.0) _ (sym copy.at)
+      root_is_none (inr copy) = pushed_is_some (parent_of copy.of.0) _ (sym copy.at)
 
       by : (o : Option Node) → map.get (merged naming s) [] ≡ o → map.get (merged naming s) [] ≡ None
       by None e = e
@@ -228,10 +216,10 @@ module _ (naming : Naming) (is_naming : IsNaming naming) (s : Sides) (base : IsT
             let f : FileVersion = copy.of.1 in
             let name : List ℕ = naming (last_name p) f.modifier f.mtime copy.number in
             let whole : IsPath p = path_known p copy.known in
-            let few : length (last_name q) ≤ 255 = long_none (conflicts naming s) short (copy.of, q) copy.listed in
+            let few : length (last_name q) ≤ MAX_NAME = long_none (conflicts naming s) short (copy.of, q) copy.listed in
             let is : last_name q ≡ name = ap last_name copy.at ∙ last_push (parent_of p) name in
             let good : IsName name =
-            is_naming.good (last_name p) f.modifier f.mtime copy.number copy.from_one (last_named p (not_root p copy.known) whole) (subst (λ (n : List ℕ). length n ≤ 255) is few) in
+            is_naming.good (last_name p) f.modifier f.mtime copy.number copy.from_one (last_named p (not_root p copy.known) whole) (subst (λ (n : List ℕ). length n ≤ MAX_NAME) is few) in
             subst IsPath (sym copy.at) (push_named (parent_of p) name (IsPath-parent p whole) good)
       ]
 
@@ -255,15 +243,15 @@ module _ (naming : Naming) (is_naming : IsNaming naming) (s : Sides) (base : IsT
 pub record Merges (naming : Naming) (s : Sides) (w : Tree) : Type 0 where
   pub short : first_long (conflicts naming s) ≡ None
   pub is : merged naming s ≡ w
-  pub few : map.len w ≤ 1000000
+  pub few : map.len w ≤ MAX_PATHS
 
 pub merges : (naming : Naming) (b h p w : Tree) → merge naming b h p ≡ MergedTree w → Merges naming (record { base = b; head = h; pushed = p }) w
-merges naming b h p w e = by (first_long (conflicts naming s)) (nat_lt 1000000 (map.len (merged naming s))) refl refl e
+merges naming b h p w e = by (first_long (conflicts naming s)) (nat_lt MAX_PATHS (map.len (merged naming s))) refl refl e
   where
     s : Sides
     s = record { base = b; head = h; pushed = p }
 
-    by : (o : Option (PathV × ℕ)) (c : Bool) → first_long (conflicts naming s) ≡ o → nat_lt 1000000 (map.len (merged naming s)) ≡ c
+    by : (o : Option (PathV × ℕ)) (c : Bool) → first_long (conflicts naming s) ≡ o → nat_lt MAX_PATHS (map.len (merged naming s)) ≡ c
         → merge_by (first_long (conflicts naming s)) (merged naming s) ≡ MergedTree w → Merges naming s w
     by (Some long) c short many e =
         let told : TooLong long.0 long.1 ≡ MergedTree w = sym (ap (λ (o : Option (PathV × ℕ)). merge_by o (merged naming s)) short) ∙ e in cc
@@ -276,15 +264,15 @@ merges naming b h p w e = by (first_long (conflicts naming s)) (nat_lt 1000000 (
         sym (ap (λ (o : Option (PathV × ℕ)). merge_by o (merged naming s)) short
         ∙ ap (λ (r : Bool). if r then TooMany (map.len (merged naming s)) else MergedTree (merged naming s)) many) ∙ e in
         let same : merged naming s ≡ w = cc in
-        record { short = short; is = same; few = subst (λ (t : Tree). map.len t ≤ 1000000) same (ltb-false 1000000 (map.len (merged naming s)) many) }
+        record { short = short; is = same; few = subst (λ (t : Tree). map.len t ≤ MAX_PATHS) same (ltb-false MAX_PATHS (map.len (merged naming s)) many) }
 
 pub merge_fits : (naming : Naming) (b h p w : Tree) → IsNaming naming → Fits b → Fits h → Fits p → merge naming b h p ≡ MergedTree w → Fits w
 merge_fits naming b h p w is_naming base head pushed e =
     let s : Sides = record { base = b; head = h; pushed = p } in
     let got = merges naming b h p w e in
     let whole : IsTree (merged naming s) = merged_is_tree naming is_naming s base.whole head.whole pushed.whole got.short in
-    let deep : (q : PathV) → IsSome (map.get (merged naming s) q) → length q ≤ 100 =
-    merged_depth naming is_naming s base.whole head.whole pushed.whole 100 (λ q known. known_by s (λ q. length q ≤ 100) q (base.depth q) (head.depth q) (pushed.depth q) known) in
+    let deep : (q : PathV) → IsSome (map.get (merged naming s) q) → length q ≤ MAX_NAMES =
+    merged_depth naming is_naming s base.whole head.whole pushed.whole MAX_NAMES (λ q known. known_by s (λ q. length q ≤ MAX_NAMES) q (base.depth q) (head.depth q) (pushed.depth q) known) in
     record {
       whole = subst IsTree got.is whole;
       count = got.few;

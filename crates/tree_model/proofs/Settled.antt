@@ -4,6 +4,8 @@ use Rattle.std.specs.Bool.{one_answer}
 use Rattle.std.specs.Cmp.Lexicographic.{pointwise}
 use Rattle.std.specs.Option.{option_or}
 use Rattle.std.specs.FinMap as map
+use Rattle.std.proofs.lemmas.Bool.{and_parts, or_cases}
+use Rattle.ids.proofs.Facts.{none_from_is_some}
 use Rattle.tree_model.specs.declared.node.Node.{Node}
 use Rattle.tree_model.specs.declared.node.Node.TheVariants.{Dir, File}
 use Rattle.tree_model.specs.Path.{PathV, parent_of, last_name}
@@ -12,10 +14,10 @@ use Rattle.tree_model.specs.Tree.{IsTree, file_at, has_dir}
 use Rattle.tree_model.specs.DirectorySurvival.{Sides, AgreeBelow, choice_at, gets_file, kept_dir, keeps, stays, is_within, is_under, paths_of_all}
 use Rattle.tree_model.specs.ConflictCopies.{leaver_at, in_trees, Naming}
 use Rattle.tree_model.specs.ThreeWayMerge.{node_at, merged, IsNaming}
-use Rattle.tree_model.proofs.Below.{both_true, within_is, within_of, within_under, under_under, dir_above, dir_above_by, parent_last, parent_push}
+use Rattle.tree_model.proofs.Below.{within_is, within_of, within_under, under_under, dir_above, dir_above_by, parent_last, parent_push}
 use Rattle.tree_model.proofs.Listed.{any_at}
 use Rattle.tree_model.proofs.FileMergeLemmas.{choice_head, same_file-sym}
-use Rattle.tree_model.proofs.OneSide.{either, not_both, some_of_dir, some_of_file, none_of}
+use Rattle.tree_model.proofs.OneSide.{not_both, some_of_dir, some_of_file}
 use Rattle.tree_model.proofs.Unmoved.{node_back, dirs_of_head, in_second}
 use Rattle.tree_model.proofs.Copies.{get-merged_known}
 use Rattle.tree_model.proofs.ResultTree.{any_keeps, origin, IsCopy, not_root}
@@ -68,14 +70,14 @@ module _ (naming : Naming) (is_naming : IsNaming naming) (s : Sides) (base : IsT
   stays_there q under e =
       let found = any_at (keeps s q) (paths_of_all s) e in
       let r = found.path in
-      elim (either (is_within q r && kept_dir s r) (is_under q r && gets_file s r) found.passes) [
+      elim (or_cases (is_within q r && kept_dir s r) (is_under q r && gets_file s r) found.passes) [
         | inl h ↦
-            let parts = both_true (is_within q r) (kept_dir s r) h in
+            let parts = and_parts (is_within q r) (kept_dir s r) h in
             let rest = within_is q r parts.0 in
             let dir : has_dir s.head r ≡ true = sym (settled.dirs r (within_under d q r under parts.0)) ∙ parts.1 in
             at_or_below r rest.0 rest.1 dir
         | inr h ↦
-            let parts = both_true (is_under q r) (gets_file s r) h in
+            let parts = and_parts (is_under q r) (gets_file s r) h in
             let file : is_some (file_at s.head r) ≡ true =
             or_none (is_some (file_at s.head r)) (sym (ap (λ (c : Choice). is_some c.main || is_some c.side) (settled.files r (under_under d q r under parts.0))) ∙ parts.1) in
             dir_above s.head head q r (under_some d q under) parts.0 (some_of_file (map.get s.head r) file)
@@ -119,7 +121,7 @@ module _ (naming : Naming) (is_naming : IsNaming naming) (s : Sides) (base : IsT
   merged_settled q under = by (in_trees s q) refl
     where
       no_head : in_trees s q ≡ false → map.get s.head q ≡ None
-      no_head e = none_of (map.get s.head q) (test (is_some (map.get s.head q)) refl)
+      no_head e = none_from_is_some (map.get s.head q) (test (is_some (map.get s.head q)) refl)
         where
           test : (b : Bool) → is_some (map.get s.head q) ≡ b → is_some (map.get s.head q) ≡ false
           test true is = absurd (true≢false (sym (in_head q is) ∙ e))

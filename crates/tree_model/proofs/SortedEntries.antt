@@ -1,8 +1,9 @@
 -- Entries of a map stand in the order of their keys. The key lemmas are above_last, first_below and mapped_entries.
 use Rattle.std.proofs.Common.{◌≡◌, ◌&&◌, Bool, true, false, cond, T, List, [], ◌∷◌, refl, sym, ap, ap₂, ◌∙◌, subst, Option, Some, None, is_some, Ordering, Less, Equal, Greater, true≢false, inl, inr}
-use Rattle.std.specs.Ordering.{is_lt, is_eq}
+use Rattle.std.specs.Ordering.{is_lt}
 use Rattle.std.specs.FinMap as map
 use Rattle.std.specs.FinMap.Entries.{below_all}
+use Rattle.ids.proofs.Facts.{apart_from_is_lt}
 use Rattle.tree_model.specs.Path.{PathV, path_cmp}
 use Rattle.tree_model.proofs.Listed.{same_path, same_path-true, same_path-itself}
 use Rattle.tree_model.proofs.Moving.{In, found_in}
@@ -14,11 +15,6 @@ left_holds false b h = absurd h
 pub right_holds : (a b : Bool) → T (a && b) → T b
 right_holds true b h = h
 right_holds false b h = absurd h
-
-pub not_tied : (r : Ordering) → T (is_lt r) → is_eq r ≡ false
-not_tied Less h = refl
-not_tied Equal h = absurd h
-not_tied Greater h = absurd h
 
 pub is_less : (r : Ordering) → T (is_lt r) → r ≡ Less
 is_less Less h = refl
@@ -34,7 +30,7 @@ module _ {X : Type 0} where
   none_below q [] h = refl
   none_below q (e ∷ es) h =
       ap₂ (λ (b : Bool) (o : Option X). cond b (Some e.1) o)
-      (not_tied (path_cmp q e.0) (left_holds (is_lt (path_cmp q e.0)) (below_all path_cmp q es) h))
+      (apart_from_is_lt (path_cmp q e.0) (left_holds (is_lt (path_cmp q e.0)) (below_all path_cmp q es) h))
       (none_below q es (right_holds (is_lt (path_cmp q e.0)) (below_all path_cmp q es) h))
 
   tied_none : (q : PathV) (v : X) (es : List (PathV × X)) → T (below_all path_cmp q es) → In (q, v) es → ⊥

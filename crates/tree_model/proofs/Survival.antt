@@ -1,13 +1,14 @@
 -- The test of surviving directories says what the rules say. The key lemma is stays_means.
 use Rattle.std.proofs.Common.{◌≡◌, ◌↔◌, ◌||◌, ◌&&◌, not, Bool, true, false, [], refl, sym, ap, ap₂, ◌∙◌, subst, append-nil, is_some, IsSome, true≢false, ◌⊎◌, inl, inr, ◌++◌, ◌∷◌}
 use Rattle.std.specs.FinMap as map
+use Rattle.std.proofs.lemmas.Bool.{and_parts, or_cases}
 use Rattle.tree_model.specs.Path.{PathV}
 use Rattle.tree_model.specs.Tree.{has_dir, file_at}
 use Rattle.tree_model.specs.DirectorySurvival.{Sides, gets_file, kept_dir, keeps, stays, Stays, kept, file_below, dir_below, is_within, is_under, paths_of_all}
 use Rattle.tree_model.specs.ConflictCopies.{in_trees}
-use Rattle.tree_model.proofs.Below.{both_true, within_is, within_of, under_of}
+use Rattle.tree_model.proofs.Below.{within_is, within_of, under_of}
 use Rattle.tree_model.proofs.Listed.{any_at}
-use Rattle.tree_model.proofs.OneSide.{either, some_of_dir, some_of_file}
+use Rattle.tree_model.proofs.OneSide.{some_of_dir, some_of_file}
 use Rattle.tree_model.proofs.NothingLost.{chosen_from}
 use Rattle.tree_model.proofs.Unmoved.{in_second, in_third}
 use Rattle.tree_model.proofs.ResultTree.{stays_over_file, stays_over_dir, any_keeps}
@@ -44,13 +45,13 @@ module _ (s : Sides) where
   from_stays d e =
       let found = any_at (keeps s d) (paths_of_all s) e in
       let q = found.path in
-      elim (either (is_within d q && kept_dir s q) (is_under d q && gets_file s q) found.passes) [
+      elim (or_cases (is_within d q && kept_dir s q) (is_under d q && gets_file s q) found.passes) [
         | inl h ↦
-            let parts = both_true (is_within d q) (kept_dir s q) h in
+            let parts = and_parts (is_within d q) (kept_dir s q) h in
             let rest = within_is d q parts.0 in
             at_or_below q rest.0 rest.1 parts.1
         | inr h ↦
-            let parts = both_true (is_under d q) (gets_file s q) h in
+            let parts = and_parts (is_under d q) (gets_file s q) h in
             file_below d q parts.0 parts.1
       ]
     where

@@ -1,6 +1,7 @@
 -- Merges in which one side didn't move. The key lemmas are merge_unchanged_push and merge_unmoved_head.
 use Rattle.std.proofs.Common.{◌≡◌, ◌≤◌, ◌||◌, ◌&&◌, not, Bool, true, false, if◌then◌else◌, [], refl, sym, ap, ap₂, ◌∙◌, subst, Option, Some, None, is_some, option_map}
 use Rattle.std.specs.FinMap as map
+use Rattle.tree_model.specs.declared.limits.TheConstants.{MAX_PATHS}
 use Rattle.tree_model.specs.declared.node.FileVersion.{FileVersion}
 use Rattle.tree_model.specs.declared.node.Node.{Node}
 use Rattle.tree_model.specs.declared.node.Node.TheVariants.{Dir, File}
@@ -69,7 +70,7 @@ module _ (naming : Naming) (b h p : Tree) (base : IsTree b) (pushed : IsTree p) 
   pub merge_unchanged_push : Fits h → IsAlike b p → merge naming b h p ≡ MergedTree h
   merge_unchanged_push head alike =
       let same = merged_is_head head.whole alike in
-      not_long naming b h p h (follows_head head.whole alike) (subst (λ (t : Tree). map.len t ≤ 1000000) (sym same) head.count)
+      not_long naming b h p h (follows_head head.whole alike) (subst (λ (t : Tree). map.len t ≤ MAX_PATHS) (sym same) head.count)
       ∙ ap MergedTree same
 
 -- ---- the head didn't move
@@ -128,7 +129,7 @@ module _ (naming : Naming) (b h p : Tree) (base : IsTree b) (head : IsTree h) wh
       same_len (merged naming three) p (λ q. ap is_some (got q) ∙ some_back (has_dir p q) (map.get p q) (main_at three q) refl (main_some alike q)) in
       record {
         tree = merged naming three;
-        is = not_long naming b h p p f (subst (λ n. n ≤ 1000000) (sym count) pushed.count);
+        is = not_long naming b h p p f (subst (λ n. n ≤ MAX_PATHS) (sym count) pushed.count);
         alike = record {
           dirs = λ q. ap is_dir (got q) ∙ dir_back (has_dir p q) (main_at three q);
           files = λ q. ap (λ o. same_file (file_of o) (file_at p q)) (got q) ∙ file_back (has_dir p q) (map.get p q) (main_at three q) refl (takes alike q).main;

@@ -4,6 +4,7 @@ use Rattle.std.specs.List.{list_any}
 use Rattle.std.specs.Option.{option_or}
 use Rattle.std.specs.Ordering.{eq_by_cmp}
 use Rattle.std.specs.FinMap as map
+use Rattle.tree_model.specs.declared.limits.TheConstants.{MAX_NAME}
 use Rattle.tree_model.specs.declared.node.FileVersion.{FileVersion}
 use Rattle.tree_model.specs.Path.{PathV, path_cmp, parent_of, last_name}
 use Rattle.tree_model.specs.DirectorySurvival.{Sides, main_at, side_at, stays, paths_of_all}
@@ -61,7 +62,7 @@ conflicts naming s = moves (eq_by_cmp path_cmp) (in_trees s) (conflict_spot nami
 
 -- the first file whose conflict name has more than 255 bytes, with that length
 abbrev pub first_long : List ((PathV × FileVersion) × PathV) → Option (PathV × ℕ)
-first_long ms = option_map (λ m. (m.0.0, length (last_name m.1))) (find (λ m. nat_lt 255 (length (last_name m.1))) ms)
+first_long ms = option_map (λ m. (m.0.0, length (last_name m.1))) (find (λ m. nat_lt MAX_NAME (length (last_name m.1))) ms)
 
 -- the paths of copies
 abbrev pub places_of : List ((PathV × FileVersion) × PathV) → List PathV

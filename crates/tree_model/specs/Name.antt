@@ -3,6 +3,7 @@ use Rattle.std.specs.Prelude.{◌≡◌, ℕ, ◌==◌, ◌||◌, Bool, List, []
 use Rattle.std.specs.Option.{option_or}
 use Rattle.std.specs.Bool.{then_some}
 use Rattle.std.specs.Cmp.Lexicographic.{pointwise}
+use Rattle.tree_model.specs.declared.limits.TheConstants.{MAX_NAME}
 use Rattle.tree_model.specs.declared.name.BadName.{BadName}
 use Rattle.tree_model.specs.declared.name.BadName.TheVariants.{Empty, TooLong, Forbidden, Dots}
 
@@ -18,7 +19,7 @@ has_dots text = pointwise nat_eq text (46 ∷ []) || pointwise nat_eq text (46 �
 abbrev pub name_fault : List ℕ → Option BadName
 name_fault text =
     option_or (then_some (length text == 0) Empty)
-    (option_or (then_some (nat_lt 255 (length text)) (TooLong (length text)))
+    (option_or (then_some (nat_lt MAX_NAME (length text)) (TooLong (length text)))
     (option_or (option_map Forbidden (position is_separator text))
     (then_some (has_dots text) Dots)))
 

@@ -2,6 +2,7 @@
 use Rattle.std.specs.Prelude.{◌≡◌, ◌≢◌, ℕ, ℤ, true, if◌then◌else◌, List, ◌++◌, map as map_list, length, nat_lt, ◌≤◌, ◌<◌, ◌⊎◌, All, Contains, Option, Some, None, option_map}
 use Rattle.std.specs.declared.cmp.Ordering.TheVariants.{Greater}
 use Rattle.std.specs.FinMap as map
+use Rattle.tree_model.specs.declared.limits.TheConstants.{MAX_PATHS, MAX_NAME}
 use Rattle.tree_model.specs.declared.node.FileVersion.{FileVersion}
 use Rattle.tree_model.specs.declared.node.Node.{Node}
 use Rattle.tree_model.specs.declared.node.Node.TheVariants.{Dir, File}
@@ -31,7 +32,7 @@ pub data Merge : Type 0 where
   TooMany : ℕ → Merge
 
 abbrev pub within_limit : Tree → Merge
-within_limit tree = if nat_lt 1000000 (map.len tree) then TooMany (map.len tree) else MergedTree tree
+within_limit tree = if nat_lt MAX_PATHS (map.len tree) then TooMany (map.len tree) else MergedTree tree
 
 abbrev pub merge_by : Option (PathV × ℕ) → Tree → Merge
 merge_by (Some long) tree = TooLong long.0 long.1
@@ -46,7 +47,7 @@ merge naming base head pushed =
 -- what a naming owes: other numbers from 1 on give other names, and a name that isn't too long is good
 pub record IsNaming (naming : Naming) : Type 0 where
   pub apart : (name modifier : List ℕ) (mtime : ℤ) (i j : ℕ) → 1 ≤ i → 1 ≤ j → naming name modifier mtime i ≡ naming name modifier mtime j → i ≡ j
-  pub good : (name modifier : List ℕ) (mtime : ℤ) (k : ℕ) → 1 ≤ k → IsName name → length (naming name modifier mtime k) ≤ 255 → IsName (naming name modifier mtime k)
+  pub good : (name modifier : List ℕ) (mtime : ℤ) (k : ℕ) → 1 ≤ k → IsName name → length (naming name modifier mtime k) ≤ MAX_NAME → IsName (naming name modifier mtime k)
 
 -- the merge isn't refused, and gives a tree that is like the other up to times and authors
 pub record MergesLike (naming : Naming) (base head pushed like : Tree) : Type 0 where
@@ -68,8 +69,8 @@ pub record IsFirstLong (naming : Naming) (s : Sides) (path : PathV) (bytes : ℕ
   pub listed : Contains (conflicts naming s) copy
   pub of : copy.0.0 ≡ path
   pub size : length (last_name copy.1) ≡ bytes
-  pub long : 255 < bytes
-  pub first : All (λ other. 255 < length (last_name other.1) → path_cmp path other.0.0 ≢ Greater) (conflicts naming s)
+  pub long : MAX_NAME < bytes
+  pub first : All (λ other. MAX_NAME < length (last_name other.1) → path_cmp path other.0.0 ≢ Greater) (conflicts naming s)
 
 -- a file of the merged tree stood in head or in pushed just so, at this path or where it left its name for this one
 pub record IsFromSide (naming : Naming) (s : Sides) (path : PathV) (version : FileVersion) : Type 0 where

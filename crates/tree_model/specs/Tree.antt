@@ -1,6 +1,7 @@
 -- Trees of files and directories by path, without object ids. Our own. Read Tree, then IsTree.
 use Rattle.std.specs.Prelude.{◌≡◌, ◌≢◌, ℕ, ◌≤◌, Bool, true, false, List, [], ◌∷◌, ◌++◌, length, Option, Some, None, IsSome}
 use Rattle.std.specs.FinMap as map
+use Rattle.tree_model.specs.declared.limits.TheConstants.{MAX_PATHS, MAX_NAMES}
 use Rattle.tree_model.specs.declared.node.FileVersion.{FileVersion}
 use Rattle.tree_model.specs.declared.node.Node.{Node}
 use Rattle.tree_model.specs.declared.node.Node.TheVariants.{Dir, File}
@@ -38,8 +39,8 @@ pub record IsTree (tree : Tree) : Type 0 where
 -- a tree within the limits: at most 1,000,000 paths of at most 100 names each
 pub record Fits (tree : Tree) : Type 0 where
   pub whole : IsTree tree
-  pub count : map.len tree ≤ 1000000
-  pub depth : (path : PathV) → IsSome (map.get tree path) → length path ≤ 100
+  pub count : map.len tree ≤ MAX_PATHS
+  pub depth : (path : PathV) → IsSome (map.get tree path) → length path ≤ MAX_NAMES
 
 -- equal up to times and authors of files
 pub record IsAlike (left right : Tree) : Type 0 where

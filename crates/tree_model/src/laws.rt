@@ -12,6 +12,12 @@ ghost use Rattle.tree_model.specs.PathCounts.{CountsAddUp};
 ghost use Rattle.tree_model.specs.FileMerge.{same_file};
 ghost use Rattle.tree_model.specs.declared.node.FileVersion.{FileVersion};
 ghost use Rattle.tree_model.specs.declared.node.Node.TheVariants.{File};
+ghost use Rattle.tree_model.specs.declared.limits.TheConstants.{MAX_PATHS, MAX_NAMES, MAX_NAME};
+
+/// A tree has at most 1,000,000 paths of at most 100 names of at most 255 bytes.
+pub fn the_limits_of_a_tree()
+    ensures { (MAX_PATHS ≡ 1000000) × (MAX_NAMES ≡ 100) × (MAX_NAME ≡ 255) }
+{}
 
 /// Paths stand in the byte order of their texts: names joined by `/`.
 pub fn paths_are_ordered_by_the_bytes_of_their_texts()

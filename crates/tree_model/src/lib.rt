@@ -5,12 +5,14 @@
 #![tactic(auto)]
 
 pub mod laws;
+mod limits;
 mod name;
 mod node;
 mod path;
 mod path_table;
 
-pub use name::{BadName, MAX_NAME, Name, NameFault};
+pub use limits::{MAX_NAME, MAX_NAMES, MAX_PATHS};
+pub use name::{BadName, Name, NameFault};
 pub use node::{FileVersion, Node};
 pub use path::Path;
 pub use path_table::PathTable;

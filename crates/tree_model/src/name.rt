@@ -3,6 +3,7 @@ ghost use Rattle.std.specs.Prelude.{◌≡◌, ◌↔◌, IfOk, IsOk, Some, posi
 ghost use Rattle.std.specs.Result.{result_err};
 ghost use Rattle.tree_model.specs.Name.{name_fault, is_separator, has_dots};
 
+use crate::limits::MAX_NAME;
 use std::alloc::{AllocError, Global};
 use std::cmp::Ordering;
 use std::marker::Model;
@@ -50,9 +51,6 @@ impl From<AllocError> for NameFault {
         NameFault::NoMemory
     }
 }
-
-/// The greatest number of bytes of a name.
-pub const MAX_NAME: usize = 255;
 
 /// A name of a file or a directory: 1 to 255 bytes of UTF-8 without `/` and NUL, other than `.` and `..`.
 ///

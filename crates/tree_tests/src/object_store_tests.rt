@@ -1,11 +1,9 @@
-//! Rows that every kind of shelf meets, and each call of a store once with ample memory.
-mod shelf_rows;
+//! Each call of a store once, with ample memory.
 mod store_rows;
 
 use ids::{Bytes, Items, Key, Kind, ObjId};
 use object_store::*;
 use std::alloc::{AllocError, Global};
-use std::process::Abort;
 use std::test::Fail;
 
 /// The key of an object that is named by its bytes.
@@ -21,11 +19,7 @@ fn memory(alloc: Global, fails: &[u64]) -> Result<MemoryShelf, AllocError> {
     Ok(MemoryShelf::new(alloc, Items::copy(alloc, fails)?))
 }
 
-/// What a fetch gave, as text for a message.
-fn is_text(given: &Result<Option<Bytes>, ShelfFailed>, text: &[u8]) -> bool {
-    match given {
-        Ok(Some(bytes)) => bytes.slice() == text,
-        Ok(None) => false,
-        Err(_) => false,
-    }
+/// Whether a fetch found the slot empty.
+fn is_empty(given: &Result<Option<Bytes>, ShelfFailed>) -> bool {
+    matches!(given, Ok(None))
 }

@@ -12,9 +12,9 @@ use fs_objects::{FileObject, FsObject};
 use ids::{Items, Key, Kind, ObjId, Text};
 use object_graph::Entry;
 use object_store::{MemoryShelf, Shelf, Store};
-use std::alloc::Global;
+use std::alloc::{AllocError, Global};
 use std::test::Fail;
-use tree_merge::{MergeFault, Merged, build, merge};
+use tree_merge::{BuildFault, BuiltTree, MergeFault, Merged, build, merge};
 use tree_model::{Name, NameFault, Path, PathTable};
 use tree_walk::{commit_at, needs};
 
@@ -248,62 +248,94 @@ fn merge_trees(
     merge_commits(alloc, store, base, head, pushed)
 }
 
-/// Whether three trees merge into the fourth, with so many conflict copies.
-fn merges_so(alloc: Global, scenario: &str) -> Result<bool, Fail> {
-    let mut parts = scenario.split('|');
-    let (base, head, pushed) = (parts.next(), parts.next(), parts.next());
-    let (wanted, count) = (parts.next(), parts.next());
-    let (Some(base), Some(head), Some(pushed)) = (base, head, pushed) else {
-        return Err(Fail::from("three trees"));
-    };
-    let (Some(wanted), Some(count)) = (wanted, count) else {
-        return Err(Fail::from("what is wanted"));
-    };
-    let mut store = start(alloc)?;
-    let merged = match merge_trees(alloc, &mut store, base, head, pushed)? {
-        Ok(merged) => merged,
-        Err(_) => return Ok(false),
-    };
-    let root = put_tree(alloc, &mut store, wanted)?;
-    let count = match count {
+/// The three trees of a scenario, and what is wanted.
+#[derive(Clone, Copy)]
+struct Scenario<'a> {
+    base: &'a str,
+    head: &'a str,
+    pushed: &'a str,
+    wanted: &'a str,
+    copies: &'a str,
+}
+
+/// The parts of a scenario's text.
+fn parts(scenario: &str) -> Option<Scenario<'_>> {
+    let (base, rest) = scenario.split_once('|')?;
+    let (head, rest) = rest.split_once('|')?;
+    let (pushed, rest) = rest.split_once('|')?;
+    let (wanted, copies) = rest.split_once('|')?;
+    Some(Scenario {
+        base,
+        head,
+        pushed,
+        wanted,
+        copies,
+    })
+}
+
+fn has_copies(merged: &Merged, copies: &str) -> bool {
+    let count = match copies {
         "0" => 0,
         "1" => 1,
         _ => 2,
     };
-    Ok(merged.root == root && merged.conflicts.len() == count)
+    merged.conflicts.len() == count
+}
+
+/// Whether three trees merge into the fourth, with so many conflict copies.
+fn merges_so(alloc: Global, scenario: &Scenario<'_>) -> Result<bool, Fail> {
+    let mut store = start(alloc)?;
+    match merge_trees(
+        alloc,
+        &mut store,
+        scenario.base,
+        scenario.head,
+        scenario.pushed,
+    )? {
+        Ok(merged) => {
+            let root = put_tree(alloc, &mut store, scenario.wanted)?;
+            Ok(merged.root == root && has_copies(&merged, scenario.copies))
+        }
+        Err(_) => Ok(false),
+    }
+}
+
+/// The same of its text.
+fn tells(alloc: Global, scenario: &str) -> Result<bool, Fail> {
+    match parts(scenario) {
+        Some(parts) => merges_so(alloc, &parts),
+        None => Ok(false),
+    }
 }
 
 #[test]
 fn trees_merge_as_the_scenarios_tell(rt: HostRuntime) -> Result<(), Fail> {
     for scenario in &SCENARIOS {
-        assert!(rt; merges_so(rt.alloc(), scenario)?, "{scenario}");
+        assert!(rt; tells(rt.alloc(), scenario)?, "{scenario}");
     }
     Ok(())
 }
 
-/// What the refusal of a name that is too long tells.
-fn too_long(fault: MergeFault) -> Option<(Path, u64)> {
-    match fault {
-        MergeFault::TooLong(path, bytes) => Some((path, bytes)),
-        MergeFault::TooMany(_paths) => None,
-        MergeFault::Taken(_id) => None,
-        MergeFault::Walk(_fault) => None,
+/// Whether a merge is refused for the name of a copy of the path, which has so many bytes.
+fn is_too_long(
+    alloc: Global,
+    told: Result<Merged, MergeFault>,
+    wanted: &str,
+    count: u64,
+) -> Result<bool, AllocError> {
+    match told {
+        Err(MergeFault::TooLong(path, bytes)) => {
+            Ok(path.text(alloc)?.slice() == wanted && bytes == count)
+        }
+        _ => Ok(false),
     }
 }
 
 #[test]
 fn a_conflict_name_that_is_too_long_is_told_with_its_file(rt: HostRuntime) -> Result<(), Fail> {
     let mut store = start(rt.alloc())?;
-    let told = match merge_trees(rt.alloc(), &mut store, "f=1", "f=2", "f=3@long")? {
-        Ok(_merged) => None,
-        Err(fault) => too_long(fault),
-    };
-    let Some((path, bytes)) = told else {
-        return Err(Fail::from("it is not refused as too long"));
-    };
-    let text = path.text(rt.alloc())?;
-    assert_eq!(rt; text.slice(), "f");
-    assert_eq!(rt; bytes, 335);
+    let told = merge_trees(rt.alloc(), &mut store, "f=1", "f=2", "f=3@long")?;
+    assert!(rt; is_too_long(rt.alloc(), told, "f", 335)?);
     Ok(())
 }
 
@@ -316,13 +348,11 @@ fn path(alloc: Global, names: &[&str]) -> Result<Path, NameFault> {
     Ok(path)
 }
 
-// The directory d with an empty file a by me and an empty directory b.
-#[test]
-fn a_tree_is_made_from_its_last_directory_up(rt: HostRuntime) -> Result<(), Fail> {
-    let alloc = rt.alloc();
+/// The directory d with an empty file a by me and an empty directory b.
+fn directory(alloc: Global) -> Result<PathTable<Entry>, NameFault> {
     let mut entries = PathTable::new(alloc);
-    entries.insert(path(alloc, ["d"].as_slice())?, Entry::Dir)?;
-    entries.insert(path(alloc, ["d", "b"].as_slice())?, Entry::Dir)?;
+    entries.insert(path(alloc, &["d"])?, Entry::Dir)?;
+    entries.insert(path(alloc, &["d", "b"])?, Entry::Dir)?;
     let file = Entry::File {
         id: ObjId::NIL,
         mode: 0o100644,
@@ -330,21 +360,26 @@ fn a_tree_is_made_from_its_last_directory_up(rt: HostRuntime) -> Result<(), Fail
         modifier: Text::copy(alloc, "me")?,
         size: 0,
     };
-    entries.insert(path(alloc, ["d", "a"].as_slice())?, file)?;
-    match build(alloc, entries) {
-        Ok(built) => {
-            let digits = built.root.digits();
-            assert_eq!(rt;
-                digits.as_slice(),
-                b"12834c88128f54a3e99dbb4a14672cd61dc45c33".as_slice()
-            );
-            assert_eq!(rt; built.made.len(), 2);
-        }
-        Err(_) => assert!(rt; false, "the tree is refused"),
+    entries.insert(path(alloc, &["d", "a"])?, file)?;
+    Ok(entries)
+}
+
+/// Whether a tree is built to this root, with so many objects.
+fn is_built(told: &Result<BuiltTree, BuildFault>, digits: &[u8], count: usize) -> bool {
+    match told {
+        Ok(built) => built.root.digits().as_slice() == digits && built.made.len() == count,
+        Err(_) => false,
     }
-    match build(alloc, PathTable::new(alloc)) {
-        Ok(built) => assert!(rt; built.root.is_nil() && built.made.len() == 0),
-        Err(_) => assert!(rt; false, "the empty tree is refused"),
-    }
+}
+
+const ROOT: &[u8] = b"12834c88128f54a3e99dbb4a14672cd61dc45c33";
+
+const ZEROS: &[u8] = b"0000000000000000000000000000000000000000";
+
+#[test]
+fn a_tree_is_made_from_its_last_directory_up(rt: HostRuntime) -> Result<(), NameFault> {
+    let alloc = rt.alloc();
+    assert!(rt; is_built(&build(alloc, directory(alloc)?), ROOT, 2));
+    assert!(rt; is_built(&build(alloc, PathTable::new(alloc)), ZEROS, 0));
     Ok(())
 }

@@ -1,5 +1,5 @@
 //! The limits of a traversal as rows, and each public call once with ample memory.
-use ids::{Items, Key, Kind, ObjId};
+use ids::{Bytes, Items, Key, Kind, ObjId};
 use object_store::{MemoryShelf, Store, StoreFault};
 use std::alloc::{AllocError, Global};
 use std::test::Fail;
@@ -42,6 +42,11 @@ fn store_that_fails(alloc: Global, fails: Items<u64>) -> Result<Shelved, Fail> {
         Ok(store) => Ok(store),
         Err(_) => Err(Fail::from("start")),
     }
+}
+
+/// An empty store.
+fn empty(alloc: Global) -> Result<Shelved, Fail> {
+    store_that_fails(alloc, Items::new(alloc))
 }
 
 /// Puts an object of this text, and gives its name.
@@ -114,7 +119,7 @@ fn needed(alloc: Global, store: &mut Shelved, root: &ObjId) -> Result<Option<usi
 
 /// The same for a chain of directories whose longest path has so many names.
 fn needed_by_chain(alloc: Global, names: u64) -> Result<Option<usize>, Fail> {
-    let mut store = store_that_fails(alloc, Items::new(alloc))?;
+    let mut store = empty(alloc)?;
     let mut below = ObjId::NIL;
     for _ in 0..names {
         below = put_directory(alloc, &mut store, LEVEL_HEAD, &below, LEVEL_TAIL)?;
@@ -126,30 +131,68 @@ fn needed_by_chain(alloc: Global, names: u64) -> Result<Option<usize>, Fail> {
 fn a_path_of_a_hundred_names_is_complete_and_one_of_a_name_more_is_too_deep(
     rt: HostRuntime,
 ) -> Result<(), Fail> {
-    assert_eq!(rt; needed_by_chain(rt.alloc(), 100)?, Some(101));
-    assert_eq!(rt; needed_by_chain(rt.alloc(), 101)?, None);
+    assert!(rt; needed_by_chain(rt.alloc(), 100)? == Some(101));
+    assert!(rt; needed_by_chain(rt.alloc(), 101)?.is_none());
     Ok(())
+}
+
+/// Puts twelve levels that name the next twice, and gives the root.
+fn put_levels(alloc: Global, store: &mut Shelved) -> Result<ObjId, Fail> {
+    let mut root = ObjId::NIL;
+    for _ in 0..12 {
+        root = put_twice(alloc, store, &root)?;
+    }
+    Ok(root)
+}
+
+/// How many paths the tree of a root has.
+fn paths(alloc: Global, store: &mut Shelved, root: &ObjId) -> Result<usize, Fail> {
+    match tree(alloc, store, *root) {
+        Ok(entries) => Ok(entries.len()),
+        Err(_) => Err(Fail::from("tree")),
+    }
 }
 
 #[test]
 fn twelve_levels_that_name_the_next_twice_have_8190_paths(rt: HostRuntime) -> Result<(), Fail> {
-    let mut store = store_that_fails(rt.alloc(), Items::new(rt.alloc()))?;
-    let mut root = ObjId::NIL;
-    for _ in 0..12 {
-        root = put_twice(rt.alloc(), &mut store, &root)?;
-    }
+    let mut store = empty(rt.alloc())?;
+    let root = put_levels(rt.alloc(), &mut store)?;
     let root = &root;
-    match tree(rt.alloc(), &mut store, *root) {
-        Ok(entries) => assert_eq!(rt; entries.len(), 8190),
-        Err(_) => return Err(Fail::from("tree")),
+    assert!(rt; paths(rt.alloc(), &mut store, root)? == 8190);
+    assert!(rt; needed(rt.alloc(), &mut store, root)? == Some(13));
+    Ok(())
+}
+
+/// What a check tells of so many levels of which each names the next twice: none where all is whole, and the number of paths
+/// where there are too many.
+fn checked(alloc: Global, levels: u64) -> Result<Option<u64>, Fail> {
+    let mut store = store_that_fails(alloc, Items::new(alloc))?;
+    let mut root = ObjId::NIL;
+    for _ in 0..levels {
+        root = put_twice(alloc, &mut store, &root)?;
     }
-    assert_eq!(rt; needed(rt.alloc(), &mut store, root)?, Some(13));
+    let commit = put_commit(alloc, &mut store, &root)?;
+    laws::what_is_known_is_right_at_first();
+    let mut known = Known::new(alloc);
+    match check(alloc, &mut store, &mut known, commit) {
+        Ok(()) => Ok(None),
+        Err(WalkFault::TooMany(paths)) => Ok(Some(paths)),
+        Err(_) => Err(Fail::from("check")),
+    }
+}
+
+#[test]
+fn levels_that_name_the_next_twice_are_counted_by_what_is_known(
+    rt: HostRuntime,
+) -> Result<(), Fail> {
+    assert_eq!(rt; checked(rt.alloc(), 18)?, None);
+    assert_eq!(rt; checked(rt.alloc(), 40)?, Some(1_000_001));
     Ok(())
 }
 
 /// A store of the blocks `abc`, `ab` and `c`.
 fn blocks(alloc: Global) -> Result<Shelved, Fail> {
-    let mut store = store_that_fails(alloc, Items::new(alloc))?;
+    let mut store = empty(alloc)?;
     for text in ["abc", "ab", "c"] {
         let _ = put(&mut store, Kind::Block, text)?;
     }
@@ -161,33 +204,39 @@ fn the_same_bytes_in_other_cuts_are_the_same_file(rt: HostRuntime) -> Result<(),
     let mut store = blocks(rt.alloc())?;
     let whole = put(&mut store, Kind::Fs, WHOLE)?;
     let cut = put(&mut store, Kind::Fs, CUT)?;
-    match same_file(rt.alloc(), &mut store, whole, cut) {
-        Ok(same) => assert!(rt; same),
-        Err(_) => return Err(Fail::from("same_file")),
-    }
+    assert!(rt; matches!(same_file(rt.alloc(), &mut store, whole, cut), Ok(true)));
     Ok(())
+}
+
+fn is_given(told: &Result<Bytes, WalkFault>, wanted: &[u8]) -> bool {
+    match told {
+        Ok(bytes) => bytes.slice() == wanted,
+        Err(_) => false,
+    }
 }
 
 #[test]
 fn the_bytes_of_a_file_are_those_of_its_blocks_in_order(rt: HostRuntime) -> Result<(), Fail> {
     let mut store = blocks(rt.alloc())?;
     let cut = put(&mut store, Kind::Fs, CUT)?;
-    match file_bytes(rt.alloc(), &mut store, cut) {
-        Ok(bytes) => assert!(rt; bytes.slice() == b"abc".as_slice()),
-        Err(_) => return Err(Fail::from("file_bytes")),
-    }
+    assert!(rt; is_given(&file_bytes(rt.alloc(), &mut store, cut), b"abc"));
     Ok(())
+}
+
+/// How many ids a client without a commit needs.
+fn listed(alloc: Global, store: &mut Shelved, commit: ObjId) -> Result<usize, Fail> {
+    match fs_ids(alloc, store, commit, None) {
+        Ok(ids) => Ok(ids.len()),
+        Err(_) => Err(Fail::from("fs_ids")),
+    }
 }
 
 #[test]
 fn a_client_without_a_commit_needs_all_directories(rt: HostRuntime) -> Result<(), Fail> {
-    let mut store = store_that_fails(rt.alloc(), Items::new(rt.alloc()))?;
+    let mut store = empty(rt.alloc())?;
     let root = put(&mut store, Kind::Fs, EMPTY_DIRECTORY)?;
     let commit = put_commit(rt.alloc(), &mut store, &root)?;
-    match fs_ids(rt.alloc(), &mut store, commit, None) {
-        Ok(ids) => assert_eq!(rt; ids.len(), 1),
-        Err(_) => return Err(Fail::from("fs_ids")),
-    }
+    assert!(rt; listed(rt.alloc(), &mut store, commit)? == 1);
     Ok(())
 }
 
@@ -203,14 +252,14 @@ fn fails(alloc: Global, store: &mut Shelved, commit: &ObjId) -> Option<bool> {
     }
 }
 
+// A start asks the empty shelf three times, and a put once.
 #[test]
 fn a_failure_of_the_shelf_is_told_as_such_and_the_next_reading_is_good(
     rt: HostRuntime,
 ) -> Result<(), Fail> {
-    // A start asks the empty shelf three times, and a put once.
     let mut store = store_that_fails(rt.alloc(), Items::copy(rt.alloc(), &[4])?)?;
     let commit = put_commit(rt.alloc(), &mut store, &ObjId::NIL)?;
-    assert_eq!(rt; fails(rt.alloc(), &mut store, &commit), Some(true));
-    assert_eq!(rt; fails(rt.alloc(), &mut store, &commit), Some(false));
+    assert!(rt; fails(rt.alloc(), &mut store, &commit) == Some(true));
+    assert!(rt; fails(rt.alloc(), &mut store, &commit) == Some(false));
     Ok(())
 }

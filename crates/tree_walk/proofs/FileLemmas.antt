@@ -5,11 +5,12 @@ use Rattle.std.specs.FinMap as map
 use Rattle.std.specs.Cmp.Lexicographic.{bytes_decides}
 use Rattle.ids.specs.Key.{Objects}
 use Rattle.ids.specs.declared.key.Key.{Key}
+use Rattle.tree_model.specs.Path.{PathV}
 use Rattle.fs_objects.specs.declared.file_object.FileObject.{FileObject}
 use Rattle.fs_objects.specs.declared.fs_object.FsObject.{FsObject}
 use Rattle.fs_objects.specs.declared.fs_object.FsObject.TheVariants as fs
 use Rattle.object_graph.specs.Objects.{block_bytes, block_key, blocks_at, blocks_of, contents_of, fs_at, fs_key, is_nil, joined, same_id}
-use Rattle.object_graph.specs.Traversal.{Walk, start, visited, failed, then_walk, then_read, walk_blocks, walk_below, walk_file, walk_file_at, walk_found, sized}
+use Rattle.object_graph.specs.Traversal.{Walk, start, visited, failed, then_walk, then_read, walk_blocks, walk_below, walk_file, walk_file_at, walk_found, walk_object, sized}
 use Rattle.object_graph.specs.declared.fault.TreeFault.{TreeFault}
 use Rattle.object_graph.specs.declared.fault.TreeFault.TheVariants.{Incomplete, WrongSize}
 use Rattle.object_graph.proofs.Schemes.{goes_on, stands_still}
@@ -17,7 +18,7 @@ use Rattle.tree_walk.specs.Files.{added, added_all, as_file, blocks_due, file_at
 use Rattle.tree_walk.specs.Reading.{Answers, AnswersRead, IsDue, stored_at, stored_in}
 use Rattle.tree_walk.specs.declared.fault.WalkFault.{WalkFault}
 use Rattle.tree_walk.specs.declared.unread.Unread.{Unread}
-use Rattle.tree_walk.proofs.ListingLemmas.{due_of, due_first}
+use Rattle.tree_walk.proofs.StepsLemmas.{due_anywhere, due_first, due_of, due_unread}
 
 -- ---- what is wrong with a file
 
@@ -61,22 +62,32 @@ walk_due objects id w clear = by (is_nil id)
     by true = clear
     by false = read (fs_at objects id)
 
+-- a file is traversed the same at any path
+pub file_anywhere : (objects : Objects) (less : ℕ) (path : PathV) (id : List ℕ) (w : Walk) → walk_object true objects (walk_below true objects less) false path id w ≡ walk_file_at objects id w
+file_anywhere objects less path id w = by (is_nil id)
+  where
+    read : (v : Walk) (r : Result FsObject TreeFault) → then_read r (walk_found true objects (walk_below true objects less) false path id) v ≡ then_read r (walk_found true objects (walk_below true objects 100) false [] id) v
+    read v (Ok (fs.File file)) = refl
+    read v (Ok (fs.Dir entries)) = refl
+    read v (Err fault) = refl
+
+    by : (n : Bool) → (if n then w else then_read (fs_at objects id) (walk_found true objects (walk_below true objects less) false path id) (visited (fs_key id) w))
+        ≡ (if n then w else then_read (fs_at objects id) (walk_found true objects (walk_below true objects 100) false [] id) (visited (fs_key id) w))
+    by true = refl
+    by false = read (visited (fs_key id) w) (fs_at objects id)
+
 -- a file that was read, and is whole or not
 pub whole_due : (objects : Objects) (id : List ℕ) (file : FileObject) → file_at objects id ≡ Ok file → (walk_file_at objects id start).fault ≡ file_due objects id file
 whole_due objects id file read = walk_due objects id start refl ∙ ap (due_read objects id) read
 
-pub file_stops : (objects : Objects) (id : List ℕ) (file : FileObject) (fault : WalkFault) → file_at objects id ≡ Ok file → IsDue objects (file_due objects id file) fault → IsDue objects (walk_file_at objects id start).fault fault
-file_stops objects id file fault read is = due_of objects (file_due objects id file) (walk_file_at objects id start).fault (λ due at. whole_due objects id file read ∙ at) fault is
+pub file_stops : (objects : Objects) (id : List ℕ) (file : FileObject) (w : Walk) (fault : WalkFault) → w.fault ≡ None → file_at objects id ≡ Ok file → IsDue objects (file_due objects id file) fault
+    → IsDue objects (walk_file_at objects id w).fault fault
+file_stops objects id file w fault clear read is =
+    due_of objects (file_due objects id file) (walk_file_at objects id w).fault (λ due at. walk_due objects id w clear ∙ ap (due_read objects id) read ∙ at) fault is
 
-pub unread_stops : (objects : Objects) (id : List ℕ) (fault : WalkFault) → AnswersRead objects (file_at objects id) (Err fault) → IsDue objects (walk_file_at objects id start).fault fault
-unread_stops objects id fault is = by (file_at objects id) (walk_due objects id start refl) is
-  where
-    by : (r : Result FileObject TreeFault) → (walk_file_at objects id start).fault ≡ due_read objects id r → AnswersRead objects r (Err fault) → IsDue objects (walk_file_at objects id start).fault fault
-    by (Ok file) same is = due_of objects None (walk_file_at objects id start).fault (λ due at. nothing at) fault is
-      where
-        nothing : {x : TreeFault} → None ≡ Some x → (walk_file_at objects id start).fault ≡ Some x
-        nothing e = cc
-    by (Err due) same is = due_of objects (Some due) (walk_file_at objects id start).fault (λ x at. same ∙ at) fault is
+pub unread_stops : (objects : Objects) (id : List ℕ) (w : Walk) (fault : WalkFault) → w.fault ≡ None → AnswersRead objects (file_at objects id) (Err fault) → IsDue objects (walk_file_at objects id w).fault fault
+unread_stops objects id w fault clear is =
+    due_unread objects (walk_file_at objects id w).fault (file_at objects id) (λ due at. walk_due objects id w clear ∙ ap (due_read objects id) at) fault is
 
 -- the blocks of a whole file are stored, and its size is that of its bytes
 pub no_block_due : (objects : Objects) (id : List ℕ) (file : FileObject) → file_due objects id file ≡ None → blocks_due objects file.blocks ≡ None
@@ -212,10 +223,7 @@ joins_stop objects all rest id key bytes fault joins at read = by (map.get objec
     by None is read =
         due_of objects (Some (Incomplete (block_key id))) (blocks_due objects all)
         (λ due e. sym joins.due ∙ ap (λ (o : Option (List ℕ)). if is_some o then blocks_due objects rest else Some (Incomplete (block_key id))) is ∙ e) fault read
-    by (Some given) is read = due_of objects None (blocks_due objects all) (λ due e. nothing e) fault read
-      where
-        nothing : {x : TreeFault} → None ≡ Some x → blocks_due objects all ≡ Some x
-        nothing e = cc
+    by (Some given) is read = due_anywhere objects (blocks_due objects all) fault read
 
 pub joins_end : (objects : Objects) (all : List (List ℕ)) (bytes : List ℕ) → Joins objects all [] bytes → blocks_due objects all ≡ None × bytes ≡ joined objects all
 joins_end objects all bytes joins = (sym joins.due, sym (append-nil bytes) ∙ joins.joins)
@@ -281,11 +289,8 @@ pub bytes_of_file : (objects : Objects) (id : List ℕ) (file : FileObject) (res
     → Answers objects (blocks_due objects file.blocks) (λ bytes. bytes ≡ joined objects file.blocks) result → Answers objects (walk_file_at objects id start).fault (λ bytes. bytes ≡ contents_of objects id) result
 bytes_of_file objects id file (Ok bytes) none read is = (none, is.1 ∙ sym (contents_are objects id file read))
 bytes_of_file objects id file (Err fault) none read is =
-    due_of objects (blocks_due objects file.blocks) (walk_file_at objects id start).fault
-    (λ due at. nothing (sym (no_block_due objects id file (sym (whole_due objects id file read) ∙ none)) ∙ at)) fault is
-  where
-    nothing : {x : TreeFault} → None ≡ Some x → (walk_file_at objects id start).fault ≡ Some x
-    nothing e = cc
+    due_anywhere objects (walk_file_at objects id start).fault fault
+    (subst (λ due. IsDue objects due fault) (no_block_due objects id file (sym (whole_due objects id file read) ∙ none)) is)
 
 -- ---- steps of a comparison
 
@@ -354,10 +359,7 @@ blocks_compared objects left right l r (Ok same) whole other is = (
   second_due objects left right whole.none ∙ other.none,
   is.1 ∙ ap₂ same_id (sym (contents_are objects left l whole.read)) (sym (contents_are objects right r other.read)),
 )
-blocks_compared objects left right l r (Err fault) whole other is = due_of objects None (files_due objects left right) (λ due at. nothing at) fault is
-  where
-    nothing : {x : TreeFault} → None ≡ Some x → files_due objects left right ≡ Some x
-    nothing e = cc
+blocks_compared objects left right l r (Err fault) whole other is = due_anywhere objects (files_due objects left right) fault is
 
 pub compared : (objects : Objects) (left right : List ℕ) (l r : FileObject) (xs ys : List (List ℕ)) (result : Result Bool WalkFault) → IsWhole objects left l → IsWhole objects right r
     → xs ≡ l.blocks → ys ≡ r.blocks → l.size ≡ r.size

@@ -1,7 +1,11 @@
+pub mod CheckingLemmas
+pub mod ExtentLemmas
 pub mod FileLemmas
 pub mod KnownLemmas
+pub mod KnownTreesLemmas
 pub mod LimitLemmas
 pub mod ListingLemmas
 pub mod Ordered
 pub mod ReadsLemmas
+pub mod StepsLemmas
 pub mod VisitLemmas

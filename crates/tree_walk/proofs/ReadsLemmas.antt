@@ -7,6 +7,7 @@ use Rattle.ids.specs.Key.{Objects}
 use Rattle.ids.specs.ObjectId.{nil}
 use Rattle.ids.specs.declared.key.Key.{Key}
 use Rattle.std.specs.FinMap as map
+use Rattle.object_store.proofs.ShelfLemmas as on_shelf
 use Rattle.object_store.specs.Store.{IsGetFault, IsOfStored, damage_at, is_free}
 use Rattle.object_store.specs.declared.error.StoreFault.{StoreFault}
 use Rattle.object_store.specs.declared.error.StoreFault.TheVariants as store
@@ -38,24 +39,30 @@ other_id id b same is = by (is_nil id) refl
 keeps_then : {S : Type 0} {contents : S → Option Contents} {old mid new : StoreView S} → Keeps contents old mid → Keeps contents mid new → Keeps contents old new
 keeps_then first second = record { index = second.index ∙ first.index; shelf = second.shelf ∙ first.shelf; objects = second.objects ∙ first.objects }
 
-module _ {S : Type 0} {contents : S → Option Contents} {may_give : S → Slot → Option (List ℕ) → Type 0} {faults : S → ℕ} where
+module _ {S : Type 0} {contents : S → Option Contents} {may_give : S → Slot → Option (List ℕ) → Type 0} {texts faults : S → ℕ} where
   -- a call after one that gave something
   pub reads_then : {T U : Type 0} {old mid new : StoreView S} (value : T) (result : Result U WalkFault)
-      → Reads contents may_give faults old mid (Ok value) → Reads contents may_give faults mid new result → Reads contents may_give faults old new result
+      → Reads contents may_give texts faults old mid (Ok value) → Reads contents may_give texts faults mid new result → Reads contents may_give texts faults old new result
   reads_then {old = old} {mid = mid} {new = new} value result first second = record {
     kept = keeps_then first.kept second.kept;
+    shelf = on_shelf.reads_then first.shelf second.shelf;
     cause = second.cause;
     count = subst (λ n. FailsBy is_counted n (faults new.shelf) result) first.count second.count;
   }
 
   -- what a call gave doesn't matter
-  pub reads_done : {T : Type 0} {old new : StoreView S} (value : T) → Reads contents may_give faults old new (Ok value) → Reads {T = ⊤} contents may_give faults old new (Ok tt)
-  reads_done value reads = record { kept = reads.kept; cause = tt; count = reads.count }
+  pub reads_done : {T : Type 0} {old new : StoreView S} (value : T) → Reads contents may_give texts faults old new (Ok value) → Reads {T = ⊤} contents may_give texts faults old new (Ok tt)
+  reads_done value reads = record { kept = reads.kept; shelf = reads.shelf; cause = tt; count = reads.count }
 
   -- the same objects are told after it
-  pub told_after : {T : Type 0} {old new : StoreView S} {result : Result T WalkFault} {objects : Objects} → Reads contents may_give faults old new result
+  pub told_after : {T : Type 0} {old new : StoreView S} {result : Result T WalkFault} {objects : Objects} → Reads contents may_give texts faults old new result
       → objects_of contents old ≡ Some objects → objects_of contents new ≡ Some objects
   told_after reads told = reads.kept.objects ∙ told
+
+  -- and were told before it
+  pub told_before : {T : Type 0} {old new : StoreView S} {result : Result T WalkFault} {objects : Objects} → Reads contents may_give texts faults old new result
+      → objects_of contents new ≡ Some objects → objects_of contents old ≡ Some objects
+  told_before reads told = sym reads.kept.objects ∙ told
 
 -- what is left behind the end of a list
 pub nothing_left : {X : Type 0} (xs : List X) (n : ℕ) → length xs ≤ n → drop n xs ≡ []

@@ -1,6 +1,6 @@
--- Steps of a traversal that keeps the keys which it met. The key lemmas are entry_many, entry_deep, entry_walks,
--- walks_next, walks_stop, walks_end, directory_walks and file_walks.
-use Rattle.std.proofs.Common.{◌≡◌, ◌≤◌, ◌<◌, ◌+◌, ◌||◌, ◌&&◌, not, ℕ, zero, suc, Bool, true, false, cond, if◌then◌else◌, is_some, List, [], ◌∷◌, ◌++◌, length, refl, sym, ap, ap₂, ◌∙◌, subst, Option, None, Some, Result, Ok, Err, arith, append_assoc, append-nil, eq-eqb, ◌==◌, subst₂}
+-- Steps of a traversal that keeps the keys which it met. The key lemmas are entry_directory, entry_file, walks_next,
+-- walks_stop, walks_end, directory_entries, file_whole and commit_met.
+use Rattle.std.proofs.Common.{◌≡◌, ◌<◌, ◌+◌, ◌||◌, ◌&&◌, not, ℕ, suc, Bool, true, false, cond, if◌then◌else◌, is_some, List, [], ◌∷◌, ◌++◌, length, refl, sym, ap, ap₂, ◌∙◌, subst, Option, None, Some, Result, Ok, Err, arith, append_assoc, append-nil, eq-eqb, ◌==◌, subst₂}
 use Rattle.std.specs.Prelude.{⊤}
 use Rattle.std.specs.FinMap as map
 use Rattle.ids.specs.Key.{Objects, key_cmp}
@@ -15,19 +15,20 @@ use Rattle.fs_objects.specs.declared.fs_object.FsObject.{FsObject}
 use Rattle.fs_objects.specs.declared.fs_object.FsObject.TheVariants as fs
 use Rattle.commit_objects.specs.declared.commit.Commit.{Commit}
 use Rattle.object_graph.specs.Objects.{block_key, commit_at, commit_key, fs_at, fs_key, is_nil, in_name_order, joined}
-use Rattle.object_graph.specs.Traversal.{Walk, start, needs, walk_commit, walk_root, visited, failed, counted, then_walk, then_read, walk_block, walk_blocks, walk_file_at, walk_found, walk_object, walk_below, sized, is_in, distinct_from}
+use Rattle.object_graph.specs.Traversal.{Walk, start, needs, walk_commit, walk_root, visited, failed, then_walk, then_read, walk_block, walk_blocks, walk_file_at, walk_found, walk_below, sized, is_in, distinct_from}
 use Rattle.object_graph.specs.declared.fault.TreeFault.{TreeFault}
-use Rattle.object_graph.specs.declared.fault.TreeFault.TheVariants.{Incomplete, TooDeep, TooMany, WrongKind, WrongSize}
+use Rattle.object_graph.specs.declared.fault.TreeFault.TheVariants.{Incomplete, WrongSize}
 use Rattle.object_graph.proofs.Alike.{Alike, alike_then, entries_alike}
 use Rattle.object_graph.proofs.Keys.{same_key, in_append, distinct_push, Once, once_push, once_append}
-use Rattle.object_graph.proofs.Limits.{blocks_paths, counted_fits, counted_over}
-use Rattle.object_graph.proofs.Schemes.{Step, none_before, goes_on, stands_still}
+use Rattle.object_graph.proofs.Limits.{blocks_paths}
+use Rattle.object_graph.proofs.Schemes.{Step, none_before, goes_on}
 use Rattle.tree_walk.specs.Files.{as_file, file_at, file_due}
 use Rattle.tree_walk.specs.Reading.{AnswersRead, IsDue}
-use Rattle.tree_walk.specs.Visits.{MetView, HasMet, IsMet, Walks, no_repeat, seen, visit_directory, visit_entries, visit_entry, with_blocks, with_key, with_key_met}
+use Rattle.tree_walk.specs.Steps.{directory_step, entries_step, entry_step}
+use Rattle.tree_walk.specs.Visits.{MetView, HasMet, IsMet, Walks, no_repeat, seen, with_blocks, with_key, with_key_met}
 use Rattle.tree_walk.specs.declared.fault.WalkFault.{WalkFault}
-use Rattle.tree_walk.proofs.FileLemmas.{blocks_walk, due_read, no_block_due, walk_due, whole_size}
-use Rattle.tree_walk.proofs.ListingLemmas.{due_of, due_first}
+use Rattle.tree_walk.proofs.FileLemmas.{blocks_walk, file_anywhere, no_block_due, whole_size}
+use Rattle.tree_walk.proofs.StepsLemmas.{due_of, due_unread, one_more, step_commit, step_entries, step_object, step_on, step_stops}
 
 -- ---- keys, each once
 
@@ -131,162 +132,75 @@ visit_alike key met = record { keys = with_key-once met.keys key; paths = refl; 
 
 -- ---- one entry
 
-pub entry_many : (objects : Objects) (room : ℕ) (path : PathV) (e : Dirent) (met : MetView) → 1000000 ≤ met.paths → (visit_entry objects room path e (seen met)).fault ≡ Some (TooMany (met.paths + 1))
-entry_many objects room path e met many =
-    let over : counted (seen met) ≡ failed (TooMany (met.paths + 1)) (record (seen met) { paths = met.paths + 1 }) = counted_over (seen met) (omega arith) in
-    let at : (counted (seen met)).fault ≡ Some (TooMany (met.paths + 1)) = ap (λ (v : Walk). v.fault) over in
-    ap (λ (v : Walk). v.fault) (stands_still (counted (seen met)) (walk_below true objects room (is_directory_mode e.mode) (path ++ e.name ∷ []) e.id) (TooMany (met.paths + 1)) at) ∙ at
-
-abbrev one_more : MetView → MetView
-one_more met = record met { paths = met.paths + 1 }
-
-entry_begins : (objects : Objects) (room : ℕ) (path : PathV) (e : Dirent) (met : MetView) → met.paths < 1000000
-    → visit_entry objects room path e (seen met) ≡ walk_below true objects room (is_directory_mode e.mode) (path ++ e.name ∷ []) e.id (seen (one_more met))
-entry_begins objects room path e met few =
-    let fits : counted (seen met) ≡ seen (one_more met) = counted_fits (seen met) (omega arith) in
-    let step : Step = walk_below true objects room (is_directory_mode e.mode) (path ++ e.name ∷ []) e.id in
-    ap (λ (v : Walk). then_walk v step) fits
-
-pub entry_deep : (objects : Objects) (room : ℕ) (path : PathV) (e : Dirent) (met : MetView) → room ≡ zero → met.paths < 1000000 → (visit_entry objects room path e (seen met)).fault ≡ Some (TooDeep (path ++ e.name ∷ []))
-unfolding walk_below
-entry_deep objects room path e met none few =
-    ap (λ r. (visit_entry objects r path e (seen met)).fault) none ∙ ap (λ (v : Walk). v.fault) (entry_begins objects zero path e met few)
-
--- a file is traversed the same at any path
-file_anywhere : (objects : Objects) (less : ℕ) (path : PathV) (id : List ℕ) (w : Walk) → walk_object true objects (walk_below true objects less) false path id w ≡ walk_file_at objects id w
-file_anywhere objects less path id w = by (is_nil id)
-  where
-    read : (v : Walk) (r : Result FsObject TreeFault) → then_read r (walk_found true objects (walk_below true objects less) false path id) v ≡ then_read r (walk_found true objects (walk_below true objects 100) false [] id) v
-    read v (Ok (fs.File file)) = refl
-    read v (Ok (fs.Dir entries)) = refl
-    read v (Err fault) = refl
-
-    by : (n : Bool) → (if n then w else then_read (fs_at objects id) (walk_found true objects (walk_below true objects less) false path id) (visited (fs_key id) w))
-        ≡ (if n then w else then_read (fs_at objects id) (walk_found true objects (walk_below true objects 100) false [] id) (visited (fs_key id) w))
-    by true = refl
-    by false = read (visited (fs_key id) w) (fs_at objects id)
-
 -- the same traversal, told by an equation
 walks_same : (objects : Objects) (step other : Step) (old mid : MetView) (result : Result MetView WalkFault) → step (seen old) ≡ other (seen mid) → Walks objects other mid result → Walks objects step old result
 walks_same objects step other old mid (Ok met) same walks = subst (λ (w : Walk). HasMet w met) (sym same) walks
 walks_same objects step other old mid (Err fault) same walks = subst (λ (w : Walk). IsDue objects w.fault fault) (sym same) walks
 
-entry_object : (objects : Objects) (room less : ℕ) (path : PathV) (e : Dirent) (met : MetView) (wants : Bool) → room ≡ suc less → met.paths < 1000000 → is_directory_mode e.mode ≡ wants
-    → visit_entry objects room path e (seen met) ≡ walk_object true objects (walk_below true objects less) wants (path ++ e.name ∷ []) e.id (seen (one_more met))
-unfolding walk_below
-entry_object objects room less path e met wants fits few is =
-    ap (λ r. visit_entry objects r path e (seen met)) fits
-    ∙ entry_begins objects (suc less) path e met few
-    ∙ ap (λ b. walk_object true objects (walk_below true objects less) b (path ++ e.name ∷ []) e.id (seen (one_more met))) is
-
 pub entry_directory : (objects : Objects) (room less : ℕ) (path own : PathV) (e : Dirent) (old mid : MetView) (result : Result MetView WalkFault) → room ≡ suc less → own ≡ path ++ e.name ∷ []
-    → mid ≡ one_more old → old.paths < 1000000 → is_directory_mode e.mode ≡ true → Walks objects (visit_directory objects less own e.id) mid result → Walks objects (visit_entry objects room path e) old result
+    → mid ≡ record old { paths = old.paths + 1 } → old.paths < 1000000 → is_directory_mode e.mode ≡ true → Walks objects (directory_step true objects less own e.id) mid result → Walks objects (entry_step true objects room path e) old result
 entry_directory objects room less path own e old mid result fits at more few is walks =
-    walks_same objects (visit_entry objects room path e) (visit_directory objects less own e.id) old mid result
-    (entry_object objects room less path e old true fits few is
-    ∙ ap₂ (λ (p : PathV) (m : MetView). visit_directory objects less p e.id (seen m)) (sym at) (sym more)) walks
+    walks_same objects (entry_step true objects room path e) (directory_step true objects less own e.id) old mid result
+    (step_object true objects room path less e (seen old) true fits is refl few
+    ∙ ap₂ (λ (p : PathV) (m : MetView). directory_step true objects less p e.id (seen m)) (sym at) (sym more)) walks
 
 pub entry_file : (objects : Objects) (room less : ℕ) (path : PathV) (e : Dirent) (old mid : MetView) (result : Result MetView WalkFault) → room ≡ suc less
-    → mid ≡ one_more old → old.paths < 1000000 → is_directory_mode e.mode ≡ false → Walks objects (walk_file_at objects e.id) mid result → Walks objects (visit_entry objects room path e) old result
+    → mid ≡ record old { paths = old.paths + 1 } → old.paths < 1000000 → is_directory_mode e.mode ≡ false → Walks objects (walk_file_at objects e.id) mid result → Walks objects (entry_step true objects room path e) old result
 entry_file objects room less path e old mid result fits more few is walks =
-    walks_same objects (visit_entry objects room path e) (walk_file_at objects e.id) old mid result
-    (entry_object objects room less path e old false fits few is
-    ∙ file_anywhere objects less (path ++ e.name ∷ []) e.id (seen (one_more old))
+    walks_same objects (entry_step true objects room path e) (walk_file_at objects e.id) old mid result
+    (step_object true objects room path less e (seen old) false fits is refl few
+    ∙ file_anywhere objects less (path ++ e.name ∷ []) e.id (one_more (seen old))
     ∙ ap (λ (m : MetView). walk_file_at objects e.id (seen m)) (sym more)) walks
 
 -- ---- entries, one after another
 
 -- what going over the rest gives is what going over all gives
 pub record WalksOn (objects : Objects) (room : ℕ) (path : PathV) (all rest : List Dirent) (old new : MetView) : Type 0 where
-  pub alike : Alike Once (visit_entries objects room path rest (seen new)) (visit_entries objects room path all (seen old))
+  pub alike : Alike Once (entries_step true objects room path rest (seen new)) (entries_step true objects room path all (seen old))
 
 pub walks_begin : (objects : Objects) (room : ℕ) (path : PathV) (all : List Dirent) (met : MetView) → WalksOn objects room path all all met met
 walks_begin objects room path all met = record { alike = record { keys = refl; paths = refl; fault = refl } }
 
 pub walks_next : (objects : Objects) (room : ℕ) (path : PathV) (all rest : List Dirent) (e : Dirent) (old mid new : MetView) → WalksOn objects room path all (e ∷ rest) old mid
-    → Walks objects (visit_entry objects room path e) mid (Ok new) → WalksOn objects room path all rest old new
+    → Walks objects (entry_step true objects room path e) mid (Ok new) → WalksOn objects room path all rest old new
 walks_next objects room path all rest e old mid new goes walks =
-    let w : Walk = visit_entry objects room path e (seen mid) in
-    let on : then_walk w (visit_entries objects room path rest) ≡ visit_entries objects room path rest w = goes_on w (visit_entries objects room path rest) walks.none in
-    let same : Alike Once (visit_entries objects room path rest (seen new)) (visit_entries objects room path rest w) =
+    let w : Walk = entry_step true objects room path e (seen mid) in
+    let same : Alike Once (entries_step true objects room path rest (seen new)) (entries_step true objects room path rest w) =
     entries_alike Once once_push true objects room path rest (seen new) w (alike_met w new walks) in
-    record { alike = alike_then join_once (subst (λ (v : Walk). Alike Once (visit_entries objects room path rest (seen new)) v) (sym on) same) goes.alike }
+    record { alike = alike_then join_once (subst (λ (v : Walk). Alike Once (entries_step true objects room path rest (seen new)) v) (sym (step_on true objects room path e rest (seen mid) walks.none)) same) goes.alike }
 
 pub walks_stop : (objects : Objects) (room : ℕ) (path : PathV) (all rest : List Dirent) (e : Dirent) (old mid : MetView) → WalksOn objects room path all (e ∷ rest) old mid
-    → (fault : WalkFault) → Walks objects (visit_entry objects room path e) mid (Err fault) → Walks objects (visit_entries objects room path all) old (Err fault)
+    → (fault : WalkFault) → Walks objects (entry_step true objects room path e) mid (Err fault) → Walks objects (entries_step true objects room path all) old (Err fault)
 walks_stop objects room path all rest e old mid goes fault is =
-    due_of objects (visit_entries objects room path (e ∷ rest) (seen mid)).fault (visit_entries objects room path all (seen old)).fault (λ due at. sym goes.alike.fault ∙ at) fault
-    (due_first objects (visit_entry objects room path e (seen mid)) (visit_entries objects room path rest) fault is)
+    due_of objects (entries_step true objects room path (e ∷ rest) (seen mid)).fault (entries_step true objects room path all (seen old)).fault (λ due at. sym goes.alike.fault ∙ at) fault
+    (step_stops true objects room path e rest (seen mid) fault is)
 
-pub walks_end : (objects : Objects) (room : ℕ) (path : PathV) (all : List Dirent) (old new : MetView) → WalksOn objects room path all [] old new → Walks objects (visit_entries objects room path all) old (Ok new)
-walks_end objects room path all old new goes = met_alike (visit_entries objects room path all (seen old)) new goes.alike
+pub walks_end : (objects : Objects) (room : ℕ) (path : PathV) (all : List Dirent) (old new : MetView) → WalksOn objects room path all [] old new → Walks objects (entries_step true objects room path all) old (Ok new)
+walks_end objects room path all old new goes = met_alike (entries_step true objects room path all (seen old)) new goes.alike
 
 -- ---- a directory
 
-pub directory_nil : (objects : Objects) (room : ℕ) (path : PathV) (id : List ℕ) (met : MetView) → id ≡ nil → Walks objects (visit_directory objects room path id) met (Ok met)
-directory_nil objects room path id met is = subst (λ i. Walks objects (visit_directory objects room path i) met (Ok met)) (sym is) (record { none = refl; keys = refl; paths = refl })
+pub directory_nil : (objects : Objects) (room : ℕ) (path : PathV) (id : List ℕ) (met : MetView) → id ≡ nil → Walks objects (directory_step true objects room path id) met (Ok met)
+directory_nil objects room path id met is = subst (λ i. Walks objects (directory_step true objects room path i) met (Ok met)) (sym is) (record { none = refl; keys = refl; paths = refl })
 
 pub directory_entries : (objects : Objects) (room : ℕ) (path : PathV) (id : List ℕ) (entries sorted : List Dirent) (old mid : MetView) (result : Result MetView WalkFault)
     → is_nil id ≡ false → fs_at objects id ≡ Ok (fs.Dir entries) → sorted ≡ in_name_order entries → mid ≡ with_key_met (fs_key id) old
-    → Walks objects (visit_entries objects room path sorted) mid result → Walks objects (visit_directory objects room path id) old result
+    → Walks objects (entries_step true objects room path sorted) mid result → Walks objects (directory_step true objects room path id) old result
 directory_entries objects room path id entries sorted old mid result other read same visit walks =
-    walks_alike objects (visit_directory objects room path id) (visit_entries objects room path sorted) old mid result alike walks
+    walks_alike objects (directory_step true objects room path id) (entries_step true objects room path sorted) old mid result alike walks
   where
-    whole : visit_directory objects room path id (seen old) ≡ visit_entries objects room path (in_name_order entries) (visited (fs_key id) (seen old))
-    whole =
-        ap₂ (λ (n : Bool) (r : Result FsObject TreeFault). if n then seen old else then_read r (walk_found true objects (walk_below true objects room) true path id) (visited (fs_key id) (seen old))) other read
-
     start : Alike Once (seen mid) (visited (fs_key id) (seen old))
     start = subst (λ (m : MetView). Alike Once (seen m) (visited (fs_key id) (seen old))) (sym visit) (visit_alike (fs_key id) old)
 
-    alike : Alike Once (visit_entries objects room path sorted (seen mid)) (visit_directory objects room path id (seen old))
+    alike : Alike Once (entries_step true objects room path sorted (seen mid)) (directory_step true objects room path id (seen old))
     alike =
-        subst (λ (v : Walk). Alike Once (visit_entries objects room path sorted (seen mid)) v) (sym whole)
-        (subst (λ es. Alike Once (visit_entries objects room path sorted (seen mid)) (visit_entries objects room path es (visited (fs_key id) (seen old)))) same
-        (entries_alike Once once_push true objects room path sorted (seen mid) (visited (fs_key id) (seen old)) start))
-
--- an object that can't be read, or is a file
-pub directory_stops : (objects : Objects) (room : ℕ) (path : PathV) (id : List ℕ) (met : MetView) (fault : WalkFault) → is_nil id ≡ false → AnswersRead objects (fs_at objects id) (Err fault)
-    → Walks objects (visit_directory objects room path id) met (Err fault)
-directory_stops objects room path id met fault other is = by (is_nil id) other (fs_at objects id) is
-  where
-    nothing : {X : Type 0} {x : X} {o : Option X} → None ≡ Some x → o ≡ Some x
-    nothing e = cc
-
-    read : (r : Result FsObject TreeFault) → AnswersRead objects r (Err fault) → IsDue objects (then_read r (walk_found true objects (walk_below true objects room) true path id) (visited (fs_key id) (seen met))).fault fault
-    read (Ok object) is = due_of objects None _ (λ due at. nothing at) fault is
-    read (Err due) is = is
-
-    by : (n : Bool) → n ≡ false → (r : Result FsObject TreeFault) → AnswersRead objects r (Err fault)
-        → IsDue objects (if n then seen met else then_read r (walk_found true objects (walk_below true objects room) true path id) (visited (fs_key id) (seen met))).fault fault
-    by true other r is = cc
-    by false other r is = read r is
-
-pub directory_file : (objects : Objects) (room : ℕ) (path : PathV) (id : List ℕ) (met : MetView) (file : FileObject) → is_nil id ≡ false → fs_at objects id ≡ Ok (fs.File file)
-    → (visit_directory objects room path id (seen met)).fault ≡ Some (WrongKind id)
-directory_file objects room path id met file other read =
-    ap₂ (λ (n : Bool) (r : Result FsObject TreeFault).
-    (if n then seen met else then_read r (walk_found true objects (walk_below true objects room) true path id) (visited (fs_key id) (seen met))).fault) other read
+        subst (λ (v : Walk). Alike Once (entries_step true objects room path sorted (seen mid)) v) (sym (step_entries true objects room path id entries sorted (seen old) other read same))
+        (entries_alike Once once_push true objects room path sorted (seen mid) (visited (fs_key id) (seen old)) start)
 
 -- ---- a file
 
 pub file_nil : (objects : Objects) (id : List ℕ) (met : MetView) → id ≡ nil → Walks objects (walk_file_at objects id) met (Ok met)
 file_nil objects id met is = subst (λ i. Walks objects (walk_file_at objects i) met (Ok met)) (sym is) (record { none = refl; keys = refl; paths = refl })
-
-pub file_unread : (objects : Objects) (id : List ℕ) (met : MetView) (fault : WalkFault) → AnswersRead objects (file_at objects id) (Err fault) → Walks objects (walk_file_at objects id) met (Err fault)
-file_unread objects id met fault is = by (file_at objects id) (walk_due objects id (seen met) refl) is
-  where
-    by : (r : Result FileObject TreeFault) → (walk_file_at objects id (seen met)).fault ≡ due_read objects id r → AnswersRead objects r (Err fault) → IsDue objects (walk_file_at objects id (seen met)).fault fault
-    by (Ok file) same is = due_of objects None (walk_file_at objects id (seen met)).fault (λ due at. nothing at) fault is
-      where
-        nothing : {x : TreeFault} → None ≡ Some x → (walk_file_at objects id (seen met)).fault ≡ Some x
-        nothing e = cc
-    by (Err due) same is = due_of objects (Some due) (walk_file_at objects id (seen met)).fault (λ x at. same ∙ at) fault is
-
-pub file_bad : (objects : Objects) (id : List ℕ) (met : MetView) (file : FileObject) (fault : WalkFault) → file_at objects id ≡ Ok file → IsDue objects (file_due objects id file) fault
-    → Walks objects (walk_file_at objects id) met (Err fault)
-file_bad objects id met file fault read is =
-    due_of objects (file_due objects id file) (walk_file_at objects id (seen met)).fault (λ due at. walk_due objects id (seen met) refl ∙ ap (due_read objects id) read ∙ at) fault is
 
 -- blocks that are all stored
 block_visits : (objects : Objects) (id : List ℕ) (w : Walk) → (walk_block true objects id w).visits ≡ w.visits ++ block_key id ∷ []
@@ -346,38 +260,27 @@ file_whole objects id old mid new file blocks other read none visit at more =
 
 -- ---- a commit
 
-commit_walk : (objects : Objects) (id : List ℕ) (commit : Commit) → commit_at objects id ≡ Ok commit
-    → walk_commit objects id ≡ visit_directory objects 100 [] commit.root (seen (with_key_met (commit_key id) (record { keys = []; paths = 0 })))
-unfolding walk_commit
-commit_walk objects id commit read =
-    ap (λ (r : Result Commit TreeFault). then_read r (λ commit. walk_root true objects commit.root) (visited (commit_key id) start)) read
-
 pub commit_met : (objects : Objects) (id : List ℕ) (commit : Commit) (first mid last : MetView) (keys : List Key) → commit_at objects id ≡ Ok commit
-    → first ≡ record { keys = []; paths = 0 } → mid ≡ with_key_met (commit_key id) first → Walks objects (visit_directory objects 100 [] commit.root) mid (Ok last)
+    → first ≡ record { keys = []; paths = 0 } → mid ≡ with_key_met (commit_key id) first → Walks objects (directory_step true objects 100 [] commit.root) mid (Ok last)
     → keys ≡ last.keys → distinct_from [] keys ≡ keys → (walk_commit objects id).fault ≡ None × keys ≡ needs objects id
 commit_met objects id commit first mid last keys read none visit walks same once =
     let from : mid ≡ with_key_met (commit_key id) (record { keys = []; paths = 0 }) = visit ∙ ap (with_key_met (commit_key id)) none in
-    let is : walk_commit objects id ≡ visit_directory objects 100 [] commit.root (seen mid) =
-    commit_walk objects id commit read ∙ ap (λ (m : MetView). visit_directory objects 100 [] commit.root (seen m)) (sym from) in
+    let is : walk_commit objects id ≡ directory_step true objects 100 [] commit.root (seen mid) =
+    step_commit objects id commit read ∙ ap (λ (m : MetView). directory_step true objects 100 [] commit.root (seen m)) (sym from) in
     let met : HasMet (walk_commit objects id) last = subst (λ (w : Walk). HasMet w last) (sym is) walks in
     (met.none, sym once ∙ ap (distinct_from []) same ∙ sym met.keys)
 
 pub commit_stops : (objects : Objects) (id : List ℕ) (commit : Commit) (first mid : MetView) (fault : WalkFault) → commit_at objects id ≡ Ok commit
-    → first ≡ record { keys = []; paths = 0 } → mid ≡ with_key_met (commit_key id) first → Walks objects (visit_directory objects 100 [] commit.root) mid (Err fault)
+    → first ≡ record { keys = []; paths = 0 } → mid ≡ with_key_met (commit_key id) first → Walks objects (directory_step true objects 100 [] commit.root) mid (Err fault)
     → IsDue objects (walk_commit objects id).fault fault
 commit_stops objects id commit first mid fault read none visit walks =
     let from : mid ≡ with_key_met (commit_key id) (record { keys = []; paths = 0 }) = visit ∙ ap (with_key_met (commit_key id)) none in
-    let is : walk_commit objects id ≡ visit_directory objects 100 [] commit.root (seen mid) =
-    commit_walk objects id commit read ∙ ap (λ (m : MetView). visit_directory objects 100 [] commit.root (seen m)) (sym from) in
+    let is : walk_commit objects id ≡ directory_step true objects 100 [] commit.root (seen mid) =
+    step_commit objects id commit read ∙ ap (λ (m : MetView). directory_step true objects 100 [] commit.root (seen m)) (sym from) in
     subst (λ (w : Walk). IsDue objects w.fault fault) (sym is) walks
 
 pub commit_unread : (objects : Objects) (id : List ℕ) (fault : WalkFault) → AnswersRead objects (commit_at objects id) (Err fault) → IsDue objects (walk_commit objects id).fault fault
 unfolding walk_commit
-commit_unread objects id fault is = by (commit_at objects id) is
-  where
-    none_due : {X : Type 0} {x : X} {o : Option X} → None ≡ Some x → o ≡ Some x
-    none_due e = cc
-
-    by : (r : Result Commit TreeFault) → AnswersRead objects r (Err fault) → IsDue objects (then_read r (λ commit. walk_root true objects commit.root) (visited (commit_key id) start)).fault fault
-    by (Ok commit) is = due_of objects None _ (λ due at. none_due at) fault is
-    by (Err due) is = is
+commit_unread objects id fault is =
+    due_unread objects (walk_commit objects id).fault (commit_at objects id)
+    (λ due at. ap (λ (r : Result Commit TreeFault). (then_read r (λ commit. walk_root true objects commit.root) (visited (commit_key id) start)).fault) at) fault is

@@ -1,7 +1,11 @@
+pub mod Checking
+pub mod Extent
 pub mod Files
 pub mod Known
+pub mod KnownTrees
 pub mod Limits
 pub mod Listings
 pub mod Reading
+pub mod Steps
 pub mod Trail
 pub mod Visits

@@ -6,7 +6,7 @@ use Rattle.ids.specs.Key.{Objects}
 use Rattle.ids.specs.declared.key.Key.{Key}
 use Rattle.object_store.specs.Shelf.{Contents}
 use Rattle.object_store.specs.Store.{IsDamage, damage_at, is_of_shelf}
-use Rattle.object_store.specs.StoreView.{Index, Keeps, StoreView}
+use Rattle.object_store.specs.StoreView.{Index, Keeps, ReadsShelf, StoreView}
 use Rattle.object_store.specs.declared.error.StoreFault.{StoreFault}
 use Rattle.object_store.specs.declared.error.StoreFault.TheVariants.{Taken, Wrong, Damaged, Shelf, NoMemory}
 use Rattle.object_store.specs.declared.shelf.Slot.{Slot}
@@ -109,10 +109,11 @@ is_counted (WrongSize id) = false
 is_counted (TooDeep path) = false
 is_counted (TooMany paths) = false
 
--- nothing that the store holds is changed; a failure of the store comes for its cause; and the shelf's count rose where
--- it failed, and stays else
-pub record Reads {S T : Type 0} (contents : S → Option Contents) (may_give : S → Slot → Option (List ℕ) → Type 0) (faults : S → ℕ)
+-- nothing that the store holds is changed, and the shelf may give no more than before; a failure of the store comes for its
+-- cause; and the shelf's count rose where it failed, and stays else
+pub record Reads {S T : Type 0} (contents : S → Option Contents) (may_give : S → Slot → Option (List ℕ) → Type 0) (texts faults : S → ℕ)
     (old new : StoreView S) (result : Result T WalkFault) : Type 0 where
   pub kept : Keeps contents old new
+  pub shelf : ReadsShelf may_give texts old.shelf new.shelf
   pub cause : CausedBy new.index (may_give new.shelf) result
   pub count : FailsBy is_counted (faults old.shelf) (faults new.shelf) result

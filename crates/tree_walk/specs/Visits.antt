@@ -5,11 +5,8 @@ use Rattle.std.specs.FinMap as map
 use Rattle.ids.specs.Key.{Objects, key_cmp}
 use Rattle.ids.specs.contracts.key.Key as key_contracts
 use Rattle.ids.specs.declared.key.Key.{Key}
-use Rattle.tree_model.specs.Path.{PathV}
-use Rattle.fs_objects.specs.Mode.{is_directory_mode}
-use Rattle.fs_objects.specs.declared.dirent.Dirent.{Dirent}
 use Rattle.object_graph.specs.Objects.{block_key}
-use Rattle.object_graph.specs.Traversal.{Walk, counted, distinct_from, is_in, then_walk, walk_commit, walk_entries, walk_object, walk_below}
+use Rattle.object_graph.specs.Traversal.{Walk, distinct_from, is_in, walk_commit}
 use Rattle.object_graph.specs.declared.fault.TreeFault.{TreeFault}
 use Rattle.tree_walk.specs.Files.{first_due}
 use Rattle.tree_walk.specs.Reading.{IsDue}
@@ -59,16 +56,6 @@ pub record HasMet (w : Walk) (met : MetView) : Type 0 where
 abbrev pub Walks : Objects → (Walk → Walk) → MetView → Result MetView WalkFault → Type 0
 Walks objects step old (Ok new) = HasMet (step (seen old)) new
 Walks objects step old (Err fault) = IsDue objects (step (seen old)).fault fault
-
--- the steps of a traversal with all blocks
-abbrev pub visit_entry : Objects → ℕ → PathV → Dirent → Walk → Walk
-visit_entry objects room path e w = then_walk (counted w) (walk_below true objects room (is_directory_mode e.mode) (path ++ e.name ∷ []) e.id)
-
-abbrev pub visit_entries : Objects → ℕ → PathV → List Dirent → Walk → Walk
-visit_entries objects room path entries w = walk_entries true objects (walk_below true objects room) path entries w
-
-abbrev pub visit_directory : Objects → ℕ → PathV → List ℕ → Walk → Walk
-visit_directory objects room path id w = walk_object true objects (walk_below true objects room) true path id w
 
 -- the first fault of one commit, and then of another, if there is one
 abbrev pub commit_due : Objects → Option (List ℕ) → Option TreeFault

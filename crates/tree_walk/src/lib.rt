@@ -1,13 +1,17 @@
 //! Stored trees, read: which objects a commit needs, what stands at each path, the bytes of files.
 #![tactic(auto)]
 
+mod checking;
 mod contents;
+mod extent;
 mod fault;
 mod file;
 mod found;
 mod fs_list;
 mod kind;
 mod known;
+mod known_trees;
+pub mod laws;
 mod listing;
 mod met;
 mod name_order;
@@ -16,9 +20,12 @@ mod trail;
 mod unread;
 mod visiting;
 
+pub use crate::checking::check;
 pub use crate::contents::{file_bytes, same_file};
+pub use crate::extent::Extent;
 pub use crate::fault::WalkFault;
 pub use crate::fs_list::fs_ids;
+pub use crate::known_trees::Known;
 pub use crate::listing::{MAX_NAMES, MAX_PATHS, tree};
 pub use crate::reading::commit_at;
 pub use crate::visiting::needs;

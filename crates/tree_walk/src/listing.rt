@@ -7,8 +7,9 @@ ghost use Rattle.object_graph.specs.Objects.{AreEntriesOf};
 ghost use Rattle.object_graph.specs.Traversal.{start, walk_root};
 ghost use Rattle.object_store.specs.StoreView.{objects_of};
 ghost use Rattle.tree_walk.specs.Limits.{IsWithinLimits};
-ghost use Rattle.tree_walk.specs.Listings.{Lists, entry_step, entries_step, directory_step, listed_one, listed_from};
+ghost use Rattle.tree_walk.specs.Listings.{Lists, listed_one, listed_from};
 ghost use Rattle.tree_walk.specs.Reading.{Answers, Reads};
+ghost use Rattle.tree_walk.specs.Steps.{directory_step, entries_step, entry_step};
 
 use crate::fault::WalkFault;
 use crate::file::file_at;
@@ -40,11 +41,14 @@ pub fn tree<S: Shelf>(
     ensures value { (objects : Objects) → objects_of S.contents store.old ≡ Some objects
         → Answers objects (walk_root false objects root start).fault (AreEntriesOf objects root) result }
     ensures bound { IfOk result IsWithinLimits }
-    ensures kept { Reads S.contents S.may_give S.faults store.old store.new result }
+    ensures kept { Reads S.contents S.may_give S.texts S.faults store.old store.new result }
 {
     let mut found = Found::new(alloc);
     let path = Path::root(alloc);
-    list_directory(alloc, store, &path, &root, MAX_NAMES, &mut found)?;
+    match list_directory(alloc, store, &path, &root, MAX_NAMES, &mut found) {
+        Ok(()) => {}
+        Err(fault) => return Err(fault),
+    }
     match table_of(alloc, found.into_entries()) {
         Ok(entries) => Ok(entries),
         Err(_) => Err(WalkFault::Store(StoreFault::NoMemory)),
@@ -85,8 +89,8 @@ fn list_directory<S: Shelf>(
 ) -> Result<(), WalkFault>
     requires fits { length path.now + room ≤ 100 }
     ensures value { (objects : Objects) → objects_of S.contents store.old ≡ Some objects
-        → Lists objects (directory_step objects room path.now id.now) path.now (listed objects room id.now) found.old found.new result }
-    ensures kept { Reads S.contents S.may_give S.faults store.old store.new result }
+        → Lists objects (directory_step false objects room path.now id.now) path.now (listed objects room id.now) found.old found.new result }
+    ensures kept { Reads S.contents S.may_give S.texts S.faults store.old store.new result }
 {
     if id.is_nil() {
         return Ok(());
@@ -117,11 +121,14 @@ fn list_entries<S: Shelf>(
 ) -> Result<(), WalkFault>
     requires fits { length path.now + room ≤ 100 }
     ensures value { (objects : Objects) → objects_of S.contents store.old ≡ Some objects
-        → Lists objects (entries_step objects room path.now entries.now) path.now (listed_from objects room entries.now) found.old found.new result }
-    ensures kept { Reads S.contents S.may_give S.faults store.old store.new result }
+        → Lists objects (entries_step false objects room path.now entries.now) path.now (listed_from objects room entries.now) found.old found.new result }
+    ensures kept { Reads S.contents S.may_give S.texts S.faults store.old store.new result }
 {
     for entry in entries {
-        list_entry(alloc, store, path, entry, room, found)?;
+        match list_entry(alloc, store, path, entry, room, found) {
+            Ok(()) => {}
+            Err(fault) => return Err(fault),
+        }
     }
     Ok(())
 }
@@ -138,8 +145,8 @@ fn list_entry<S: Shelf>(
 ) -> Result<(), WalkFault>
     requires fits { length path.now + room ≤ 100 }
     ensures value { (objects : Objects) → objects_of S.contents store.old ≡ Some objects
-        → Lists objects (entry_step objects room path.now entry.now) path.now (listed_one objects room entry.now) found.old found.new result }
-    ensures kept { Reads S.contents S.may_give S.faults store.old store.new result }
+        → Lists objects (entry_step false objects room path.now entry.now) path.now (listed_one objects room entry.now) found.old found.new result }
+    ensures kept { Reads S.contents S.may_give S.texts S.faults store.old store.new result }
 {
     let count = found.len();
     if count >= MAX_PATHS {

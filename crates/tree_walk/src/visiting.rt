@@ -1,12 +1,12 @@
 //! What a commit needs.
-ghost use Rattle.std.specs.Prelude.{◌≡◌, Some};
+ghost use Rattle.std.specs.Prelude.{◌≡◌, true, IfOk, Some};
 ghost use Rattle.ids.specs.Key.{Objects};
 ghost use Rattle.object_graph.specs.Traversal.{needs, walk_commit, walk_file_at};
 ghost use Rattle.object_store.specs.StoreView.{objects_of};
 ghost use Rattle.tree_walk.specs.Reading.{Answers, Reads};
 ghost use Rattle.tree_walk.specs.Trail.{names_of};
-ghost use Rattle.tree_walk.specs.Visits.{Walks, visit_directory, visit_entries, visit_entry, with_blocks};
-ghost use Rattle.std.specs.Prelude.{IfOk};
+ghost use Rattle.tree_walk.specs.Steps.{directory_step, entries_step, entry_step};
+ghost use Rattle.tree_walk.specs.Visits.{Walks, with_blocks};
 
 use crate::fault::WalkFault;
 use crate::file::{check_blocks, file_at};
@@ -31,7 +31,7 @@ pub fn needs<S: Shelf>(
 ) -> Result<KeyList, WalkFault>
     ensures value { (objects : Objects) → objects_of S.contents store.old ≡ Some objects
         → Answers objects (walk_commit objects commit).fault (λ keys. keys ≡ needs objects commit) result }
-    ensures kept { Reads S.contents S.may_give S.faults store.old store.new result }
+    ensures kept { Reads S.contents S.may_give S.texts S.faults store.old store.new result }
 {
     let id = &commit;
     let met = Met::new(alloc).visit(&commit_key(id))?;
@@ -56,8 +56,8 @@ fn walk_directory<S: Shelf>(
     met: Met,
 ) -> Result<Met, WalkFault>
     ensures value { (objects : Objects) → objects_of S.contents store.old ≡ Some objects
-        → Walks objects (visit_directory objects room (names_of trail.now) id.now) met result }
-    ensures kept { Reads S.contents S.may_give S.faults store.old store.new result }
+        → Walks objects (directory_step true objects room (names_of trail.now) id.now) met result }
+    ensures kept { Reads S.contents S.may_give S.texts S.faults store.old store.new result }
 {
     if id.is_nil() {
         return Ok(met);
@@ -88,8 +88,8 @@ fn walk_entries<S: Shelf>(
     met: Met,
 ) -> Result<Met, WalkFault>
     ensures value { (objects : Objects) → objects_of S.contents store.old ≡ Some objects
-        → Walks objects (visit_entries objects room (names_of trail.now) entries.now) met result }
-    ensures kept { Reads S.contents S.may_give S.faults store.old store.new result }
+        → Walks objects (entries_step true objects room (names_of trail.now) entries.now) met result }
+    ensures kept { Reads S.contents S.may_give S.texts S.faults store.old store.new result }
 {
     let mut met = met;
     for entry in entries {
@@ -109,8 +109,8 @@ fn walk_entry<S: Shelf>(
     met: Met,
 ) -> Result<Met, WalkFault>
     ensures value { (objects : Objects) → objects_of S.contents store.old ≡ Some objects
-        → Walks objects (visit_entry objects room (names_of trail.now) entry.now) met result }
-    ensures kept { Reads S.contents S.may_give S.faults store.old store.new result }
+        → Walks objects (entry_step true objects room (names_of trail.now) entry.now) met result }
+    ensures kept { Reads S.contents S.may_give S.texts S.faults store.old store.new result }
 {
     let paths = met.paths();
     if paths >= MAX_PATHS as u64 {
@@ -136,7 +136,7 @@ fn walk_file<S: Shelf>(
     met: Met,
 ) -> Result<Met, WalkFault>
     ensures value { (objects : Objects) → objects_of S.contents store.old ≡ Some objects → Walks objects (walk_file_at objects id.now) met result }
-    ensures kept { Reads S.contents S.may_give S.faults store.old store.new result }
+    ensures kept { Reads S.contents S.may_give S.texts S.faults store.old store.new result }
 {
     if id.is_nil() {
         return Ok(met);

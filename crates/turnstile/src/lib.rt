@@ -15,8 +15,6 @@ mod rule;
 mod seated;
 mod steps;
 mod story;
-#[cfg(test)]
-mod tests;
 mod turnstile;
 mod view;
 

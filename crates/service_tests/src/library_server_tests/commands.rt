@@ -1,11 +1,8 @@
 //! Commands over libraries in memory: what is printed, and the status.
-use super::{LIB, MOMENT};
+use super::{LIB, status_on};
 use folder_storage::MemoryGround;
 use http_front::{MemoryLink, MemorySink};
-use ids::{Bytes, Items, Text};
-use library_server::run;
-use library_state::ListClock;
-use std::alloc::{AllocError, Global};
+use ids::{Bytes, Items};
 use std::process::Abort;
 use std::test::Fail;
 
@@ -18,14 +15,6 @@ const SECOND: &str = "bbbbbbbbbbbbbbbbbbbbbbbbbbbbbbbbbbbbbbbb";
 const CREATED: &[u8] =
     b"created 11111111-2222-4333-8444-555555555555 de5b6cf3254312e4a85da7b0d1ced43475193333\n";
 
-fn words_of(alloc: Global, texts: &[&str]) -> Result<Items<Text>, AllocError> {
-    let mut words = Items::new(alloc);
-    for text in texts {
-        words.push(Text::copy(alloc, text)?)?;
-    }
-    Ok(words)
-}
-
 /// Runs a command on these libraries, over a link at its end, and expects its line and its status.
 fn expect_line(
     rt: &(impl Abort + AllocGlobal),
@@ -34,25 +23,10 @@ fn expect_line(
     line: &[u8],
     status: u8,
 ) -> Result<(), Fail> {
-    let words = words_of(rt.alloc(), texts)?;
-    let mut link = MemoryLink::new(
-        rt.alloc(),
-        Bytes::new(rt.alloc()),
-        1,
-        100,
-        Items::new(rt.alloc()),
-    )?;
-    let mut out = MemorySink::new(rt.alloc(), 1_000, Items::new(rt.alloc()))?;
-    let clock = ListClock::new(Items::copy(rt.alloc(), &[MOMENT])?);
-    let told = run(
-        &(),
-        rt.alloc(),
-        words.slice(),
-        libraries,
-        &mut link,
-        &clock,
-        &mut out,
-    );
+    let alloc = rt.alloc();
+    let mut link = MemoryLink::new(alloc, Bytes::new(alloc), 1, 100, Items::new(alloc))?;
+    let mut out = MemorySink::new(alloc, 1_000, Items::new(alloc))?;
+    let told = status_on(alloc, libraries, texts, &mut link, &mut out)?;
     assert_eq!(rt; out.given(), line);
     assert_eq!(rt; told, status);
     Ok(())

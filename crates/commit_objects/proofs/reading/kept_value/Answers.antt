@@ -4,7 +4,7 @@ use Rattle.std.proofs.lemmas.Result.{IfOk-weaker}
 use Rattle.serde_json.specs.View.{view}
 use Rattle.serde_json.specs.declared.value.Value.{Value}
 use Rattle.json_words.specs.JsonText.{json_of}
-use Rattle.json_words.specs.Kept.{kept}
+use Rattle.json_tokens.specs.Kept.{kept}
 use Rattle.commit_objects.specs.Commit.{commit_of}
 use Rattle.commit_objects.specs.Reading.{commit_keys, value_seen}
 use Rattle.commit_objects.proofs.KeptCommit.{value_seen-kept}

@@ -6,7 +6,7 @@ use Rattle.ids.specs.ObjectId.{nil}
 use Rattle.object_store.specs.Store.{same_bytes}
 use Rattle.object_store.specs.StoreView.{objects_of}
 use Rattle.object_store.specs.declared.error.StoreFault.TheVariants.{Taken}
-use Rattle.depot.proofs.OpeningLemmas.{commit_stored, commit_found}
+use Rattle.depot.proofs.MakeLemmas.{commit_stored, commit_found}
 use Rattle.depot.proofs.Told.{ok_not_err}
 use Rattle.depot.proofs.commit_put.put_commit.Goals as goal
 

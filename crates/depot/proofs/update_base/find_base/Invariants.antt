@@ -9,7 +9,7 @@ use Rattle.depot.proofs.update_base.find_base.Given as goal
 
 abbrev pub invariant-loop-steps : goal.invariant-loop-steps
 invariant-loop-steps g l = record {
-  reads : Reads {T = ⊤} g.S.Shelf.contents g.S.Shelf.may_give g.S.Shelf.faults l.initial.store l.store (Ok tt);
-  left : (s : State) → objects_of g.S.Shelf.contents l.initial.store ≡ Some s.objects → s.kept ≡ l.kept
+  reads : Reads {T = ⊤} g.S.Shelf.contents g.S.Shelf.may_give g.S.Shelf.texts g.S.Shelf.faults l.initial.store l.store (Ok tt);
+  left : (s : State) → objects_of g.S.Shelf.contents l.initial.store ≡ Some s.objects → s.state.kept ≡ l.kept
       → base_of s l.initial.id ≡ base_from s (128 - l.steps) l.steps l.id;
 }

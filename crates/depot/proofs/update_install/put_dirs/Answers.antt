@@ -29,6 +29,7 @@ loop-key-preserved g c =
           (objects_of g.S.Shelf.contents c.loop-key.store)) next c.loop-key.invariant.putting) c.in-Ok.ensures.value;
       lying = λ key stray. c.loop-key.invariant.lying key (c.in-Ok.ensures.lying key stray);
       slot = c.in-Ok.ensures.kept ∙ c.loop-key.invariant.slot;
+      written = c.in-Ok.ensures.written ∙ c.loop-key.invariant.written;
       count = c.in-Ok.ensures.faults ∙ c.loop-key.invariant.count;
     }
 

@@ -11,5 +11,6 @@ invariant-loop-key g l = record {
   putting : IsPutting (objects_of g.S.Shelf.contents l.initial.store) (listed (map.entries l.dirs)) (listed l.key-iterator) (objects_of g.S.Shelf.contents l.store);
   lying : AddsNoStray g.S.Shelf.contents l.initial.store l.store;
   slot : status_of g.S.Shelf.contents l.store ≡ status_of g.S.Shelf.contents l.initial.store;
+  written : g.S.Shelf.texts l.store.shelf ≡ g.S.Shelf.texts l.initial.store.shelf;
   count : g.S.Shelf.faults l.store.shelf ≡ g.S.Shelf.faults l.initial.store.shelf;
 }

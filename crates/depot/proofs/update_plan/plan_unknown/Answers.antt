@@ -4,10 +4,10 @@ use Rattle.library_rules.specs.MergeBase.{base_of}
 use Rattle.library_state.specs.declared.refusal.Refusal.TheVariants as refusal
 use Rattle.depot.specs.DepotView.{library}
 use Rattle.depot.specs.ObjectCalls.{IsToldDamageOf}
-use Rattle.depot.specs.UpdateBase.{walk_refusal}
 use Rattle.depot.specs.declared.update_base.Found.TheVariants as found
 use Rattle.depot.proofs.UpdateBaseLemmas.{fault_not_damaged}
 use Rattle.depot.proofs.UpdatePlanLemmas.{base_is_kept, found_at, known_base, unknown_fault}
+use Rattle.depot.specs.Refusals.{walk_refusal}
 use Rattle.depot.proofs.update_plan.plan_unknown.Goals as goal
 
 pub returns-in-Err-clause-damage : goal.returns-in-Err-clause-damage

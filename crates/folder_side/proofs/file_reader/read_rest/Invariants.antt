@@ -4,6 +4,7 @@ use Rattle.folder_side.specs.Folder.{Contents, at}
 use Rattle.folder_side.specs.FileRead.{IsBehind}
 use Rattle.folder_side.proofs.FileReadLemmas.{reading_at}
 use Rattle.folder_side.proofs.file_reader.read_rest.Given as goal
+use Rattle.folder_side.specs.declared.file_reader.TheConstants.{MAX_FILE}
 
 abbrev pub invariant-loop-place : goal.invariant-loop-place
 invariant-loop-place g l = record {
@@ -16,4 +17,4 @@ invariant-loop-place g l = record {
 }
 
 abbrev pub decreases-loop-place : goal.decreases-loop-place
-decreases-loop-place g l = 274877906944 + 1 - l.place
+decreases-loop-place g l = MAX_FILE + 1 - l.place

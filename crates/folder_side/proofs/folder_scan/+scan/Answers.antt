@@ -3,6 +3,7 @@ use Rattle.std.specs.FinMap as map
 use Rattle.folder_side.specs.Folder.{at}
 use Rattle.folder_side.proofs.ScanSteps.{dir_nameless, dir_items, item_at, Goes-more, Goes-end, kind_other, kind_file, kind_dir, other_is_no_dir, file_is_no_dir, leaf_item, dir_item}
 use Rattle.folder_side.proofs.folder_scan.+scan.Goals as goal
+use Rattle.tree_model.specs.declared.limits.TheConstants.{MAX_PATHS}
 
 pub scan_dir-returns-in-Err-clause-value : goal.scan_dir-returns-in-Err-clause-value
 scan_dir-returns-in-Err-clause-value g t c = λ c' told are. c.scan_fault.ensures.value c'
@@ -16,7 +17,7 @@ scan_dir-loop-item-init g t c = record {
   told = c.in-Ok.ensures.kept.0;
   spare = c.in-Ok.ensures.kept.1;
   faults = c.in-Ok.ensures.faults;
-  few = subst (λ m. map.len m ≤ 1000000) (sym c.in-Ok-note_if_nameless.ensures.kept) c.requires.few;
+  few = subst (λ m. map.len m ≤ MAX_PATHS) (sym c.in-Ok-note_if_nameless.ensures.kept) c.requires.few;
   folder = c.in-Ok.ensures.formed;
   items = λ c' told. c.slice-item-items.ensures.value ∙ dir_items c' c.args.dir.now c.in-Ok.listing (c.in-Ok.ensures.listed c' told);
   goes = λ c' told are.

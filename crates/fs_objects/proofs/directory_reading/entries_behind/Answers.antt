@@ -5,7 +5,7 @@ use Rattle.std.specs.List.{IsDistinct}
 use Rattle.json.specs.Token.{Token}
 use Rattle.json.specs.Json.{after_end_array}
 use Rattle.serde_json.specs.Data.{Data}
-use Rattle.json_words.specs.Front.{FrontIs, NoFront, NoItems}
+use Rattle.json_tokens.specs.Front.{FrontIs, NoFront, NoItems}
 use Rattle.json_words.proofs.AnswerLemmas.{OnBad-always, OnBad-handed_on}
 use Rattle.fs_objects.specs.Directory.{entry_of, entries_after, is_taken, names_of}
 use Rattle.fs_objects.specs.Proper.{IsProperEntry}
@@ -13,7 +13,7 @@ use Rattle.fs_objects.specs.Reading.{HasNames}
 use Rattle.fs_objects.specs.declared.dirent.Dirent.{Dirent}
 use Rattle.fs_objects.specs.declared.fault.BadFs.{BadFs}
 use Rattle.fs_objects.proofs.DirectoryLemmas.{entries_after-ok, entries_after-err, entry_of-taken, IsDistinct-names_push}
-use Rattle.json_words.proofs.RestLemmas.{Reads, Reads-start, Reads-more, Reads-bad, Reads-end, Reads-rest, Reads-none}
+use Rattle.json_tokens.proofs.RestLemmas.{Reads, Reads-start, Reads-more, Reads-bad, Reads-end, Reads-rest, Reads-none}
 use Rattle.fs_objects.proofs.directory_reading.entries_behind.Goals as goal
 
 -- behind an item that is no entry, its fault is the answer

@@ -5,7 +5,7 @@ use Rattle.std.specs.Str.{bytes_eq}
 use Rattle.fs_objects.specs.Directory.{entries_after, names_of}
 use Rattle.fs_objects.specs.Proper.{IsProperEntry}
 use Rattle.fs_objects.specs.Reading.{HasNames}
-use Rattle.json_words.proofs.RestLemmas.{Reads}
+use Rattle.json_tokens.proofs.RestLemmas.{Reads}
 use Rattle.fs_objects.proofs.directory_reading.entries_behind.Given as goal
 
 abbrev pub invariant-items : goal.invariant-items

@@ -1,5 +1,6 @@
 -- Each way out is what is answered of the entry at its place, after those before it.
 use Rattle.std.proofs.Common.{◌≡◌, ◌++◌, ◌∷◌, [], Result, Ok, Err, IfOk, sym, ap, ◌∙◌}
+use Rattle.std.proofs.lemmas.Bool.{not-false, not-true}
 use Rattle.serde_json.specs.Data.{Data}
 use Rattle.serde_json.specs.View.{view}
 use Rattle.json_words.specs.Answer.{Answers}
@@ -10,7 +11,7 @@ use Rattle.fs_objects.specs.Reading.{head_seen, HasNames}
 use Rattle.fs_objects.specs.declared.dirent.Dirent.{Dirent}
 use Rattle.fs_objects.specs.declared.fault.BadFs.{BadFs}
 use Rattle.fs_objects.specs.declared.fault.BadFs.TheVariants.{Twice}
-use Rattle.fs_objects.proofs.DirectoryLemmas.{entry_of-bad_head, entry_of-twice, entry_of-new, entry_from-name, true_from_not, false_from_not}
+use Rattle.fs_objects.proofs.DirectoryLemmas.{entry_of-bad_head, entry_of-twice, entry_of-new, entry_from-name}
 use Rattle.fs_objects.proofs.NameSetLemmas.{HasNames-push}
 use Rattle.fs_objects.proofs.directory_reading.next_entry.Goals as goal
 
@@ -31,7 +32,7 @@ unreachable-requires c =
 
 pub returns-then-not-is_new-clause-value : goal.returns-then-not-is_new-clause-value
 returns-then-not-is_new-clause-value c =
-    let there = true_from_not _ (sym c.in-Ok-insert.ensures.added ∙ c.if-not-is_new.true) in
+    let there = not-false _ (sym c.in-Ok-insert.ensures.added ∙ c.if-not-is_new.true) in
     let taken = ap (is_taken (names_of c.args.earlier.now)) (sym c.in-Ok-read.ensures.value) ∙ sym (c.requires.known c.in-Ok-read.name) ∙ there in
     let d = view c.args.item.now in
     let head = ap (λ place. head_of place d) (sym c.len-place.ensures.value) ∙ sym c.in-Ok.ensures.value in
@@ -39,7 +40,7 @@ returns-then-not-is_new-clause-value c =
 
 pub returns-clause-value : goal.returns-clause-value
 returns-clause-value c =
-    let absent = false_from_not _ (sym c.in-Ok-insert.ensures.added ∙ c.if-not-is_new.false) in
+    let absent = not-true _ (sym c.in-Ok-insert.ensures.added ∙ c.if-not-is_new.false) in
     let new = ap (is_taken (names_of c.args.earlier.now)) (sym c.in-Ok-read.ensures.value) ∙ sym (c.requires.known c.in-Ok-read.name) ∙ absent in
     let d = view c.args.item.now in
     let head = ap (λ place. head_of place d) (sym c.len-place.ensures.value) ∙ sym c.in-Ok.ensures.value in

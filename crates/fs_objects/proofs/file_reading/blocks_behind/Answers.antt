@@ -6,14 +6,14 @@ use Rattle.json.specs.Token.{Token}
 use Rattle.json.specs.Json.{after_end_array}
 use Rattle.serde_json.specs.Data.{Data}
 use Rattle.json_words.specs.Check.{each, ok_or}
-use Rattle.json_words.specs.Front.{FrontIs, NoFront, NoItems}
+use Rattle.json_tokens.specs.Front.{FrontIs, NoFront, NoItems}
 use Rattle.json_words.specs.IdText.{stored_id_in}
 use Rattle.json_words.proofs.AnswerLemmas.{OnBad-always, OnBad-handed_on}
 use Rattle.json_words.proofs.EachLemmas.{each_after, each_after-start, each_after-end, each_after-ok, each_after-err}
 use Rattle.fs_objects.specs.File.{block_of}
 use Rattle.fs_objects.specs.declared.fault.BadFs.TheVariants.{WrongType}
 use Rattle.fs_objects.specs.declared.fault.FsKey.TheVariants.{KBlockIds}
-use Rattle.json_words.proofs.RestLemmas.{Reads, Reads-start, Reads-more, Reads-bad, Reads-end, Reads-rest, Reads-none}
+use Rattle.json_tokens.proofs.RestLemmas.{Reads, Reads-start, Reads-more, Reads-bad, Reads-end, Reads-rest, Reads-none}
 use Rattle.fs_objects.proofs.file_reading.blocks_behind.Goals as goal
 
 block_is : (d : Data) (found : Option (List ℕ)) → found ≡ stored_id_in d → block_of d ≡ ok_or found (WrongType KBlockIds)

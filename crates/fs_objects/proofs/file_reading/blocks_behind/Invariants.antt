@@ -4,7 +4,7 @@ use Rattle.ids.specs.ObjectId.{nil}
 use Rattle.json_words.specs.Check.{each}
 use Rattle.json_words.proofs.EachLemmas.{each_after}
 use Rattle.fs_objects.specs.File.{block_of}
-use Rattle.json_words.proofs.RestLemmas.{Reads}
+use Rattle.json_tokens.proofs.RestLemmas.{Reads}
 use Rattle.fs_objects.proofs.file_reading.blocks_behind.Given as goal
 
 abbrev pub invariant-items : goal.invariant-items

@@ -1,10 +1,10 @@
 -- The first token tells whether the value is an array.
 use Rattle.std.proofs.Common.{sym, subst, ◌∙◌}
 use Rattle.json.specs.Reads.{token_of}
-use Rattle.json_words.specs.Front.{FrontIs, NoFront}
+use Rattle.json_tokens.specs.Front.{FrontIs, NoFront}
 use Rattle.fs_objects.specs.Parts.{member_depth}
-use Rattle.json_words.proofs.FrontLemmas.{NoFront-end}
-use Rattle.fs_objects.proofs.ObjectReadingLemmas.{no_array}
+use Rattle.json_tokens.proofs.FrontLemmas.{NoFront-end}
+use Rattle.json_tokens.proofs.OpeningLemmas.{no_array}
 use Rattle.fs_objects.proofs.object_reading.enters_array.Goals as goal
 
 pub returns-in-None-clause-err : goal.returns-in-None-clause-err

@@ -3,7 +3,7 @@ use Rattle.std.proofs.Common.{◌≡◌, Some, None, arith}
 use Rattle.json.specs.Json.{read_key}
 use Rattle.serde_json.specs.Data.{no_members, put}
 use Rattle.fs_objects.specs.Parts.{member_depth}
-use Rattle.json_words.proofs.FrontLemmas.{MembersAfter-start, MembersAfter-more, MembersAfter-bad, MembersAfter-no_key, MembersAfter-end}
+use Rattle.json_tokens.proofs.FrontLemmas.{MembersAfter-start, MembersAfter-more, MembersAfter-bad, MembersAfter-no_key, MembersAfter-end}
 use Rattle.json_words.proofs.AnswerLemmas.{OnBad-always, OnBad-handed_on}
 use Rattle.fs_objects.proofs.object_reading.read_members.Goals as goal
 

@@ -1,7 +1,7 @@
 -- Some members were read, and the parts are theirs.
 use Rattle.std.proofs.Common.{length}
 use Rattle.serde_json.specs.Data.{Members}
-use Rattle.json_words.proofs.FrontLemmas.{MembersAfter}
+use Rattle.json_tokens.proofs.FrontLemmas.{MembersAfter}
 use Rattle.fs_objects.specs.Parts.{AreProper, IsPartsOf, member_depth}
 use Rattle.fs_objects.proofs.object_reading.read_members.Given as goal
 

@@ -1,11 +1,13 @@
--- What was read, and then what is left, is the whole answer. (Drafted; the names of the goals are to be taken from `rt check --start ids_behind`.)
-use Rattle.std.proofs.Common.{◌≡◌, length}
-use Rattle.http_front.specs.IdTokens.{ids_behind}
-use Rattle.http_front.proofs.IdTokenLemmas.{ids_after}
+-- What is left to check, after the ids so far, gives the whole answer.
+use Rattle.std.proofs.Common.{length}
+use Rattle.json_words.specs.Check.{each}
+use Rattle.json_words.proofs.EachLemmas.{each_after}
+use Rattle.json_tokens.proofs.RestLemmas.{Reads}
+use Rattle.http_front.specs.IdArray.{id_at}
 use Rattle.http_front.proofs.id_array.ids_behind.Given as goal
 
 abbrev pub invariant-items : goal.invariant-items
-invariant-items l = ids_after l.ids l.reader ≡ ids_behind l.fn.reader
+invariant-items l = Reads (each id_at) (each_after id_at l.ids) 126 l.initial.reader l.reader
 
 abbrev pub decreases-items : goal.decreases-items
 decreases-items l = length l.reader

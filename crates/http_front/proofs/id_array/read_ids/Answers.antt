@@ -1,5 +1,5 @@
 -- The ids of a body are those of its tokens, and a body that is no UTF-8 has none.
-use Rattle.http_front.proofs.IdTokenLemmas.{ids_of-utf8, ids_of-none}
+use Rattle.http_front.proofs.IdArrayLemmas.{ids_of-utf8, ids_of-none}
 use Rattle.http_front.proofs.id_array.read_ids.Goals as goal
 
 pub returns-in-Ok : goal.returns-in-Ok

@@ -26,7 +26,7 @@ returns g c = record {
         (comes_back _ _ _ _ _ _ c.in-Ok.ensures.back (rw c.folder_word.ensures.value at c.bring_back.ensures.ok)),
     λ steady standing there whole.
         let ran = c.serve_opened-status.ensures.serves.ran in
-        calls_whole g.G.S.Shelf.contents g.G.S.Shelf.may_give g.G.S.Shelf.faults (g.C.Clock.shows c.args.clock.now) c.in-Ok.depot c.serve_opened-status.new.depot ran.0 steady
+        calls_whole g.G.S.Shelf.contents g.G.S.Shelf.may_give g.G.S.Shelf.texts g.G.S.Shelf.faults (g.C.Clock.shows c.args.clock.now) c.in-Ok.depot c.serve_opened-status.new.depot ran.0 steady
         (c.in-Ok.ensures.whole steady standing there whole) ran.1,
   );
 }

@@ -5,7 +5,7 @@ use Rattle.library_server.specs.Standing.{came_back}
 use Rattle.library_server.proofs.StandingLemmas.{comes_back}
 use Rattle.std.proofs.Common.{Err, refl}
 use Rattle.std.specs.Prelude.{⊤}
-use Rattle.depot.specs.Opening.{is_make_counted}
+use Rattle.depot.specs.Make.{is_make_counted}
 use Rattle.library_rules.specs.Creation.{opening_commit}
 use Rattle.library_server.proofs.WholeLemmas.{made_whole, names_of, new_names, steady_count, want_whole}
 use Rattle.library_server.proofs.making.make_library.Goals as goal

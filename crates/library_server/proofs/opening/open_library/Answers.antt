@@ -42,7 +42,7 @@ pub returns-in-Err-clause-told : goal.returns-in-Err-clause-told
 returns-in-Err-clause-told g c = λ standing there. c.in-Err.ensures.err _ _ ∙ there
 
 pub returns-in-Ok-clause-given : goal.returns-in-Ok-clause-given
-returns-in-Ok-clause-given g c = opened_state g.G.S.Shelf.may_give _ _ _ _ c.in-Ok.ensures.given c.in-Ok.ensures.named
+returns-in-Ok-clause-given g c = opened_state g.G.S.Shelf.may_give _ _ _ _ _ c.in-Ok.ensures.given c.in-Ok.ensures.named
 
 pub returns-in-Ok-None-clause-whole : goal.returns-in-Ok-None-clause-whole
 returns-in-Ok-None-clause-whole g c = λ steady standing there whole.

@@ -2,9 +2,10 @@
 use Rattle.std.proofs.Common.{◌∙◌, ap, inl, option_map, refl}
 use Rattle.depot.specs.DepotView.{library}
 use Rattle.library_rules.specs.Recovery.{opened}
+use Rattle.object_store.proofs.ShelfLemmas.{reads_then}
 use Rattle.object_store.specs.Shelf.{Contents}
 use Rattle.library_server.proofs.LeftLemmas.{keeps_all, left_checked, left_unstarted}
-use Rattle.library_server.proofs.OpeningLemmas.{found_named}
+use Rattle.library_server.proofs.OpeningLemmas.{found_named, next_before, unstarted_before}
 use Rattle.library_server.proofs.opening.open_on.Goals as goal
 
 pub returns-in-Ok-start_named-clause-told : goal.returns-in-Ok-start_named-clause-told
@@ -59,3 +60,13 @@ returns-in-Err-start_named-clause-left g c = λ held there.
     let status = ap (option_map (λ (h : Contents). h.status)) (c.in-Ok-check_named.ensures.kept.shelf ∙ (c.in-Ok.ensures.ok.shelf ∙ there)) in
     rw c.end-in-Err-start_named.ensures.value (left_unstarted g.S.Shelf.contents c.check_named.new.store c.in-Err-start_named.store held c.in-Err-start_named.why
     (c.in-Err-start_named.ensures.left held.status status (c.in-Ok-check_named.ensures.named held.status before)) status (c.in-Err-start_named.ensures.kept ∙ objects))
+
+pub returns-in-Ok-start_named-clause-given : goal.returns-in-Ok-start_named-clause-given
+returns-in-Ok-start_named-clause-given g c = next_before _ (reads_then c.in-Ok.ensures.shelf c.in-Ok-check_named.ensures.reads).gives c.in-Ok-start_named.ensures.given
+
+pub returns-in-Err-check_named-clause-cause : goal.returns-in-Err-check_named-clause-cause
+returns-in-Err-check_named-clause-cause g c = unstarted_before c.args.lib.now c.in-Err-check_named.why c.in-Ok.ensures.shelf.gives c.in-Err-check_named.ensures.cause
+
+pub returns-in-Err-start_named-clause-cause : goal.returns-in-Err-start_named-clause-cause
+returns-in-Err-start_named-clause-cause g c =
+    unstarted_before c.args.lib.now c.in-Err-start_named.why (reads_then c.in-Ok.ensures.shelf c.in-Ok-check_named.ensures.reads).gives c.in-Err-start_named.ensures.cause

@@ -21,7 +21,7 @@ pub returns-then-ne-clause-kept : goal.returns-then-ne-clause-kept
 returns-then-ne-clause-kept g c = rw c.close.ensures.value c.in-Ok.ensures.value.objects
 
 pub returns-then-ne-clause-cause : goal.returns-then-ne-clause-cause
-returns-then-ne-clause-cause g c = (c.in-Ok.ensures.given.0, gives_other (g.S.Shelf.may_give c.in-Ok.ensures.given.0) c.args.lib.now _ c.in-Ok.ensures.given.1 (λ same. is_other _ _ c.if-ne.ensures (c.lib.ensures.value ∙ same)))
+returns-then-ne-clause-cause g c = gives_other (g.S.Shelf.may_give c.args.store.shelf) c.args.lib.now _ c.in-Ok.ensures.given (λ same. is_other _ _ c.if-ne.ensures (c.lib.ensures.value ∙ same))
 
 pub returns-then-ne-clause-faults : goal.returns-then-ne-clause-faults
 returns-then-ne-clause-faults g c = rw c.close.ensures.value c.in-Ok.ensures.value.count

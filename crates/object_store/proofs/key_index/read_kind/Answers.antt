@@ -1,6 +1,7 @@
 -- One more name is in the index, and the last was read where none follows.
 use Rattle.std.proofs.Common.{◌∙◌, sym}
 use Rattle.object_store.proofs.IndexLemmas.{read-all, read-more}
+use Rattle.object_store.proofs.ShelfLemmas.{reads_then}
 use Rattle.object_store.proofs.key_index.read_kind.Goals as goal
 
 pub returns-in-Ok-None-clause-ok : goal.returns-in-Ok-None-clause-ok
@@ -12,6 +13,7 @@ returns-in-Ok-None-clause-ok g c held told =
 pub loop-preserved : goal.loop-preserved
 loop-preserved g c = record {
   kept = c.next.ensures.kept ∙ c.loop.invariant.kept;
+  reads = reads_then c.loop.invariant.reads (record { gives = c.next.ensures.gives; written = c.next.ensures.texts });
   count = c.in-Ok-Some.ensures.faults ∙ c.loop.invariant.count;
   read = λ held told.
       let before = sym c.in-Ok-Some.ensures.kept ∙ told in

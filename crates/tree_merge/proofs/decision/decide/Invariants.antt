@@ -15,7 +15,7 @@ use Rattle.tree_merge.proofs.decision.decide.Given as goal
 
 abbrev pub invariant-loop-path : goal.invariant-loop-path
 invariant-loop-path g l = record {
-  reads : Reads {T = ⊤} g.S.Shelf.contents g.S.Shelf.may_give g.S.Shelf.faults l.initial.store l.store (Ok tt);
+  reads : Reads {T = ⊤} g.S.Shelf.contents g.S.Shelf.may_give g.S.Shelf.texts g.S.Shelf.faults l.initial.store l.store (Ok tt);
   left : (q : PathV) → IsSome (map.get l.joined q) → map.get l.joined q ≡ map.get l.initial.joined q;
   leavers : map.len l.decided.leavers + map.len l.joined ≤ map.len l.initial.joined;
   known : map.len l.decided.known + map.len l.joined ≤ map.len l.initial.joined;

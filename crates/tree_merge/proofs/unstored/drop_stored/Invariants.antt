@@ -10,7 +10,7 @@ use Rattle.tree_merge.proofs.unstored.drop_stored.Given as goal
 
 abbrev pub invariant-loop-key : goal.invariant-loop-key
 invariant-loop-key g l = record {
-  reads : Reads {T = ⊤} g.S.Shelf.contents g.S.Shelf.may_give g.S.Shelf.faults l.initial.store l.store (Ok tt);
+  reads : Reads {T = ⊤} g.S.Shelf.contents g.S.Shelf.may_give g.S.Shelf.texts g.S.Shelf.faults l.initial.store l.store (Ok tt);
   names : AreNamed l.made;
   left_names : AreNamed l.left;
   drops : (objects : Objects) → objects_of g.S.Shelf.contents l.initial.store ≡ Some objects → DropsSo objects l.initial.made l.made l.left;

@@ -1,8 +1,8 @@
 -- At the end no block is left.
 use Rattle.std.proofs.Common.{subst, ◌∙◌, ◌+◌, drop, arith}
 use Rattle.tree_walk.proofs.FileLemmas.{Joins, joins_end, joins_stop}
-use Rattle.tree_walk.proofs.ListingLemmas.{next_entry}
 use Rattle.tree_walk.proofs.ReadsLemmas.{nothing_left, told_after}
+use Rattle.tree_walk.proofs.StepsLemmas.{next_entry}
 use Rattle.tree_walk.proofs.contents.join.Goals as goal
 
 pub returns-clause-value : goal.returns-clause-value

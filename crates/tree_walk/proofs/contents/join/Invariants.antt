@@ -9,6 +9,6 @@ use Rattle.tree_walk.proofs.contents.join.Given as goal
 
 abbrev pub invariant-loop-block : goal.invariant-loop-block
 invariant-loop-block g l = record {
-  reads : Reads {T = ⊤} g.S.Shelf.contents g.S.Shelf.may_give g.S.Shelf.faults l.initial.store l.store (Ok tt);
+  reads : Reads {T = ⊤} g.S.Shelf.contents g.S.Shelf.may_give g.S.Shelf.texts g.S.Shelf.faults l.initial.store l.store (Ok tt);
   joins : (objects : Objects) → objects_of g.S.Shelf.contents l.initial.store ≡ Some objects → Joins objects l.blocks (drop l.block-index l.blocks) l.bytes.items;
 }

@@ -10,7 +10,7 @@ use Rattle.tree_walk.proofs.contents.same_blocks.Given as goal
 
 abbrev pub invariant-loop-right : goal.invariant-loop-right
 invariant-loop-right g l = record {
-  reads : Reads {T = ⊤} g.S.Shelf.contents g.S.Shelf.may_give g.S.Shelf.faults l.initial.store l.store (Ok tt);
+  reads : Reads {T = ⊤} g.S.Shelf.contents g.S.Shelf.may_give g.S.Shelf.texts g.S.Shelf.faults l.initial.store l.store (Ok tt);
   goes : (objects : Objects) → objects_of g.S.Shelf.contents l.initial.store ≡ Some objects → blocks_due objects l.initial.left.blocks.now ≡ None → blocks_due objects l.initial.right.blocks.now ≡ None
       → length (joined objects l.initial.left.blocks.now) ≡ length (joined objects l.initial.right.blocks.now) → GoesOn objects l.initial.left l.initial.right l.left l.right;
 }

@@ -18,7 +18,7 @@ decreases-list_entry g l = 3 * l.room
 
 abbrev pub invariant-list_entries-loop-entry : goal.invariant-list_entries-loop-entry
 invariant-list_entries-loop-entry g l = record {
-  reads : Reads {T = ⊤} g.S.Shelf.contents g.S.Shelf.may_give g.S.Shelf.faults l.initial.store l.store (Ok tt);
+  reads : Reads {T = ⊤} g.S.Shelf.contents g.S.Shelf.may_give g.S.Shelf.texts g.S.Shelf.faults l.initial.store l.store (Ok tt);
   goes : (objects : Objects) → objects_of g.S.Shelf.contents l.initial.store ≡ Some objects
       → GoesOn objects l.room l.path l.entries (drop l.entry-index l.entries) l.initial.found l.found;
 }

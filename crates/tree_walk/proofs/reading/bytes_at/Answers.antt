@@ -18,6 +18,7 @@ returns-in-Err-clause-of_key g c = store_of c.args.key.now (g.S.Shelf.may_give c
 pub returns-in-Err-clause-kept : goal.returns-in-Err-clause-kept
 returns-in-Err-clause-kept g c = record {
   kept = c.in-Err.ensures.kept;
+  shelf = c.in-Err.ensures.shelf;
   cause = store_cause c.get.new.self.index c.args.key.now (g.S.Shelf.may_give c.get.new.self.shelf) c.in-Err.fault
       (subst (λ (i : Index). IsOfStored (map.get i c.args.key.now) c.args.key.now c.in-Err.fault) (sym c.in-Err.ensures.kept.index) c.in-Err.ensures.stored)
       c.in-Err.ensures.damaged;

@@ -19,7 +19,7 @@ decreases-walk_entry g l = 3 * l.room
 
 abbrev pub invariant-walk_entries-loop-entry : goal.invariant-walk_entries-loop-entry
 invariant-walk_entries-loop-entry g l = record {
-  reads : Reads {T = ⊤} g.S.Shelf.contents g.S.Shelf.may_give g.S.Shelf.faults l.initial.store l.store (Ok tt);
+  reads : Reads {T = ⊤} g.S.Shelf.contents g.S.Shelf.may_give g.S.Shelf.texts g.S.Shelf.faults l.initial.store l.store (Ok tt);
   goes : (objects : Objects) → objects_of g.S.Shelf.contents l.initial.store ≡ Some objects
       → WalksOn objects l.room (names_of l.trail) l.entries (drop l.entry-index l.entries) l.initial.met l.met;
 }

@@ -1,17 +1,18 @@
 -- A file that can't be read, one that isn't whole, and a whole one.
-use Rattle.std.proofs.Common.{ap, ◌∙◌}
-use Rattle.tree_walk.specs.Visits.{with_key_met}
-use Rattle.tree_walk.proofs.VisitLemmas.{file_bad, file_unread, file_whole}
+use Rattle.std.proofs.Common.{refl, ap, ◌∙◌}
+use Rattle.tree_walk.specs.Visits.{seen, with_key_met}
+use Rattle.tree_walk.proofs.FileLemmas.{file_stops, unread_stops}
+use Rattle.tree_walk.proofs.VisitLemmas.{file_whole}
 use Rattle.tree_walk.proofs.ReadsLemmas.{other_id, read_ok, told_after}
 use Rattle.tree_walk.proofs.visiting.walk_file.Goals as goal
 
 pub returns-in-Err-clause-value : goal.returns-in-Err-clause-value
 returns-in-Err-clause-value g c = λ objects told.
-    file_unread objects c.args.id.now c.args.met c.in-Err.fault (c.in-Err.ensures.value objects told)
+    unread_stops objects c.args.id.now (seen c.args.met) c.in-Err.fault refl (c.in-Err.ensures.value objects told)
 
 pub returns-in-Err-check_blocks-clause-value : goal.returns-in-Err-check_blocks-clause-value
 returns-in-Err-check_blocks-clause-value g c = λ objects told.
-    file_bad objects c.args.id.now c.args.met c.in-Ok.file c.in-Err-check_blocks.fault (read_ok objects _ _ (c.in-Ok.ensures.value objects told))
+    file_stops objects c.args.id.now c.in-Ok.file (seen c.args.met) c.in-Err-check_blocks.fault refl (read_ok objects _ _ (c.in-Ok.ensures.value objects told))
     (c.in-Err-check_blocks.ensures.value objects (told_after c.in-Ok.ensures.kept told))
 
 pub returns-in-Ok-visit_blocks-clause-value : goal.returns-in-Ok-visit_blocks-clause-value

@@ -9,26 +9,26 @@ use Rattle.depot.proofs.depot.Depot.add_token.Goals as goal
 
 pub invariant_of-self : goal.invariant_of-self
 invariant_of-self g c =
-    let room : length c.self.inside.state.tokens < 1000 = omega arith in
+    let room : length c.self.inside.parts.state.tokens < 1000 = omega arith in
     good_with_token g.S.Shelf.contents g.S.Shelf.faults
-    (record { store = c.self.inside.store; state = c.self.inside.state; unsettled = c.self.inside.unsettled; running = None }) c.self.invariant
+    (record { store = c.self.inside.parts.store; state = c.self.inside.parts.state; unsettled = c.self.inside.parts.unsettled; running = None }) c.self.invariant
     c.args.user.now c.args.secret c.args.right c.in-Ok.token c.in-Ok.ensures.value
     (ap (λ tokens. is_taken tokens c.args.secret) (sym c.slice.ensures.value) ∙ sym c.has_secret.ensures.value ∙ c.if-has_secret.false)
     room c.requires.fits.0 c.requires.fits.1
-    c.write_token.new.store c.write_token.new.state c.write_token.new.unsettled c.write_token.result
+    c.write_token.new.self.store c.write_token.new.self.state c.write_token.new.self.unsettled c.write_token.result
     c.write_token.ensures.ok c.write_token.ensures.err c.write_token.ensures.value c.write_token.ensures.kept
 
 pub returns-clause-stands : goal.returns-clause-stands
 returns-clause-stands g c =
-    let room : length c.self.inside.state.tokens < 1000 = omega arith in
+    let room : length c.self.inside.parts.state.tokens < 1000 = omega arith in
     good_with_token g.S.Shelf.contents g.S.Shelf.faults
-    (record { store = c.self.inside.store; state = c.self.inside.state; unsettled = c.self.inside.unsettled; running = None }) c.self.invariant
+    (record { store = c.self.inside.parts.store; state = c.self.inside.parts.state; unsettled = c.self.inside.parts.unsettled; running = None }) c.self.invariant
     c.args.user.now c.args.secret c.args.right c.in-Ok.token c.in-Ok.ensures.value
     (ap (λ tokens. is_taken tokens c.args.secret) (sym c.slice.ensures.value) ∙ sym c.has_secret.ensures.value ∙ c.if-has_secret.false)
     room c.requires.fits.0 c.requires.fits.1
-    c.write_token.new.store c.write_token.new.state c.write_token.new.unsettled c.write_token.result
+    c.write_token.new.self.store c.write_token.new.self.state c.write_token.new.self.unsettled c.write_token.result
     c.write_token.ensures.ok c.write_token.ensures.err c.write_token.ensures.value c.write_token.ensures.kept
 
 pub returns-clause-lying : goal.returns-clause-lying
 returns-clause-lying g c =
-    subst (λ (old : DepotView g.row.S.Denot). AddsNoStray g.S.Shelf.contents old.store c.write_token.new.store) c.self.view_is c.write_token.ensures.lying
+    subst (λ (old : DepotView g.row.S.Denot). AddsNoStray g.S.Shelf.contents old.store c.write_token.new.self.store) c.self.view_is c.write_token.ensures.lying

@@ -11,13 +11,13 @@ use Rattle.depot.specs.FreshKeys.{RunsOn, told_there}
 use Rattle.depot.proofs.ServingLemmas.{denied_told}
 use Rattle.depot.proofs.depot.Depot.answer.Goals as goal
 
-pub returns-else-is_permitted-clause-told : goal.returns-else-is_permitted-clause-told
-returns-else-is_permitted-clause-told g c =
+pub returns-in-None-clause-told : goal.returns-in-None-clause-told
+returns-in-None-clause-told g c =
     denied_told g.S.Shelf.contents g.S.Shelf.faults c.args.self.now c.args.call.now c.args.moment
     (subst (λ (old : DepotView g.row.S.Denot). permits (token_of old.state.tokens c.args.call.now.secret) c.args.call.now.act ≡ false) c.self.view_is
-    (ap (λ (tokens : List Token). permits (token_of tokens c.args.call.now.secret) c.args.call.now.act) (sym c.slice.ensures.value) ∙ sym c.is_permitted.ensures.value ∙ c.if-is_permitted.false))
+    (ap (λ (tokens : List Token). permits (token_of tokens c.args.call.now.secret) c.args.call.now.act) (sym c.slice.ensures.value) ∙ c.in-None.ensures.absent))
 
-pub returns-else-is_permitted-clause-fresh : goal.returns-else-is_permitted-clause-fresh
-returns-else-is_permitted-clause-fresh g c =
+pub returns-in-None-clause-fresh : goal.returns-in-None-clause-fresh
+returns-in-None-clause-fresh g c =
     subst (λ (old : DepotView g.row.S.Denot). RunsOn old.store.index old.store.index (told_there old.store.index c.args.call.now.act (reply.Refused refusal.Denied)) old.running old.running)
     c.self.view_is refl

@@ -1,39 +1,38 @@
 -- The days are set, or the answer is that they can't be.
-use Rattle.std.proofs.Common.{None, ◌≡◌, true, ℤ, sym, ◌∙◌, subst, to_z-of_z}
+use Rattle.std.proofs.Common.{None, ℤ, sym, ◌∙◌, subst, to_z-of_z}
+use Rattle.library_state.specs.declared.call.Act.TheVariants as act
 use Rattle.library_state.specs.declared.refusal.Refusal.TheVariants as refusal
 use Rattle.library_state.specs.declared.reply.Reply.TheVariants as reply
-use Rattle.library_rules.specs.Calls.{token_of}
-use Rattle.depot.specs.Answering.{Serves, permits}
+use Rattle.depot.specs.Answering.{Serves, ServesAct}
 use Rattle.depot.specs.DepotView.{DepotView}
 use Rattle.depot.proofs.ActLemmas.{days_serve, limit_good, limit_serves}
 use Rattle.depot.proofs.depot.Depot.limit.Goals as goal
 
 pub returns-then-not-is_day_count : goal.returns-then-not-is_day_count
 returns-then-not-is_day_count g c = record {
-  value = subst (λ (z : ℤ). Serves g.S.Shelf.contents g.S.Shelf.may_give g.S.Shelf.faults c.args.self.now c.args.call.now c.args.moment (reply.Refused (refusal.BadDays z)) c.args.self.now)
+  value = λ call moment right asks.
+      subst (λ (z : ℤ). Serves g.S.Shelf.contents g.S.Shelf.may_give g.S.Shelf.texts g.S.Shelf.faults c.args.self.now call moment (reply.Refused (refusal.BadDays z)) c.args.self.now)
       (sym (to_z-of_z c.ranges.days))
-      (days_serve g.S.Shelf.contents g.S.Shelf.may_give g.S.Shelf.faults c.args.self.now c.args.call.now c.args.moment c.requires.right c.args.days c.requires.asks
+      (days_serve g.S.Shelf.contents g.S.Shelf.may_give g.S.Shelf.texts g.S.Shelf.faults c.args.self.now call moment right c.args.days asks
       (sym (simp (to_z-of_z, c.ranges.days) at c.is_day_count.ensures.value) ∙ c.if-not-is_day_count.true));
 }
 
 pub invariant_of-self : goal.invariant_of-self
 invariant_of-self g c =
-    limit_good g.S.Shelf.contents g.S.Shelf.faults (record { store = c.self.inside.store; state = c.self.inside.state; unsettled = c.self.inside.unsettled; running = None }) c.self.invariant c.args.days
+    limit_good g.S.Shelf.contents g.S.Shelf.texts g.S.Shelf.faults (record { store = c.self.inside.parts.store; state = c.self.inside.parts.state; unsettled = c.self.inside.parts.unsettled; running = None }) c.self.invariant c.args.days
     (sym (simp (to_z-of_z, c.ranges.days) at c.is_day_count.ensures.value) ∙ c.if-not-is_day_count.false)
-    c.set_days-set.new.store c.set_days-set.new.state c.set_days-set.new.unsettled c.set_days-set.result
+    c.set_days-set.new.self.store c.set_days-set.new.self.state c.set_days-set.new.self.unsettled c.set_days-set.result
     (simp (to_z-of_z, c.ranges.days) at c.set_days-set.ensures.ok) c.set_days-set.ensures.err (simp (to_z-of_z, c.ranges.days) at c.set_days-set.ensures.text) c.set_days-set.ensures.kept
 
 pub returns : goal.returns
 returns g c = record {
-  value = subst (λ (old : DepotView g.row.S.Denot). permits (token_of old.state.tokens c.args.call.now.secret) c.args.call.now.act ≡ true
-      → Serves g.S.Shelf.contents g.S.Shelf.may_give g.S.Shelf.faults old c.args.call.now c.args.moment c.answer_of.result
-      (record { store = c.set_days-set.new.store; state = c.set_days-set.new.state; unsettled = c.set_days-set.new.unsettled; running = None }))
+  value = subst (λ (old : DepotView g.row.S.Denot). ServesAct g.S.Shelf.contents g.S.Shelf.may_give g.S.Shelf.texts g.S.Shelf.faults old (act.Limit c.args.days) c.answer_of.result
+      (record { store = c.set_days-set.new.self.store; state = c.set_days-set.new.self.state; unsettled = c.set_days-set.new.self.unsettled; running = None }))
       c.self.view_is
-      (λ right. subst (λ r. Serves g.S.Shelf.contents g.S.Shelf.may_give g.S.Shelf.faults (record { store = c.self.inside.store; state = c.self.inside.state; unsettled = c.self.inside.unsettled; running = None }) c.args.call.now c.args.moment r
-      (record { store = c.set_days-set.new.store; state = c.set_days-set.new.state; unsettled = c.set_days-set.new.unsettled; running = None })) (sym c.answer_of.ensures.value)
-      (limit_serves g.S.Shelf.contents g.S.Shelf.may_give g.S.Shelf.faults (record { store = c.self.inside.store; state = c.self.inside.state; unsettled = c.self.inside.unsettled; running = None }) c.args.call.now c.args.moment right c.args.days c.requires.asks
+      (λ call moment right asks. subst (λ r. Serves g.S.Shelf.contents g.S.Shelf.may_give g.S.Shelf.texts g.S.Shelf.faults (record { store = c.self.inside.parts.store; state = c.self.inside.parts.state; unsettled = c.self.inside.parts.unsettled; running = None }) call moment r
+      (record { store = c.set_days-set.new.self.store; state = c.set_days-set.new.self.state; unsettled = c.set_days-set.new.self.unsettled; running = None })) (sym c.answer_of.ensures.value)
+      (limit_serves g.S.Shelf.contents g.S.Shelf.may_give g.S.Shelf.texts g.S.Shelf.faults (record { store = c.self.inside.parts.store; state = c.self.inside.parts.state; unsettled = c.self.inside.parts.unsettled; running = None }) call moment right c.args.days asks
       (sym (simp (to_z-of_z, c.ranges.days) at c.is_day_count.ensures.value) ∙ c.if-not-is_day_count.false)
-      c.set_days-set.new.store c.set_days-set.new.state c.set_days-set.new.unsettled c.set_days-set.ensures.kept c.set_days-set.ensures.lying c.set_days-set.result
-      (simp (to_z-of_z, c.ranges.days) at c.set_days-set.ensures.ok) c.set_days-set.ensures.err (simp (to_z-of_z, c.ranges.days) at c.set_days-set.ensures.text) c.set_days-set.ensures.faults))
-      c.requires.right;
+      c.set_days-set.new.self.store c.set_days-set.new.self.state c.set_days-set.new.self.unsettled c.set_days-set.ensures.kept c.set_days-set.ensures.lying c.set_days-set.result
+      (simp (to_z-of_z, c.ranges.days) at c.set_days-set.ensures.ok) c.set_days-set.ensures.err (simp (to_z-of_z, c.ranges.days) at c.set_days-set.ensures.text) c.set_days-set.ensures.faults));
 }

@@ -1,10 +1,9 @@
 -- Kept commits are complete, so the list has no fault but one of the store.
-use Rattle.std.proofs.Common.{None, ◌≡◌, true, sym, subst}
+use Rattle.std.proofs.Common.{None, sym, subst}
 use Rattle.library_state.specs.declared.call.Act.TheVariants as act
 use Rattle.library_state.specs.declared.history.Install.{Install}
 use Rattle.std.specs.Prelude.{List}
-use Rattle.library_rules.specs.Calls.{token_of}
-use Rattle.depot.specs.Answering.{MayAnswer, Serves, ids_decided, permits}
+use Rattle.depot.specs.Answering.{MayAnswer, ServesAct, ids_decided}
 use Rattle.depot.specs.DepotView.{DepotView, library}
 use Rattle.depot.proofs.ActLemmas.{list_serves}
 use Rattle.depot.proofs.GoodLemmas.{sound_at}
@@ -13,20 +12,18 @@ use Rattle.depot.proofs.depot.Depot.list.Goals as goal
 
 pub invariant_of-self : goal.invariant_of-self
 invariant_of-self g c =
-    good_kept g.S.Shelf.contents g.S.Shelf.faults (record { store = c.self.inside.store; state = c.self.inside.state; unsettled = c.self.inside.unsettled; running = None }) c.self.invariant c.list_ids.new.store
-    (kept_status g.S.Shelf.contents c.self.inside.store c.list_ids.new.store c.list_ids.ensures.kept) c.list_ids.ensures.kept.objects
+    good_kept g.S.Shelf.contents g.S.Shelf.faults (record { store = c.self.inside.parts.store; state = c.self.inside.parts.state; unsettled = c.self.inside.parts.unsettled; running = None }) c.self.invariant c.list_ids.new.store
+    (kept_status g.S.Shelf.contents c.self.inside.parts.store c.list_ids.new.store c.list_ids.ensures.kept) c.list_ids.ensures.kept.objects
 
 pub returns : goal.returns
 returns g c = record {
-  value = subst (λ (old : DepotView g.row.S.Denot). permits (token_of old.state.tokens c.args.call.now.secret) c.args.call.now.act ≡ true
-      → Serves g.S.Shelf.contents g.S.Shelf.may_give g.S.Shelf.faults old c.args.call.now c.args.moment c.list_ids.result
-      (record { store = c.list_ids.new.store; state = c.self.inside.state; unsettled = c.self.inside.unsettled; running = None }))
+  value = subst (λ (old : DepotView g.row.S.Denot). ServesAct g.S.Shelf.contents g.S.Shelf.may_give g.S.Shelf.texts g.S.Shelf.faults old (act.Ids c.args.server.now c.args.client.now) c.list_ids.result
+      (record { store = c.list_ids.new.store; state = c.self.inside.parts.state; unsettled = c.self.inside.parts.unsettled; running = None }))
       c.self.view_is
-      (λ right. list_serves g.S.Shelf.contents g.S.Shelf.may_give g.S.Shelf.faults (record { store = c.self.inside.store; state = c.self.inside.state; unsettled = c.self.inside.unsettled; running = None }) c.args.call.now c.args.moment right c.args.server.now c.args.client.now c.requires.asks
-      c.list_ids.new.store c.list_ids.result c.list_ids.ensures.kept
-      (λ objects told. c.list_ids.ensures.value (library c.self.inside.state (g.S.Shelf.faults c.self.inside.store.shelf) objects) told (sym c.slice.ensures.value)
-      (sound_at g.S.Shelf.contents g.S.Shelf.faults (record { store = c.self.inside.store; state = c.self.inside.state; unsettled = c.self.inside.unsettled; running = None }) c.self.invariant objects (g.S.Shelf.faults c.self.inside.store.shelf) told))
+      (λ call moment right asks. list_serves g.S.Shelf.contents g.S.Shelf.may_give g.S.Shelf.texts g.S.Shelf.faults (record { store = c.self.inside.parts.store; state = c.self.inside.parts.state; unsettled = c.self.inside.parts.unsettled; running = None }) call moment right c.args.server.now c.args.client.now asks
+      c.list_ids.new.store c.list_ids.result c.list_ids.ensures.kept c.list_ids.ensures.written
+      (λ objects told. c.list_ids.ensures.value (library c.self.inside.parts.state (g.S.Shelf.faults c.self.inside.parts.store.shelf) objects) told (sym c.slice.ensures.value)
+      (sound_at g.S.Shelf.contents g.S.Shelf.faults (record { store = c.self.inside.parts.store; state = c.self.inside.parts.state; unsettled = c.self.inside.parts.unsettled; running = None }) c.self.invariant objects (g.S.Shelf.faults c.self.inside.parts.store.shelf) told))
       (subst (λ (kept : List Install). MayAnswer c.list_ids.new.store.index (g.S.Shelf.may_give c.list_ids.new.store.shelf) (act.Ids c.args.server.now c.args.client.now) (ids_decided kept c.args.server.now) c.list_ids.result)
-      c.slice.ensures.value c.list_ids.ensures.cause) c.list_ids.ensures.damage c.list_ids.ensures.faults)
-      c.requires.right;
+      c.slice.ensures.value c.list_ids.ensures.cause) c.list_ids.ensures.damage c.list_ids.ensures.faults);
 }

@@ -1,5 +1,5 @@
 -- A new library is good.
-use Rattle.depot.proofs.OpeningLemmas.{good_made}
+use Rattle.depot.proofs.MakeLemmas.{good_made}
 use Rattle.depot.proofs.depot.Depot.make.Goals as goal
 
 pub invariant_of-result : goal.invariant_of-result

@@ -1,5 +1,5 @@
 -- A library that was opened is good.
-use Rattle.depot.proofs.ReopeningLemmas.{good_opened}
+use Rattle.depot.proofs.StartLemmas.{good_opened}
 use Rattle.depot.proofs.depot.Depot.start.Goals as goal
 
 pub invariant_of-result : goal.invariant_of-result

@@ -1,7 +1,7 @@
--- A call that is to fail is counted as a fault.
-use Rattle.object_store.proofs.MemoryLemmas.{begin-rose}
+-- What lies there after a put is the old or the new.
+use Rattle.object_store.proofs.ShelfLemmas.{answers_put}
 use Rattle.object_store.proofs.memory_shelf.MemoryShelfShelf.put.Goals as goal
 
-pub returns-then-not-begin-clause-faults : goal.returns-then-not-begin-clause-faults
-returns-then-not-begin-clause-faults c =
-    begin-rose c.args.self.now c.begin.new.self c.begin.result c.begin.ensures.bound c.begin.ensures.value c.if-not-begin.true c.begin.ensures.ok
+pub returns-clause-gives : goal.returns-clause-gives
+returns-clause-gives c =
+    rw (← c.self.view_is) (answers_put _ c.put_bytes.new.self c.args.slot c.args.bytes.now c.put_bytes.result c.put_bytes.ensures.value)

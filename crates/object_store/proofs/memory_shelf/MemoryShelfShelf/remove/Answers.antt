@@ -1,7 +1,6 @@
--- A call that is to fail is counted as a fault.
-use Rattle.object_store.proofs.MemoryLemmas.{begin-rose}
+-- What lies there after a removal is the old, or nothing.
+use Rattle.object_store.proofs.ShelfLemmas.{answers_removed}
 use Rattle.object_store.proofs.memory_shelf.MemoryShelfShelf.remove.Goals as goal
 
-pub returns-then-not-begin-clause-faults : goal.returns-then-not-begin-clause-faults
-returns-then-not-begin-clause-faults c =
-    begin-rose c.args.self.now c.begin.new.self c.begin.result c.begin.ensures.bound c.begin.ensures.value c.if-not-begin.true c.begin.ensures.ok
+pub returns-clause-gives : goal.returns-clause-gives
+returns-clause-gives c = answers_removed c.args.self.now c.empty_slot.new.self c.args.slot c.empty_slot.result c.empty_slot.ensures.value

@@ -1,0 +1,13 @@
+-- What was served of the parts was served of the depot.
+use Rattle.std.proofs.Common.{None, subst}
+use Rattle.library_state.specs.declared.call.Act.TheVariants as act
+use Rattle.depot.specs.Answering.{ServesAt}
+use Rattle.depot.specs.DepotView.{DepotView}
+use Rattle.depot.proofs.depot.Depot.update.Goals as goal
+
+pub returns : goal.returns
+returns g c = record {
+  value = subst (λ (old : DepotView g.row.S.Denot). ServesAt g.S.Shelf.contents g.S.Shelf.may_give g.S.Shelf.texts g.S.Shelf.faults old c.args.place (act.Update c.args.pushed) c.args.moment c.update_library.result
+      (record { store = c.update_library.new.self.store; state = c.update_library.new.self.state; unsettled = c.update_library.new.self.unsettled; running = None }))
+      c.self.view_is c.update_library.ensures.value;
+}

@@ -1,0 +1,43 @@
+-- The text that was prepared is that of the state with the head update.
+use Rattle.std.proofs.Common.{◌≡◌, ◌∙◌, ◌++◌, ◌∷◌, [], ap, subst}
+use Rattle.library_state.specs.StateSpelling.{text_of}
+use Rattle.library_state.specs.declared.state.LibState.{LibState}
+use Rattle.object_store.specs.StoreView.{status_of}
+use Rattle.depot.specs.Answering.{with_install}
+use Rattle.depot.specs.UpdateInstall.{held_in}
+use Rattle.depot.specs.UpdatePlan.{objects_in}
+use Rattle.depot.specs.Writing.{ReadsBack}
+use Rattle.depot.proofs.UpdateInstallLemmas.{carried_out, left_unsure}
+use Rattle.depot.proofs.depot.Parts.carry_out.Goals as goal
+
+pub returns-in-Err-write_installed-clause-value : goal.returns-in-Err-write_installed-clause-value
+returns-in-Err-write_installed-clause-value g c =
+    let next : LibState = with_install c.args.install.head c.args.install.pushed c.args.install.at c.args.self.now.state in
+    let text : c.slice-2.result.now ≡ text_of next
+    = c.slice-2.ensures.value ∙ c.in-Ok-text_with.ensures.value
+    ∙ ap (λ kept. text_of (record c.args.self.now.state { kept = kept })) (c.in-Ok.ensures.value ∙ ap (λ kept. kept ++ c.args.install ∷ []) c.slice.ensures.value) in
+    let reads : ReadsBack next
+    = subst (λ kept. ReadsBack (record c.args.self.now.state { kept = kept })) (c.in-Ok.ensures.value ∙ ap (λ kept. kept ++ c.args.install ∷ []) c.slice.ensures.value) c.in-Ok-text_with.ensures.reads in
+    left_unsure c.in-Err-write_installed.fault c.args.self.now.unsettled c.write_installed.new.self.unsettled c.args.self.now.state c.text_with.new.state next (objects_in c.args.plan.now)
+    (held_in g.S.Shelf.contents g.S.Shelf.texts c.args.self.now.store) (held_in g.S.Shelf.contents g.S.Shelf.texts c.write_installed.new.self.store) (status_of g.S.Shelf.contents c.put_plan.new.store)
+    c.in-Err-write_installed.ensures.free (c.in-Err-write_installed.ensures.kept ∙ c.in-Ok-put_plan.ensures.value) c.in-Ok-text_with.ensures.state c.in-Ok-put_plan.ensures.kept
+    (c.in-Err-write_installed.ensures.value next text reads)
+
+pub returns-clause-value : goal.returns-clause-value
+returns-clause-value g c =
+    let next : LibState = with_install c.args.install.head c.args.install.pushed c.args.install.at c.args.self.now.state in
+    let text : c.slice-2.result.now ≡ text_of next
+    = c.slice-2.ensures.value ∙ c.in-Ok-text_with.ensures.value
+    ∙ ap (λ kept. text_of (record c.args.self.now.state { kept = kept })) (c.in-Ok.ensures.value ∙ ap (λ kept. kept ++ c.args.install ∷ []) c.slice.ensures.value) in
+    let reads : ReadsBack next
+    = subst (λ kept. ReadsBack (record c.args.self.now.state { kept = kept })) (c.in-Ok.ensures.value ∙ ap (λ kept. kept ++ c.args.install ∷ []) c.slice.ensures.value) c.in-Ok-text_with.ensures.reads in
+    carried_out c.args.self.now.unsettled c.write_installed.new.self.unsettled c.args.self.now.state c.text_with.new.state next (objects_in c.args.plan.now)
+    (held_in g.S.Shelf.contents g.S.Shelf.texts c.args.self.now.store) (held_in g.S.Shelf.contents g.S.Shelf.texts c.write_installed.new.self.store) (status_of g.S.Shelf.contents c.put_plan.new.store)
+    (c.in-Ok-write_installed.ensures.kept ∙ c.in-Ok-put_plan.ensures.value) c.in-Ok-text_with.ensures.state c.in-Ok-put_plan.ensures.kept
+    (c.in-Ok-write_installed.ensures.value next text reads)
+
+pub returns-in-Err-write_installed-clause-lying : goal.returns-in-Err-write_installed-clause-lying
+returns-in-Err-write_installed-clause-lying g c free key stray = c.in-Ok-put_plan.ensures.lying key (c.in-Err-write_installed.ensures.lying key stray)
+
+pub returns-clause-lying : goal.returns-clause-lying
+returns-clause-lying g c key stray = c.in-Ok-put_plan.ensures.lying key (c.in-Ok-write_installed.ensures.lying key stray)

@@ -1,0 +1,44 @@
+-- The state that was read is proper, its commits are complete, and it can be opened once more.
+use Rattle.std.proofs.Common.{◌∙◌, refl, sym}
+use Rattle.depot.proofs.StartLemmas.{left_unopened, opened_over, same_status, state_cause}
+use Rattle.object_store.proofs.StrayLemmas.{strays_kept}
+use Rattle.depot.proofs.start.open.Goals as goal
+
+pub returns-in-Ok-write_text-clause-sound : goal.returns-in-Ok-write_text-clause-sound
+returns-in-Ok-write_text-clause-sound g c = λ objects count told.
+    opened_over c.in-Ok.state objects count c.in-Ok.ensures.proper c.in-Ok-check_state.ensures.ok
+    (c.in-Ok-check_state.ensures.refused objects (sym c.in-Ok-check_state.ensures.kept.objects ∙ sym c.in-Ok-write_text.ensures.kept ∙ told))
+
+pub returns-in-Err-write_text-clause-err : goal.returns-in-Err-write_text-clause-err
+returns-in-Err-write_text-clause-err g c =
+    left_unopened g.S.Shelf.contents c.args.store.now c.check_state.new.store c.write_text.new.store c.in-Ok.state c.in-Err-write_text.fault c.in-Ok.ensures.value
+    (same_status g.S.Shelf.contents c.args.store.now c.read_state.new.store c.check_state.new.store c.in-Ok.ensures.kept c.in-Ok-check_state.ensures.kept)
+    c.in-Err-write_text.ensures.value
+
+pub returns-in-Ok-write_text-clause-given : goal.returns-in-Ok-write_text-clause-given
+returns-in-Ok-write_text-clause-given g c = record { found = c.in-Ok.state; given = c.in-Ok.ensures.given; next = refl }
+
+pub returns-in-Err-check_state-clause-cause : goal.returns-in-Err-check_state-clause-cause
+returns-in-Err-check_state-clause-cause g c =
+    state_cause (g.S.Shelf.may_give c.args.store.now.shelf) (g.S.Shelf.may_give c.read_state.new.store.shelf) c.in-Ok.state c.in-Err-check_state.fault c.in-Ok.ensures.given
+    c.in-Ok.ensures.reads.gives c.in-Err-check_state.ensures.cause
+
+pub returns-in-Err-clause-lying : goal.returns-in-Err-clause-lying
+returns-in-Err-clause-lying g c = strays_kept g.S.Shelf.contents c.args.store.now c.read_state.new.store c.in-Err.ensures.kept.index c.in-Err.ensures.kept.shelf
+
+pub returns-in-Err-check_state-clause-lying : goal.returns-in-Err-check_state-clause-lying
+returns-in-Err-check_state-clause-lying g c =
+    strays_kept g.S.Shelf.contents c.args.store.now c.check_state.new.store
+    (c.in-Err-check_state.ensures.kept.index ∙ c.in-Ok.ensures.kept.index) (c.in-Err-check_state.ensures.kept.shelf ∙ c.in-Ok.ensures.kept.shelf)
+
+pub returns-in-Ok-write_text-clause-lying : goal.returns-in-Ok-write_text-clause-lying
+returns-in-Ok-write_text-clause-lying g c key stray =
+    strays_kept g.S.Shelf.contents c.args.store.now c.check_state.new.store
+    (c.in-Ok-check_state.ensures.kept.index ∙ c.in-Ok.ensures.kept.index) (c.in-Ok-check_state.ensures.kept.shelf ∙ c.in-Ok.ensures.kept.shelf)
+    key (c.in-Ok-write_text.ensures.lying key stray)
+
+pub returns-in-Err-write_text-clause-lying : goal.returns-in-Err-write_text-clause-lying
+returns-in-Err-write_text-clause-lying g c key stray =
+    strays_kept g.S.Shelf.contents c.args.store.now c.check_state.new.store
+    (c.in-Ok-check_state.ensures.kept.index ∙ c.in-Ok.ensures.kept.index) (c.in-Ok-check_state.ensures.kept.shelf ∙ c.in-Ok.ensures.kept.shelf)
+    key (c.in-Err-write_text.ensures.lying key stray)

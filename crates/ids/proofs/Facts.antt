@@ -1,0 +1,49 @@
+-- General facts on lists, options and orders that the kit's library lacks, each found by what stands before its last arrow.
+-- Those on Bool are in the kit's library: or_left, or_right, or_parts, or_cases, and_parts, not-true, not-false of
+-- std.proofs.lemmas.Bool; or_assoc and or-false of std.proofs.Math.Bool; and nil_from_length, length_push, length-map of
+-- std.proofs.lemmas.List.
+use Rattle.std.proofs.Common.{◌≡◌, ◌≢◌, ℕ, List, [], ◌∷◌, ◌++◌, true, false, Option, Some, None, option_map, is_some, is_eq, is_lt, nat_cmp, Ordering, Less, Equal, Greater, refl, sym, ap, ◌∙◌}
+use Rattle.std.specs.Prelude.{T}
+use Rattle.std.specs.Cmp.Lexicographic.{slice_cmp}
+use Rattle.std.specs.List.{AllByRecursion}
+use Rattle.std.specs.Str.{bytes_eq}
+use Rattle.std.proofs.lemmas.Map.Text.{is_eq-slice_cmp}
+use Rattle.std.proofs.lemmas.Slice.Eq.{bytes_eq-Decides}
+
+-- ---- lists
+
+pub pushed_is_some : {X : Type 0} (xs : List X) (x : X) → xs ++ x ∷ [] ≢ []
+pushed_is_some [] x e = cc
+pushed_is_some (y ∷ xs) x e = cc
+
+pub AllByRecursion-push : {X : Type 0} (P : X → Type 0) (xs : List X) (x : X) → AllByRecursion P xs → P x → AllByRecursion P (xs ++ x ∷ [])
+AllByRecursion-push P [] x all here = (here, tt)
+AllByRecursion-push P (y ∷ xs) x all here = (all.0, AllByRecursion-push P xs x all.1 here)
+
+-- what holds of all holds of one in the middle
+pub AllByRecursion-middle : {X : Type 0} (P : X → Type 0) (xs : List X) (x : X) (ys : List X) → AllByRecursion P (xs ++ x ∷ ys) → P x
+AllByRecursion-middle P [] x ys all = all.0
+AllByRecursion-middle P (y ∷ xs) x ys all = AllByRecursion-middle P xs x ys all.1
+
+-- ---- texts as bytes
+
+pub same_from_bytes_eq : (xs ys : List ℕ) → bytes_eq xs ys ≡ true → xs ≡ ys
+same_from_bytes_eq xs ys is = (bytes_eq-Decides xs ys).0 is
+
+pub same_from_slice_cmp : (xs ys : List ℕ) → slice_cmp nat_cmp xs ys ≡ Equal → xs ≡ ys
+same_from_slice_cmp xs ys is = same_from_bytes_eq xs ys (sym (is_eq-slice_cmp xs ys) ∙ ap is_eq is)
+
+-- ---- options and orders
+
+pub none_from_is_some : {X : Type 0} (o : Option X) → is_some o ≡ false → o ≡ None
+none_from_is_some None is = refl
+none_from_is_some (Some x) is = cc
+
+pub none_from_option_map : {X Y : Type 0} (f : X → Y) (o : Option X) → option_map f o ≡ None → o ≡ None
+none_from_option_map f None is = refl
+none_from_option_map f (Some x) is = cc
+
+pub apart_from_is_lt : (o : Ordering) → T (is_lt o) → is_eq o ≡ false
+apart_from_is_lt Less is = refl
+apart_from_is_lt Equal is = absurd is
+apart_from_is_lt Greater is = absurd is

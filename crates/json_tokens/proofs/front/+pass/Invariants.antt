@@ -1,0 +1,29 @@
+-- A call with a smaller depth is smaller, and the calls in one depth stand in an order.
+use Rattle.std.proofs.Common.{List, length, ◌+◌, ◌*◌}
+use Rattle.serde_json.specs.Data.{Data, Members}
+use Rattle.json_tokens.proofs.FrontLemmas.{ItemsAfter, MembersAfter}
+use Rattle.json_tokens.proofs.front.+pass.Given as goal
+
+abbrev pub decreases-pass_from : goal.decreases-pass_from
+decreases-pass_from l = 3 * l.depth
+
+abbrev pub decreases-pass_value : goal.decreases-pass_value
+decreases-pass_value l = 3 * l.depth + 1
+
+abbrev pub decreases-pass_items : goal.decreases-pass_items
+decreases-pass_items l = 3 * l.depth + 2
+
+abbrev pub decreases-pass_members : goal.decreases-pass_members
+decreases-pass_members l = 3 * l.depth + 2
+
+abbrev pub invariant-pass_items-items : goal.invariant-pass_items-items
+invariant-pass_items-items l = (done : List Data) × ItemsAfter l.depth l.initial.reader done l.reader
+
+abbrev pub decreases-pass_items-items : goal.decreases-pass_items-items
+decreases-pass_items-items l = length l.reader
+
+abbrev pub invariant-pass_members-members : goal.invariant-pass_members-members
+invariant-pass_members-members l = (found : Members) × MembersAfter l.depth l.initial.reader found l.reader
+
+abbrev pub decreases-pass_members-members : goal.decreases-pass_members-members
+decreases-pass_members-members l = length l.reader

@@ -1,0 +1,144 @@
+//! What is to be made durable before a state text is written, over the runs that put it, by the times of files.
+use crate::durable_rows::{opened, with_text};
+use crate::library::{done, slot_of};
+use crate::lossy_files::LossyFiles;
+use crate::scratch::{clear, scratch, within};
+use folder_storage::{FileSystem, FolderShelf, SystemFiles};
+use ids::Kind;
+use object_store::{Shelf, Slot};
+use std::alloc::Global;
+use std::fs::File;
+use std::test::Fail;
+use std::time::{Duration, UNIX_EPOCH};
+use std::{fs, io};
+
+/// When the state text of these rows was written, in nanoseconds.
+const WRITTEN: i64 = 1_000_000_000_000_000_000;
+
+/// A second, in nanoseconds.
+const SECOND: i64 = 1_000_000_000;
+
+// Three texts whose ids begin with the same byte, in the order of their ids: one older than the text by more than times may
+// be off, one by no more, and one that is later.
+const OLD: &str = "70";
+
+const COARSE: &str = "79";
+
+const LATE: &str = "51";
+
+const STATUS: &str = "F/11111111-2222-4333-8444-555555555555/status";
+
+const OLD_FILE: &str =
+    "F/11111111-2222-4333-8444-555555555555/blocks/b7/103ca278a75cad8f7d065acda0c2e80da0b7dc";
+
+const COARSE_FILE: &str =
+    "F/11111111-2222-4333-8444-555555555555/blocks/b7/4f5ee9461495ba5ca4c72a7108a23904c27a05";
+
+const OLD_FOLDER: &str = "F/11111111-2222-4333-8444-555555555555/fs/c0";
+
+/// The syncs of the objects that no older text vouches for.
+const SYNCED: [&str; 3] = [
+    "sync F/11111111-2222-4333-8444-555555555555/commits/bf/21a9e8fbc5a3846fb05b4fa0859e0917b2202f\n",
+    "sync F/11111111-2222-4333-8444-555555555555/blocks/b7/4f5ee9461495ba5ca4c72a7108a23904c27a05\n",
+    "sync F/11111111-2222-4333-8444-555555555555/blocks/b7/eb6c689c037217079766fdb77c3bac3e51cb4c\n",
+];
+
+/// Puts an object in a run of its own, which writes no state text. The answer are the files as it left them.
+fn put_in_a_run(files: LossyFiles, kind: Kind, text: &str) -> Result<LossyFiles, Fail> {
+    let mut shelf = opened(files)?;
+    done(shelf.put(slot_of(kind, text), text.as_bytes()))?;
+    Ok(shelf.files().another()?)
+}
+
+/// Whether all these calls were made.
+fn made_all(shelf: &FolderShelf<LossyFiles>, calls: &[&str]) -> bool {
+    for call in calls {
+        if !shelf.files().calls().contains(*call) {
+            return false;
+        }
+    }
+    true
+}
+
+/// The files of a library with a state text, and objects that four later runs put.
+fn with_objects(alloc: Global) -> Result<LossyFiles, Fail> {
+    let files = put_in_a_run(with_text(alloc)?, Kind::Block, LATE)?;
+    let files = put_in_a_run(files, Kind::Block, OLD)?;
+    let files = put_in_a_run(files, Kind::Fs, "old")?;
+    let files = put_in_a_run(files, Kind::Block, COARSE)?;
+    put_in_a_run(files, Kind::Commit, "{}")
+}
+
+#[test]
+fn objects_of_an_earlier_run_are_made_durable(rt: HostRuntime) -> Result<(), Fail> {
+    let mut files = with_objects(rt.alloc())?;
+    files.set_changed(STATUS, WRITTEN)?;
+    files.set_changed(OLD_FILE, WRITTEN - 11 * SECOND)?;
+    files.set_changed(COARSE_FILE, WRITTEN - 10 * SECOND)?;
+    files.set_changed(OLD_FOLDER, WRITTEN - 11 * SECOND)?;
+    let mut shelf = opened(files)?;
+    done(shelf.put(Slot::Status, b"2"))?;
+    assert!(rt; made_all(&shelf, &SYNCED));
+    // Besides two folders of objects and the two of their kinds, the text, and the folders that name it and the library.
+    assert!(rt; shelf.files().syncs() == 10);
+    done(shelf.put(Slot::Status, b"3"))?;
+    assert!(rt; shelf.files().syncs() == 12);
+    Ok(())
+}
+
+/// The files of a library whose state text was removed.
+fn without_text(alloc: Global) -> Result<LossyFiles, Fail> {
+    let mut shelf = opened(with_text(alloc)?)?;
+    done(shelf.remove(Slot::Status))?;
+    Ok(shelf.files().another()?)
+}
+
+/// The syncs of two blocks, of which one was put by an earlier run.
+const BOTH: [&str; 2] = [
+    "sync F/11111111-2222-4333-8444-555555555555/blocks/b7/103ca278a75cad8f7d065acda0c2e80da0b7dc\n",
+    "sync F/11111111-2222-4333-8444-555555555555/blocks/b7/4f5ee9461495ba5ca4c72a7108a23904c27a05\n",
+];
+
+#[test]
+fn without_a_state_text_all_objects_are_made_durable_once(rt: HostRuntime) -> Result<(), Fail> {
+    let mut files = put_in_a_run(without_text(rt.alloc())?, Kind::Block, OLD)?;
+    files.set_changed(OLD_FILE, WRITTEN)?;
+    let mut shelf = opened(files)?;
+    done(shelf.put(slot_of(Kind::Block, COARSE), COARSE.as_bytes()))?;
+    done(shelf.put(Slot::Status, b"2"))?;
+    assert!(rt; made_all(&shelf, &BOTH));
+    // Besides the folder of both and that of their kind, the text, and the folders that name it and the library.
+    assert!(rt; shelf.files().syncs() == 7);
+    done(shelf.put(Slot::Status, b"3"))?;
+    assert!(rt; shelf.files().syncs() == 9);
+    Ok(())
+}
+
+/// Sets when what stands at a path was changed, on the disk.
+fn set_time(rt: &HostRuntime, path: &str, seconds: u64) -> Result<(), Fail> {
+    match UNIX_EPOCH.checked_add(Duration::from_secs(seconds)) {
+        Some(time) => Ok(File::open(rt, path)?.set_modified(time)?),
+        None => Err("no such time".into()),
+    }
+}
+
+/// When these files tell that something was changed.
+fn told_time<F: FileSystem>(files: &mut F, path: &str) -> io::Result<i64> {
+    match files.look(path)? {
+        Some(facts) => Ok(facts.changed),
+        None => Ok(0),
+    }
+}
+
+#[test]
+fn the_system_tells_when_files_and_folders_were_changed(rt: HostRuntime) -> Result<(), Fail> {
+    let folder = scratch(&rt, "times")?;
+    let file = within(&rt, folder.as_str(), "file")?;
+    fs::write(&rt, file.as_str(), b"x")?;
+    set_time(&rt, file.as_str(), 999_999_990)?;
+    set_time(&rt, folder.as_str(), 999_999_989)?;
+    let mut files = SystemFiles::new(rt.clone()?);
+    assert!(rt; told_time(&mut files, file.as_str())? == WRITTEN - 10 * SECOND);
+    assert!(rt; told_time(&mut files, folder.as_str())? == WRITTEN - 11 * SECOND);
+    Ok(clear(&rt, folder.as_str())?)
+}
