@@ -1,3 +1,3 @@
-pub mod KeptCommit
-pub mod ReadBack
+pub mod KeptCommitLemmas
+pub mod ReadBackLemmas
 pub mod TextLemmas

@@ -1,6 +1,6 @@
 pub mod CivilLemmas
-pub mod Extension
-pub mod GoodNames
-pub mod Numerals
-pub mod Plain
-pub mod Utf8Names
+pub mod ExtensionLemmas
+pub mod GoodNameLemmas
+pub mod NumeralLemmas
+pub mod PlainLemmas
+pub mod Utf8NameLemmas

@@ -9,7 +9,7 @@ use Rattle.ids.specs.declared.key.Kind.{Kind}
 use Rattle.library_rules.specs.Calls.{Due, Says, absent, act_due, due, got, listed, put_due, token_of, said_by}
 use Rattle.library_rules.specs.Changes.{act_changes, seen_by}
 use Rattle.library_rules.specs.LibraryState.{State, IsSound, head_of, is_day_count}
-use Rattle.library_rules.proofs.Sound.{numbers_limited, sound_checked}
+use Rattle.library_rules.proofs.SoundLemmas.{numbers_limited, sound_checked}
 use Rattle.library_state.specs.declared.call.Act.{Act}
 use Rattle.library_state.specs.declared.call.Act.TheVariants as act
 use Rattle.library_state.specs.declared.call.Call.{Call}

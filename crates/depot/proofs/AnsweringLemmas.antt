@@ -17,10 +17,10 @@ use Rattle.library_rules.specs.Permitted.{DuePermits, MergeFails}
 use Rattle.library_rules.specs.declared.entry.Entry.{Entry}
 use Rattle.library_rules.specs.declared.entry.Step.TheVariants as step
 use Rattle.library_rules.specs.declared.entry.Stored.{Stored}
-use Rattle.library_rules.proofs.Changed.{faults_change, objects_change}
-use Rattle.library_rules.proofs.Members.{or_left, same_id-itself}
-use Rattle.library_rules.proofs.Refused.{refused_stays}
-use Rattle.library_rules.proofs.Unmoved.{lone_apply, moved_nothing, refused_reads}
+use Rattle.library_rules.proofs.ChangedLemmas.{faults_change, objects_change}
+use Rattle.library_rules.proofs.MemberLemmas.{or_left, same_id-itself}
+use Rattle.library_rules.proofs.RefusedLemmas.{refused_stays}
+use Rattle.library_rules.proofs.UnmovedLemmas.{lone_apply, moved_nothing, refused_reads}
 use Rattle.library_state.specs.declared.call.Act.{Act}
 use Rattle.library_state.specs.declared.call.Act.TheVariants as act
 use Rattle.library_state.specs.declared.call.Call.{Call}
@@ -33,7 +33,7 @@ use Rattle.library_state.specs.declared.token.Token.{Token}
 use Rattle.object_store.specs.Store.{IsDamage, IsOther, damage_at, damage_of, has_other_name, is_named_by_bytes, same_bytes}
 use Rattle.object_store.specs.declared.shelf.Slot.{Slot}
 use Rattle.object_store.specs.declared.error.StoreFault.TheVariants as store
-use Rattle.object_graph.proofs.Keys.{same_key, same_key-itself}
+use Rattle.object_graph.proofs.KeyLemmas.{same_key, same_key-itself}
 use Rattle.depot.specs.Answering.{AnswersBySome, permits}
 use Rattle.depot.specs.ObjectCalls.{Counts, IsFault, IsToldRefusal, SaysOr, is_counted, is_of_store}
 use Rattle.library_rules.proofs.CallsLemmas.{put_by}

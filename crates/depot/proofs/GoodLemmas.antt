@@ -6,8 +6,8 @@ use Rattle.std.specs.FinMap as map
 use Rattle.ids.specs.Key.{Objects}
 use Rattle.ids.specs.declared.key.Key.{Key}
 use Rattle.library_rules.specs.LibraryState.{State, IsSound, is_fresh}
-use Rattle.library_rules.proofs.Created.{sound_with_token}
-use Rattle.library_rules.proofs.Sound.{sound_counted}
+use Rattle.library_rules.proofs.CreatedLemmas.{sound_with_token}
+use Rattle.library_rules.proofs.SoundLemmas.{sound_counted}
 use Rattle.library_state.specs.Tokens.{is_taken}
 use Rattle.library_state.specs.declared.right.Right.{Right}
 use Rattle.library_state.specs.declared.state.LibState.{LibState}
@@ -18,7 +18,7 @@ use Rattle.object_store.specs.declared.error.StoreFault.{StoreFault}
 use Rattle.depot.specs.DepotView.{at_rest, DepotView, library, state_of, Holds, IsGood}
 use Rattle.depot.specs.NextState.{Follows, token_added}
 use Rattle.depot.specs.Writing.{ReadsBack, RewritesSo}
-use Rattle.depot.proofs.Told.{mapped_at}
+use Rattle.depot.proofs.ToldLemmas.{mapped_at}
 use Rattle.depot.proofs.WritingLemmas.{holds_after, holds_next}
 
 module _ {S : Type 0} (contents : S → Option Contents) (faults : S → ℕ) where

@@ -4,14 +4,14 @@ use Rattle.ids.specs.Key.{Objects}
 use Rattle.library_rules.specs.Changes.{put_new}
 use Rattle.library_rules.specs.LibraryState.{IsSound}
 use Rattle.library_rules.specs.declared.entry.Stored.{Stored}
-use Rattle.library_rules.proofs.Sound.{sound_moved}
+use Rattle.library_rules.proofs.SoundLemmas.{sound_moved}
 use Rattle.library_state.specs.declared.state.LibState.{LibState}
 use Rattle.object_store.specs.Shelf.{Contents}
 use Rattle.object_store.specs.StoreView.{Keeps, StoreView, objects_of, status_of}
 use Rattle.depot.specs.DepotView.{at_rest, DepotView, library, Holds, IsGood}
 use Rattle.depot.specs.Writing.{with_stored}
 use Rattle.depot.proofs.GoodLemmas.{none_fresh, sound_at, sound_told}
-use Rattle.depot.proofs.Told.{mapped_at}
+use Rattle.depot.proofs.ToldLemmas.{mapped_at}
 
 -- a library with an object more is sound
 pub sound_grown : (state : LibState) (count : ℕ) (objects : Objects) (x : Stored) → IsSound (library state count objects) → IsSound (library state count (put_new objects x))

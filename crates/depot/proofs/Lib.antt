@@ -1,4 +1,4 @@
-pub mod Told
+pub mod ToldLemmas
 pub mod WritingLemmas
 pub mod GoodLemmas
 pub mod MakeLemmas

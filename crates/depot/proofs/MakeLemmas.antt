@@ -3,21 +3,21 @@ use Rattle.std.proofs.Common.{◌≡◌, ◌≢◌, ℕ, ◌≤◌, false, cond,
 use Rattle.std.specs.FinMap as map
 use Rattle.ids.specs.Key.{Objects}
 use Rattle.ids.specs.declared.key.Key.{Key}
-use Rattle.ids.proofs.KeyOrder.{key_cmp_total}
+use Rattle.ids.proofs.KeyOrderLemmas.{key_cmp_total}
 use Rattle.commit_objects.specs.Commit.{commit_of}
 use Rattle.commit_objects.specs.Spelling.{text_of as commit_text}
 use Rattle.commit_objects.specs.declared.commit.Commit.{Commit}
 use Rattle.library_rules.specs.Changes.{put_new}
 use Rattle.library_rules.specs.Creation.{opening_commit, opening_object}
 use Rattle.library_rules.specs.LibraryState.{IsSound}
-use Rattle.library_rules.proofs.Created.{sound_created}
-use Rattle.library_rules.proofs.KeptHistory.{cons_some}
-use Rattle.library_rules.proofs.Members.{same_id-itself}
+use Rattle.library_rules.proofs.CreatedLemmas.{sound_created}
+use Rattle.library_rules.proofs.KeptHistoryLemmas.{cons_some}
+use Rattle.library_rules.proofs.MemberLemmas.{same_id-itself}
 use Rattle.library_state.specs.StateSpelling.{text_of}
 use Rattle.library_state.specs.declared.state.LibState.{LibState}
 use Rattle.object_graph.specs.Objects.{commit_at, commit_in, commit_key, of_name}
 use Rattle.object_graph.specs.declared.fault.TreeFault.TheVariants.{Unreadable}
-use Rattle.object_graph.proofs.Keys.{same_key-itself}
+use Rattle.object_graph.proofs.KeyLemmas.{same_key-itself}
 use Rattle.object_store.specs.Shelf.{Contents}
 use Rattle.object_store.specs.Store.{put_refusal}
 use Rattle.object_store.specs.StoreView.{StoreView, with_object, objects_of, status_of}
@@ -25,7 +25,7 @@ use Rattle.depot.specs.DepotView.{library, IsGood}
 use Rattle.depot.specs.Make.{IsCreated, first_state}
 use Rattle.depot.specs.Writing.{ReadsBack, with_stored}
 use Rattle.depot.proofs.GoodLemmas.{none_fresh, sound_told}
-use Rattle.depot.proofs.Told.{MappedAt, mapped_at}
+use Rattle.depot.proofs.ToldLemmas.{MappedAt, mapped_at}
 use Rattle.depot.proofs.WritingLemmas.{stored_as_put, written_at}
 
 -- a commit that was put stands under its name

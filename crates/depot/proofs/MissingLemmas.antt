@@ -5,12 +5,12 @@ use Rattle.std.specs.FinMap as map
 use Rattle.ids.specs.Key.{key_cmp}
 use Rattle.ids.specs.declared.key.Key.{Key}
 use Rattle.ids.specs.declared.key.Kind.{Kind}
-use Rattle.ids.proofs.KeyOrder.{key_cmp_total}
+use Rattle.ids.proofs.KeyOrderLemmas.{key_cmp_total}
 use Rattle.library_rules.specs.Calls.{absent, ids_of, keys_of}
 use Rattle.library_rules.specs.LibraryState.{State, is_stored}
 use Rattle.object_graph.specs.Objects.{is_nil}
 use Rattle.object_graph.specs.Traversal.{distinct_from, is_in}
-use Rattle.object_graph.proofs.Keys.{same_key}
+use Rattle.object_graph.proofs.KeyLemmas.{same_key}
 use Rattle.object_store.specs.StoreView.{Index}
 use Rattle.depot.specs.Answering.{unknown}
 use Rattle.depot.specs.Missing.{Met, absent_from, is_known}

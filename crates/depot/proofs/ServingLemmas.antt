@@ -28,7 +28,7 @@ use Rattle.depot.specs.DepotView.{DepotView, at_rest, library, running_library, 
 use Rattle.depot.specs.FreshKeys.{RunsOn, came, told_there}
 use Rattle.depot.specs.ObjectCalls.{Counts, DoneSo, IsToldDamage, SaysOr, is_counted}
 use Rattle.depot.proofs.AnsweringLemmas.{denied_answers, due_denies, due_is, fault_answers, is_quiet, quiet_step, said_answers, says_answers, stores_answers, stores_new}
-use Rattle.depot.proofs.Told.{mapped_at}
+use Rattle.depot.proofs.ToldLemmas.{mapped_at}
 use Rattle.library_rules.proofs.CallsLemmas.{put_due-is, taken, put_by}
 
 -- ---- who may ask

@@ -4,13 +4,13 @@ use Rattle.std.specs.FinMap as map
 use Rattle.std.specs.List.{list_any}
 use Rattle.ids.specs.Key.{Objects}
 use Rattle.ids.specs.declared.key.Key.{Key}
-use Rattle.ids.proofs.KeyOrder.{key_cmp_total, key_cmp_exact}
+use Rattle.ids.proofs.KeyOrderLemmas.{key_cmp_total, key_cmp_exact}
 use Rattle.library_rules.specs.LibraryState.{IsSound, State, kept_commits, last_number}
 use Rattle.library_rules.specs.Recovery.{StandsFor}
-use Rattle.library_rules.proofs.Keeping.{agrees_grown, still_complete}
-use Rattle.library_rules.proofs.Members.{or_left, or_right, same_id-itself}
-use Rattle.library_rules.proofs.ProperText.{sound_is_proper}
-use Rattle.library_rules.proofs.Reopened.{stands_by_its_objects}
+use Rattle.library_rules.proofs.KeepingLemmas.{agrees_grown, still_complete}
+use Rattle.library_rules.proofs.MemberLemmas.{or_left, or_right, same_id-itself}
+use Rattle.library_rules.proofs.ProperTextLemmas.{sound_is_proper}
+use Rattle.library_rules.proofs.ReopenedLemmas.{stands_by_its_objects}
 use Rattle.library_state.specs.StateSpelling.{text_of}
 use Rattle.library_state.specs.StateText.{state_of as read_state}
 use Rattle.object_graph.specs.Objects.{same_id}

@@ -10,7 +10,7 @@ use Rattle.library_rules.specs.History.{lone}
 use Rattle.library_rules.specs.LibraryState.{State, IsSound}
 use Rattle.library_rules.specs.Permitted.{DuePermits}
 use Rattle.library_rules.specs.declared.entry.Step.TheVariants as step
-use Rattle.library_rules.proofs.Unmoved.{lone_apply}
+use Rattle.library_rules.proofs.UnmovedLemmas.{lone_apply}
 use Rattle.library_state.specs.declared.call.Call.{Call}
 use Rattle.library_state.specs.declared.refusal.Refusal.TheVariants as refusal
 use Rattle.library_state.specs.declared.reply.Reply.{Reply}

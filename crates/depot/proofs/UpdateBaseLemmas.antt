@@ -12,7 +12,7 @@ use Rattle.commit_objects.specs.declared.commit.Commit.{Commit}
 use Rattle.library_rules.specs.Calls.{Installs, Merges, complete_due}
 use Rattle.library_rules.specs.LibraryState.{State, head_of, is_kept, kept_commits}
 use Rattle.library_rules.specs.MergeBase.{Based, Base, NoBase, base_from, base_of, by_commit, by_parent, refusal_of}
-use Rattle.library_rules.proofs.Members.{same_id-itself}
+use Rattle.library_rules.proofs.MemberLemmas.{same_id-itself}
 use Rattle.library_state.specs.declared.history.Install.{Install}
 use Rattle.library_state.specs.declared.refusal.Refusal.{Refusal}
 use Rattle.library_state.specs.declared.refusal.Refusal.TheVariants as refusal

@@ -10,9 +10,9 @@ use Rattle.library_rules.specs.Changes.{put_new, with_added}
 use Rattle.library_rules.specs.LibraryState.{State, IsSound, head_of, is_kept}
 use Rattle.library_rules.specs.declared.entry.Step.TheVariants as step
 use Rattle.library_rules.specs.declared.entry.Stored.{Stored}
-use Rattle.library_rules.proofs.Joined.{sound_stands, step_stands}
-use Rattle.library_rules.proofs.KeptHistory.{push_some}
-use Rattle.library_rules.proofs.Sound.{sound_counted}
+use Rattle.library_rules.proofs.JoinedLemmas.{sound_stands, step_stands}
+use Rattle.library_rules.proofs.KeptHistoryLemmas.{push_some}
+use Rattle.library_rules.proofs.SoundLemmas.{sound_counted}
 use Rattle.library_state.specs.StateSpelling.{text_of}
 use Rattle.library_state.specs.declared.call.Act.TheVariants as act
 use Rattle.library_state.specs.declared.call.Call.{Call}
@@ -37,7 +37,7 @@ use Rattle.depot.specs.Writing.{IsWritten, LeftBy, ReadsBack, settled}
 use Rattle.depot.specs.declared.update_plan.Plan.{Plan}
 use Rattle.depot.proofs.GoodLemmas.{none_fresh, sound_at, sound_told}
 use Rattle.depot.proofs.GrownLemmas.{kept_status, sound_grown}
-use Rattle.depot.proofs.Told.{mapped_at}
+use Rattle.depot.proofs.ToldLemmas.{mapped_at}
 use Rattle.depot.proofs.UpdateInstallLemmas.{counted_same, free_told}
 use Rattle.depot.proofs.UpdateLemmas.{done_answers, done_may, kept_answers, refused_answers, stopped_answers}
 use Rattle.depot.specs.Refusals.{store_refusal}

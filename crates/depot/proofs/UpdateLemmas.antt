@@ -14,8 +14,8 @@ use Rattle.library_rules.specs.Permitted.{DuePermits, MergeFails}
 use Rattle.library_rules.specs.declared.entry.Entry.{Entry}
 use Rattle.library_rules.specs.declared.entry.Step.TheVariants as step
 use Rattle.library_rules.specs.declared.entry.Stored.{Stored}
-use Rattle.library_rules.proofs.Changed.{install_changes, objects_change}
-use Rattle.library_rules.proofs.Members.{or_left}
+use Rattle.library_rules.proofs.ChangedLemmas.{install_changes, objects_change}
+use Rattle.library_rules.proofs.MemberLemmas.{or_left}
 use Rattle.library_state.specs.declared.call.Act.TheVariants as act
 use Rattle.library_state.specs.declared.call.Call.{Call}
 use Rattle.library_state.specs.declared.refusal.Refusal.{Refusal}
@@ -24,7 +24,7 @@ use Rattle.library_state.specs.declared.reply.Reply.{Reply}
 use Rattle.library_state.specs.declared.reply.Reply.TheVariants as reply
 use Rattle.library_state.specs.declared.state.LibState.{LibState}
 use Rattle.object_graph.specs.Traversal.{is_in}
-use Rattle.object_graph.proofs.Keys.{same_key, same_key-itself}
+use Rattle.object_graph.proofs.KeyLemmas.{same_key, same_key-itself}
 use Rattle.depot.specs.Answering.{AnswersBySome, MayAnswerSo, with_install}
 use Rattle.depot.specs.DepotView.{library}
 use Rattle.depot.specs.ObjectCalls.{Counts, IsToldRefusal}

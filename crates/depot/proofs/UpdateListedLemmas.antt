@@ -7,12 +7,12 @@ use Rattle.std.specs.List.{AllByRecursion, IsDistinct}
 use Rattle.std.specs.Ordering.{eq_by_cmp, is_eq, is_lt}
 use Rattle.ids.specs.Key.{Objects, key_cmp}
 use Rattle.ids.specs.declared.key.Key.{Key}
-use Rattle.ids.proofs.KeyOrder.{key_cmp_total}
+use Rattle.ids.proofs.KeyOrderLemmas.{key_cmp_total}
 use Rattle.library_rules.specs.Changes.{keys_added, put_new, with_added}
 use Rattle.library_rules.specs.LibraryState.{is_stored}
 use Rattle.library_rules.specs.declared.entry.Stored.{Stored}
-use Rattle.library_rules.proofs.Keeping.{grown}
-use Rattle.object_graph.proofs.Keys.{same_key, same_key-itself, same_key-true}
+use Rattle.library_rules.proofs.KeepingLemmas.{grown}
+use Rattle.object_graph.proofs.KeyLemmas.{same_key, same_key-itself, same_key-true}
 use Rattle.depot.specs.UpdatePlan.{listed}
 use Rattle.depot.proofs.UpdatePlanLemmas.{all_gone_after}
 

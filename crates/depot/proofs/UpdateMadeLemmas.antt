@@ -12,13 +12,13 @@ use Rattle.commit_objects.specs.Spelling.{text_of}
 use Rattle.commit_objects.specs.declared.commit.Commit.{Commit}
 use Rattle.library_rules.specs.MergeCommit.{some_in}
 use Rattle.library_rules.specs.declared.entry.Stored.{Stored}
-use Rattle.library_rules.proofs.Members.{same_id-itself, same_id-true}
+use Rattle.library_rules.proofs.MemberLemmas.{same_id-itself, same_id-true}
 use Rattle.object_graph.specs.Objects.{commit_at, commit_in, commit_key, is_nil, of_name}
 use Rattle.object_graph.specs.Traversal.{IsComplete, IsCompleteRoot, Walk, is_in, needs, start, then_read, visited, walk_commit, walk_root}
 use Rattle.object_graph.specs.declared.fault.TreeFault.{TreeFault}
 use Rattle.object_graph.specs.declared.fault.TreeFault.TheVariants.{Unreadable}
-use Rattle.object_graph.proofs.Alike.{Alike, object_alike}
-use Rattle.object_graph.proofs.Keys.{in_append, in_distinct}
+use Rattle.object_graph.proofs.AlikeLemmas.{Alike, object_alike}
+use Rattle.object_graph.proofs.KeyLemmas.{in_append, in_distinct}
 use Rattle.object_store.specs.Store.{IsGetFault, IsWhole, damage_at, has_other_name, is_free, is_named_by_bytes, name_refusal, same_bytes}
 use Rattle.object_store.specs.declared.error.StoreFault.{StoreFault}
 use Rattle.object_store.specs.declared.error.StoreFault.TheVariants as store

@@ -21,10 +21,10 @@ use Rattle.library_rules.specs.Changes.{keys_added, with_added}
 use Rattle.library_rules.specs.LibraryState.{State, head_of, is_stored}
 use Rattle.library_rules.specs.MergeCommit.{Clash, Clashes, ClashesAt, IsCommitObject, IsDirectoryObject, IsMade, IsMergedDirectory, IsNilWhereNoPath, IsTreeAt, Makes, OfTrees, RootTree, has_conflict, merge_of, zeros, stored, another, IsMadeOf}
 use Rattle.library_rules.specs.declared.entry.Stored.{Stored}
-use Rattle.library_rules.proofs.Histories.{commit_visited}
-use Rattle.library_rules.proofs.Keeping.{grown}
-use Rattle.library_rules.proofs.Members.{same_id-itself}
-use Rattle.library_rules.proofs.ProperText.{complete_not_zeros}
+use Rattle.library_rules.proofs.HistoryLemmas.{commit_visited}
+use Rattle.library_rules.proofs.KeepingLemmas.{grown}
+use Rattle.library_rules.proofs.MemberLemmas.{same_id-itself}
+use Rattle.library_rules.proofs.ProperTextLemmas.{complete_not_zeros}
 use Rattle.library_state.specs.declared.refusal.Refusal.{Refusal}
 use Rattle.library_state.specs.declared.refusal.Refusal.TheVariants as refusal
 use Rattle.library_state.specs.declared.state.LibState.{LibState}
@@ -32,9 +32,9 @@ use Rattle.object_graph.specs.Objects.{IsTreeOf, commit_at, commit_key, fs_key, 
 use Rattle.object_graph.specs.Traversal.{IsComplete, IsCompleteRoot, is_in, needs, start, walk_root}
 use Rattle.object_graph.specs.Unchanged.{Keeps}
 use Rattle.object_graph.specs.declared.fault.TreeFault.{TreeFault}
-use Rattle.object_graph.proofs.Commits.{commit_root}
-use Rattle.object_graph.proofs.Fitting.{root_fits}
-use Rattle.object_graph.proofs.Keys.{same_key, same_key-true}
+use Rattle.object_graph.proofs.CommitLemmas.{commit_root}
+use Rattle.object_graph.proofs.FittingLemmas.{root_fits}
+use Rattle.object_graph.proofs.KeyLemmas.{same_key, same_key-true}
 use Rattle.object_store.specs.StoreView.{Index}
 use Rattle.object_store.specs.declared.shelf.Slot.{Slot as ShelfSlot}
 use Rattle.tree_merge.specs.Merging.{IsDirectoryIn, IsMerged, IsTaken, MergesTo, CannotStore, AreComplete as AreWhole}

@@ -5,14 +5,14 @@ use Rattle.std.specs.List.{AllByRecursion, IsDistinct}
 use Rattle.std.specs.Ordering.{eq_by_cmp}
 use Rattle.ids.specs.Key.{Objects, key_cmp}
 use Rattle.ids.specs.declared.key.Key.{Key}
-use Rattle.ids.proofs.KeyOrder.{key_cmp_total}
+use Rattle.ids.proofs.KeyOrderLemmas.{key_cmp_total}
 use Rattle.library_rules.specs.Calls.{Due, Denies, Says, Stores, Installs, Merges, act_due, base_due, complete_due, due, may, token_due, token_of, update_due}
 use Rattle.library_rules.specs.Changes.{keys_added, put_new}
 use Rattle.library_rules.specs.LibraryState.{IsSound, State, head_of, is_kept, is_stored}
 use Rattle.library_rules.specs.MergeBase.{Based, Base, NoBase, base_of}
 use Rattle.library_rules.specs.declared.entry.Stored.{Stored}
 use Rattle.library_rules.proofs.HeadsLemmas.{base_kept}
-use Rattle.library_rules.proofs.HeadsTrees.{head_kept}
+use Rattle.library_rules.proofs.HeadTreeLemmas.{head_kept}
 use Rattle.library_state.specs.declared.call.Act.TheVariants as act
 use Rattle.library_state.specs.declared.call.Call.{Call}
 use Rattle.library_state.specs.declared.refusal.Refusal.{Refusal}
@@ -23,7 +23,7 @@ use Rattle.library_state.specs.declared.token.Token.{Token}
 use Rattle.object_graph.specs.Objects.{same_id}
 use Rattle.object_graph.specs.Traversal.{IsComplete, walk_commit}
 use Rattle.object_graph.specs.declared.fault.TreeFault.{TreeFault}
-use Rattle.object_graph.proofs.Keys.{same_key, same_key-itself, same_key-true}
+use Rattle.object_graph.proofs.KeyLemmas.{same_key, same_key-itself, same_key-true}
 use Rattle.object_store.specs.Store.{first_refusal, name_refusal, put_refusal, stored_refusal}
 use Rattle.object_store.specs.StoreView.{Index}
 use Rattle.object_store.specs.declared.shelf.Slot.{Slot as ShelfSlot}

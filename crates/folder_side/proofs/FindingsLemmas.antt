@@ -6,9 +6,9 @@ use Rattle.std.specs.FinMap as map
 use Rattle.tree_model.specs.DirectorySurvival.{is_within, is_under}
 use Rattle.tree_model.specs.Path.{PathV}
 use Rattle.tree_model.specs.PathOrder.{paths_total}
-use Rattle.tree_model.proofs.Below.{within_is, under_of}
-use Rattle.tree_model.proofs.Listed.{same_path, same_path-true, same_path-itself}
-use Rattle.tree_model.proofs.Moving.{In}
+use Rattle.tree_model.proofs.BelowLemmas.{within_is, under_of}
+use Rattle.tree_model.proofs.ListedLemmas.{same_path, same_path-true, same_path-itself}
+use Rattle.tree_model.proofs.MovingLemmas.{In}
 use Rattle.block_chunker.specs.declared.cuts.Cuts.{Cuts}
 use Rattle.folder_side.specs.declared.error.ScanFault.TheVariants as fault
 use Rattle.folder_side.specs.declared.findings.Findings.{Findings}
@@ -20,7 +20,7 @@ use Rattle.folder_side.specs.declared.scan_report.Seen.{Seen}
 use Rattle.folder_side.specs.Folder.{Contents, IsFolder, at, nameless_at, is_other, kind_of, items_in}
 use Rattle.folder_side.specs.ScanReport.{seen_of, is_visible, visible_count, IsScan, IsWithinLimits, IsPastLimit}
 use Rattle.folder_side.specs.Findings.{seen_at, skips, is_skipped, has_nameless, IsSmall, AreOf, Knows, KnowsNameless, Grows, HasTaken, KnowsWithin, HasTakenItem, HasScanned, Reports}
-use Rattle.folder_side.proofs.SortedEntries.{Rises-entries, passes, same_keys, fewer_keys, length_chosen}
+use Rattle.folder_side.proofs.SortedEntryLemmas.{Rises-entries, passes, same_keys, fewer_keys, length_chosen}
 use Rattle.folder_side.proofs.ListingLemmas.{item_of_path, above, none_below}
 use Rattle.tree_model.specs.declared.limits.TheConstants.{MAX_NAMES, MAX_PATHS}
 

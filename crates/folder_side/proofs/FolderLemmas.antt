@@ -5,14 +5,14 @@ use Rattle.std.specs.FinMap as map
 use Rattle.tree_model.specs.DirectorySurvival.{is_under}
 use Rattle.tree_model.specs.Path.{PathV, IsPath, path_cmp, parent_of}
 use Rattle.tree_model.specs.PathOrder.{paths_total}
-use Rattle.tree_model.proofs.Below.{parent_push, under_of}
-use Rattle.tree_model.proofs.Moving.{In, in_found}
-use Rattle.tree_model.proofs.Listed.{same_path, same_path-true, same_path-apart}
+use Rattle.tree_model.proofs.BelowLemmas.{parent_push, under_of}
+use Rattle.tree_model.proofs.MovingLemmas.{In, in_found}
+use Rattle.tree_model.proofs.ListedLemmas.{same_path, same_path-true, same_path-apart}
 use Rattle.folder_side.specs.declared.holding.Holding.{Holding}
 use Rattle.folder_side.specs.declared.holding.Holding.TheVariants.{Dir, File, Other}
 use Rattle.folder_side.specs.Folder.{Contents, IsFolder, at, nameless_at, is_dir, is_dir_at, CanStand, IsEmptyDir, IsRemovable, with_holding, without}
 use Rattle.folder_side.specs.MemoryFolder.{nothing, with_nameless}
-use Rattle.folder_side.proofs.SortedEntries.{Rises-entries, found_of}
+use Rattle.folder_side.proofs.SortedEntryLemmas.{Rises-entries, found_of}
 
 pub IsFolder-nothing : IsFolder nothing
 IsFolder-nothing = record {

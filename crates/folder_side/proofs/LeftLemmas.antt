@@ -7,14 +7,14 @@ use Rattle.tree_model.specs.DirectorySurvival.{is_within, is_under}
 use Rattle.tree_model.specs.Path.{PathV}
 use Rattle.tree_model.specs.Tree.{Tree}
 use Rattle.tree_model.specs.declared.node.Node.{Node}
-use Rattle.tree_model.proofs.Below.{under_is, within_is}
-use Rattle.tree_model.proofs.Moving.{In, in_found}
+use Rattle.tree_model.proofs.BelowLemmas.{under_is, within_is}
+use Rattle.tree_model.proofs.MovingLemmas.{In, in_found}
 use Rattle.folder_side.specs.declared.holding.Holding.{Holding}
 use Rattle.folder_side.specs.declared.holding.Holding.TheVariants.{Dir, File, Other}
 use Rattle.folder_side.specs.Folder.{Contents, IsFolder, at, is_dir, is_other, nameless_at}
 use Rattle.folder_side.specs.WorkingTree.{KeepsHidden, PlainDir, PlainFile, held_list, held_of, is_stuck, lacked, lacks}
 use Rattle.folder_side.proofs.ListingLemmas.{dir_above}
-use Rattle.folder_side.proofs.SortedEntries.{Rises-entries, found_of}
+use Rattle.folder_side.proofs.SortedEntryLemmas.{Rises-entries, found_of}
 
 -- ---- entries that pass a test
 

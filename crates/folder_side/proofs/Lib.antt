@@ -1,8 +1,8 @@
 pub mod FileReadLemmas
 pub mod FindingsLemmas
-pub mod ScanSteps
+pub mod ScanStepLemmas
 pub mod FolderLemmas
 pub mod ListingLemmas
-pub mod SortedEntries
+pub mod SortedEntryLemmas
 pub mod VisibleTreeLemmas
 pub mod LeftLemmas

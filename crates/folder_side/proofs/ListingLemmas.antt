@@ -5,14 +5,14 @@ use Rattle.std.specs.List.{filter_map, cons_option}
 use Rattle.std.specs.FinMap as map
 use Rattle.tree_model.specs.DirectorySurvival.{is_within, is_under}
 use Rattle.tree_model.specs.Path.{PathV}
-use Rattle.tree_model.proofs.Below.{name_itself, under_is, within_of}
-use Rattle.tree_model.proofs.Moving.{In, in_found}
+use Rattle.tree_model.proofs.BelowLemmas.{name_itself, under_is, within_of}
+use Rattle.tree_model.proofs.MovingLemmas.{In, in_found}
 use Rattle.folder_side.specs.declared.folder.Item.{Item}
 use Rattle.folder_side.specs.declared.folder.Listing.{Listing}
 use Rattle.folder_side.specs.declared.holding.Holding.{Holding}
 use Rattle.folder_side.specs.declared.holding.Holding.TheVariants.{Dir}
 use Rattle.folder_side.specs.Folder.{Contents, IsFolder, at, kind_of, name_in, item_of, items_in, listing_in, listing_at, is_dir_at}
-use Rattle.folder_side.proofs.SortedEntries.{Rises-entries, found_of}
+use Rattle.folder_side.proofs.SortedEntryLemmas.{Rises-entries, found_of}
 
 -- a listing is that of its directory
 pub listing_is : (c : Contents) (dir : PathV) (listing : Listing) → Some listing ≡ listing_at c dir → listing ≡ listing_in c dir

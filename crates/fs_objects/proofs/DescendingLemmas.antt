@@ -14,7 +14,7 @@ use Rattle.std.specs.List.Sorted.{IsPermutation, IsStrictlySortedBy}
 use Rattle.std.specs.Map.{keys_of, values_of}
 use Rattle.std.specs.Ordering.{match_ordering, ordering_reverse}
 use Rattle.std.specs.Str.{bytes_eq}
-use Rattle.ids.proofs.Facts.{AllByRecursion-push}
+use Rattle.ids.proofs.BasicLemmas.{AllByRecursion-push}
 use Rattle.serde_json.specs.Written.{compact_text}
 use Rattle.fs_objects.specs.Directory.{names_of}
 use Rattle.fs_objects.specs.Spelling.{directory_with, entry_data, in_written_order, placed, text_of}

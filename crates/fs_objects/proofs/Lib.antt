@@ -4,8 +4,8 @@ pub mod NameSetLemmas
 pub mod PlacingLemmas
 pub mod OrderLemmas
 pub mod TextLemmas
-pub mod FileReadBack
-pub mod DirectoryReadBack
+pub mod FileReadBackLemmas
+pub mod DirectoryReadBackLemmas
 pub mod ObjectReadingLemmas
 pub mod PartsLemmas
 pub mod DescendingLemmas

@@ -6,7 +6,7 @@ use Rattle.std.specs.Str.{bytes_eq}
 use Rattle.std.proofs.lemmas.Bool.{false≢true}
 use Rattle.std.proofs.lemmas.Map.Text.{is_eq-slice_cmp}
 use Rattle.std.proofs.lemmas.Slice.Eq.{bytes_eq-Decides}
-use Rattle.ids.proofs.Facts.{same_from_slice_cmp, same_from_bytes_eq}
+use Rattle.ids.proofs.BasicLemmas.{same_from_slice_cmp, same_from_bytes_eq}
 use Rattle.json.specs.Token.{Token}
 use Rattle.serde_json.specs.Data.{Data, object, Members, no_members, member, put}
 use Rattle.serde_json.specs.Find.{get_member}

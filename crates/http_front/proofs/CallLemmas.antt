@@ -22,7 +22,7 @@ use Rattle.ids.specs.Digits.{digits_form, is_lower_digit}
 use Rattle.ids.specs.Form.{Form, IsOf}
 use Rattle.ids.specs.LibraryId.{library_form}
 use Rattle.ids.proofs.DigitsLemmas as digits
-use Rattle.ids.proofs.LibraryText as library
+use Rattle.ids.proofs.LibraryTextLemmas as library
 use Rattle.json_words.specs.IdText.{library_id_of, object_id_of}
 use Rattle.ids.specs.Kind.{kind_word}
 use Rattle.http_front.specs.Route.{IsCall, IsLibrary, IsNamed, IsPathKind, head_method, head_route, kind_of, library_route, method_in, named_route, object_route, pair_route, parts_in, path_in, path_route, repo_route, route_of, top_route, under, version_route, word_route}
@@ -32,7 +32,7 @@ use Rattle.http_front.specs.declared.method.Method.TheVariants as method
 use Rattle.http_front.specs.declared.route.Route.{Route}
 use Rattle.http_front.specs.declared.route.Route.TheVariants.{Version, Check, Head, Update, Get, Put, CheckFs, CheckBlocks, PutFs, GetFs, Ids}
 use Rattle.json_words.proofs.IdLemmas.{has_form-IsOf}
-use Rattle.http_front.proofs.NamedIds.{id_bytes, id_text, if_some, lib_text, library_bytes}
+use Rattle.http_front.proofs.NamedIdLemmas.{id_bytes, id_text, if_some, lib_text, library_bytes}
 
 -- ---- what is read is the text of what it names
 

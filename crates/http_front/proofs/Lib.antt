@@ -17,4 +17,4 @@ pub mod TagLemmas
 pub mod TargetFrontLemmas
 pub mod TargetLemmas
 pub mod TokenLemmas
-pub mod NamedIds
+pub mod NamedIdLemmas

@@ -1,6 +1,6 @@
 pub mod DigitsLemmas
-pub mod Facts
+pub mod BasicLemmas
 pub mod FormLemmas
-pub mod KeyOrder
-pub mod LibraryText
+pub mod KeyOrderLemmas
+pub mod LibraryTextLemmas
 pub mod MapLemmas

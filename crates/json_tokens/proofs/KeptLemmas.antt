@@ -8,7 +8,7 @@ use Rattle.std.specs.Cmp.Lexicographic.{slice_cmp}
 use Rattle.std.specs.List.{list_any}
 use Rattle.std.specs.Ordering.{match_ordering, ordering_reverse}
 use Rattle.std.specs.Str.{bytes_eq}
-use Rattle.ids.proofs.Facts.{same_from_slice_cmp}
+use Rattle.ids.proofs.BasicLemmas.{same_from_slice_cmp}
 use Rattle.json.specs.Json as json
 use Rattle.json.specs.Json.{Parse, parse_map, value_with}
 use Rattle.json.specs.Reads.{token_of}

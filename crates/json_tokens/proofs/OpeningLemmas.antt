@@ -2,7 +2,7 @@
 use Rattle.std.proofs.Common.{◌≡◌, ℕ, zero, suc, Bool, true, false, List, [], ◌∷◌, length, Option, Some, None, option_map, is_some, refl, sym, ap, ◌∙◌, subst}
 use Rattle.std.proofs.lemmas.Bool.{false≢true}
 use Rattle.std.specs.Bool.{MatchBool}
-use Rattle.ids.proofs.Facts.{none_from_is_some}
+use Rattle.ids.proofs.BasicLemmas.{none_from_is_some}
 use Rattle.json.specs.Json.{Parse, parse_map, items, members, value, value_with}
 use Rattle.json.specs.Json as json
 use Rattle.json.specs.Token.{Token}

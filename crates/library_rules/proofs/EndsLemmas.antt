@@ -8,7 +8,7 @@ use Rattle.library_rules.specs.History.{StepPermits, Permits}
 use Rattle.library_rules.specs.LibraryState.{State, is_stored, is_needed, is_fresh}
 use Rattle.library_rules.specs.declared.entry.Entry.{Entry}
 use Rattle.library_rules.specs.declared.entry.Step.TheVariants as step
-use Rattle.library_rules.proofs.Steps.{objects_after, spares}
+use Rattle.library_rules.proofs.StepLemmas.{objects_after, spares}
 
 -- what leaves is neither needed nor fresh
 neither : (a b : Bool) → a ≡ false → b ≡ false → (a || b) ≡ false

@@ -10,12 +10,12 @@ use Rattle.std.specs.List.{AllByRecursion, Contains}
 use Rattle.std.specs.Ordering.{eq_by_cmp}
 use Rattle.sha1.specs.Sha1.{sha1}
 use Rattle.ids.specs.Key.{Objects, key_cmp}
-use Rattle.ids.proofs.KeyOrder.{key_cmp_total}
+use Rattle.ids.proofs.KeyOrderLemmas.{key_cmp_total}
 use Rattle.ids.specs.declared.key.Key.{Key}
 use Rattle.ids.specs.declared.key.Kind.{Kind}
 use Rattle.ids.specs.declared.key.Kind.TheVariants.{Commit, Fs, Block}
-use Rattle.library_rules.proofs.Members.{same_id-true}
-use Rattle.library_rules.proofs.Steps.{objects_after}
+use Rattle.library_rules.proofs.MemberLemmas.{same_id-true}
+use Rattle.library_rules.proofs.StepLemmas.{objects_after}
 use Rattle.library_rules.specs.Calls.{Due, Denies, Says, Stores, Installs, Merges, act_due, base_due, complete_due, due, first_refusal, listed, may, other_name, put_due, put_refusals, token_due, token_of, update_due, by_state, update_decided, ids_decided}
 use Rattle.library_rules.specs.Changes.{apply, put_new, with_added, without}
 use Rattle.library_rules.specs.History.{Permits, StepPermits, StepSo}

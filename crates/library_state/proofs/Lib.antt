@@ -1,7 +1,7 @@
 pub mod RetentionLemmas
-pub mod StateChecks
-pub mod StateReadBack
+pub mod StateCheckLemmas
+pub mod StateReadBackLemmas
 pub mod StateTextLemmas
 pub mod SecretLemmas
 pub mod TokenLemmas
-pub mod StateWritten
+pub mod StateWrittenLemmas

@@ -1,5 +1,5 @@
-pub mod EntriesListed
-pub mod IndexReadBack
+pub mod EntryListedLemmas
+pub mod IndexReadBackLemmas
 pub mod MergeLemmas
 pub mod PathTextLemmas
 pub mod TextLemmas

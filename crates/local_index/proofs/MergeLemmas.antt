@@ -6,9 +6,9 @@ use Rattle.std.specs.List.Sorted.{IsStrictlySortedBy}
 use Rattle.std.specs.Ordering.{ordering_reverse}
 use Rattle.tree_model.specs.Path.{PathV, path_cmp}
 use Rattle.tree_model.specs.PathOrder.{paths_total, paths_exact}
-use Rattle.tree_model.proofs.Listed.{same_path, same_path-true}
+use Rattle.tree_model.proofs.ListedLemmas.{same_path, same_path-true}
 use Rattle.folder_side.specs.declared.scan_report.Seen.{Seen}
-use Rattle.folder_side.proofs.SortedEntries.{IsBefore, Rises, Rises-entries, before_all, missed}
+use Rattle.folder_side.proofs.SortedEntryLemmas.{IsBefore, Rises, Rises-entries, before_all, missed}
 use Rattle.local_index.specs.ScanChanges.{differs, change_of, told_at, AreChanges}
 use Rattle.local_index.specs.MergedEntries.{added, gone, changed, all_gone, by_first, merged_first, merged}
 use Rattle.local_index.specs.declared.scan_changes.Change.{Change}

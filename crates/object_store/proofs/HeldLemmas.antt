@@ -6,7 +6,7 @@ use Rattle.std.specs.FinMap as map
 use Rattle.std.specs.Ordering.{eq_by_cmp}
 use Rattle.ids.specs.Key.{Objects, key_cmp}
 use Rattle.ids.specs.declared.key.Key.{Key}
-use Rattle.ids.proofs.KeyOrder.{key_cmp_total, key_cmp_exact}
+use Rattle.ids.proofs.KeyOrderLemmas.{key_cmp_total, key_cmp_exact}
 use Rattle.object_store.proofs.MapLemmas.{get-retained, get-tied}
 use Rattle.object_store.specs.Shelf.{Changes, Contents, put_known, removed_known}
 use Rattle.object_store.specs.Steps.{ChangesBoth, fault_of}

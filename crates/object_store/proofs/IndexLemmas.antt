@@ -14,7 +14,7 @@ use Rattle.ids.specs.ObjectId.{id_cmp}
 use Rattle.ids.specs.declared.key.Key.{Key}
 use Rattle.ids.specs.declared.key.Kind.{Kind}
 use Rattle.ids.specs.declared.key.Kind.TheVariants.{Commit, Fs, Block}
-use Rattle.ids.proofs.KeyOrder.{id_cmp_total, id_cmp_exact, key_cmp_total, key_cmp_exact}
+use Rattle.ids.proofs.KeyOrderLemmas.{id_cmp_total, id_cmp_exact, key_cmp_total, key_cmp_exact}
 use Rattle.object_store.proofs.MapLemmas.{get-retained, tied_key}
 use Rattle.object_store.specs.Shelf.{Contents, FindsNext, IsNextFound}
 use Rattle.object_store.specs.Steps.{Indexes, is_done, is_read, is_upto}

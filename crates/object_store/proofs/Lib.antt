@@ -6,4 +6,4 @@ pub mod RefusalLemmas
 pub mod StrayLemmas
 pub mod ShelfLemmas
 pub mod OddLemmas
-mod Walks
+mod WalkLemmas

@@ -7,7 +7,7 @@ use Rattle.std.specs.FinMap.Entries.{below_all}
 use Rattle.std.specs.Ordering.{is_eq, is_lt, eq_by_cmp}
 use Rattle.ids.specs.Key.{key_cmp}
 use Rattle.ids.specs.declared.key.Key.{Key}
-use Rattle.ids.proofs.KeyOrder.{key_cmp_total, key_cmp_exact}
+use Rattle.ids.proofs.KeyOrderLemmas.{key_cmp_total, key_cmp_exact}
 
 -- keys that tie are one
 pub tied_key : (q k : Key) → eq_by_cmp key_cmp q k ≡ true → q ≡ k

@@ -15,7 +15,7 @@ use Rattle.ids.specs.ObjectId.{id_cmp, nil}
 use Rattle.ids.specs.declared.key.Key.{Key}
 use Rattle.ids.specs.declared.key.Kind.{Kind}
 use Rattle.ids.specs.declared.key.Kind.TheVariants.{Commit, Fs, Block}
-use Rattle.ids.proofs.KeyOrder.{key_cmp_total, key_cmp_exact}
+use Rattle.ids.proofs.KeyOrderLemmas.{key_cmp_total, key_cmp_exact}
 use Rattle.object_store.proofs.MapLemmas.{tied_key}
 use Rattle.object_store.specs.MemoryShelf.{FindsAt, FindsKey, HasIds, IsFirstFrom, IsFirstPast, IsLeastFrom, IsPast, MemoryShelfState, begun, counted, fails_next}
 use Rattle.object_store.specs.Shelf.{FindsNext}

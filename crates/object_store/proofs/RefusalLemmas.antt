@@ -9,7 +9,7 @@ use Rattle.sha1.specs.Sha1.{sha1}
 use Rattle.ids.specs.Key.{Objects, key_cmp}
 use Rattle.ids.specs.Outcome.{RefusesAs}
 use Rattle.ids.specs.declared.key.Key.{Key}
-use Rattle.ids.proofs.KeyOrder.{key_cmp_total, key_cmp_exact}
+use Rattle.ids.proofs.KeyOrderLemmas.{key_cmp_total, key_cmp_exact}
 use Rattle.ids.proofs.MapLemmas.{insert-same}
 use Rattle.object_store.proofs.HeldLemmas.{IsReady, held-at, objects-beside, objects-put, sizes}
 use Rattle.object_store.proofs.MapLemmas.{get-retained, tied_key}

@@ -6,7 +6,7 @@ use Rattle.std.specs.FinMap as map
 use Rattle.std.specs.Ordering.{eq_by_cmp}
 use Rattle.ids.specs.Key.{key_cmp}
 use Rattle.ids.specs.declared.key.Key.{Key}
-use Rattle.ids.proofs.KeyOrder.{key_cmp_total}
+use Rattle.ids.proofs.KeyOrderLemmas.{key_cmp_total}
 use Rattle.object_store.proofs.MapLemmas.{tied_key}
 use Rattle.object_store.specs.MemoryShelf.{Answers, MemoryShelfState}
 use Rattle.object_store.specs.Shelf.{Changes, Contents, GivesAlso, GivesNoMore, Tells, lies_in, put_known, removed_known, texts_after, with_put, without}

@@ -6,7 +6,7 @@ use Rattle.std.specs.FinMap as map
 use Rattle.std.specs.Ordering.{eq_by_cmp}
 use Rattle.ids.specs.Key.{key_cmp}
 use Rattle.ids.specs.declared.key.Key.{Key}
-use Rattle.ids.proofs.KeyOrder.{key_cmp_total}
+use Rattle.ids.proofs.KeyOrderLemmas.{key_cmp_total}
 use Rattle.object_store.specs.Shelf.{Changes, Contents, put_known, removed_known}
 use Rattle.object_store.specs.Steps.{ChangesBoth}
 use Rattle.object_store.specs.Store.{is_of_shelf}

@@ -13,7 +13,7 @@ use Rattle.uuid.proofs.RoundTrips.{parses_hyphenated}
 use Rattle.ids.specs.Digits.{digits_form}
 use Rattle.ids.specs.LibraryId.{library_form}
 use Rattle.ids.proofs.DigitsLemmas.{IsBytes-from_All, IsOf-encode_lower, decode_of-digits, encode_lower-digits}
-use Rattle.ids.proofs.LibraryText.{IsOf-hyphenated, parsed-library, hyphenated-library}
+use Rattle.ids.proofs.LibraryTextLemmas.{IsOf-hyphenated, parsed-library, hyphenated-library}
 use Rattle.json_words.specs.IdText.{has_form, library_id_of, object_id_of}
 use Rattle.json_words.proofs.IdLemmas.{IsOf-has_form, library_id_of-good, object_id_of-good}
 use Rattle.library_state.specs.Rights.{right_of, right_text}

@@ -6,8 +6,8 @@ use Rattle.std.specs.Ordering.{ordering_reverse}
 use Rattle.ids.specs.Key.{Objects, key_cmp}
 use Rattle.tree_model.specs.Path.{PathV, path_cmp, parent_of, last_name}
 use Rattle.tree_model.specs.PathOrder.{paths_total}
-use Rattle.tree_model.proofs.Below.{parent_push, last_push}
-use Rattle.tree_model.proofs.Listed.{same_path, same_path-true, same_path-itself, same_path-apart}
+use Rattle.tree_model.proofs.BelowLemmas.{parent_push, last_push}
+use Rattle.tree_model.proofs.ListedLemmas.{same_path, same_path-true, same_path-itself, same_path-apart}
 use Rattle.fs_objects.specs.Mode.{is_file_mode, is_directory_mode}
 use Rattle.fs_objects.specs.Proper.{IsProperEntry}
 use Rattle.fs_objects.specs.declared.dirent.Dirent.{Dirent}
@@ -18,10 +18,10 @@ use Rattle.object_graph.specs.declared.entry.Entry.TheVariants.{Dir, File}
 use Rattle.tree_merge.specs.Sides.{Entries}
 use Rattle.tree_merge.specs.TreeBuilding.{IsSound, HasMade, directory_id_in, IsEntryMade, IsOwn}
 use Rattle.tree_merge.proofs.TableLemmas.{apart_by}
-use Rattle.tree_merge.proofs.PathsInOrder.{before_child}
+use Rattle.tree_merge.proofs.PathOrderLemmas.{before_child}
 use Rattle.tree_merge.proofs.DirentLemmas.{named_push, named_push_other}
 use Rattle.tree_merge.proofs.MadeLemmas.{kept_then, kept_itself}
-use Rattle.tree_merge.proofs.SameEntries.{entries_same, ids_same, entry_same, id_same, nothing_named, id_named}
+use Rattle.tree_merge.proofs.SameEntryLemmas.{entries_same, ids_same, entry_same, id_same, nothing_named, id_named}
 
 -- ---- entries of a sound table
 

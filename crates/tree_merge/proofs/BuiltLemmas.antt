@@ -6,7 +6,7 @@ use Rattle.std.specs.Str.{bytes_eq}
 use Rattle.ids.specs.Key.{Objects}
 use Rattle.tree_model.specs.Path.{PathV}
 use Rattle.tree_model.specs.PathOrder.{paths_total}
-use Rattle.tree_model.proofs.Listed.{same_path, same_path-true, same_path-itself}
+use Rattle.tree_model.proofs.ListedLemmas.{same_path, same_path-true, same_path-itself}
 use Rattle.fs_objects.specs.Directory.{names_of}
 use Rattle.fs_objects.specs.declared.dirent.Dirent.{Dirent}
 use Rattle.object_graph.specs.Objects.{entry_named, dirents_at, AreEntriesOf}
@@ -16,7 +16,7 @@ use Rattle.tree_merge.specs.TreeBuilding.{IsSound, HasMade, IsDirectoryOf, direc
 use Rattle.tree_merge.proofs.DirentLemmas.{named_push_other, distinct_push, distinct_none}
 use Rattle.tree_merge.proofs.MadeLemmas.{kept_then}
 use Rattle.tree_merge.proofs.BuildingLemmas.{BuiltSo, Reach}
-use Rattle.tree_merge.proofs.SameEntries.{entries_same, ids_same}
+use Rattle.tree_merge.proofs.SameEntryLemmas.{entries_same, ids_same}
 
 -- ---- names of what directories hold
 

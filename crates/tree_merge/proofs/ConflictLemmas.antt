@@ -15,16 +15,16 @@ use Rattle.tree_model.specs.PathOrder.{paths_total, paths_exact}
 use Rattle.tree_model.specs.DirectorySurvival.{Sides, paths_of_all}
 use Rattle.tree_model.specs.ConflictCopies.{in_trees, leavers, conflicts, conflict_spot, first_long, is_gone, least_free, moves, places_of, tries}
 use Rattle.tree_model.specs.ThreeWayMerge.{node_at, merged, file_moved}
-use Rattle.tree_model.proofs.Below.{last_push}
-use Rattle.tree_model.proofs.Listed.{same_path, same_path-true, is_in}
-use Rattle.tree_model.proofs.Moving.{or_none, least_from, least_before, least_is_free}
-use Rattle.tree_model.proofs.Merges.{get-merged}
-use Rattle.tree_model.proofs.Copies.{spots_apart, in_list, enough, get-leavers}
+use Rattle.tree_model.proofs.BelowLemmas.{last_push}
+use Rattle.tree_model.proofs.ListedLemmas.{same_path, same_path-true, is_in}
+use Rattle.tree_model.proofs.MovingLemmas.{or_none, least_from, least_before, least_is_free}
+use Rattle.tree_model.proofs.MergeLemmas.{get-merged}
+use Rattle.tree_model.proofs.CopyLemmas.{spots_apart, in_list, enough, get-leavers}
 use Rattle.tree_model.proofs.NameLemmas.{IsName-short}
-use Rattle.tree_model.proofs.ResultTree.{known_by, last_named}
+use Rattle.tree_model.proofs.ResultTreeLemmas.{known_by, last_named}
 use Rattle.object_graph.specs.Objects.{node_of}
 use Rattle.conflict_names.specs.Naming.{naming}
-use Rattle.conflict_names.proofs.GoodNames.{naming-naming}
+use Rattle.conflict_names.proofs.GoodNameLemmas.{naming-naming}
 use Rattle.tree_merge.specs.FileEntry.{as_entry, version_of}
 use Rattle.tree_merge.specs.Sides.{Entries, IsSeen, AreTrees}
 use Rattle.tree_merge.specs.Decision.{Marks, IsDecided}

@@ -5,7 +5,7 @@ use Rattle.std.specs.Option.{option_or}
 use Rattle.std.specs.FinMap as map
 use Rattle.ids.specs.Key.{Objects}
 use Rattle.std.proofs.lemmas.Bool.{and_parts, or_cases}
-use Rattle.ids.proofs.Facts.{none_from_is_some}
+use Rattle.ids.proofs.BasicLemmas.{none_from_is_some}
 use Rattle.tree_model.specs.declared.node.FileVersion.{FileVersion}
 use Rattle.tree_model.specs.declared.node.Node.TheVariants as tree_node
 use Rattle.tree_model.specs.Path.{PathV, path_cmp, parent_of, last_name}
@@ -14,13 +14,13 @@ use Rattle.tree_model.specs.Tree.{file_of, is_dir, has_dir, file_at}
 use Rattle.tree_model.specs.DirectorySurvival.{Sides, choice_at, gets_file, kept_dir, stays, HasKeptEntry}
 use Rattle.tree_model.specs.ConflictCopies.{in_trees, leaver_at}
 use Rattle.tree_model.specs.ThreeWayMerge.{node_at}
-use Rattle.tree_model.proofs.Below.{parent_last, parent_push}
-use Rattle.tree_model.proofs.Levels.{stays_levels}
-use Rattle.tree_model.proofs.Listed.{same_path, same_path-true, same_path-itself}
-use Rattle.tree_model.proofs.OneSide.{some_of_dir, some_of_file}
-use Rattle.tree_model.proofs.NothingLost.{chosen_from, stays_in_either}
-use Rattle.tree_model.proofs.Unmoved.{in_second, in_third}
-use Rattle.tree_merge.proofs.PathsInOrder.{before_child}
+use Rattle.tree_model.proofs.BelowLemmas.{parent_last, parent_push}
+use Rattle.tree_model.proofs.LevelLemmas.{stays_levels}
+use Rattle.tree_model.proofs.ListedLemmas.{same_path, same_path-true, same_path-itself}
+use Rattle.tree_model.proofs.OneSideLemmas.{some_of_dir, some_of_file}
+use Rattle.tree_model.proofs.NothingLostLemmas.{chosen_from, stays_in_either}
+use Rattle.tree_model.proofs.UnmovedLemmas.{in_second, in_third}
+use Rattle.tree_merge.proofs.PathOrderLemmas.{before_child}
 use Rattle.object_graph.specs.Objects.{node_of}
 use Rattle.object_graph.specs.declared.entry.Entry.{Entry}
 use Rattle.object_graph.specs.declared.entry.Entry.TheVariants.{Dir, File}

@@ -7,7 +7,7 @@ use Rattle.ids.specs.Key.{Objects, key_cmp}
 use Rattle.ids.specs.ObjectId.{nil}
 use Rattle.ids.specs.declared.key.Key.{Key}
 use Rattle.tree_model.specs.Path.{PathV, path_cmp}
-use Rattle.tree_model.proofs.Listed.{same_path, same_path-true}
+use Rattle.tree_model.proofs.ListedLemmas.{same_path, same_path-true}
 use Rattle.fs_objects.specs.Directory.{names_of}
 use Rattle.fs_objects.specs.FsObject.{fs_of}
 use Rattle.fs_objects.specs.Mode.{is_file_mode, is_directory_mode}
@@ -24,9 +24,9 @@ use Rattle.object_graph.specs.declared.entry.Entry.TheVariants.{Dir, File}
 use Rattle.tree_merge.specs.Sides.{Entries}
 use Rattle.tree_merge.specs.TreeBuilding.{AreDirectories, AreNamed, HasMade, IsClash, IsDirectoryText, IsEntryMade, IsNilOrMade, IsNilWhereEmpty, IsOwn, IsOwnName, IsRefusedList, IsSound, IsWritten, Lists}
 use Rattle.tree_merge.proofs.BuildingLemmas.{BuiltSo, entry_name, no_directory}
-use Rattle.object_graph.proofs.Entries.{named_name}
+use Rattle.object_graph.proofs.EntryLemmas.{named_name}
 use Rattle.tree_merge.proofs.DirentLemmas.{same_name, written_listing}
-use Rattle.tree_merge.proofs.EmptyDirectories.{nil_where_empty, some_written, zeros_same}
+use Rattle.tree_merge.proofs.EmptyDirectoryLemmas.{nil_where_empty, some_written, zeros_same}
 use Rattle.tree_merge.proofs.MadeLemmas.{kept_itself}
 
 -- ---- ids of what was made

@@ -15,7 +15,7 @@ use Rattle.fs_objects.specs.Spelling.{in_written_order}
 use Rattle.fs_objects.specs.declared.dirent.Dirent.{Dirent}
 use Rattle.fs_objects.proofs.OrderLemmas.{in_written_order-permutes, IsDistinct-in_written_order}
 use Rattle.object_graph.specs.Objects.{name_cmp, entry_named}
-use Rattle.object_graph.proofs.Entries.{names_total, same_name-true, named_name}
+use Rattle.object_graph.proofs.EntryLemmas.{names_total, same_name-true, named_name}
 
 abbrev pub same_name : List ℕ → List ℕ → Bool
 same_name = eq_by_cmp name_cmp

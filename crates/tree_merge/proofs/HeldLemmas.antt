@@ -3,7 +3,7 @@ use Rattle.std.proofs.Common.{◌≡◌, Bool, true, false, cond, if◌then◌el
 use Rattle.std.specs.FinMap as map
 use Rattle.tree_model.specs.Path.{PathV}
 use Rattle.tree_model.specs.PathOrder.{paths_total}
-use Rattle.tree_model.proofs.Listed.{same_path, same_path-true}
+use Rattle.tree_model.proofs.ListedLemmas.{same_path, same_path-true}
 use Rattle.fs_objects.specs.declared.dirent.Dirent.{Dirent}
 use Rattle.tree_merge.specs.TreeBuilding.{Held, held_at, emptied}
 use Rattle.tree_merge.proofs.TableLemmas.{get-put}

@@ -8,7 +8,7 @@ use Rattle.std.specs.Str.{bytes_eq}
 use Rattle.ids.specs.Key.{Objects, key_cmp}
 use Rattle.ids.specs.ObjectId.{nil}
 use Rattle.ids.specs.declared.key.Key.{Key}
-use Rattle.ids.proofs.KeyOrder.{key_cmp_total}
+use Rattle.ids.proofs.KeyOrderLemmas.{key_cmp_total}
 use Rattle.fs_objects.specs.Directory.{names_of}
 use Rattle.fs_objects.specs.FsObject.{fs_of}
 use Rattle.fs_objects.specs.Proper.{IsProper}
@@ -20,7 +20,7 @@ use Rattle.object_graph.specs.Unchanged.{Keeps}
 use Rattle.tree_merge.specs.declared.tree_builder.BuildFault.{BuildFault}
 use Rattle.tree_merge.specs.declared.tree_builder.BuildFault.TheVariants.{Taken, NoMemory}
 use Rattle.tree_merge.specs.TreeBuilding.{AreNamed, IsCausedInBuild, IsCollision, IsOwnName, HasMade, IsMade, IsRefused, IsRefusedList, Lists}
-use Rattle.object_graph.proofs.Keys.{same_key-true, same_key-itself}
+use Rattle.object_graph.proofs.KeyLemmas.{same_key-true, same_key-itself}
 use Rattle.tree_merge.proofs.DirentLemmas.{written_listing, distinct_none}
 
 abbrev same_key : Key → Key → Bool

@@ -22,9 +22,9 @@ use Rattle.tree_merge.specs.declared.merging.MergeFault.{MergeFault}
 use Rattle.tree_merge.specs.declared.merging.MergeFault.TheVariants.{Taken, TooLong, TooMany, Walk}
 use Rattle.tree_merge.specs.declared.tree_builder.BuildFault.{BuildFault}
 use Rattle.tree_merge.specs.declared.tree_builder.BuildFault.TheVariants as build
-use Rattle.tree_merge.proofs.JoinedSides.{AreTreesOf, joined_seen, joined_whole, sides_are_trees}
-use Rattle.tree_merge.proofs.MergedEntries.{over, sound}
-use Rattle.tree_merge.proofs.MergedRoot.{taken_built, taken_stored}
+use Rattle.tree_merge.proofs.JoinedSideLemmas.{AreTreesOf, joined_seen, joined_whole, sides_are_trees}
+use Rattle.tree_merge.proofs.MergedEntryLemmas.{over, sound}
+use Rattle.tree_merge.proofs.MergedRootLemmas.{taken_built, taken_stored}
 
 -- what the three trees have, path by path, as a merge wants it told
 pub record IsReady (objects : Objects) (base head pushed : List ℕ) (s : Sides) (joined : map.FinMap path_cmp Three) : Type 0 where

@@ -4,12 +4,12 @@ use borrow.Author.Tests.{eqb-false}
 use Rattle.std.specs.FinMap as map
 use Rattle.tree_model.specs.declared.node.FileVersion.{FileVersion}
 use Rattle.tree_model.specs.Path.{PathV, parent_of, last_name}
-use Rattle.tree_model.proofs.Below.{parent_push, last_push}
-use Rattle.tree_model.proofs.Listed.{is_in}
-use Rattle.tree_model.proofs.Moving.{pigeons}
-use Rattle.tree_model.proofs.Copies.{spots_apart}
+use Rattle.tree_model.proofs.BelowLemmas.{parent_push, last_push}
+use Rattle.tree_model.proofs.ListedLemmas.{is_in}
+use Rattle.tree_model.proofs.MovingLemmas.{pigeons}
+use Rattle.tree_model.proofs.CopyLemmas.{spots_apart}
 use Rattle.conflict_names.specs.Naming.{naming}
-use Rattle.conflict_names.proofs.GoodNames.{naming-naming}
+use Rattle.conflict_names.proofs.GoodNameLemmas.{naming-naming}
 use Rattle.tree_merge.specs.Decision.{Marks}
 use Rattle.tree_merge.specs.ConflictNaming.{name_of, place_of, IsPlaceAt, IsLongAt, AreKnown}
 use Rattle.tree_merge.specs.declared.conflict_copies.CopyFault.{CopyFault}

@@ -3,7 +3,7 @@ use Rattle.std.proofs.Common.{◌≡◌, ◌+◌, ◌-◌, ◌≤◌, Bool, true
 use Rattle.std.specs.FinMap as map
 use Rattle.tree_model.specs.Path.{PathV, path_cmp}
 use Rattle.tree_model.specs.PathOrder.{paths_total}
-use Rattle.tree_model.proofs.Listed.{same_path, same_path-true}
+use Rattle.tree_model.proofs.ListedLemmas.{same_path, same_path-true}
 use Rattle.object_graph.specs.declared.entry.Entry.{Entry}
 use Rattle.tree_merge.specs.Sides.{with_side, WasAdded, waits, added}
 use Rattle.tree_merge.specs.declared.sides.Side.{Side}

@@ -6,8 +6,8 @@ use Rattle.std.specs.FinMap as map
 use Rattle.std.specs.FinMap.Entries.{below_all}
 use Rattle.tree_model.specs.Path.{PathV, path_cmp}
 use Rattle.tree_model.specs.PathOrder.{paths_total}
-use Rattle.tree_model.proofs.Listed.{same_path, same_path-true, same_path-itself, same_path-apart}
-use Rattle.tree_model.proofs.SortedEntries.{left_holds, right_holds, is_less}
+use Rattle.tree_model.proofs.ListedLemmas.{same_path, same_path-true, same_path-itself, same_path-apart}
+use Rattle.tree_model.proofs.SortedEntryLemmas.{left_holds, right_holds, is_less}
 
 pub on_ok_more : {A E : Type 0} {P Q : Type 0} (r : Result A E) → (P → Q) → OnOk r P → OnOk r Q
 on_ok_more (Ok x) more h = more h

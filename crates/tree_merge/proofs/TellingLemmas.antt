@@ -8,10 +8,10 @@ use Rattle.object_graph.specs.Objects.{contents_of, same_id}
 use Rattle.object_graph.specs.Traversal.{start, walk_file_at}
 use Rattle.object_graph.specs.Unchanged.{Keeps}
 use Rattle.object_graph.specs.declared.fault.TreeFault.{TreeFault}
-use Rattle.object_graph.proofs.Keys.{within_itself}
-use Rattle.object_graph.proofs.SameBelow.{same_contents}
-use Rattle.object_graph.proofs.Schemes.{goes_on}
-use Rattle.object_graph.proofs.Stored.{agree_kept, none_stored, object_stored}
+use Rattle.object_graph.proofs.KeyLemmas.{within_itself}
+use Rattle.object_graph.proofs.SameBelowLemmas.{same_contents}
+use Rattle.object_graph.proofs.SchemeLemmas.{goes_on}
+use Rattle.object_graph.proofs.StoredLemmas.{agree_kept, none_stored, object_stored}
 use Rattle.object_store.specs.declared.error.StoreFault.TheVariants.{NoMemory}
 use Rattle.tree_walk.specs.Files.{files_due}
 use Rattle.tree_walk.specs.Reading.{Answers, IsDue}

@@ -8,8 +8,8 @@ use Rattle.sha1.specs.Sha1.{sha1}
 use Rattle.ids.specs.Key.{Objects, key_cmp}
 use Rattle.ids.specs.declared.key.Key.{Key}
 use Rattle.object_store.specs.Store.{has_other_name, is_named_by_bytes, same_bytes}
-use Rattle.ids.proofs.KeyOrder.{key_cmp_total}
-use Rattle.object_graph.proofs.Keys.{same_key-true}
+use Rattle.ids.proofs.KeyOrderLemmas.{key_cmp_total}
+use Rattle.object_graph.proofs.KeyLemmas.{same_key-true}
 use Rattle.tree_merge.specs.Merging.{AreLeft, FindsSo, IsOtherAt, IsSameAt, IsStoredOther, LeavesSo}
 use Rattle.tree_merge.specs.TreeBuilding.{AreNamed, IsCollision, IsOwnName}
 use Rattle.tree_merge.specs.declared.merging.MergeFault.{MergeFault}

@@ -4,13 +4,13 @@ use Rattle.std.specs.Option.{option_or}
 use Rattle.std.specs.FinMap as map
 use Rattle.ids.specs.Key.{Objects}
 use Rattle.tree_model.specs.Path.{PathV, path_cmp}
-use Rattle.tree_model.proofs.Listed.{same_path}
+use Rattle.tree_model.proofs.ListedLemmas.{same_path}
 use Rattle.object_graph.specs.Traversal.{Walk, start, walk_below, walk_file_at}
 use Rattle.object_graph.specs.Unchanged.{Keeps}
 use Rattle.object_graph.specs.declared.entry.Entry.{Entry}
-use Rattle.object_graph.proofs.Locality.{Follows, locality}
-use Rattle.object_graph.proofs.Schemes.{along_below, along_object}
-use Rattle.object_graph.proofs.Stored.{agree_kept, none_stored, object_stored}
+use Rattle.object_graph.proofs.LocalityLemmas.{Follows, locality}
+use Rattle.object_graph.proofs.SchemeLemmas.{along_below, along_object}
+use Rattle.object_graph.proofs.StoredLemmas.{agree_kept, none_stored, object_stored}
 use Rattle.tree_merge.specs.Decision.{AreWholeFiles, AreWholeIn, HasSettled, IsWholeDecided, IsWholePlacing, Marks}
 use Rattle.tree_merge.specs.FileChoice.{IsWholeIf, changed_both}
 use Rattle.tree_merge.specs.FileEntry.{as_entry, file_in}

@@ -4,7 +4,7 @@ use Rattle.std.specs.Cmp.Lexicographic.{pointwise, bytes_decides}
 use Rattle.std.proofs.lemmas.Bool.{and_parts}
 use Rattle.tree_model.specs.declared.node.FileVersion.{FileVersion}
 use Rattle.tree_model.specs.FileMerge.{same_version, same_file, choice, choice_by, only, Choice}
-use Rattle.tree_model.proofs.Below.{name_itself}
+use Rattle.tree_model.proofs.BelowLemmas.{name_itself}
 
 pub version_itself : (f : FileVersion) → same_version f f ≡ true
 version_itself f = ap₂ ◌&&◌ (name_itself f.bytes) (eq-eqb f.mode f.mode refl)

@@ -4,7 +4,7 @@ use Rattle.std.proofs.lemmas.Iterator.Adapters.{position_from-zero}
 use Rattle.std.specs.List.{AllByRecursion, position_from}
 use Rattle.std.specs.Option.{option_or}
 use Rattle.std.specs.Bool.{then_some}
-use Rattle.ids.proofs.Facts.{none_from_option_map}
+use Rattle.ids.proofs.BasicLemmas.{none_from_option_map}
 use Rattle.std.proofs.lemmas.Bool.{or_parts}
 use Rattle.tree_model.specs.Name.{IsName, is_separator, has_dots}
 use Rattle.tree_model.specs.declared.limits.TheConstants.{MAX_NAME}

@@ -9,16 +9,16 @@ use Rattle.std.specs.FinMap.Entries.{below_all}
 use Rattle.std.proofs.lemmas.List.Recursion.{is_sum_by}
 use Rattle.std.proofs.lemmas.Map.Keys.{IsDistinct-head, IsDistinct-tail}
 use Rattle.std.proofs.lemmas.Bool.{or_right}
-use Rattle.ids.proofs.Facts.{apart_from_is_lt}
+use Rattle.ids.proofs.BasicLemmas.{apart_from_is_lt}
 use Rattle.std.proofs.lemmas.List.{length-map}
 use Rattle.tree_model.specs.Path.{PathV, path_cmp}
 use Rattle.tree_model.specs.declared.node.Node.{Node}
 use Rattle.tree_model.specs.Tree.{Tree}
 use Rattle.tree_model.specs.DirectorySurvival.{is_under, is_within}
 use Rattle.tree_model.specs.PathCounts.{paths_below, paths_within, Covers, CountsAddUp}
-use Rattle.tree_model.proofs.Below.{name_itself, within_is, under_is, under_of}
-use Rattle.tree_model.proofs.SortedEntries.{left_holds, right_holds}
-use Rattle.tree_model.proofs.Listed.{same_path, same_path-true, same_path-itself, is_in}
+use Rattle.tree_model.proofs.BelowLemmas.{name_itself, within_is, under_is, under_of}
+use Rattle.tree_model.proofs.SortedEntryLemmas.{left_holds, right_holds}
+use Rattle.tree_model.proofs.ListedLemmas.{same_path, same_path-true, same_path-itself, is_in}
 
 -- ---- sums by recursion
 

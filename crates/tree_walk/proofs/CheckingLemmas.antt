@@ -13,7 +13,7 @@ use Rattle.object_graph.specs.Listing.{Listed, listed}
 use Rattle.object_graph.specs.Objects.{commit_at, commit_key, fs_at, fs_key, in_name_order, is_nil}
 use Rattle.object_graph.specs.Traversal.{Walk, start, visited, walk_below, walk_commit, walk_file_at}
 use Rattle.object_graph.specs.declared.fault.TreeFault.TheVariants.{TooDeep, TooMany, WrongKind}
-use Rattle.object_graph.proofs.Counting.{counts_from, entry_counts, nothing_listed}
+use Rattle.object_graph.proofs.CountingLemmas.{counts_from, entry_counts, nothing_listed}
 use Rattle.tree_walk.specs.Checking.{Found, IsWithin, Measures}
 use Rattle.tree_walk.specs.Extent.{deepest, extent_in, joined, with_entry}
 use Rattle.tree_walk.specs.Listings.{listed_from, listed_one}

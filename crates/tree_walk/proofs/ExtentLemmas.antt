@@ -11,8 +11,8 @@ use Rattle.object_graph.specs.Listing.{Listed, prefixed, listed, listed_entry, l
 use Rattle.object_graph.specs.Objects.{dirents_at, entries_of, entry_of, fs_at, fs_key, in_name_order, is_nil}
 use Rattle.object_graph.specs.Traversal.{Walk, counted, start, then_read, then_walk, visited, walk_below, walk_found, walk_object}
 use Rattle.object_graph.specs.declared.fault.TreeFault.{TreeFault}
-use Rattle.object_graph.proofs.Counting.{counts_below, counts_from, entry_counts, length-prefixed, nothing_listed}
-use Rattle.object_graph.proofs.Schemes.{Step, goes_on, none_before}
+use Rattle.object_graph.proofs.CountingLemmas.{counts_below, counts_from, entry_counts, length-prefixed, nothing_listed}
+use Rattle.object_graph.proofs.SchemeLemmas.{Step, goes_on, none_before}
 use Rattle.tree_walk.specs.Checking.{Found, IsWithin}
 use Rattle.tree_walk.specs.Extent.{deepest, extent_in}
 use Rattle.tree_walk.specs.KnownTrees.{IsKnownDirectory}

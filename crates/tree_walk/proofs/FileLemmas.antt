@@ -13,7 +13,7 @@ use Rattle.object_graph.specs.Objects.{block_bytes, block_key, blocks_at, blocks
 use Rattle.object_graph.specs.Traversal.{Walk, start, visited, failed, then_walk, then_read, walk_blocks, walk_below, walk_file, walk_file_at, walk_found, walk_object, sized}
 use Rattle.object_graph.specs.declared.fault.TreeFault.{TreeFault}
 use Rattle.object_graph.specs.declared.fault.TreeFault.TheVariants.{Incomplete, WrongSize}
-use Rattle.object_graph.proofs.Schemes.{goes_on, stands_still}
+use Rattle.object_graph.proofs.SchemeLemmas.{goes_on, stands_still}
 use Rattle.tree_walk.specs.Files.{added, added_all, as_file, blocks_due, file_at, file_due, files_due, first_due, fitting, size_due, rest_of, AreReady, Fronts, GoesOn}
 use Rattle.tree_walk.specs.Reading.{Answers, AnswersRead, IsDue, stored_at, stored_in}
 use Rattle.tree_walk.specs.declared.fault.WalkFault.{WalkFault}

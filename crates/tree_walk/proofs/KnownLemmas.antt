@@ -9,11 +9,11 @@ use Rattle.ids.specs.ObjectId.{id_cmp}
 use Rattle.ids.specs.declared.key.Key.{Key}
 use Rattle.ids.specs.declared.key.Kind.{Kind}
 use Rattle.ids.specs.declared.key.Kind.TheVariants.{Commit, Fs, Block}
-use Rattle.ids.proofs.KeyOrder.{id_cmp_total, id_cmp_exact, key_cmp_total}
+use Rattle.ids.proofs.KeyOrderLemmas.{id_cmp_total, id_cmp_exact, key_cmp_total}
 use Rattle.object_graph.specs.FsIds.{fs_ids_among, is_fs}
 use Rattle.object_graph.specs.Objects.{fs_key}
 use Rattle.object_graph.specs.Traversal.{is_in}
-use Rattle.object_graph.proofs.Keys.{same_key, in_append}
+use Rattle.object_graph.proofs.KeyLemmas.{same_key, in_append}
 use Rattle.tree_walk.specs.Known.{Knows, is_wanted, with_ids}
 
 -- one key more is known

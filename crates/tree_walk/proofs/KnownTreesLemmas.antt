@@ -3,7 +3,7 @@ use Rattle.std.proofs.Common.{◌≡◌, ◌⊎◌, inl, inr, ℕ, zero, suc, Bo
 use Rattle.std.specs.FinMap as map
 use Rattle.ids.specs.Key.{Objects, key_cmp}
 use Rattle.ids.specs.declared.key.Key.{Key}
-use Rattle.ids.proofs.KeyOrder.{key_cmp_total}
+use Rattle.ids.proofs.KeyOrderLemmas.{key_cmp_total}
 use Rattle.tree_model.specs.Path.{PathV}
 use Rattle.fs_objects.specs.Mode.{is_directory_mode}
 use Rattle.fs_objects.specs.declared.dirent.Dirent.{Dirent}
@@ -14,13 +14,13 @@ use Rattle.object_graph.specs.Objects.{dirents_at, entries_of, entry_of, fs_at, 
 use Rattle.object_graph.specs.Traversal.{Walk, start, visited, walk_below, walk_file_at, walk_object, walk_root}
 use Rattle.object_graph.specs.Unchanged.{AgreeOn, Keeps}
 use Rattle.object_graph.specs.declared.fault.TreeFault.{TreeFault}
-use Rattle.object_graph.proofs.Below.{Ran, ran_entry}
-use Rattle.object_graph.proofs.Entries.{In, nothing_in_order}
-use Rattle.object_graph.proofs.Keys.{Within, same_key, same_key-true, within_then}
-use Rattle.object_graph.proofs.Locality.{Follows, local_root, locality}
-use Rattle.object_graph.proofs.SameBelow.{ran_root, same_dirents}
-use Rattle.object_graph.proofs.Schemes.{along_below, along_object}
-use Rattle.object_graph.proofs.Stored.{agree_kept, none_stored, object_stored, root_stored}
+use Rattle.object_graph.proofs.BelowLemmas.{Ran, ran_entry}
+use Rattle.object_graph.proofs.EntryLemmas.{In, nothing_in_order}
+use Rattle.object_graph.proofs.KeyLemmas.{Within, same_key, same_key-true, within_then}
+use Rattle.object_graph.proofs.LocalityLemmas.{Follows, local_root, locality}
+use Rattle.object_graph.proofs.SameBelowLemmas.{ran_root, same_dirents}
+use Rattle.object_graph.proofs.SchemeLemmas.{along_below, along_object}
+use Rattle.object_graph.proofs.StoredLemmas.{agree_kept, none_stored, object_stored, root_stored}
 use Rattle.tree_walk.specs.Extent.{extent_in}
 use Rattle.tree_walk.specs.KnownTrees.{Fits, IsKnownDirectory, KnownView, nothing_known, with_directory, with_file}
 use Rattle.tree_walk.specs.Steps.{entries_step}

@@ -5,7 +5,7 @@ pub mod KnownLemmas
 pub mod KnownTreesLemmas
 pub mod LimitLemmas
 pub mod ListingLemmas
-pub mod Ordered
+pub mod OrderedLemmas
 pub mod ReadsLemmas
 pub mod StepsLemmas
 pub mod VisitLemmas

@@ -17,8 +17,8 @@ use Rattle.object_graph.specs.Traversal.{Walk, visited, then_read, walk_found, w
 use Rattle.object_graph.specs.declared.entry.Entry.{Entry}
 use Rattle.object_graph.specs.declared.fault.TreeFault.{TreeFault}
 use Rattle.object_graph.specs.declared.fault.TreeFault.TheVariants.{TooDeep, TooMany, WrongKind}
-use Rattle.object_graph.proofs.Counting.{nothing_listed}
-use Rattle.object_graph.proofs.Listing.{table_entries}
+use Rattle.object_graph.proofs.CountingLemmas.{nothing_listed}
+use Rattle.object_graph.proofs.ListingLemmas.{table_entries}
 use Rattle.tree_walk.specs.Files.{file_at, as_file}
 use Rattle.tree_walk.specs.Listings.{Ends, Lists, rooted, listed_one, listed_from}
 use Rattle.tree_walk.specs.Reading.{AnswersRead, IsDue}

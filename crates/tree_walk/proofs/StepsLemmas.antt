@@ -13,8 +13,8 @@ use Rattle.object_graph.specs.Objects.{commit_at, commit_key, fs_at, fs_key, in_
 use Rattle.object_graph.specs.Traversal.{Walk, counted, failed, start, then_read, then_walk, visited, walk_below, walk_commit, walk_found, walk_object, walk_root}
 use Rattle.object_graph.specs.declared.fault.TreeFault.{TreeFault}
 use Rattle.object_graph.specs.declared.fault.TreeFault.TheVariants.{TooDeep, TooMany, WrongKind}
-use Rattle.object_graph.proofs.Limits.{counted_fits, counted_over}
-use Rattle.object_graph.proofs.Schemes.{Step, goes_on, stands_still}
+use Rattle.object_graph.proofs.LimitLemmas.{counted_fits, counted_over}
+use Rattle.object_graph.proofs.SchemeLemmas.{Step, goes_on, stands_still}
 use Rattle.tree_walk.specs.Reading.{AnswersRead, IsDue}
 use Rattle.tree_walk.specs.Steps.{HasCounted, directory_step, entries_step, entry_step}
 use Rattle.tree_walk.specs.declared.fault.WalkFault.{WalkFault}

@@ -6,7 +6,7 @@ use Rattle.std.specs.FinMap as map
 use Rattle.ids.specs.Key.{Objects, key_cmp}
 use Rattle.ids.specs.ObjectId.{nil}
 use Rattle.ids.specs.declared.key.Key.{Key}
-use Rattle.ids.proofs.KeyOrder.{key_cmp_total}
+use Rattle.ids.proofs.KeyOrderLemmas.{key_cmp_total}
 use Rattle.tree_model.specs.Path.{PathV}
 use Rattle.fs_objects.specs.Mode.{is_directory_mode}
 use Rattle.fs_objects.specs.declared.dirent.Dirent.{Dirent}
@@ -18,10 +18,10 @@ use Rattle.object_graph.specs.Objects.{block_key, commit_at, commit_key, fs_at, 
 use Rattle.object_graph.specs.Traversal.{Walk, start, needs, walk_commit, walk_root, visited, failed, then_walk, then_read, walk_block, walk_blocks, walk_file_at, walk_found, walk_below, sized, is_in, distinct_from}
 use Rattle.object_graph.specs.declared.fault.TreeFault.{TreeFault}
 use Rattle.object_graph.specs.declared.fault.TreeFault.TheVariants.{Incomplete, WrongSize}
-use Rattle.object_graph.proofs.Alike.{Alike, alike_then, entries_alike}
-use Rattle.object_graph.proofs.Keys.{same_key, in_append, distinct_push, Once, once_push, once_append}
-use Rattle.object_graph.proofs.Limits.{blocks_paths}
-use Rattle.object_graph.proofs.Schemes.{Step, none_before, goes_on}
+use Rattle.object_graph.proofs.AlikeLemmas.{Alike, alike_then, entries_alike}
+use Rattle.object_graph.proofs.KeyLemmas.{same_key, in_append, distinct_push, Once, once_push, once_append}
+use Rattle.object_graph.proofs.LimitLemmas.{blocks_paths}
+use Rattle.object_graph.proofs.SchemeLemmas.{Step, none_before, goes_on}
 use Rattle.tree_walk.specs.Files.{as_file, file_at, file_due}
 use Rattle.tree_walk.specs.Reading.{AnswersRead, IsDue}
 use Rattle.tree_walk.specs.Steps.{directory_step, entries_step, entry_step}

@@ -7,7 +7,7 @@ use Rattle.json_words.specs.JsonText.{json_of}
 use Rattle.json_tokens.specs.Kept.{kept}
 use Rattle.commit_objects.specs.Commit.{commit_of}
 use Rattle.commit_objects.specs.Reading.{commit_keys, value_seen}
-use Rattle.commit_objects.proofs.KeptCommit.{value_seen-kept}
+use Rattle.commit_objects.proofs.KeptCommitLemmas.{value_seen-kept}
 use Rattle.commit_objects.proofs.reading.kept_value.Goals as goal
 
 pub returns : goal.returns

@@ -1,8 +1,8 @@
 use Rattle.std.proofs.Common.{◌≡◌, ◌≤◌, ◌∙◌, length, IsUtf8, ℕ, ap, sym, subst, arith, FitsSigned, w64, to_z-of_z}
 use Rattle.tree_model.specs.Name.{IsName}
 use Rattle.conflict_names.specs.Naming.{naming}
-use Rattle.conflict_names.proofs.GoodNames.{naming-good}
-use Rattle.conflict_names.proofs.Utf8Names.{naming-utf8}
+use Rattle.conflict_names.proofs.GoodNameLemmas.{naming-good}
+use Rattle.conflict_names.proofs.Utf8NameLemmas.{naming-utf8}
 use Rattle.conflict_names.proofs.naming.conflict_name.Goals as goal
 
 pub name_of-requires-clause-text : goal.name_of-requires-clause-text

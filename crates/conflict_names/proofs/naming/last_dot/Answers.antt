@@ -1,5 +1,5 @@
 use Rattle.std.proofs.Common.{◌-◌, ◌<◌, length, sym, arith}
-use Rattle.conflict_names.proofs.Extension.{ext_at-dot, ext_at-none}
+use Rattle.conflict_names.proofs.ExtensionLemmas.{ext_at-dot, ext_at-none}
 use Rattle.conflict_names.proofs.naming.last_dot.Goals as goal
 
 pub returns-then-name-place-eq46-clause-value : goal.returns-then-name-place-eq46-clause-value

@@ -1,6 +1,6 @@
 use Rattle.std.proofs.Common.{◌≡◌, ◌<◌, ◌^◌, ◌∷◌, [], decimal, append_assoc, arith}
 use Rattle.conflict_names.specs.Naming.{number_text}
-use Rattle.conflict_names.proofs.Numerals.{number_text-many}
+use Rattle.conflict_names.proofs.NumeralLemmas.{number_text-many}
 use Rattle.conflict_names.proofs.naming.push_number.Goals as goal
 
 pub returns : goal.returns

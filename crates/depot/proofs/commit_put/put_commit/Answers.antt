@@ -1,13 +1,13 @@
 -- What was put is the commit's text, under a name that isn't forty zeros.
 use Rattle.std.proofs.Common.{◌≡◌, ap, sym, ◌∙◌, refl}
 use Rattle.commit_objects.specs.Commit.{commit_of}
-use Rattle.library_rules.proofs.Members.{same_id-itself}
+use Rattle.library_rules.proofs.MemberLemmas.{same_id-itself}
 use Rattle.ids.specs.ObjectId.{nil}
 use Rattle.object_store.specs.Store.{same_bytes}
 use Rattle.object_store.specs.StoreView.{objects_of}
 use Rattle.object_store.specs.declared.error.StoreFault.TheVariants.{Taken}
 use Rattle.depot.proofs.MakeLemmas.{commit_stored, commit_found}
-use Rattle.depot.proofs.Told.{ok_not_err}
+use Rattle.depot.proofs.ToldLemmas.{ok_not_err}
 use Rattle.depot.proofs.commit_put.put_commit.Goals as goal
 
 pub returns-in-Ok-put-clause-ok : goal.returns-in-Ok-put-clause-ok

@@ -1,5 +1,5 @@
 -- The last head update has the head.
-use Rattle.depot.proofs.Told.{head_at}
+use Rattle.depot.proofs.ToldLemmas.{head_at}
 use Rattle.depot.proofs.history.head_of.Goals as goal
 
 pub returns : goal.returns

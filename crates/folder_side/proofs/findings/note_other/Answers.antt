@@ -1,6 +1,6 @@
 use Rattle.std.proofs.Common.{refl}
 use Rattle.folder_side.proofs.FindingsLemmas.{HasTaken-other}
-use Rattle.folder_side.proofs.ScanSteps.{is_some-insert}
+use Rattle.folder_side.proofs.ScanStepLemmas.{is_some-insert}
 use Rattle.folder_side.proofs.findings.note_other.Goals as goal
 
 pub returns-in-Ok-clause-value : goal.returns-in-Ok-clause-value

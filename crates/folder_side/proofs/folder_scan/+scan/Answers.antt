@@ -1,7 +1,7 @@
 use Rattle.std.proofs.Common.{◌≤◌, ◌∙◌, sym, ap, subst, arith, Some}
 use Rattle.std.specs.FinMap as map
 use Rattle.folder_side.specs.Folder.{at}
-use Rattle.folder_side.proofs.ScanSteps.{dir_nameless, dir_items, item_at, Goes-more, Goes-end, kind_other, kind_file, kind_dir, other_is_no_dir, file_is_no_dir, leaf_item, dir_item}
+use Rattle.folder_side.proofs.ScanStepLemmas.{dir_nameless, dir_items, item_at, Goes-more, Goes-end, kind_other, kind_file, kind_dir, other_is_no_dir, file_is_no_dir, leaf_item, dir_item}
 use Rattle.folder_side.proofs.folder_scan.+scan.Goals as goal
 use Rattle.tree_model.specs.declared.limits.TheConstants.{MAX_PATHS}
 

@@ -2,7 +2,7 @@ use Rattle.std.proofs.Common.{◌≡◌, ◌≤◌, ◌*◌, ◌-◌, suc, Some,
 use Rattle.std.specs.FinMap as map
 use Rattle.folder_side.specs.Folder.{Contents, IsFolder, items_in}
 use Rattle.folder_side.specs.Findings.{AreOf}
-use Rattle.folder_side.proofs.ScanSteps.{Goes}
+use Rattle.folder_side.proofs.ScanStepLemmas.{Goes}
 use Rattle.folder_side.proofs.folder_scan.+scan.Given as goal
 use Rattle.tree_model.specs.declared.limits.TheConstants.{MAX_NAMES, MAX_PATHS}
 

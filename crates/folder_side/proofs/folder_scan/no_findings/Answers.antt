@@ -2,7 +2,7 @@ use Rattle.std.proofs.Common.{◌∙◌, ap}
 use Rattle.std.specs.FinMap as map
 use Rattle.tree_model.specs.Path.{path_cmp}
 use Rattle.folder_side.specs.declared.scan_report.Seen.{Seen}
-use Rattle.folder_side.proofs.ScanSteps.{AreOf-empty}
+use Rattle.folder_side.proofs.ScanStepLemmas.{AreOf-empty}
 use Rattle.folder_side.proofs.folder_scan.no_findings.Goals as goal
 
 pub returns-clause-value : goal.returns-clause-value

@@ -15,8 +15,8 @@ use Rattle.fs_objects.specs.Spelling.{entry_data, directory_with, in_written_ord
 use Rattle.fs_objects.specs.Typed.{IsTyped}
 use Rattle.fs_objects.specs.declared.dirent.Dirent.{Dirent}
 use Rattle.fs_objects.specs.declared.fs_object.FsObject.TheVariants.{Dir}
-use Rattle.fs_objects.proofs.DirectoryReadBack.{object_in-directory_data, is_object-directory_with}
-use Rattle.fs_objects.proofs.FileReadBack.{fs_of-known}
+use Rattle.fs_objects.proofs.DirectoryReadBackLemmas.{object_in-directory_data, is_object-directory_with}
+use Rattle.fs_objects.proofs.FileReadBackLemmas.{fs_of-known}
 use Rattle.fs_objects.proofs.OrderLemmas.{in_written_order-permutes, IsDistinct-in_written_order}
 use Rattle.fs_objects.proofs.TextLemmas.{has_float-directory_with, depth-directory_with}
 use Rattle.fs_objects.proofs.fs_object.write_directory.Goals as goal

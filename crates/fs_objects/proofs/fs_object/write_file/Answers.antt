@@ -10,7 +10,7 @@ use Rattle.fs_objects.specs.FsObject.{fs_of}
 use Rattle.json_words.specs.IdText.{id_data, IsId}
 use Rattle.fs_objects.specs.Spelling.{file_with, file_data}
 use Rattle.fs_objects.specs.declared.fs_object.FsObject.TheVariants.{File}
-use Rattle.fs_objects.proofs.FileReadBack.{fs_of-known, object_in-file_data, is_object-file_data}
+use Rattle.fs_objects.proofs.FileReadBackLemmas.{fs_of-known, object_in-file_data, is_object-file_data}
 use Rattle.fs_objects.proofs.TextLemmas.{has_float-file_data, depth-file_data}
 use Rattle.fs_objects.proofs.fs_object.write_file.Goals as goal
 

@@ -1,6 +1,6 @@
 -- The first key is the least, and there is none where the map has no key.
 use Rattle.std.specs.BTreeMap.{btree_map_len}
-use Rattle.ids.proofs.KeyOrder.{key_cmp_total}
+use Rattle.ids.proofs.KeyOrderLemmas.{key_cmp_total}
 use Rattle.ids.proofs.MapLemmas.{least-first, no_number, none-first}
 use Rattle.ids.proofs.key_table.first.Goals as goal
 

@@ -1,5 +1,5 @@
 -- The first key of the range above a key is the least above it.
-use Rattle.ids.proofs.KeyOrder.{key_cmp_total}
+use Rattle.ids.proofs.KeyOrderLemmas.{key_cmp_total}
 use Rattle.ids.proofs.MapLemmas.{least_above-range, none_above-range}
 use Rattle.ids.proofs.key_table.next_above.Goals as goal
 

@@ -1,7 +1,7 @@
 -- Each character before the place is allowed there, so the front begins a good text, and no longer one does.
 use Rattle.std.proofs.Common.{◌≡◌, length, sym, ◌∙◌, arith}
 use Rattle.ids.proofs.FormLemmas.{longest_by_places, at_end, at_other}
-use Rattle.ids.proofs.LibraryText.{filler, filler-allowed}
+use Rattle.ids.proofs.LibraryTextLemmas.{filler, filler-allowed}
 use Rattle.ids.specs.LibraryId.{library_form}
 use Rattle.ids.proofs.library_id.library_beginning.Goals as goal
 

@@ -1,4 +1,4 @@
-use Rattle.library_rules.proofs.FewTurns.{few_after}
+use Rattle.library_rules.proofs.FewTurnLemmas.{few_after}
 use Rattle.library_rules.proofs.laws.a_collection_has_few_turns.Goals as goal
 
 pub returns : goal.returns

@@ -1,4 +1,4 @@
-use Rattle.library_rules.proofs.Histories.{sound_after}
+use Rattle.library_rules.proofs.HistoryLemmas.{sound_after}
 use Rattle.library_rules.proofs.laws.a_legal_history_keeps_a_sound_state_sound.Goals as goal
 
 pub returns : goal.returns

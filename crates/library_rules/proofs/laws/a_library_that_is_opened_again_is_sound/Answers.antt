@@ -1,4 +1,4 @@
-use Rattle.library_rules.proofs.Reopened.{sound_opened}
+use Rattle.library_rules.proofs.ReopenedLemmas.{sound_opened}
 use Rattle.library_rules.proofs.laws.a_library_that_is_opened_again_is_sound.Goals as goal
 
 pub returns : goal.returns

@@ -1,4 +1,4 @@
-use Rattle.library_rules.proofs.Created.{sound_created}
+use Rattle.library_rules.proofs.CreatedLemmas.{sound_created}
 use Rattle.library_rules.proofs.laws.a_new_library_is_sound.Goals as goal
 
 pub returns : goal.returns

@@ -1,4 +1,4 @@
-use Rattle.library_rules.proofs.Created.{sound_with_token}
+use Rattle.library_rules.proofs.CreatedLemmas.{sound_with_token}
 use Rattle.library_rules.proofs.laws.a_sound_library_with_a_token_more_is_sound.Goals as goal
 
 pub returns : goal.returns

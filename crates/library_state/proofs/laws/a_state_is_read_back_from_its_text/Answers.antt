@@ -1,4 +1,4 @@
-use Rattle.library_state.proofs.StateWritten.{state_of-text_of}
+use Rattle.library_state.proofs.StateWrittenLemmas.{state_of-text_of}
 use Rattle.library_state.proofs.laws.a_state_is_read_back_from_its_text.Goals as goal
 
 pub returns : goal.returns

@@ -3,7 +3,7 @@ use Rattle.std.proofs.Common.{Ok, w64, FitsSigned, sym, ap, ◌∙◌}
 use Rattle.std.proofs.lemmas.Int.{to_z-of_z}
 use Rattle.serde_json.specs.View.{view}
 use Rattle.library_state.specs.declared.state.LibState.{LibState}
-use Rattle.library_state.proofs.StateChecks.{Passes, state_in-found, state_in-extra, day_count-fits}
+use Rattle.library_state.proofs.StateCheckLemmas.{Passes, state_in-found, state_in-extra, day_count-fits}
 use Rattle.library_state.proofs.state_reading.state_from.Goals as goal
 
 pub returns-then-not-has_only-clause-value : goal.returns-then-not-has_only-clause-value

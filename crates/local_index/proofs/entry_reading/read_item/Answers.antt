@@ -1,6 +1,6 @@
 use Rattle.std.proofs.Common.{sym, subst}
 use Rattle.local_index.specs.Reading.{IsSound}
-use Rattle.local_index.proofs.IndexReadBack.{IsSound-insert}
+use Rattle.local_index.proofs.IndexReadBackLemmas.{IsSound-insert}
 use Rattle.local_index.proofs.entry_reading.read_item.Goals as goal
 
 pub returns-clause-sound : goal.returns-clause-sound

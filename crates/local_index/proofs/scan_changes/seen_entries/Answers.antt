@@ -3,7 +3,7 @@ use Rattle.std.specs.Map.Iter.{deref_pair}
 use Rattle.std.proofs.lemmas.Iterator.Consumers.{map_from_collect}
 use Rattle.tree_model.specs.Path.{PathV}
 use Rattle.folder_side.specs.declared.scan_report.Seen.{Seen}
-use Rattle.local_index.proofs.EntriesListed.{listed}
+use Rattle.local_index.proofs.EntryListedLemmas.{listed}
 use Rattle.local_index.proofs.scan_changes.seen_entries.Goals as goal
 
 pub returns : goal.returns

@@ -1,4 +1,4 @@
-use Rattle.object_graph.proofs.Commits.{commit_root}
+use Rattle.object_graph.proofs.CommitLemmas.{commit_root}
 use Rattle.object_graph.proofs.laws.a_complete_commit_has_a_complete_root.Goals as goal
 
 pub returns : goal.returns

@@ -1,6 +1,6 @@
 use Rattle.std.proofs.Common.{sym, ◌∙◌}
-use Rattle.object_graph.proofs.Keys.{in_distinct}
-use Rattle.object_graph.proofs.Reaching.{commit_closes, reached_within}
+use Rattle.object_graph.proofs.KeyLemmas.{in_distinct}
+use Rattle.object_graph.proofs.ReachingLemmas.{commit_closes, reached_within}
 use Rattle.object_graph.specs.Traversal.{walk_commit}
 use Rattle.object_graph.proofs.laws.a_complete_commit_needs_all_that_is_reached_from_it.Goals as goal
 

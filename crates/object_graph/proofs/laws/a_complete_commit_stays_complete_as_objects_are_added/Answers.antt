@@ -1,5 +1,5 @@
 use Rattle.std.proofs.Common.{ap, ◌∙◌}
-use Rattle.object_graph.proofs.Commits.{commit_grown}
+use Rattle.object_graph.proofs.CommitLemmas.{commit_grown}
 use Rattle.object_graph.specs.Traversal.{Walk}
 use Rattle.object_graph.proofs.laws.a_complete_commit_stays_complete_as_objects_are_added.Goals as goal
 

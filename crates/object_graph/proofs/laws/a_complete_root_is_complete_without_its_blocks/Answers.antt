@@ -1,5 +1,5 @@
 use Rattle.std.proofs.Common.{false, arith}
-use Rattle.object_graph.proofs.Limits.{root_spared, root_same_paths}
+use Rattle.object_graph.proofs.LimitLemmas.{root_spared, root_same_paths}
 use Rattle.object_graph.specs.Traversal.{start}
 use Rattle.object_graph.proofs.laws.a_complete_root_is_complete_without_its_blocks.Goals as goal
 

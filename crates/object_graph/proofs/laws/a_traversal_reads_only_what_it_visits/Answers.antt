@@ -1,4 +1,4 @@
-use Rattle.object_graph.proofs.Locality.{local_root, local_commit}
+use Rattle.object_graph.proofs.LocalityLemmas.{local_root, local_commit}
 use Rattle.object_graph.specs.Traversal.{start}
 use Rattle.object_graph.proofs.laws.a_traversal_reads_only_what_it_visits.Goals as goal
 

@@ -1,5 +1,5 @@
 use Rattle.std.proofs.Common.{subst}
-use Rattle.object_graph.proofs.Fitting.{root_fits, one_tree}
+use Rattle.object_graph.proofs.FittingLemmas.{root_fits, one_tree}
 use Rattle.tree_model.specs.Tree.{Fits}
 use Rattle.object_graph.proofs.laws.a_tree_of_a_complete_root_fits_the_limits.Goals as goal
 

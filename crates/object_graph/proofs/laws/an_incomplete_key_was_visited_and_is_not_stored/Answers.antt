@@ -1,6 +1,6 @@
 use Rattle.std.proofs.Common.{◌≡◌, true, sym, subst, ◌∙◌}
-use Rattle.object_graph.proofs.Keys.{in_distinct, in_last}
-use Rattle.object_graph.proofs.Stored.{commit_tells}
+use Rattle.object_graph.proofs.KeyLemmas.{in_distinct, in_last}
+use Rattle.object_graph.proofs.StoredLemmas.{commit_tells}
 use Rattle.object_graph.specs.Traversal.{walk_commit, is_in}
 use Rattle.object_graph.proofs.laws.an_incomplete_key_was_visited_and_is_not_stored.Goals as goal
 

@@ -1,4 +1,4 @@
-use Rattle.object_graph.proofs.Fitting.{root_fits, one_tree}
+use Rattle.object_graph.proofs.FittingLemmas.{root_fits, one_tree}
 use Rattle.object_graph.proofs.laws.each_complete_root_has_one_tree.Goals as goal
 
 pub returns-clause-found : goal.returns-clause-found

@@ -1,6 +1,6 @@
 use Rattle.std.proofs.Common.{sym, ◌∙◌}
-use Rattle.object_graph.proofs.Commits.{tree_of_commit_stays}
-use Rattle.object_graph.proofs.SameBelow.{same_tree}
+use Rattle.object_graph.proofs.CommitLemmas.{tree_of_commit_stays}
+use Rattle.object_graph.proofs.SameBelowLemmas.{same_tree}
 use Rattle.object_graph.proofs.laws.the_tree_of_a_root_stays_while_its_objects_do.Goals as goal
 
 pub returns-clause-root : goal.returns-clause-root

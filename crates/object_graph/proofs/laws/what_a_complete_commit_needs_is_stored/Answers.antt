@@ -1,6 +1,6 @@
 use Rattle.std.proofs.Common.{sym, ◌∙◌}
-use Rattle.object_graph.proofs.Keys.{in_distinct}
-use Rattle.object_graph.proofs.Stored.{commit_stored}
+use Rattle.object_graph.proofs.KeyLemmas.{in_distinct}
+use Rattle.object_graph.proofs.StoredLemmas.{commit_stored}
 use Rattle.object_graph.specs.Traversal.{walk_commit}
 use Rattle.object_graph.proofs.laws.what_a_complete_commit_needs_is_stored.Goals as goal
 

@@ -1,7 +1,7 @@
 use Rattle.std.proofs.Common.{◌≡◌, [], refl, sym, ap, subst, Ok, ◌∙◌, arith, Some, None, cond, is_some, IsSome, rules, Bool, true, false, true≢false}
 use Rattle.std.specs.FinMap as map
 use Rattle.tree_model.specs.Path.{PathV, path_cmp}
-use Rattle.tree_model.proofs.Listed.{same_path, same_path-apart}
+use Rattle.tree_model.proofs.ListedLemmas.{same_path, same_path-apart}
 use Rattle.ids.specs.Key.{Objects}
 use Rattle.tree_walk.proofs.ReadsLemmas.{reads_then, told_after}
 use Rattle.tree_merge.specs.FileChoice.{IsWholeAt, IsWholeThree}

@@ -1,6 +1,6 @@
 use Rattle.tree_walk.proofs.ReadsLemmas.{told_after}
 use Rattle.tree_merge.proofs.MadeLemmas.{kept_itself}
-use Rattle.tree_merge.proofs.MergedRoot.{is_merged}
+use Rattle.tree_merge.proofs.MergedRootLemmas.{is_merged}
 use Rattle.tree_merge.proofs.MergingLemmas.{builds_refused, leaves_refused, names_refused, ready}
 use Rattle.tree_merge.proofs.merging.merge.Goals as goal
 

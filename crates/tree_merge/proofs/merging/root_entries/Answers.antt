@@ -1,5 +1,5 @@
 use Rattle.std.proofs.Common.{false}
-use Rattle.object_graph.proofs.Limits.{root_spared}
+use Rattle.object_graph.proofs.LimitLemmas.{root_spared}
 use Rattle.object_graph.specs.Traversal.{start}
 use Rattle.tree_merge.proofs.TellingLemmas.{well_of}
 use Rattle.tree_merge.proofs.merging.root_entries.Goals as goal

@@ -1,7 +1,7 @@
 use Rattle.std.proofs.Common.{ap, ◌∙◌, arith}
 use Rattle.std.specs.FinMap as map
 use Rattle.tree_model.specs.Path.{path_cmp}
-use Rattle.tree_model.proofs.Listed.{same_path, same_path-true}
+use Rattle.tree_model.proofs.ListedLemmas.{same_path, same_path-true}
 use Rattle.tree_merge.proofs.TableLemmas.{get-popped, popped_len}
 use Rattle.tree_merge.proofs.SideLemmas.{added_more, added_all}
 use Rattle.tree_merge.proofs.sides.add_side.Goals as goal

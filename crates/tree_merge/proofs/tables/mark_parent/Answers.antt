@@ -1,7 +1,7 @@
 use Rattle.std.proofs.Common.{◌∙◌, ap, sym, ◌&&◌, ◌||◌, is_some}
 use Rattle.std.specs.FinMap as map
 use Rattle.tree_model.specs.Path.{parent_of}
-use Rattle.tree_model.proofs.Listed.{same_path}
+use Rattle.tree_model.proofs.ListedLemmas.{same_path}
 use Rattle.tree_merge.proofs.TableLemmas.{on_ok_more, some-put}
 use Rattle.tree_merge.proofs.tables.mark_parent.Goals as goal
 

@@ -1,7 +1,7 @@
 use Rattle.std.proofs.Common.{◌∙◌, ap, sym, cond}
 use Rattle.std.specs.Option.{option_or}
 use Rattle.std.specs.FinMap as map
-use Rattle.tree_model.proofs.Listed.{same_path}
+use Rattle.tree_model.proofs.ListedLemmas.{same_path}
 use Rattle.tree_merge.proofs.TableLemmas.{on_ok_more, get-put_if, put_if_len}
 use Rattle.tree_merge.proofs.tables.put_if.Goals as goal
 

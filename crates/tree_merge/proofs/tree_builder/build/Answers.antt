@@ -16,9 +16,9 @@ use Rattle.tree_merge.proofs.DirentLemmas.{distinct_none}
 use Rattle.tree_merge.proofs.BuildingLemmas.{built_start, built_more, entry_name}
 use Rattle.tree_merge.proofs.BuiltLemmas.{built_all, needed_all, same_sound, without_root, no_root_left, distinct_more, to_do_more}
 use Rattle.tree_merge.proofs.DirectoryLemmas.{dirs_start, dirs_more, dirs_all, dirs_same, root_nil, clash_here, clash_same}
-use Rattle.tree_merge.proofs.EmptyDirectories.{root_zeros, zeros_same}
+use Rattle.tree_merge.proofs.EmptyDirectoryLemmas.{root_zeros, zeros_same}
 use Rattle.tree_merge.proofs.MadeLemmas.{kept_itself}
-use Rattle.tree_merge.proofs.PathsInOrder.{before_child}
+use Rattle.tree_merge.proofs.PathOrderLemmas.{before_child}
 use Rattle.tree_merge.proofs.tree_builder.build.Goals as goal
 
 nothing_held : (m : map.FinMap path_cmp (List Dirent)) → m ≡ map.empty → (d : PathV) → held_at (map.get m d) ≡ []

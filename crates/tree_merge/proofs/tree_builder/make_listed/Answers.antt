@@ -1,5 +1,5 @@
 use Rattle.tree_merge.proofs.TableLemmas.{if_ok_more}
-use Rattle.tree_merge.proofs.EmptyDirectories.{no_items, some_items}
+use Rattle.tree_merge.proofs.EmptyDirectoryLemmas.{no_items, some_items}
 use Rattle.tree_merge.proofs.MadeLemmas.{lists_empty, lists_written, refused_list}
 use Rattle.tree_merge.proofs.tree_builder.make_listed.Goals as goal
 

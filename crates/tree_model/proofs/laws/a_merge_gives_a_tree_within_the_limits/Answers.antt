@@ -1,4 +1,4 @@
-use Rattle.tree_model.proofs.ResultTree.{merge_fits}
+use Rattle.tree_model.proofs.ResultTreeLemmas.{merge_fits}
 use Rattle.tree_model.proofs.laws.a_merge_gives_a_tree_within_the_limits.Goals as goal
 
 pub returns : goal.returns

@@ -1,4 +1,4 @@
-use Rattle.tree_model.proofs.Copies.{get-merged_known}
+use Rattle.tree_model.proofs.CopyLemmas.{get-merged_known}
 use Rattle.tree_model.proofs.laws.a_path_of_the_trees_has_its_directory_or_its_main_file.Goals as goal
 
 pub returns : goal.returns

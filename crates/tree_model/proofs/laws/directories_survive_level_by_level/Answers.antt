@@ -1,4 +1,4 @@
-use Rattle.tree_model.proofs.Levels.{stays_levels}
+use Rattle.tree_model.proofs.LevelLemmas.{stays_levels}
 use Rattle.tree_model.proofs.laws.directories_survive_level_by_level.Goals as goal
 
 pub returns : goal.returns

@@ -1,4 +1,4 @@
-use Rattle.tree_model.proofs.Unmoved.{merge_unchanged_push}
+use Rattle.tree_model.proofs.UnmovedLemmas.{merge_unchanged_push}
 use Rattle.tree_model.proofs.laws.merging_an_unchanged_push_gives_the_head.Goals as goal
 
 pub returns : goal.returns

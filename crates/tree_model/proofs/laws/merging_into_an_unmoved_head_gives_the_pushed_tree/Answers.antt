@@ -1,4 +1,4 @@
-use Rattle.tree_model.proofs.Unmoved.{merge_unmoved_head}
+use Rattle.tree_model.proofs.UnmovedLemmas.{merge_unmoved_head}
 use Rattle.tree_model.proofs.laws.merging_into_an_unmoved_head_gives_the_pushed_tree.Goals as goal
 
 pub returns : goal.returns

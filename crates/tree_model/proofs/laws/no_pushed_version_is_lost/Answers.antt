@@ -1,4 +1,4 @@
-use Rattle.tree_model.proofs.NothingLost.{pushed_kept}
+use Rattle.tree_model.proofs.NothingLostLemmas.{pushed_kept}
 use Rattle.tree_model.proofs.laws.no_pushed_version_is_lost.Goals as goal
 
 pub returns : goal.returns

@@ -1,4 +1,4 @@
-use Rattle.tree_model.proofs.NothingLost.{head_kept}
+use Rattle.tree_model.proofs.NothingLostLemmas.{head_kept}
 use Rattle.tree_model.proofs.laws.no_version_of_the_head_is_lost.Goals as goal
 
 pub returns : goal.returns

@@ -1,4 +1,4 @@
-use Rattle.tree_model.proofs.MergedAt.{nothing_under}
+use Rattle.tree_model.proofs.MergedAtLemmas.{nothing_under}
 use Rattle.tree_model.proofs.laws.nothing_stands_below_what_does_not_survive.Goals as goal
 
 pub returns : goal.returns

@@ -1,5 +1,5 @@
 use Rattle.std.proofs.Common.{sym, ◌∙◌, arith}
-use Rattle.tree_model.proofs.ComparedLists.{compared_same, compared_apart, compared_longer, compared_shorter, compared_ends}
+use Rattle.tree_model.proofs.ListComparisonLemmas.{compared_same, compared_apart, compared_longer, compared_shorter, compared_ends}
 use Rattle.tree_model.proofs.path.compare_pieces.Goals as goal
 
 pub returns-then-a-b : goal.returns-then-a-b

@@ -1,5 +1,5 @@
 use Rattle.std.proofs.Common.{sym, ◌∙◌}
-use Rattle.tree_model.proofs.Below.{parent_empty, parent_take}
+use Rattle.tree_model.proofs.BelowLemmas.{parent_empty, parent_take}
 use Rattle.tree_model.proofs.path.names_above.Goals as goal
 
 pub returns-then-is_empty : goal.returns-then-is_empty

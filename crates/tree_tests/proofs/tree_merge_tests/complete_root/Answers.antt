@@ -4,7 +4,7 @@ use Rattle.commit_objects.specs.declared.commit.Commit.{Commit}
 use Rattle.object_graph.specs.Objects.{commit_at}
 use Rattle.object_graph.specs.Traversal.{IsComplete, IsCompleteRoot}
 use Rattle.object_graph.specs.declared.fault.TreeFault.{TreeFault}
-use Rattle.object_graph.proofs.Commits.{commit_root}
+use Rattle.object_graph.proofs.CommitLemmas.{commit_root}
 use Rattle.tree_walk.proofs.ReadsLemmas.{read_ok}
 use Rattle.tree_tests.proofs.tree_merge_tests.complete_root.Goals as goal
 

@@ -1,4 +1,4 @@
-use Rattle.ids.proofs.KeyOrder.{id_cmp_total, id_cmp_exact}
+use Rattle.ids.proofs.KeyOrderLemmas.{id_cmp_total, id_cmp_exact}
 use Rattle.ids.proofs.MapLemmas.{insert-map_of}
 use Rattle.tree_walk.proofs.fs_list.insert.Goals as goal
 

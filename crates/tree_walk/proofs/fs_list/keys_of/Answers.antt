@@ -1,7 +1,7 @@
 -- As the map is empty, all was taken.
 use Rattle.std.proofs.Common.{◌≡◌, ◌++◌, ap, sym, ◌∙◌, btree_map_len, append-nil}
 use Rattle.std.specs.Prelude.{map as list_map}
-use Rattle.ids.proofs.KeyOrder.{id_cmp_total}
+use Rattle.ids.proofs.KeyOrderLemmas.{id_cmp_total}
 use Rattle.ids.proofs.MapLemmas.{entries-map_of, no_number}
 use Rattle.tree_walk.proofs.KnownLemmas.{firsts, firsts_are, no_ids}
 use Rattle.tree_walk.proofs.fs_list.keys_of.Goals as goal

@@ -3,7 +3,7 @@ use Rattle.std.proofs.Common.{ap, sym, ◌∙◌}
 use Rattle.std.specs.FinMap as map
 use Rattle.ids.specs.MapView.{map_of}
 use Rattle.object_graph.specs.Objects.{name_cmp}
-use Rattle.tree_walk.proofs.Ordered.{onto, onto-empty, onto_push}
+use Rattle.tree_walk.proofs.OrderedLemmas.{onto, onto-empty, onto_push}
 use Rattle.tree_walk.proofs.name_order.by_name.Goals as goal
 
 pub loop-entry-init : goal.loop-entry-init

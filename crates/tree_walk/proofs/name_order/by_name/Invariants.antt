@@ -3,7 +3,7 @@ use Rattle.std.proofs.Common.{◌≡◌, vec_len}
 use Rattle.std.specs.BTreeMap.{IsOrdered}
 use Rattle.ids.specs.MapView.{map_of}
 use Rattle.object_graph.specs.Objects.{by_name, name_cmp}
-use Rattle.tree_walk.proofs.Ordered.{onto}
+use Rattle.tree_walk.proofs.OrderedLemmas.{onto}
 use Rattle.tree_walk.proofs.name_order.by_name.Given as goal
 
 abbrev pub invariant-loop-entry : goal.invariant-loop-entry

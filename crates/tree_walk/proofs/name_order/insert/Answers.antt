@@ -1,5 +1,5 @@
 use Rattle.ids.proofs.MapLemmas.{insert-map_of}
-use Rattle.object_graph.proofs.Entries.{names_total, names_exact}
+use Rattle.object_graph.proofs.EntryLemmas.{names_total, names_exact}
 use Rattle.tree_walk.proofs.name_order.insert.Goals as goal
 
 pub returns-in-Ok-clause-ok : goal.returns-in-Ok-clause-ok

@@ -2,8 +2,8 @@
 use Rattle.std.proofs.Common.{◌≡◌, ◌++◌, ap, sym, ◌∙◌, btree_map_len, append-nil}
 use Rattle.std.specs.Prelude.{map as list_map}
 use Rattle.ids.proofs.MapLemmas.{entries-map_of, no_number}
-use Rattle.object_graph.proofs.Entries.{names_total}
-use Rattle.tree_walk.proofs.Ordered.{seconds, values_are, no_pairs}
+use Rattle.object_graph.proofs.EntryLemmas.{names_total}
+use Rattle.tree_walk.proofs.OrderedLemmas.{seconds, values_are, no_pairs}
 use Rattle.tree_walk.proofs.name_order.values_of.Goals as goal
 
 pub returns : goal.returns

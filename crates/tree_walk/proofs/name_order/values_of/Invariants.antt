@@ -1,6 +1,6 @@
 -- What was taken, with what is left, is all.
 use Rattle.std.proofs.Common.{◌≡◌, ◌++◌, btree_map_len}
-use Rattle.tree_walk.proofs.Ordered.{seconds}
+use Rattle.tree_walk.proofs.OrderedLemmas.{seconds}
 use Rattle.tree_walk.proofs.name_order.values_of.Given as goal
 
 abbrev pub invariant-loop-entry : goal.invariant-loop-entry

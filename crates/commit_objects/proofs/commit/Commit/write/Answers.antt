@@ -8,7 +8,7 @@ use Rattle.json_words.specs.JsonText.{json_of}
 use Rattle.commit_objects.specs.Commit.{commit_of}
 use Rattle.commit_objects.specs.Proper.{IsProper}
 use Rattle.commit_objects.specs.Spelling.{data_of}
-use Rattle.commit_objects.proofs.ReadBack.{commit_of-data_of}
+use Rattle.commit_objects.proofs.ReadBackLemmas.{commit_of-data_of}
 use Rattle.commit_objects.proofs.TextLemmas.{has_float-data_of, depth-data_of}
 use Rattle.commit_objects.proofs.commit.Commit.write.Goals as goal
 

@@ -1,5 +1,5 @@
 -- The last head update has the head, and there is one.
-use Rattle.depot.proofs.Told.{head_at}
+use Rattle.depot.proofs.ToldLemmas.{head_at}
 use Rattle.depot.proofs.depot.Depot.head.Goals as goal
 
 pub returns : goal.returns

@@ -1,6 +1,6 @@
 -- The map sees what the tree finds.
 use Rattle.std.proofs.Common.{is_some, sym, ap, ◌∙◌}
-use Rattle.ids.proofs.KeyOrder.{key_cmp_total}
+use Rattle.ids.proofs.KeyOrderLemmas.{key_cmp_total}
 use Rattle.ids.proofs.MapLemmas.{get-map_of}
 use Rattle.ids.proofs.key_table.KeyTable.has.Goals as goal
 

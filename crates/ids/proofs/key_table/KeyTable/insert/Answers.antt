@@ -1,6 +1,6 @@
 -- The map changes as the tree does.
 use Rattle.std.proofs.Common.{sym, ◌∙◌}
-use Rattle.ids.proofs.KeyOrder.{key_cmp_total, key_cmp_exact}
+use Rattle.ids.proofs.KeyOrderLemmas.{key_cmp_total, key_cmp_exact}
 use Rattle.ids.proofs.MapLemmas.{get-map_of, insert-map_of}
 use Rattle.ids.proofs.key_table.KeyTable.insert.Goals as goal
 

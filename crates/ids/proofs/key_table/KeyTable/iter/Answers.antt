@@ -1,6 +1,6 @@
 -- The map has the tree's entries, in their order.
 use Rattle.std.proofs.Common.{sym, ◌∙◌}
-use Rattle.ids.proofs.KeyOrder.{key_cmp_total}
+use Rattle.ids.proofs.KeyOrderLemmas.{key_cmp_total}
 use Rattle.ids.proofs.MapLemmas.{entries-map_of}
 use Rattle.ids.proofs.key_table.KeyTable.iter.Goals as goal
 

@@ -1,6 +1,6 @@
 -- The map has as many keys as the tree.
 use Rattle.std.proofs.Common.{sym, ◌∙◌}
-use Rattle.ids.proofs.KeyOrder.{key_cmp_total}
+use Rattle.ids.proofs.KeyOrderLemmas.{key_cmp_total}
 use Rattle.ids.proofs.MapLemmas.{len-map_of}
 use Rattle.ids.proofs.key_table.KeyTable.len.Goals as goal
 

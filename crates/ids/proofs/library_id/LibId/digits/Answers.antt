@@ -1,7 +1,7 @@
 -- The hyphenated form has 36 characters, and has the form that is read.
 use Rattle.std.proofs.Common.{sym}
 use Rattle.uuid.proofs.TextLemmas.{by_index_length}
-use Rattle.ids.proofs.LibraryText.{IsOf-hyphenated}
+use Rattle.ids.proofs.LibraryTextLemmas.{IsOf-hyphenated}
 use Rattle.ids.proofs.library_id.LibId.digits.Goals as goal
 
 pub copy_from_slice-requires : goal.copy_from_slice-requires

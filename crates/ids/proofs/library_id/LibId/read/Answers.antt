@@ -2,7 +2,7 @@
 use Rattle.std.proofs.Common.{List, [], ℕ, Option, unwrap_or, ap, sym, refl, ◌∙◌, arith, true≢false}
 use Rattle.uuid.specs.Text.{hyphenated_text, lower}
 use Rattle.ids.proofs.FormLemmas.{IsOf-from_longest, not_of_form}
-use Rattle.ids.proofs.LibraryText.{bytes_of, parsed-library, hyphenated-library}
+use Rattle.ids.proofs.LibraryTextLemmas.{bytes_of, parsed-library, hyphenated-library}
 use Rattle.ids.specs.Form.{IsOf}
 use Rattle.ids.specs.LibraryId.{library_form}
 use Rattle.ids.proofs.library_id.LibId.read.Goals as goal

@@ -8,7 +8,7 @@ use Rattle.json_words.specs.JsonText.{json_of}
 use Rattle.library_state.specs.StateText.{state_of}
 use Rattle.library_state.specs.ProperState.{IsProper}
 use Rattle.library_state.specs.StateSpelling.{state_data}
-use Rattle.library_state.proofs.StateReadBack.{state_of-state_data}
+use Rattle.library_state.proofs.StateReadBackLemmas.{state_of-state_data}
 use Rattle.library_state.proofs.StateTextLemmas.{has_float-state_data, depth-state_data}
 use Rattle.library_state.proofs.state.LibState.write.Goals as goal
 

@@ -1,4 +1,4 @@
-use Rattle.local_index.proofs.IndexReadBack.{IsProper-empty}
+use Rattle.local_index.proofs.IndexReadBackLemmas.{IsProper-empty}
 use Rattle.local_index.proofs.index.Index.empty.Goals as goal
 
 pub returns-clause-proper : goal.returns-clause-proper

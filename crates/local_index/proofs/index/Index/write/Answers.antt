@@ -6,7 +6,7 @@ use Rattle.serde_json.specs.Written.{compact_text, has_float}
 use Rattle.json_words.specs.JsonText.{json_of}
 use Rattle.local_index.specs.IndexText.{index_of}
 use Rattle.local_index.specs.IndexSpelling.{index_data, text_of, IsProper}
-use Rattle.local_index.proofs.IndexReadBack.{index_in-data, index_of-known, is_object-index_data}
+use Rattle.local_index.proofs.IndexReadBackLemmas.{index_in-data, index_of-known, is_object-index_data}
 use Rattle.local_index.proofs.TextLemmas.{has_float-index_data, depth-index_data}
 use Rattle.local_index.proofs.index.Index.write.Goals as goal
 

@@ -23,7 +23,7 @@ use denote.Triple.Entry.{alive}
 use denote.Triple.Spec.{Meets, triple_of}
 use denote.Triple.Table.{entered}
 use denote.Triple.Walked.{says, Stays, walk_of, ends_at, walk_Meets}
-use Rattle.object_store.proofs.Walks.{none, none_made}
+use Rattle.object_store.proofs.WalkLemmas.{none, none_made}
 use Rattle.object_store.specs.contracts.text_count.TextCount as Count
 use Rattle.object_store.specs.contracts.text_count.TextCount.new as F
 use Rattle.object_store.specs.contracts.text_count.TextCount.new.Key.{name as #self}

@@ -1,6 +1,6 @@
 use Rattle.std.proofs.Common.{subst, sym, ap, ◌∙◌}
 use Rattle.tree_model.specs.Path.{IsPath, parent_of}
-use Rattle.tree_model.proofs.Below.{IsPath-parent}
+use Rattle.tree_model.proofs.BelowLemmas.{IsPath-parent}
 use Rattle.tree_model.proofs.path.Path.parent.Goals as goal
 
 pub invariant_of-result : goal.invariant_of-result

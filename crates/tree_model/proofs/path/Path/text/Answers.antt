@@ -1,6 +1,6 @@
 use Rattle.std.proofs.Common.{◌+◌, ◌∙◌, sym, ap, take, string_bytes, arith}
 use Rattle.tree_model.specs.Path.{PathV, path_text}
-use Rattle.tree_model.proofs.PathTexts.{path_text-take}
+use Rattle.tree_model.proofs.PathTextLemmas.{path_text-take}
 use Rattle.tree_model.proofs.path.Path.text.Goals as goal
 
 pub loop-place-preserved : goal.loop-place-preserved

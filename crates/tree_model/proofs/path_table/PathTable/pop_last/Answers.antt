@@ -1,8 +1,8 @@
 use Rattle.std.proofs.Common.{◌∙◌, sym, ap}
 use Rattle.std.specs.FinMap as map
 use Rattle.tree_model.specs.PathOrder.{paths_total, paths_exact}
-use Rattle.tree_model.proofs.IfSomes.{if_some_more, if_some_both}
-use Rattle.tree_model.proofs.LastEntry.{entries_last}
+use Rattle.tree_model.proofs.IfSomeLemmas.{if_some_more, if_some_both}
+use Rattle.tree_model.proofs.LastEntryLemmas.{entries_last}
 use Rattle.ids.proofs.MapLemmas.{get-map_of, remove-map_of}
 use Rattle.tree_model.proofs.path_table.PathTable.pop_last.Goals as goal
 
