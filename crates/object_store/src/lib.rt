@@ -10,6 +10,7 @@ mod changing;
 mod error;
 mod fetching;
 mod fuse_shelf;
+mod gate_shelf;
 mod key_index;
 pub mod laws;
 mod memory_shelf;
@@ -21,6 +22,7 @@ mod text_count;
 
 pub use crate::error::StoreFault;
 pub use crate::fuse_shelf::FuseShelf;
+pub use crate::gate_shelf::{Gate, GateShelf};
 pub use crate::memory_shelf::MemoryShelf;
 pub use crate::odd_shelf::OddShelf;
 pub use crate::put::Put;
