@@ -1,4 +1,5 @@
 //! The name of a conflict copy.
+ghost use Rattle.tree_model.specs.declared.limits.TheConstants.{MAX_NAME};
 ghost use Rattle.std.specs.Prelude.{◌≡◌, ◌≢◌, ◌≤◌, ◌<◌, ◌++◌, ℕ, IfOk, IsUtf8, OnOk, length, map};
 ghost use Rattle.ids.specs.Outcome.{ExactlyWith};
 ghost use Rattle.tree_model.specs.Name.{IsName};
@@ -14,7 +15,7 @@ use tree_model::{MAX_NAME, Name, NameFault};
 /// Why no name was made for a conflict copy.
 #[derive(Clone, Copy, Debug, PartialEq, Eq)]
 pub enum ConflictFault {
-    /// The name has this many bytes, over 255.
+    /// The name has this many bytes, over MAX_NAME.
     TooLong(u64),
     /// There was no memory for the name.
     NoMemory,
@@ -56,7 +57,7 @@ pub fn conflict_name(
     ensures value { IfOk result (λ made. made ≡ naming name.now modifier.now mtime k) }
 
     // The refusal. Want of memory may come in its place.
-    ensures too_long { ExactlyWith is_no_memory result ConflictFault.TooLong (length (naming name.now modifier.now mtime k)) (255 < length (naming name.now modifier.now mtime k)) }
+    ensures too_long { ExactlyWith is_no_memory result ConflictFault.TooLong (length (naming name.now modifier.now mtime k)) (MAX_NAME < length (naming name.now modifier.now mtime k)) }
 {
     let text = name.as_str();
     let made = conflict_bytes(alloc, text.as_bytes(), modifier.as_bytes(), mtime, k)?;

@@ -1,4 +1,5 @@
 -- Tokens of a library that is kept: when one is refused. Our own. Read token_refusal first.
+use Rattle.library_state.specs.declared.state.TheConstants.{MAX_TOKENS}
 use Rattle.std.specs.Prelude.{ℕ, Bool, false, nat_le, if◌then◌else◌, List, length, Option, None, Some, option_map, Result, Ok, Err, ⊤}
 use Rattle.std.specs.List.{slice_get}
 use Rattle.library_state.specs.Tokens.{is_taken}
@@ -10,11 +11,11 @@ pub use Rattle.depot.specs.NextState.{with_new_token}
 use Rattle.depot.specs.declared.error.TokenFault.{TokenFault}
 use Rattle.depot.specs.declared.error.TokenFault.TheVariants.{SecretTaken, Full, Store}
 
--- why a token isn't added: another one has its secret, or there are 1,000
+-- why a token isn't added: another one has its secret, or there are MAX_TOKENS
 abbrev pub token_refusal : List Token → List ℕ → Option TokenFault
 token_refusal tokens secret =
     if is_taken tokens secret then Some SecretTaken
-    else if nat_le 1000 (length tokens) then Some Full
+    else if nat_le MAX_TOKENS (length tokens) then Some Full
     else None
 
 -- the faults that may come in any other's place: the store's want of memory and its counted failure

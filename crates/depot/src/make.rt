@@ -1,4 +1,5 @@
 //! How a library is made, and opened again.
+ghost use Rattle.library_state.specs.declared.state.TheConstants.{MAX_STATE_NAME};
 ghost use Rattle.std.specs.Prelude.{◌≡◌, ◌≤◌, ℕ, List, length, Some, None, IfOk, IfErr, OnOk, OnErr, Option, ⊤, Ok, false};
 ghost use Rattle.ids.specs.FaultCount.{FailsBy};
 ghost use Rattle.ids.specs.Key.{Objects};
@@ -37,8 +38,8 @@ impl<S: Shelf> Depot<S> {
         secret: Secret,
         moment: u64,
     ) -> Result<Depot<S>, (Store<S>, MakeFault)>
-        requires fits { length name.now ≤ 255 }
-        requires ready { (1 ≤ length user.now) × (length user.now ≤ 255) }
+        requires fits { length name.now ≤ MAX_STATE_NAME }
+        requires ready { (1 ≤ length user.now) × (length user.now ≤ MAX_STATE_NAME) }
         ensures value { IfOk result (IsMade S.contents S.faults store (opening_object (opening_commit lib user.now moment))
             (first_state lib name.now user.now secret (opening_commit lib user.now moment).id moment)) }
         ensures told { (objects : Objects) → objects_of S.contents store ≡ Some objects

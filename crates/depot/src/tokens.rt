@@ -1,4 +1,5 @@
 //! Tokens of a library that is kept.
+ghost use Rattle.library_state.specs.declared.state.TheConstants.{MAX_STATE_NAME};
 ghost use Rattle.std.specs.Prelude.{◌≡◌, ◌≤◌, ◌++◌, ◌∷◌, [], List, length, None, Some, IfOk, OnOk, OnErr, IfSome};
 ghost use Rattle.ids.specs.FaultCount.{FailsBy};
 ghost use Rattle.ids.specs.Outcome.{RefusesAs};
@@ -26,7 +27,7 @@ impl<S: Shelf> Depot<S> {
     /// After a refusal the library is as it was. Where the shelf failed as the text was written, the slot holds the
     /// library's text or the one with the token.
     pub fn add_token(&mut self, user: &Text, secret: Secret, right: Right) -> Result<(), TokenFault>
-        requires fits { (1 ≤ length user.now) × (length user.now ≤ 255) }
+        requires fits { (1 ≤ length user.now) × (length user.now ≤ MAX_STATE_NAME) }
         ensures ok { OnOk result (self.new.state ≡ with_new_token user.now secret right self.old.state) }
         ensures err { OnErr result (self.new.state ≡ self.old.state) }
         ensures told { OnOk result ((s : State) → state_of S.contents S.faults self.old ≡ Some s

@@ -1,4 +1,5 @@
 //! The merge base of a pushed commit.
+ghost use Rattle.library_rules.specs.declared.limits.TheConstants.{MAX_STEPS};
 ghost use Rattle.std.specs.Prelude.{◌≡◌, Some};
 ghost use Rattle.ids.specs.Key.{Objects};
 ghost use Rattle.library_rules.specs.LibraryState.{State};
@@ -9,13 +10,11 @@ ghost use Rattle.depot.specs.UpdateBase.{FindsSo, LooksSo};
 
 use crate::history::is_kept;
 use ids::ObjId;
+use library_rules::MAX_STEPS;
 use library_state::Install;
 use object_store::{Shelf, Store};
 use std::alloc::Global;
 use tree_walk::{WalkFault, commit_at};
-
-/// The parents that are followed at most from a pushed commit to its merge base.
-const MAX_STEPS: u64 = 128;
 
 /// What the search for a merge base ends with.
 #[derive(Drop)]
@@ -37,7 +36,7 @@ pub(crate) enum Look {
     Last,
 }
 
-/// The first kept commit from the pushed one along first parents, at most 128 steps away.
+/// The first kept commit from the pushed one along first parents, at most MAX_STEPS steps away.
 pub(crate) fn find_base<S: Shelf>(
     alloc: Global,
     store: &mut Store<S>,
@@ -69,7 +68,7 @@ fn find_last<S: Shelf>(
     kept: &[Install],
     id: ObjId,
 ) -> Result<Found, WalkFault>
-    ensures value { (s : State) → objects_of S.contents store.old ≡ Some s.objects → s.state.kept ≡ kept.now → FindsSo s.objects (base_from s 0 128 id) result }
+    ensures value { (s : State) → objects_of S.contents store.old ≡ Some s.objects → s.state.kept ≡ kept.now → FindsSo s.objects (base_from s 0 MAX_STEPS id) result }
     ensures kept { Reads S.contents S.may_give S.texts S.faults store.old store.new result }
 {
     let seen = match look_at(alloc, store, kept, id) {

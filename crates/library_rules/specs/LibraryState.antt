@@ -1,4 +1,5 @@
 -- The state of one library, and when it is sound. Our own. Read State, then IsSound.
+use Rattle.library_state.specs.declared.state.TheConstants.{MAX_STATE_NAME, MAX_TOKENS}
 use Rattle.std.specs.Prelude.{◌≡◌, ◌≢◌, ℕ, ◌≤◌, ℤ, Bool, true, false, List, [], ◌∷◌, length, Option, None, Some, is_some, map as map_list}
 use Rattle.std.specs.List.{list_any, AllByRecursion, IsDistinct}
 use Rattle.std.specs.FinMap as map
@@ -71,12 +72,12 @@ pub record AreKept (objects : Objects) (kept : List Install) (running : Option R
 abbrev pub users_of : List Token → List (List ℕ)
 users_of tokens = map_list (λ token. token.user) tokens
 
--- the secrets are distinct, there are at most 1,000, none saw a collection that didn't begin, and users have 1 to 255 bytes
+-- the secrets are distinct, there are at most MAX_TOKENS, none saw a collection that didn't begin, and users have 1 to MAX_STATE_NAME bytes
 pub record AreTokens (tokens : List Token) (collection : ℕ) : Type 0 where
   pub secrets : IsDistinct bytes_eq (secrets_of tokens)
-  pub few : length tokens ≤ 1000
+  pub few : length tokens ≤ MAX_TOKENS
   pub lasts : AllByRecursion (λ token. token.last ≤ collection) tokens
-  pub users : AllByRecursion (λ user. (1 ≤ length user) × (length user ≤ 255)) (users_of tokens)
+  pub users : AllByRecursion (λ user. (1 ≤ length user) × (length user ≤ MAX_STATE_NAME)) (users_of tokens)
 
 -- the numbers and the name are within their limits
 pub record AreNumbers (collection opening : ℕ) (days : ℤ) (name : List ℕ) : Type 0 where
@@ -84,7 +85,7 @@ pub record AreNumbers (collection opening : ℕ) (days : ℤ) (name : List ℕ) 
   pub opened : 1 ≤ opening
   pub openings : opening ≤ last_number
   pub day_count : is_day_count days ≡ true
-  pub name_size : length name ≤ 255
+  pub name_size : length name ≤ MAX_STATE_NAME
 
 -- a sound state
 pub record IsSound (s : State) : Type 0 where

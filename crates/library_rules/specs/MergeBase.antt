@@ -1,4 +1,5 @@
 -- The merge base of a pushed commit: the first kept commit from it along first parents. Our own. Read base_of.
+use Rattle.library_rules.specs.declared.limits.TheConstants.{MAX_STEPS}
 use Rattle.std.specs.Prelude.{ℕ, zero, suc, ◌+◌, if◌then◌else◌, List, [], ◌∷◌, Option, None, Some, Result, Ok, Err}
 use Rattle.commit_objects.specs.declared.commit.Commit.{Commit}
 use Rattle.library_state.specs.declared.refusal.Refusal.{Refusal}
@@ -48,9 +49,9 @@ module _ (s : State) where
   base_from zero n id = if is_kept s.state.kept id then Base id else by_commit (λ parent. NoBase (refusal.Unrelated n)) n (commit_at s.objects id)
   base_from (suc left) n id = if is_kept s.state.kept id then Base id else by_commit (base_from left (n + 1)) n (commit_at s.objects id)
 
-  -- the merge base of a pushed commit, at most 128 steps from it
+  -- the merge base of a pushed commit, at most MAX_STEPS steps from it
   abbrev pub base_of : List ℕ → Based
-  base_of pushed = base_from 128 0 pushed
+  base_of pushed = base_from MAX_STEPS 0 pushed
 
   -- the commits that are looked at: from a commit along first parents, up to but without a kept one
   unfoldable pub chain_from : ℕ → List ℕ → List (List ℕ)
@@ -59,4 +60,4 @@ module _ (s : State) where
 
   -- the commits from a pushed one to its merge base, without that one
   abbrev pub chain_of : List ℕ → List (List ℕ)
-  chain_of pushed = chain_from 128 pushed
+  chain_of pushed = chain_from MAX_STEPS pushed

@@ -1,4 +1,5 @@
 //! Theorems on the rules of a library, each the contract of a function that does nothing.
+ghost use Rattle.library_state.specs.declared.state.TheConstants.{MAX_STATE_NAME, MAX_TOKENS};
 ghost use Rattle.std.specs.Prelude.{◌≡◌, ◌++◌, ℕ, ◌≤◌, ◌<◌, true, false, List, [], length, Option, Ok, Some};
 ghost use Rattle.ids.specs.Key.{Objects};
 ghost use Rattle.library_state.specs.ProperState.{IsProper};
@@ -68,13 +69,13 @@ pub fn a_collection_has_few_turns()
 pub fn a_new_library_is_sound()
     ensures { (lib : List ℕ) → (name : List ℕ) → (user : List ℕ) → (secret : List ℕ) → (moment : ℕ) → (objects : Objects) → (faults : ℕ)
         → commit_at (put_new objects (opening_object (opening_commit lib user moment))) (opening_commit lib user moment).id ≡ Ok (opening_commit lib user moment)
-        → length name ≤ 255 → 1 ≤ length user → length user ≤ 255 → IsSound (created lib name user secret moment objects faults) }
+        → length name ≤ MAX_STATE_NAME → 1 ≤ length user → length user ≤ MAX_STATE_NAME → IsSound (created lib name user secret moment objects faults) }
 {}
 
 /// A sound library with a token more is sound: no other token has its secret, there is room, and its user is within its limits.
 pub fn a_sound_library_with_a_token_more_is_sound()
     ensures { (s : State) → (user : List ℕ) → (secret : List ℕ) → (right : Right) → IsSound s → is_taken s.state.tokens secret ≡ false
-        → length s.state.tokens < 1000 → 1 ≤ length user → length user ≤ 255 → IsSound (with_token user secret right s) }
+        → length s.state.tokens < MAX_TOKENS → 1 ≤ length user → length user ≤ MAX_STATE_NAME → IsSound (with_token user secret right s) }
 {}
 
 /// Where the text and the objects of a sound state are there, the shelf stands for it: no kept commit needs what else lies

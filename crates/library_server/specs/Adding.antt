@@ -1,4 +1,5 @@
 -- The command that adds a token. Our own. Read AddsSo first.
+use Rattle.library_state.specs.declared.state.TheConstants.{MAX_TOKENS}
 use Rattle.std.specs.Prelude.{◌≡◌, ◌≤◌, ◌⊎◌, ℕ, Bool, true, false, List, length, Option, None, Some, IsTrue, Result, Ok, Err, ⊤}
 use Rattle.library_state.specs.Tokens.{is_taken}
 use Rattle.depot.specs.Tokens.{is_token_counted, token_refusal}
@@ -35,7 +36,7 @@ pub record StandsWithText (standing : Option Standing) (s t : State) : Type 0 wh
 -- storage failed its text may be the one with the token
 abbrev pub RefusesToken : NewToken → State → TokenFault → Option Standing → Type 0
 RefusesToken new s token.SecretTaken after = (is_taken s.state.tokens new.secret ≡ true) × StandsAs after s
-RefusesToken new s token.Full after = (is_taken s.state.tokens new.secret ≡ false) × (1000 ≤ length s.state.tokens) × StandsAs after s
+RefusesToken new s token.Full after = (is_taken s.state.tokens new.secret ≡ false) × (MAX_TOKENS ≤ length s.state.tokens) × StandsAs after s
 RefusesToken new s (token.Store why) after = IsTrue (is_free why) × (StandsWithText after s s ⊎ (IsTrue (is_of_shelf why) × StandsWithText after s (with_new new s)))
 
 -- over told libraries, as one stood before and stands after: what was opened is there with the token, or the token is
@@ -48,7 +49,7 @@ AddsSo place lib shows new standing (Err (unadded.Unopened why)) after = Refuses
 -- why a token is refused by the state that was opened: another token has its secret, or there are 1,000
 abbrev pub IsTokenRefused : LibState → NewToken → TokenFault → Type 0
 IsTokenRefused state new token.SecretTaken = is_taken state.tokens new.secret ≡ true
-IsTokenRefused state new token.Full = (is_taken state.tokens new.secret ≡ false) × (1000 ≤ length state.tokens)
+IsTokenRefused state new token.Full = (is_taken state.tokens new.secret ≡ false) × (MAX_TOKENS ≤ length state.tokens)
 IsTokenRefused state new (token.Store why) = IsTrue (is_free why)
 
 -- over any ground, what a token was added to: the library that was opened, which doesn't refuse it

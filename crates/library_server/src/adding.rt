@@ -1,4 +1,5 @@
 //! The command that adds a token to a library.
+ghost use Rattle.library_state.specs.declared.state.TheConstants.{MAX_STATE_NAME};
 ghost use Rattle.std.specs.Prelude.{◌≡◌, ◌≤◌, ℕ, IfErr, IfOk, Option, Some, length};
 ghost use Rattle.folder_storage.specs.Ground.{Standing};
 ghost use Rattle.server_words.specs.Spelling.{place_text};
@@ -34,7 +35,7 @@ pub(crate) fn add_token<G: Ground, C: Clock>(
     token: &NewToken,
     clock: &C,
 ) -> Result<(), NotAdded>
-    requires ready { (1 ≤ length token.now.user) × (length token.now.user ≤ 255) }
+    requires ready { (1 ≤ length token.now.user) × (length token.now.user ≤ MAX_STATE_NAME) }
     ensures told { (standing : Standing) → G.stands libraries.old (place_text place.now) lib ≡ Some standing
         → AddsSo place.now lib (C.shows clock.now) token.now standing result (G.stands libraries.new (place_text place.now) lib) }
     ensures back { Returned G.S.contents (G.stands libraries.old) (G.stands libraries.new) (place_text place.now) lib }

@@ -1,4 +1,5 @@
 //! The command that makes a library.
+ghost use Rattle.library_state.specs.declared.state.TheConstants.{MAX_STATE_NAME};
 ghost use Rattle.std.specs.Prelude.{◌≡◌, ◌≤◌, ℕ, List, IfErr, IfOk, Option, Some, length};
 ghost use Rattle.folder_storage.specs.Ground.{Standing};
 ghost use Rattle.library_rules.specs.Creation.{opening_commit};
@@ -24,8 +25,8 @@ pub(crate) fn create<G: Ground>(
     new: &NewLibrary,
     moment: u64,
 ) -> Result<ObjId, NotMade>
-    requires fits { length new.now.name ≤ 255 }
-    requires ready { (1 ≤ length new.now.user) × (length new.now.user ≤ 255) }
+    requires fits { length new.now.name ≤ MAX_STATE_NAME }
+    requires ready { (1 ≤ length new.now.user) × (length new.now.user ≤ MAX_STATE_NAME) }
     ensures told { (standing : Standing) → G.stands libraries.old folder.now new.now.lib ≡ Some standing
         → CreatesSo new.now moment standing result (G.stands libraries.new folder.now new.now.lib) }
     ensures value { IfOk result (λ head. head ≡ (opening_commit new.now.lib new.now.user moment).id) }

@@ -1,4 +1,5 @@
 //! How a library is made where there is none.
+ghost use Rattle.library_state.specs.declared.state.TheConstants.{MAX_STATE_NAME};
 ghost use Rattle.std.specs.Prelude.{◌≡◌, ◌≤◌, ℕ, List, IfOk, IfErr, OnOk, Option, Some, Err, length, ⊤};
 ghost use Rattle.ids.specs.FaultCount.{FailsBy};
 ghost use Rattle.depot.specs.DepotView.{IsGood, state_of};
@@ -41,8 +42,8 @@ pub(crate) fn make_library<G: Ground>(
     new: &NewLibrary,
     moment: u64,
 ) -> Result<Depot<G::S>, NotMade>
-    requires fits { length new.now.name ≤ 255 }
-    requires ready { (1 ≤ length new.now.user) × (length new.now.user ≤ 255) }
+    requires fits { length new.now.name ≤ MAX_STATE_NAME }
+    requires ready { (1 ≤ length new.now.user) × (length new.now.user ≤ MAX_STATE_NAME) }
     ensures value { IfOk result (IsNew new.now moment) }
     ensures told { (standing : Standing) → G.stands libraries.old folder.now new.now.lib ≡ Some standing
         → MakesSo G.S.contents G.S.faults new.now moment standing result (G.stands libraries.new folder.now new.now.lib) }
@@ -75,8 +76,8 @@ fn make_on<S: Shelf>(
     new: &NewLibrary,
     moment: u64,
 ) -> Result<Depot<S>, (S, MakeFault)>
-    requires fits { length new.now.name ≤ 255 }
-    requires ready { (1 ≤ length new.now.user) × (length new.now.user ≤ 255) }
+    requires fits { length new.now.name ≤ MAX_STATE_NAME }
+    requires ready { (1 ≤ length new.now.user) × (length new.now.user ≤ MAX_STATE_NAME) }
     ensures value { IfOk result (IsNew new.now moment) }
     ensures told { (held : Contents) → S.contents shelf ≡ Some held → IfOk result (λ depot. state_of S.contents S.faults depot
         ≡ Some (created new.now.lib new.now.name new.now.user new.now.secret moment held.objects (S.faults shelf))) }

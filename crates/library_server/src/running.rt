@@ -1,4 +1,5 @@
 //! The server's top call.
+ghost use Rattle.library_state.specs.declared.state.TheConstants.{MAX_STATE_NAME};
 ghost use Rattle.std.specs.Prelude.{◌≡◌, ◌≤◌, false, length, Some};
 ghost use Rattle.std.specs.Io.KnownBytes.{append_known};
 ghost use Rattle.server_words.specs.CommandLine.{NamesFit, command_of};
@@ -171,8 +172,8 @@ fn create_printed<G: Ground, C: Clock, O: Sink>(
     clock: &C,
     out: &mut O,
 ) -> u8
-    requires fits { length new.now.name ≤ 255 }
-    requires ready { (1 ≤ length new.now.user) × (length new.now.user ≤ 255) }
+    requires fits { length new.now.name ≤ MAX_STATE_NAME }
+    requires ready { (1 ≤ length new.now.user) × (length new.now.user ≤ MAX_STATE_NAME) }
     ensures value { (done : CreatesLibrary G.S.contents G.S.may_give (C.shows clock.now) place.now new.now
         (record { stands = G.stands libraries.old; faults = G.faults libraries.old })
         (record { stands = G.stands libraries.new; faults = G.faults libraries.new })
@@ -205,7 +206,7 @@ fn add_printed<G: Ground, C: Clock, O: Sink>(
     clock: &C,
     out: &mut O,
 ) -> u8
-    requires ready { (1 ≤ length new.now.user) × (length new.now.user ≤ 255) }
+    requires ready { (1 ≤ length new.now.user) × (length new.now.user ≤ MAX_STATE_NAME) }
     ensures value { (done : AddsToken G.S.contents G.S.may_give (C.shows clock.now) place.now lib new.now
         (record { stands = G.stands libraries.old; faults = G.faults libraries.old })
         (record { stands = G.stands libraries.new; faults = G.faults libraries.new })

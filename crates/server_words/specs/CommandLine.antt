@@ -1,4 +1,5 @@
 -- The words of the command line, without the program's name, as a command. Our own. Read command_of first, at the end.
+use Rattle.library_state.specs.declared.state.TheConstants.{MAX_STATE_NAME}
 use Rattle.std.specs.Prelude.{ℕ, ◌≤◌, ◌==◌, ◌&&◌, ◌||◌, Bool, true, false, not, nat_lt, nat_le, ⊤, if◌then◌else◌, List, [], ◌∷◌, length, Option, None, Some, codes}
 use Rattle.std.specs.List.{list_any}
 use Rattle.std.specs.Str.{bytes_eq}
@@ -14,9 +15,9 @@ use Rattle.server_words.specs.declared.command.Place.TheVariants.{Memory, Folder
 abbrev pub is_control : ℕ → Bool
 is_control byte = nat_lt byte 32 || (byte == 127)
 
--- the name of a library or a user: 1 to 255 bytes without a control character
+-- the name of a library or a user: 1 to MAX_STATE_NAME bytes without a control character
 abbrev pub is_name : List ℕ → Bool
-is_name text = nat_le 1 (length text) && (nat_le (length text) 255 && not (list_any is_control text))
+is_name text = nat_le 1 (length text) && (nat_le (length text) MAX_STATE_NAME && not (list_any is_control text))
 
 -- the place that a folder word names
 abbrev pub place_of : List ℕ → Place
@@ -97,9 +98,9 @@ abbrev pub names_memory : List (List ℕ) → Bool
 names_memory (word ∷ folder ∷ more) = bytes_eq folder (codes ":memory:")
 names_memory _ = false
 
--- the names of a command have 1 to 255 bytes
+-- the names of a command have 1 to MAX_STATE_NAME bytes
 abbrev pub IsNameSize : List ℕ → Type 0
-IsNameSize text = (1 ≤ length text) × (length text ≤ 255)
+IsNameSize text = (1 ≤ length text) × (length text ≤ MAX_STATE_NAME)
 
 abbrev pub NamesFit : Command → Type 0
 NamesFit (Create place lib name user secret) = IsNameSize name × IsNameSize user

@@ -7,7 +7,7 @@ ghost use Rattle.server_words.specs.CommandLine.{IsNameSize, NamesFit, command_o
 use crate::command::{Command, Place};
 use ids::Text;
 use json_words::library_id;
-use library_state::{Right, Secret};
+use library_state::{MAX_STATE_NAME, Right, Secret};
 use std::alloc::{AllocError, Global};
 
 /// The command that the words are, which stand without the program's name.
@@ -218,7 +218,7 @@ fn is_name(text: &str) -> bool
     if text.is_empty() {
         return false;
     }
-    if text.len() > 255 {
+    if text.len() > MAX_STATE_NAME {
         return false;
     }
     !has_control(text.as_bytes())

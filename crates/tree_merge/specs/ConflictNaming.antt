@@ -1,4 +1,5 @@
 -- Where the conflict copies of a merge go, among known paths. Our own. Read place_of, then IsFreePlace and IsNamed.
+use Rattle.tree_model.specs.declared.limits.TheConstants.{MAX_NAME}
 use Rattle.std.specs.Prelude.{◌≡◌, ℕ, ◌≤◌, ◌<◌, true, List, [], ◌∷◌, ◌++◌, length, Some, None, is_some, Result, Ok, Err, ⊤}
 use Rattle.std.specs.FinMap as map
 use Rattle.ids.specs.Key.{Objects}
@@ -26,13 +27,13 @@ place_of path file number = parent_of path ++ name_of path file number ∷ []
 -- the place of this number, whose name isn't too long
 pub record IsPlaceAt (path : PathV) (file : FileEntry) (number : ℕ) (place : PathV) : Type 0 where
   pub is : place ≡ place_of path file number
-  pub short : length (name_of path file number) ≤ 255
+  pub short : length (name_of path file number) ≤ MAX_NAME
 
 -- the name of this number is too long
 pub record IsLongAt (path : PathV) (file : FileEntry) (number : ℕ) (of : PathV) (bytes : ℕ) : Type 0 where
   pub own : of ≡ path
   pub is : bytes ≡ length (name_of path file number)
-  pub long : 255 < bytes
+  pub long : MAX_NAME < bytes
 
 -- each place of a lesser number is a known path
 abbrev pub AreKnown : Marks → PathV → FileEntry → ℕ → Type 0

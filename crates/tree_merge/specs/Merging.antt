@@ -1,4 +1,5 @@
 -- What a merge of stored trees gives. Our own. Read IsMerged and IsTaken, then MergesTo.
+use Rattle.tree_model.specs.declared.limits.TheConstants.{MAX_PATHS}
 use Rattle.std.specs.Prelude.{◌≡◌, ◌≢◌, ◌⊎◌, ◌↔◌, ◌≤◌, ◌<◌, ℕ, Bool, true, if◌then◌else◌, List, [], ◌∷◌, ◌++◌, Some, None, is_some, option_map, IsSome, Result, Ok, Err, ⊤}
 use Rattle.std.specs.FinMap as map
 use Rattle.sha1.specs.Sha1.{sha1}
@@ -139,7 +140,7 @@ NamesSo objects more s (Err (Walk fault)) = IsDue objects None fault
 
 -- the objects of the merged entries
 pub record IsBuilt (named : Named) (merged : Merged) : Type 0 where
-  pub few : map.len named.nodes ≤ 1000000
+  pub few : map.len named.nodes ≤ MAX_PATHS
   pub value : IsSound named.nodes → (more : Objects) → Keeps merged.made more → AreEntriesOf more merged.root named.nodes
   pub needed : IsSound named.nodes → (id : List ℕ) → HasMade merged.made id → (more : Objects) → Keeps merged.made more → IsDirectoryOf more merged.root id
   pub dirs : IsSound named.nodes → AreDirectories named.nodes merged.made × IsNilOrMade merged.made merged.root
@@ -155,8 +156,8 @@ as_merge_fault build.NoMemory = Walk (Store NoMemory)
 abbrev pub BuildsSo : Named → Result Merged MergeFault → Type 0
 BuildsSo named (Ok merged) = IsBuilt named merged
 BuildsSo named (Err (TooLong path bytes)) = ⊥
-BuildsSo named (Err (TooMany paths)) = (paths ≡ map.len named.nodes) × (1000000 < map.len named.nodes)
-BuildsSo named (Err (Taken id)) = (map.len named.nodes ≤ 1000000) × (IsSound named.nodes → IsClash named.nodes id)
+BuildsSo named (Err (TooMany paths)) = (paths ≡ map.len named.nodes) × (MAX_PATHS < map.len named.nodes)
+BuildsSo named (Err (Taken id)) = (map.len named.nodes ≤ MAX_PATHS) × (IsSound named.nodes → IsClash named.nodes id)
 BuildsSo named (Err (Walk fault)) = fault ≡ Store NoMemory
 
 -- what is stored under a key is these bytes, if anything is

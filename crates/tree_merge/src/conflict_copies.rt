@@ -28,7 +28,7 @@ pub(crate) struct Named {
 /// Why a conflict copy has no name.
 #[derive(Drop)]
 pub(crate) enum CopyFault {
-    /// The conflict name of the file at this path has so many bytes, over 255.
+    /// The conflict name of the file at this path has so many bytes, over MAX_NAME.
     TooLong(Path, u64),
     NoMemory,
 }

@@ -26,8 +26,8 @@ use ids::{Bytes, Items, KeyTable, ObjId};
 use object_graph::Entry;
 use object_store::{Shelf, Store, StoreFault};
 use std::alloc::Global;
-use tree_model::{Path, PathTable};
-use tree_walk::{MAX_PATHS, WalkFault, tree};
+use tree_model::{MAX_PATHS, Path, PathTable};
+use tree_walk::{WalkFault, tree};
 
 /// Two trees, merged over their base.
 #[derive(Drop)]
@@ -43,7 +43,7 @@ pub struct Merged {
 /// Why two trees aren't merged.
 #[derive(Drop)]
 pub enum MergeFault {
-    /// The conflict name of the file at this path has so many bytes, over 255. It is the first such file in the byte order of
+    /// The conflict name of the file at this path has so many bytes, over MAX_NAME. It is the first such file in the byte order of
     /// paths.
     TooLong(Path, u64),
     /// The merged tree has so many paths, over 1,000,000.

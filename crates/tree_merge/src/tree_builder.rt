@@ -17,14 +17,11 @@ ghost use Rattle.object_graph.specs.declared.entry.Entry.TheVariants.{Dir as dir
 ghost use Rattle.tree_merge.specs.TreeBuilding.{IsSound, AreNamed, AreDirectories, HasAdded, IsCausedInBuild, IsDirectoryOf, IsClash, IsEntryMade, IsOwn, IsMade, IsNilOrMade, IsRefused, IsRefusedList, Lists, HasMade, held_at, dirent_of};
 
 use crate::tables::put;
-use fs_objects::{DirObject, Dirent, FsObject};
+use fs_objects::{DIRECTORY_TYPE, DirObject, Dirent, FsObject};
 use ids::{Bytes, Items, Key, KeyTable, Kind, ObjId, Text};
 use object_graph::Entry;
 use std::alloc::{AllocError, Global};
 use tree_model::{Name, Path, PathTable};
-
-/// The mode of a directory's entry: its type alone (POSIX, `S_IFDIR`).
-const DIRECTORY_MODE: u32 = 0o040000;
 
 /// A tree as objects.
 #[derive(Drop)]
@@ -194,7 +191,7 @@ fn directory_dirent(alloc: Global, name: Name, id: ObjId) -> Result<Dirent, Buil
         Ok(modifier) => Ok(Dirent {
             name,
             id,
-            mode: DIRECTORY_MODE,
+            mode: DIRECTORY_TYPE,
             mtime: 0,
             modifier,
             size: 0,

@@ -14,7 +14,7 @@ deepest (x ∷ found) = max (length x.0) (deepest found)
 abbrev pub extent_in : Listed → Extent
 extent_in found = record { paths = length found; deep = deepest found }
 
--- of a directory as a root, below which a path has at most 100 names
+-- of a directory as a root, below which a path has at most MAX_NAMES names
 abbrev pub extent_of : Objects → List ℕ → Extent
 extent_of objects id = extent_in (listed objects MAX_NAMES id)
 

@@ -1,4 +1,5 @@
 -- For private clauses: what a traversal met, and what a step of it leaves. Read MetView, then Walks.
+use Rattle.tree_model.specs.declared.limits.TheConstants.{MAX_PATHS}
 use Rattle.std.specs.Prelude.{◌≡◌, ℕ, ◌≤◌, Bool, true, not, ◌&&◌, if◌then◌else◌, is_some, List, [], ◌∷◌, ◌++◌, Option, None, Some, Result, Ok, Err, ⊤, refl}
 use Rattle.std.specs.Coded.{Coded, code_by, coded×, coded_list, coded_ℕ}
 use Rattle.std.specs.FinMap as map
@@ -30,7 +31,7 @@ no_repeat met (key ∷ keys) = not (is_in met key) && no_repeat (key ∷ met) ke
 pub record IsMet (order : List Key) (known : map.FinMap key_cmp ⊤) (paths : ℕ) : Type 0 where
   pub there : (key : Key) → is_some (map.get known key) ≡ is_in order key
   pub once : no_repeat [] order ≡ true
-  pub few : paths ≤ 1000000
+  pub few : paths ≤ MAX_PATHS
 
 abbrev pub with_key : List Key → Key → List Key
 with_key keys key = if is_in keys key then keys else keys ++ key ∷ []

@@ -15,16 +15,15 @@ ghost use Rattle.tree_walk.specs.Trail.{names_of};
 use crate::extent::{Extent, joined, with_entry};
 use crate::fault::WalkFault;
 use crate::file::whole_file_at;
-use crate::kind::is_directory_mode;
 use crate::known_trees::Known;
-use crate::listing::{MAX_NAMES, MAX_PATHS};
 use crate::name_order::in_name_order;
 use crate::reading::{commit_at, fs_at};
 use crate::trail::{Trail, path_of};
-use fs_objects::{Dirent, FsObject};
+use fs_objects::{Dirent, FsObject, is_directory_mode};
 use ids::ObjId;
 use object_store::{Shelf, Store, StoreFault};
 use std::alloc::Global;
+use tree_model::{MAX_NAMES, MAX_PATHS};
 
 /// Whether a commit is whole. The first fault in the order of the traversal is answered.
 ///
@@ -46,7 +45,15 @@ pub fn check<S: Shelf>(
         Ok(commit) => commit.root,
         Err(fault) => return Err(fault),
     };
-    match check_directory(alloc, store, known, &Trail::Root, &root, MAX_NAMES, 0) {
+    match check_directory(
+        alloc,
+        store,
+        known,
+        &Trail::Root,
+        &root,
+        MAX_NAMES as u32,
+        0,
+    ) {
         Ok(_) => Ok(()),
         Err(fault) => Err(fault),
     }

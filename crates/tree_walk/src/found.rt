@@ -6,7 +6,7 @@ use std::alloc::{AllocError, Global};
 use std::marker::Model;
 use tree_model::Path;
 
-/// Entries, each with its path, in the order in which they were found: at most 1,000,000, at paths of at most 100 names.
+/// Entries, each with its path, in the order in which they were found: at most MAX_PATHS, at paths of at most MAX_NAMES names.
 #[derive(Drop)]
 pub struct Found {
     entries: Vec<(Path, Entry)>,
@@ -28,6 +28,7 @@ impl Model for Found {
 impl Found {
     ghost use Rattle.std.specs.Prelude.{◌≡◌, ◌<◌, ◌≤◌, ◌++◌, ◌∷◌, [], OnErr, OnOk, length};
     ghost use Rattle.object_graph.specs.Objects.{entry_of};
+    ghost use Rattle.tree_model.specs.declared.limits.TheConstants.{MAX_NAMES, MAX_PATHS};
     ghost use Rattle.tree_walk.specs.Limits.{AreFound};
 
     /// Nothing. It takes no memory.
@@ -39,18 +40,18 @@ impl Found {
         }
     }
 
-    /// The number of entries, at most 1,000,000.
+    /// The number of entries, at most MAX_PATHS.
     pub fn len(&self) -> usize
         ensures value { result ≡ length self.now }
-        ensures bound { length self.now ≤ 1000000 }
+        ensures bound { length self.now ≤ MAX_PATHS }
     {
         self.entries.len()
     }
 
     /// Adds an entry of a directory, at its path. After an error nothing is added.
     pub fn add(&mut self, alloc: Global, above: &Path, entry: &Dirent) -> Result<(), AllocError>
-        requires few { length self.old < 1000000 }
-        requires fits { length above.now < 100 }
+        requires few { length self.old < MAX_PATHS }
+        requires fits { length above.now < MAX_NAMES }
         ensures ok { OnOk result (self.new ≡ self.old ++ (above.now ++ entry.now.name ∷ [], entry_of entry.now) ∷ []) }
         ensures err { OnErr result (self.new ≡ self.old) }
     {

@@ -26,6 +26,6 @@ pub use crate::extent::Extent;
 pub use crate::fault::WalkFault;
 pub use crate::fs_list::fs_ids;
 pub use crate::known_trees::Known;
-pub use crate::listing::{MAX_NAMES, MAX_PATHS, tree};
+pub use crate::listing::tree;
 pub use crate::reading::commit_at;
 pub use crate::visiting::needs;

@@ -1,4 +1,5 @@
 //! The entries of a tree by path.
+ghost use Rattle.tree_model.specs.declared.limits.TheConstants.{MAX_NAMES, MAX_PATHS};
 ghost use Rattle.std.specs.Prelude.{◌≡◌, ◌≤◌, ◌+◌, false, IfOk, OnOk, Some, length};
 ghost use Rattle.std.specs.FinMap as map;
 ghost use Rattle.ids.specs.Key.{Objects};
@@ -14,21 +15,14 @@ ghost use Rattle.tree_walk.specs.Steps.{directory_step, entries_step, entry_step
 use crate::fault::WalkFault;
 use crate::file::file_at;
 use crate::found::Found;
-use crate::kind::is_directory_mode;
 use crate::name_order::in_name_order;
 use crate::reading::fs_at;
-use fs_objects::{Dirent, FsObject};
+use fs_objects::{Dirent, FsObject, is_directory_mode};
 use ids::ObjId;
 use object_graph::Entry;
 use object_store::{Shelf, Store, StoreFault};
 use std::alloc::{AllocError, Global};
-use tree_model::{Path, PathTable};
-
-/// The greatest number of paths of a tree.
-pub const MAX_PATHS: usize = 1_000_000;
-
-/// The greatest number of names of a path.
-pub const MAX_NAMES: u32 = 100;
+use tree_model::{MAX_NAMES, MAX_PATHS, Path, PathTable};
 
 /// The entries of a root, each at its path. Forty zeros are the empty directory.
 ///
@@ -45,7 +39,7 @@ pub fn tree<S: Shelf>(
 {
     let mut found = Found::new(alloc);
     let path = Path::root(alloc);
-    match list_directory(alloc, store, &path, &root, MAX_NAMES, &mut found) {
+    match list_directory(alloc, store, &path, &root, MAX_NAMES as u32, &mut found) {
         Ok(()) => {}
         Err(fault) => return Err(fault),
     }
@@ -87,7 +81,7 @@ fn list_directory<S: Shelf>(
     room: u32,
     found: &mut Found,
 ) -> Result<(), WalkFault>
-    requires fits { length path.now + room ≤ 100 }
+    requires fits { length path.now + room ≤ MAX_NAMES }
     ensures value { (objects : Objects) → objects_of S.contents store.old ≡ Some objects
         → Lists objects (directory_step false objects room path.now id.now) path.now (listed objects room id.now) found.old found.new result }
     ensures kept { Reads S.contents S.may_give S.texts S.faults store.old store.new result }
@@ -119,7 +113,7 @@ fn list_entries<S: Shelf>(
     room: u32,
     found: &mut Found,
 ) -> Result<(), WalkFault>
-    requires fits { length path.now + room ≤ 100 }
+    requires fits { length path.now + room ≤ MAX_NAMES }
     ensures value { (objects : Objects) → objects_of S.contents store.old ≡ Some objects
         → Lists objects (entries_step false objects room path.now entries.now) path.now (listed_from objects room entries.now) found.old found.new result }
     ensures kept { Reads S.contents S.may_give S.texts S.faults store.old store.new result }
@@ -143,7 +137,7 @@ fn list_entry<S: Shelf>(
     room: u32,
     found: &mut Found,
 ) -> Result<(), WalkFault>
-    requires fits { length path.now + room ≤ 100 }
+    requires fits { length path.now + room ≤ MAX_NAMES }
     ensures value { (objects : Objects) → objects_of S.contents store.old ≡ Some objects
         → Lists objects (entry_step false objects room path.now entry.now) path.now (listed_one objects room entry.now) found.old found.new result }
     ensures kept { Reads S.contents S.may_give S.texts S.faults store.old store.new result }

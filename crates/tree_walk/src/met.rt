@@ -27,6 +27,7 @@ impl Model for Met {
 impl Met {
     ghost use Rattle.std.specs.Prelude.{◌≡◌, ◌+◌, ◌<◌, ◌≤◌, [], IfOk};
     ghost use Rattle.object_graph.specs.Traversal.{distinct_from};
+    ghost use Rattle.tree_model.specs.declared.limits.TheConstants.{MAX_PATHS};
     ghost use Rattle.tree_walk.specs.Visits.{with_key_met};
 
     /// Nothing. It takes no memory.
@@ -63,17 +64,17 @@ impl Met {
         })
     }
 
-    /// The number of paths, at most 1,000,000.
+    /// The number of paths, at most MAX_PATHS.
     pub fn paths(&self) -> u64
         ensures value { result ≡ self.now.paths }
-        ensures bound { self.now.paths ≤ 1000000 }
+        ensures bound { self.now.paths ≤ MAX_PATHS }
     {
         self.paths
     }
 
     /// The same with one path more.
     pub fn counted(self) -> Met
-        requires fits { self.paths < 1000000 }
+        requires fits { self.paths < MAX_PATHS }
         ensures value { result ≡ record self { paths = self.paths + 1 } }
     {
         let Met {

@@ -10,16 +10,15 @@ ghost use Rattle.tree_walk.specs.Visits.{Walks, with_blocks};
 
 use crate::fault::WalkFault;
 use crate::file::{check_blocks, file_at};
-use crate::kind::is_directory_mode;
-use crate::listing::{MAX_NAMES, MAX_PATHS};
 use crate::met::Met;
 use crate::name_order::in_name_order;
 use crate::reading::{block_key, commit_at, commit_key, fs_at, fs_key};
 use crate::trail::{Trail, path_of};
-use fs_objects::{Dirent, FsObject};
+use fs_objects::{Dirent, FsObject, is_directory_mode};
 use ids::{KeyList, ObjId};
 use object_store::{Shelf, Store, StoreFault};
 use std::alloc::{AllocError, Global};
+use tree_model::{MAX_NAMES, MAX_PATHS};
 
 /// The keys that a commit needs, each once, in the order of first visit.
 ///
@@ -39,7 +38,7 @@ pub fn needs<S: Shelf>(
         Ok(commit) => commit.root,
         Err(fault) => return Err(fault),
     };
-    match walk_directory(alloc, store, &Trail::Root, &root, MAX_NAMES, met) {
+    match walk_directory(alloc, store, &Trail::Root, &root, MAX_NAMES as u32, met) {
         Ok(met) => Ok(met.into_keys()),
         Err(fault) => Err(fault),
     }
