@@ -23,7 +23,7 @@ impl<S: Shelf> Depot<S> {
     /// stored some of its objects. Where the shelf failed as the text was written, the slot holds the library's text or
     /// the one of the state that the call would have made.
     pub fn answer(&mut self, call: &Call, moment: u64) -> Reply
-        ensures told { (s : State) → state_of S.contents S.faults self.old ≡ Some s
+        ensures shown { (s : State) → state_of S.contents S.faults self.old ≡ Some s
             → AnswersBySome s call.now moment result (state_of S.contents S.faults self.new) }
         ensures stands { IsGood S.contents S.faults self.new }
 

@@ -42,7 +42,7 @@ impl<S: Shelf> Depot<S> {
         requires ready { (1 ≤ length user.now) × (length user.now ≤ MAX_STATE_NAME) }
         ensures value { IfOk result (IsMade S.contents S.faults store (opening_object (opening_commit lib user.now moment))
             (first_state lib name.now user.now secret (opening_commit lib user.now moment).id moment)) }
-        ensures told { (objects : Objects) → objects_of S.contents store ≡ Some objects
+        ensures shown { (objects : Objects) → objects_of S.contents store ≡ Some objects
             → IfOk result (λ depot. state_of S.contents S.faults depot ≡ Some (created lib name.now user.now secret moment objects (S.faults store.shelf))) }
         ensures stands { IfOk result (IsGood S.contents S.faults) }
         ensures lying { IfOk result (λ depot. AddsNoStray S.contents store depot.store) }

@@ -29,7 +29,7 @@ impl<S: Shelf> Depot<S> {
 fn missing_objects<S: Shelf>(alloc: Global, store: &Store<S>, kind: Kind, ids: &[ObjId]) -> Reply
     ensures value { (s : State) → objects_of S.contents store.now ≡ Some s.objects → SaysOr s.objects (Reply.Absent (absent s kind ids.now)) result }
     ensures cause { MayTell store.now.index kind ids.now result }
-    ensures damage { (objects : Objects) → IsToldDamage objects result }
+    ensures damaged { (objects : Objects) → IsToldDamage objects result }
     ensures faults { (count : ℕ) → Counts count count result }
 {
     match absent_ids(alloc, store, kind, ids) {

@@ -48,7 +48,7 @@ fn get_object<S: Shelf>(store: &mut Store<S>, key: &Key) -> Reply
     ensures value { (objects : Objects) → objects_of S.contents store.old ≡ Some objects → SaysOr objects (got key.now (map.get objects key.now)) result }
     ensures kept { Keeps S.contents store.old store.new }
     ensures cause { MayGet store.old.index (S.may_give store.new.shelf) key.now result }
-    ensures damage { (objects : Objects) → objects_of S.contents store.old ≡ Some objects → IsToldDamage objects result }
+    ensures damaged { (objects : Objects) → objects_of S.contents store.old ≡ Some objects → IsToldDamage objects result }
     ensures written { S.texts store.new.shelf ≡ S.texts store.old.shelf }
     ensures faults { Counts (S.faults store.old.shelf) (S.faults store.new.shelf) result }
 {
@@ -73,7 +73,7 @@ fn put_object<S: Shelf>(
     ensures stored { (objects_of S.contents store.new ≡ objects_of S.contents store.old)
         ⊎ (objects_of S.contents store.new ≡ with_stored (record { key = key.now; bytes = bytes.now }) (objects_of S.contents store.old)) }
     ensures cause { MayAnswer store.old.index (S.may_give store.new.shelf) (act.Put key.now bytes.now) (put_decided lib.now key.now bytes.now) result }
-    ensures damage { (objects : Objects) → objects_of S.contents store.old ≡ Some objects → IsToldDamage objects result }
+    ensures damaged { (objects : Objects) → objects_of S.contents store.old ≡ Some objects → IsToldDamage objects result }
     ensures lying { is_counted result ≡ false → AddsNoStray S.contents store.old store.new }
     ensures written { S.texts store.new.shelf ≡ S.texts store.old.shelf }
     ensures faults { Counts (S.faults store.old.shelf) (S.faults store.new.shelf) result }
@@ -93,7 +93,7 @@ fn store_object<S: Shelf>(store: &mut Store<S>, key: &Key, bytes: &[u8]) -> Repl
     ensures stored { (objects_of S.contents store.new ≡ objects_of S.contents store.old)
         ⊎ (objects_of S.contents store.new ≡ with_stored (record { key = key.now; bytes = bytes.now }) (objects_of S.contents store.old)) }
     ensures cause { MayAnswer store.old.index (S.may_give store.new.shelf) (act.Put key.now bytes.now) (store_decided key.now bytes.now) result }
-    ensures damage { (objects : Objects) → objects_of S.contents store.old ≡ Some objects → IsToldDamage objects result }
+    ensures damaged { (objects : Objects) → objects_of S.contents store.old ≡ Some objects → IsToldDamage objects result }
     ensures lying { is_counted result ≡ false → AddsNoStray S.contents store.old store.new }
     ensures written { S.texts store.new.shelf ≡ S.texts store.old.shelf }
     ensures faults { Counts (S.faults store.old.shelf) (S.faults store.new.shelf) result }
@@ -114,7 +114,7 @@ fn put_fs<S: Shelf>(alloc: Global, store: &mut Store<S>, key: &Key, bytes: &[u8]
     ensures stored { (objects_of S.contents store.new ≡ objects_of S.contents store.old)
         ⊎ (objects_of S.contents store.new ≡ with_stored (record { key = key.now; bytes = bytes.now }) (objects_of S.contents store.old)) }
     ensures cause { (lib : List ℕ) → MayAnswer store.old.index (S.may_give store.new.shelf) (act.Put key.now bytes.now) (put_decided lib key.now bytes.now) result }
-    ensures damage { (objects : Objects) → objects_of S.contents store.old ≡ Some objects → IsToldDamage objects result }
+    ensures damaged { (objects : Objects) → objects_of S.contents store.old ≡ Some objects → IsToldDamage objects result }
     ensures lying { is_counted result ≡ false → AddsNoStray S.contents store.old store.new }
     ensures written { S.texts store.new.shelf ≡ S.texts store.old.shelf }
     ensures faults { Counts (S.faults store.old.shelf) (S.faults store.new.shelf) result }
@@ -153,7 +153,7 @@ fn put_commit_text<S: Shelf>(
     ensures stored { (objects_of S.contents store.new ≡ objects_of S.contents store.old)
         ⊎ (objects_of S.contents store.new ≡ with_stored (record { key = key.now; bytes = bytes.now }) (objects_of S.contents store.old)) }
     ensures cause { MayAnswer store.old.index (S.may_give store.new.shelf) (act.Put key.now bytes.now) (put_decided lib.now key.now bytes.now) result }
-    ensures damage { (objects : Objects) → objects_of S.contents store.old ≡ Some objects → IsToldDamage objects result }
+    ensures damaged { (objects : Objects) → objects_of S.contents store.old ≡ Some objects → IsToldDamage objects result }
     ensures lying { is_counted result ≡ false → AddsNoStray S.contents store.old store.new }
     ensures written { S.texts store.new.shelf ≡ S.texts store.old.shelf }
     ensures faults { Counts (S.faults store.old.shelf) (S.faults store.new.shelf) result }

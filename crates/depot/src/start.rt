@@ -24,7 +24,7 @@ impl<S: Shelf> Depot<S> {
     /// failure of the shelf the text may be the one with the next opening number.
     pub fn start(alloc: Global, store: Store<S>) -> Result<Depot<S>, (Store<S>, StartFault)>
         ensures value { IfOk result (λ depot. IsOpened S.contents S.faults store depot.store depot.state) }
-        ensures told { (objects : Objects) → objects_of S.contents store ≡ Some objects → IfOk result (OpensTold S.contents S.faults store objects) }
+        ensures shown { (objects : Objects) → objects_of S.contents store ≡ Some objects → IfOk result (OpensTold S.contents S.faults store objects) }
         ensures stands { IfOk result (IsGood S.contents S.faults) }
         ensures lying { IfOk result (λ depot. AddsNoStray S.contents store depot.store) }
         ensures settled { IfOk result (λ depot. depot.unsettled ≡ false) }

@@ -30,7 +30,7 @@ impl<S: Shelf> Depot<S> {
         requires fits { (1 ≤ length user.now) × (length user.now ≤ MAX_STATE_NAME) }
         ensures ok { OnOk result (self.new.state ≡ with_new_token user.now secret right self.old.state) }
         ensures err { OnErr result (self.new.state ≡ self.old.state) }
-        ensures told { OnOk result ((s : State) → state_of S.contents S.faults self.old ≡ Some s
+        ensures shown { OnOk result ((s : State) → state_of S.contents S.faults self.old ≡ Some s
             → state_of S.contents S.faults self.new ≡ Some (with_token user.now secret right s)) }
         ensures kept { objects_of S.contents self.new.store ≡ objects_of S.contents self.old.store }
         ensures stands { IsGood S.contents S.faults self.new }

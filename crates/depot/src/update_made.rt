@@ -40,7 +40,7 @@ pub(crate) fn plan_merged<S: Shelf>(
         → PlansMade objects merged (commit_over (library state.now count objects) moment user.now pushed merged) result }
     ensures named { IfOk result HasNames }
     ensures cause { IfErr result (MayRefuseUpdate store.new.index (S.may_give store.new.shelf)) }
-    ensures damage { (objects : Objects) → objects_of S.contents store.old ≡ Some objects → IfErr result (IsToldDamageOf objects) }
+    ensures damaged { (objects : Objects) → objects_of S.contents store.old ≡ Some objects → IfErr result (IsToldDamageOf objects) }
     ensures kept { ReadsOnly S.contents S.texts S.faults store.old store.new result }
 {
     let Merged {
@@ -106,7 +106,7 @@ fn is_stored<S: Shelf>(store: &mut Store<S>, id: &ObjId, text: &[u8]) -> Result<
     ensures value { (objects : Objects) → objects_of S.contents store.old ≡ Some objects → StoredSo objects id.now text.now result }
     ensures not_zeros { OnOk result (is_nil id.now ≡ false) }
     ensures cause { IfErr result (MayRefuseUpdate store.new.index (S.may_give store.new.shelf)) }
-    ensures damage { (objects : Objects) → objects_of S.contents store.old ≡ Some objects → IfErr result (IsToldDamageOf objects) }
+    ensures damaged { (objects : Objects) → objects_of S.contents store.old ≡ Some objects → IfErr result (IsToldDamageOf objects) }
     ensures kept { ReadsOnly S.contents S.texts S.faults store.old store.new result }
 {
     if is_zeros(id) {

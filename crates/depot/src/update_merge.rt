@@ -48,7 +48,7 @@ pub(crate) fn plan_merge<S: Shelf>(
         → MergesSo (library state.now count objects) moment user.now base pushed result }
     ensures named { IfOk result HasNames }
     ensures cause { IfErr result (MayRefuseUpdate store.new.index (S.may_give store.new.shelf)) }
-    ensures damage { (objects : Objects) → objects_of S.contents store.old ≡ Some objects → IfErr result (IsToldDamageOf objects) }
+    ensures damaged { (objects : Objects) → objects_of S.contents store.old ≡ Some objects → IfErr result (IsToldDamageOf objects) }
     ensures kept { ReadsOnly S.contents S.texts S.faults store.old store.new result }
 {
     let head = head_of(state.kept.slice());

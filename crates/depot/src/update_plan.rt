@@ -52,7 +52,7 @@ pub(crate) fn plan_of<S: Shelf>(
         → PlansSo (library state.now count objects) moment pushed (due (library state.now count objects) call) result }
     ensures any { (call : Call) → MayAsk state.now.tokens call.secret call.act place → call.act ≡ act.Update pushed
         → DecidesCall state.now call pushed store.new.index (S.may_give store.new.shelf) result }
-    ensures damage { (objects : Objects) → objects_of S.contents store.old ≡ Some objects → IfErr result (IsToldDamageOf objects) }
+    ensures damaged { (objects : Objects) → objects_of S.contents store.old ≡ Some objects → IfErr result (IsToldDamageOf objects) }
     ensures kept { ReadsOnly S.contents S.texts S.faults store.old store.new result }
 {
     let token = &state.tokens.slice()[place];
@@ -76,7 +76,7 @@ fn plan_update<S: Shelf>(
     ensures value { (objects : Objects) (count : ℕ) → objects_of S.contents store.old ≡ Some objects
         → PlansSo (library state.now count objects) moment pushed (update_due (library state.now count objects) token.now pushed) result }
     ensures any { DecidesSo state.now token.now pushed store.new.index (S.may_give store.new.shelf) result }
-    ensures damage { (objects : Objects) → objects_of S.contents store.old ≡ Some objects → IfErr result (IsToldDamageOf objects) }
+    ensures damaged { (objects : Objects) → objects_of S.contents store.old ≡ Some objects → IfErr result (IsToldDamageOf objects) }
     ensures kept { ReadsOnly S.contents S.texts S.faults store.old store.new result }
 {
     if is_kept(state.kept.slice(), &pushed) {
@@ -110,7 +110,7 @@ fn plan_unknown<S: Shelf>(
         (base_due (library state.now count objects) user.now pushed (base_of (library state.now count objects) pushed)) result }
     ensures named { IfOk result HasNames }
     ensures cause { IfErr result (MayRefuseUpdate store.new.index (S.may_give store.new.shelf)) }
-    ensures damage { (objects : Objects) → objects_of S.contents store.old ≡ Some objects → IfErr result (IsToldDamageOf objects) }
+    ensures damaged { (objects : Objects) → objects_of S.contents store.old ≡ Some objects → IfErr result (IsToldDamageOf objects) }
     ensures kept { ReadsOnly S.contents S.texts S.faults store.old store.new result }
 {
     let found = match find_base(alloc, store, state.kept.slice(), pushed) {
@@ -141,7 +141,7 @@ fn plan_based<S: Shelf>(
         → PlansDue (library state.now count objects) moment (complete_due (library state.now count objects) user.now base pushed (walk_commit objects pushed).fault) result }
     ensures named { IfOk result HasNames }
     ensures cause { IfErr result (MayRefuseUpdate store.new.index (S.may_give store.new.shelf)) }
-    ensures damage { (objects : Objects) → objects_of S.contents store.old ≡ Some objects → IfErr result (IsToldDamageOf objects) }
+    ensures damaged { (objects : Objects) → objects_of S.contents store.old ≡ Some objects → IfErr result (IsToldDamageOf objects) }
     ensures kept { ReadsOnly S.contents S.texts S.faults store.old store.new result }
 {
     match needs(alloc, store, pushed) {

@@ -36,7 +36,7 @@ pub(crate) fn add_token<G: Ground, C: Clock>(
     clock: &C,
 ) -> Result<(), NotAdded>
     requires ready { (1 ≤ length token.now.user) × (length token.now.user ≤ MAX_STATE_NAME) }
-    ensures told { (standing : Standing) → G.stands libraries.old (place_text place.now) lib ≡ Some standing
+    ensures shown { (standing : Standing) → G.stands libraries.old (place_text place.now) lib ≡ Some standing
         → AddsSo place.now lib (C.shows clock.now) token.now standing result (G.stands libraries.new (place_text place.now) lib) }
     ensures back { Returned G.S.contents (G.stands libraries.old) (G.stands libraries.new) (place_text place.now) lib }
     ensures given { IfOk result (λ done. IsAddedTo G.S.may_give place.now lib (C.shows clock.now) token.now) }

@@ -27,7 +27,7 @@ pub(crate) fn create<G: Ground>(
 ) -> Result<ObjId, NotMade>
     requires fits { length new.now.name ≤ MAX_STATE_NAME }
     requires ready { (1 ≤ length new.now.user) × (length new.now.user ≤ MAX_STATE_NAME) }
-    ensures told { (standing : Standing) → G.stands libraries.old folder.now new.now.lib ≡ Some standing
+    ensures shown { (standing : Standing) → G.stands libraries.old folder.now new.now.lib ≡ Some standing
         → CreatesSo new.now moment standing result (G.stands libraries.new folder.now new.now.lib) }
     ensures value { IfOk result (λ head. head ≡ (opening_commit new.now.lib new.now.user moment).id) }
     ensures back { Returned G.S.contents (G.stands libraries.old) (G.stands libraries.new) folder.now new.now.lib }

@@ -45,7 +45,7 @@ pub(crate) fn make_library<G: Ground>(
     requires fits { length new.now.name ≤ MAX_STATE_NAME }
     requires ready { (1 ≤ length new.now.user) × (length new.now.user ≤ MAX_STATE_NAME) }
     ensures value { IfOk result (IsNew new.now moment) }
-    ensures told { (standing : Standing) → G.stands libraries.old folder.now new.now.lib ≡ Some standing
+    ensures shown { (standing : Standing) → G.stands libraries.old folder.now new.now.lib ≡ Some standing
         → MakesSo G.S.contents G.S.faults new.now moment standing result (G.stands libraries.new folder.now new.now.lib) }
     ensures back { HandsOutOr G.S.contents (G.stands libraries.old) (G.stands libraries.new) folder.now new.now.lib result }
     ensures cause { IfErr result (IsNotMade G.S.may_give new.now moment) }
@@ -79,7 +79,7 @@ fn make_on<S: Shelf>(
     requires fits { length new.now.name ≤ MAX_STATE_NAME }
     requires ready { (1 ≤ length new.now.user) × (length new.now.user ≤ MAX_STATE_NAME) }
     ensures value { IfOk result (IsNew new.now moment) }
-    ensures told { (held : Contents) → S.contents shelf ≡ Some held → IfOk result (λ depot. state_of S.contents S.faults depot
+    ensures shown { (held : Contents) → S.contents shelf ≡ Some held → IfOk result (λ depot. state_of S.contents S.faults depot
         ≡ Some (created new.now.lib new.now.name new.now.user new.now.secret moment held.objects (S.faults shelf))) }
     ensures good { IfOk result (IsGood S.contents S.faults) }
     ensures refused { (held : Contents) → S.contents shelf ≡ Some held → RefusesWith is_make_free result (make_refusal held.status

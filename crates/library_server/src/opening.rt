@@ -48,7 +48,7 @@ pub(crate) fn open_library<G: Ground, C: Clock>(
 ) -> Result<Depot<G::S>, NotOpened>
     ensures given { IfOk result (λ depot. IsOpenedState G.S.may_give place.now lib (C.shows clock.now) depot.state) }
     ensures settled { IfOk result (λ depot. depot.unsettled ≡ false) }
-    ensures told { (standing : Standing) → G.stands libraries.old (place_text place.now) lib ≡ Some standing
+    ensures shown { (standing : Standing) → G.stands libraries.old (place_text place.now) lib ≡ Some standing
         → OpensSo G.S.contents G.S.faults place.now lib (C.shows clock.now) standing result (G.stands libraries.new (place_text place.now) lib) }
     ensures back { HandsOutOr G.S.contents (G.stands libraries.old) (G.stands libraries.new) (place_text place.now) lib result }
     ensures cause { IfErr result (IsNotOpened G.S.may_give place.now lib (C.shows clock.now)) }
@@ -92,7 +92,7 @@ fn open_absent<G: Ground, C: Clock>(
 ) -> Result<Depot<G::S>, NotOpened>
     ensures given { IfOk result (λ depot. IsOpenedState G.S.may_give place.now lib (C.shows clock.now) depot.state) }
     ensures settled { IfOk result (λ depot. depot.unsettled ≡ false) }
-    ensures told { G.stands libraries.old (place_text place.now) lib ≡ Some Absent
+    ensures shown { G.stands libraries.old (place_text place.now) lib ≡ Some Absent
         → OpensSo G.S.contents G.S.faults place.now lib (C.shows clock.now) Absent result (G.stands libraries.new (place_text place.now) lib) }
     ensures back { HandsOutOr G.S.contents (G.stands libraries.old) (G.stands libraries.new) (place_text place.now) lib result }
     ensures cause { IfErr result (IsNotOpened G.S.may_give place.now lib (C.shows clock.now)) }
@@ -116,7 +116,7 @@ fn make_in_memory<G: Ground, C: Clock>(
 ) -> Result<Depot<G::S>, NotOpened>
     ensures given { IfOk result (λ depot. IsOpenedState G.S.may_give Place.Memory lib (C.shows clock.now) depot.state) }
     ensures settled { IfOk result (λ depot. depot.unsettled ≡ false) }
-    ensures told { G.stands libraries.old (codes ":memory:") lib ≡ Some Absent
+    ensures shown { G.stands libraries.old (codes ":memory:") lib ≡ Some Absent
         → OpensSo G.S.contents G.S.faults Place.Memory lib (C.shows clock.now) Absent result (G.stands libraries.new (codes ":memory:") lib) }
     ensures back { HandsOutOr G.S.contents (G.stands libraries.old) (G.stands libraries.new) (codes ":memory:") lib result }
     ensures cause { IfErr result (IsNotOpened G.S.may_give Place.Memory lib (C.shows clock.now)) }
@@ -156,7 +156,7 @@ fn open_on<S: Shelf>(alloc: Global, shelf: S, lib: &LibId) -> Result<Depot<S>, (
     ensures named { IfOk result (λ depot. depot.state.lib ≡ lib.now) }
     ensures given { IfOk result (λ depot. IsNextOf (S.may_give shelf) depot.state) }
     ensures good { IfOk result (IsGood S.contents S.faults) }
-    ensures told { (held : Contents) → S.contents shelf ≡ Some held → IfOk result (OpensFrom S.contents S.faults lib.now held) }
+    ensures shown { (held : Contents) → S.contents shelf ≡ Some held → IfOk result (OpensFrom S.contents S.faults lib.now held) }
     ensures refused { (held : Contents) → S.contents shelf ≡ Some held → OpensAs lib.now held.objects held.status (without_store result) }
     ensures left { (held : Contents) → S.contents shelf ≡ Some held → IfErr result (λ refused. LeavesShelf refused.1 held (S.contents refused.0)) }
     ensures cause { IfErr result (λ refused. IsNotStarted (S.may_give shelf) lib.now refused.1) }
@@ -207,7 +207,7 @@ fn start_named<S: Shelf>(
     ensures named { IfOk result (λ depot. depot.state.lib ≡ lib.now) }
     ensures given { IfOk result (λ depot. IsNextOf (S.may_give store.shelf) depot.state) }
     ensures good { IfOk result (IsGood S.contents S.faults) }
-    ensures told { (objects : Objects) → objects_of S.contents store ≡ Some objects → IfOk result (OpensTold S.contents S.faults store objects) }
+    ensures shown { (objects : Objects) → objects_of S.contents store ≡ Some objects → IfOk result (OpensTold S.contents S.faults store objects) }
     ensures refused { (objects : Objects) → (status : Option (List ℕ)) → objects_of S.contents store ≡ Some objects → status_of S.contents store ≡ Some status
         → IsTextOf lib.now status → OpensAs lib.now objects status (without_store result) }
     ensures left { (status : Option (List ℕ)) → status_of S.contents store ≡ Some status → IsTextOf lib.now status

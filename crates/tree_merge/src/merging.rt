@@ -69,7 +69,7 @@ pub fn merge<S: Shelf>(
     ensures value { (objects : Objects) → objects_of S.contents store.old ≡ Some objects → (s : Sides)
         → IsTreeOf objects base s.base → IsTreeOf objects head s.head → IsTreeOf objects pushed s.pushed → MergesTo objects s result }
     ensures made { IfOk result (λ merged. AreNamed merged.made) }
-    ensures caused { IfErr result IsCaused }
+    ensures cause { IfErr result IsCaused }
     ensures kept { Reads S.contents S.may_give S.texts S.faults store.old store.new (as_read result) }
 {
     let joined = match read_sides(alloc, store, base, head, pushed) {
@@ -153,7 +153,7 @@ fn merge_sides<S: Shelf>(
         → ((path : PathV) → IsWholeAt objects (map.get joined path))
         → (s : Sides) → AreTrees s → AreSeen more joined s → NamesSo objects more s result }
     ensures whole { IfOk result (λ named. (objects : Objects) → ((path : PathV) → IsWholeAt objects (map.get joined path)) → AreWholeIn objects named.nodes) }
-    ensures caused { IfErr result IsCaused }
+    ensures cause { IfErr result IsCaused }
     ensures kept { Reads S.contents S.may_give S.texts S.faults store.old store.new (as_read result) }
 {
     let decided = match decide(alloc, store, joined) {
@@ -170,7 +170,7 @@ fn merge_sides<S: Shelf>(
 /// The objects of the merged tree, those that are stored already among them.
 fn build_named(alloc: Global, named: Named) -> Result<Merged, MergeFault>
     ensures value { BuildsSo named result }
-    ensures caused { IfErr result IsCaused }
+    ensures cause { IfErr result IsCaused }
 {
     let Named { nodes, conflicts } = named;
     if nodes.len() > MAX_PATHS {

@@ -65,7 +65,7 @@ pub fn build(alloc: Global, mut entries: PathTable<Entry>) -> Result<BuiltTree, 
 
     // The refusal. Want of memory may come in its place.
     ensures taken { (id : List ℕ) → result ≡ Err (BuildFault.Taken id) → IsSound entries → IsClash entries id }
-    ensures caused { IfErr result IsCausedInBuild }
+    ensures cause { IfErr result IsCausedInBuild }
 {
     drop_root(alloc, &mut entries);
     let mut held = PathTable::new(alloc);

@@ -22,7 +22,7 @@ pub(crate) fn drop_stored<S: Shelf>(
     requires names { AreNamed made }
     ensures value { (objects : Objects) → objects_of S.contents store.old ≡ Some objects → LeavesSo objects made result }
     ensures names { IfOk result AreNamed }
-    ensures caused { IfErr result IsCaused }
+    ensures cause { IfErr result IsCaused }
     ensures kept { Reads S.contents S.may_give S.texts S.faults store.old store.new (as_read result) }
 {
     let mut left = KeyTable::new(alloc);
@@ -46,7 +46,7 @@ pub(crate) fn drop_stored<S: Shelf>(
 fn is_stored<S: Shelf>(store: &mut Store<S>, key: &Key, bytes: &Bytes) -> Result<bool, MergeFault>
     requires own { IsOwnName key.now bytes.now }
     ensures value { (objects : Objects) → objects_of S.contents store.old ≡ Some objects → FindsSo objects key.now bytes.now result }
-    ensures caused { IfErr result IsCaused }
+    ensures cause { IfErr result IsCaused }
     ensures kept { Reads S.contents S.may_give S.texts S.faults store.old store.new (as_read result) }
 {
     match store.get(*key) {

@@ -5,7 +5,7 @@ use Rattle.depot.specs.ObjectCalls.{IsToldDamageOf}
 use Rattle.depot.proofs.ObjectCallLemmas.{get_damage}
 use Rattle.depot.proofs.object_calls.get_object.Goals as goal
 
-pub returns-in-Err-clause-damage : goal.returns-in-Err-clause-damage
-returns-in-Err-clause-damage g c = λ objects told.
+pub returns-in-Err-clause-damaged : goal.returns-in-Err-clause-damaged
+returns-in-Err-clause-damaged g c = λ objects told.
     subst (λ (why : Refusal). IsToldDamageOf objects why) (sym c.store_refusal.ensures.value)
     (get_damage objects c.args.key.now c.in-Err.fault (c.in-Err.ensures.refused objects told))

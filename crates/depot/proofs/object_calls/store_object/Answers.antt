@@ -15,8 +15,8 @@ returns-in-Err-clause-value g c = λ s told.
     subst (λ (why : Refusal). DoneSo s.objects (store_due s c.args.key.now c.args.bytes.now) (reply.Refused why) (objects_of g.S.Shelf.contents c.put.new.self)) (sym c.store_refusal.ensures.value)
     (put_refused s c.args.key.now c.args.bytes.now c.in-Err.fault (objects_of g.S.Shelf.contents c.put.new.self) (c.in-Err.ensures.refused s.objects told) (c.in-Err.ensures.err ∙ told))
 
-pub returns-in-Err-clause-damage : goal.returns-in-Err-clause-damage
-returns-in-Err-clause-damage g c = λ objects told.
+pub returns-in-Err-clause-damaged : goal.returns-in-Err-clause-damaged
+returns-in-Err-clause-damaged g c = λ objects told.
     subst (λ (why : Refusal). IsToldDamage objects (reply.Refused why)) (sym c.store_refusal.ensures.value)
     (put_damage objects c.args.key.now c.args.bytes.now c.in-Err.fault (c.in-Err.ensures.refused objects told))
 

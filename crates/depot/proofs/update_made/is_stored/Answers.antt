@@ -10,7 +10,7 @@ returns-clause-value g c = λ objects told.
     subst (λ why. StoredSo objects c.args.id.now c.args.text.now (Err why)) (sym c.store_refusal.ensures.value)
     (get_refused objects c.args.id.now c.args.text.now (g.S.Shelf.may_give c.get.new.self.shelf) c.in-Err.fault c.in-Err.ensures.damaged (c.in-Err.ensures.refused objects told))
 
-pub returns-clause-damage : goal.returns-clause-damage
-returns-clause-damage g c = λ objects told.
+pub returns-clause-damaged : goal.returns-clause-damaged
+returns-clause-damaged g c = λ objects told.
     subst (IsToldDamageOf objects) (sym c.store_refusal.ensures.value)
     (get_damage objects c.args.id.now (g.S.Shelf.may_give c.get.new.self.shelf) c.in-Err.fault c.in-Err.ensures.damaged (c.in-Err.ensures.refused objects told))

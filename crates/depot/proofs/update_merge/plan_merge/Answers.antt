@@ -18,8 +18,8 @@ returns-in-Err-clause-value g c = λ objects count told.
     (none_due objects c.in-Err.fault (c.in-Err.ensures.value objects told
     (at_head objects c.args.base c.head_of-head.result (head_of c.args.state.now.kept) c.args.pushed head (c.requires.complete objects told)))))
 
-pub returns-in-Err-clause-damage : goal.returns-in-Err-clause-damage
-returns-in-Err-clause-damage g c = λ objects told.
+pub returns-in-Err-clause-damaged : goal.returns-in-Err-clause-damaged
+returns-in-Err-clause-damaged g c = λ objects told.
     let head : c.head_of-head.result ≡ head_of c.args.state.now.kept = c.head_of-head.ensures.value ∙ ap head_of c.slice.ensures.value in
     subst (IsToldDamageOf objects) (sym c.walk_refusal.ensures.value)
     (told_damage objects (walk_refusal c.in-Err.fault)
@@ -45,8 +45,8 @@ returns-in-Err-merge-clause-value g c = λ objects count told.
     (roots_at objects c.args.base c.head_of-head.result (head_of c.args.state.now.kept) c.args.pushed c.in-Ok.roots head complete (c.in-Ok.ensures.value objects told))
     c.in-Err-merge.fault (c.in-Err-merge.ensures.value objects (c.in-Ok.ensures.kept.kept.objects ∙ told)))
 
-pub returns-in-Err-merge-clause-damage : goal.returns-in-Err-merge-clause-damage
-returns-in-Err-merge-clause-damage g c = λ objects told.
+pub returns-in-Err-merge-clause-damaged : goal.returns-in-Err-merge-clause-damaged
+returns-in-Err-merge-clause-damaged g c = λ objects told.
     let head : c.head_of-head.result ≡ head_of c.args.state.now.kept = c.head_of-head.ensures.value ∙ ap head_of c.slice.ensures.value in
     let complete = c.requires.complete objects told in
     subst (IsToldDamageOf objects) (sym c.merge_refusal.ensures.value)
@@ -57,7 +57,7 @@ returns-in-Err-merge-clause-damage g c = λ objects told.
 pub returns-in-Err-merge-clause-cause : goal.returns-in-Err-merge-clause-cause
 returns-in-Err-merge-clause-cause g c =
     subst (MayRefuseUpdate c.merge.new.store.index (g.S.Shelf.may_give c.merge.new.store.shelf)) (sym c.merge_refusal.ensures.value)
-    (merge_may c.merge.new.store.index (g.S.Shelf.may_give c.merge.new.store.shelf) c.in-Err-merge.fault c.in-Err-merge.ensures.caused c.in-Err-merge.ensures.kept.cause)
+    (merge_may c.merge.new.store.index (g.S.Shelf.may_give c.merge.new.store.shelf) c.in-Err-merge.fault c.in-Err-merge.ensures.cause c.in-Err-merge.ensures.kept.cause)
 
 pub returns-clause-value : goal.returns-clause-value
 returns-clause-value g c = λ objects count told.

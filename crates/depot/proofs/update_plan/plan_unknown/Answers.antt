@@ -10,8 +10,8 @@ use Rattle.depot.proofs.UpdatePlanLemmas.{base_is_kept, found_at, known_base, un
 use Rattle.depot.specs.Refusals.{walk_refusal}
 use Rattle.depot.proofs.update_plan.plan_unknown.Goals as goal
 
-pub returns-in-Err-clause-damage : goal.returns-in-Err-clause-damage
-returns-in-Err-clause-damage g c = λ objects told.
+pub returns-in-Err-clause-damaged : goal.returns-in-Err-clause-damaged
+returns-in-Err-clause-damaged g c = λ objects told.
     subst (IsToldDamageOf objects) (sym c.walk_refusal.ensures.value)
     (fault_not_damaged (library c.args.state.now 0 objects) c.args.pushed (walk_refusal c.in-Err.fault)
     (c.in-Err.ensures.value (library c.args.state.now 0 objects) told (sym c.slice.ensures.value)))

@@ -9,13 +9,13 @@ use Rattle.depot.specs.Tokens.{is_token_counted}
 use Rattle.library_server.proofs.WholeLemmas.{steady_count, token_whole}
 use Rattle.library_server.proofs.adding.add_token.Goals as goal
 
-pub returns-in-Ok-add_token-clause-told : goal.returns-in-Ok-add_token-clause-told
-returns-in-Ok-add_token-clause-told g c = λ standing there.
-    let opens = c.in-Ok.ensures.told standing there in (
+pub returns-in-Ok-add_token-clause-shown : goal.returns-in-Ok-add_token-clause-shown
+returns-in-Ok-add_token-clause-shown g c = λ standing there.
+    let opens = c.in-Ok.ensures.shown standing there in (
       opens.0,
       opens.2,
       stands_back g.G.S.Shelf.contents g.G.S.Shelf.faults c.add_token.new.self _ _ _ _ _ standing
-          c.add_token.ensures.stands c.in-Ok-add_token.ensures.text.0 (c.in-Ok-add_token.ensures.told opens.0 opens.1)
+          c.add_token.ensures.stands c.in-Ok-add_token.ensures.text.0 (c.in-Ok-add_token.ensures.shown opens.0 opens.1)
           (comes_back _ _ _ _ _ _ c.in-Ok.ensures.back (rw c.folder_word.ensures.value at c.bring_back.ensures.ok)) there,
     )
 
@@ -23,9 +23,9 @@ pub returns-in-Ok-add_token-clause-back : goal.returns-in-Ok-add_token-clause-ba
 returns-in-Ok-add_token-clause-back g c =
     came_back c.add_token.new.self.store.shelf (comes_back _ _ _ _ _ _ c.in-Ok.ensures.back (rw c.folder_word.ensures.value at c.bring_back.ensures.ok))
 
-pub returns-in-Err-add_token-clause-told : goal.returns-in-Err-add_token-clause-told
-returns-in-Err-add_token-clause-told g c = λ standing there.
-    let opens = c.in-Ok.ensures.told standing there in
+pub returns-in-Err-add_token-clause-shown : goal.returns-in-Err-add_token-clause-shown
+returns-in-Err-add_token-clause-shown g c = λ standing there.
+    let opens = c.in-Ok.ensures.shown standing there in
     let back = comes_back _ _ _ _ _ _ c.in-Ok.ensures.back (rw c.folder_word-in-Err-add_token.ensures.value at c.bring_back-in-Err-add_token.ensures.ok) in (
       opens.0,
       opens.2,

@@ -4,9 +4,9 @@ use Rattle.library_server.proofs.DepotLemmas.{stands_back}
 use Rattle.library_server.proofs.StandingLemmas.{comes_back}
 use Rattle.library_server.proofs.creating.create.Goals as goal
 
-pub returns-in-Ok-clause-told : goal.returns-in-Ok-clause-told
-returns-in-Ok-clause-told g c = λ standing there.
-    let made = c.in-Ok.ensures.told standing there in (
+pub returns-in-Ok-clause-shown : goal.returns-in-Ok-clause-shown
+returns-in-Ok-clause-shown g c = λ standing there.
+    let made = c.in-Ok.ensures.shown standing there in (
       made.0,
       made.1,
       stands_back g.G.S.Shelf.contents g.G.S.Shelf.faults c.in-Ok.depot _ _ _ _ _ standing

@@ -10,7 +10,7 @@ pub returns-in-Err : goal.returns-in-Err
 returns-in-Err g c = record {
   serves = (
     unopened c.in-Err.fault (record {
-      told = c.in-Err.ensures.told;
+      told = c.in-Err.ensures.shown;
       cause = c.in-Err.ensures.cause;
       count = c.in-Err.ensures.faults;
       back = c.in-Err.ensures.back;
@@ -22,7 +22,7 @@ returns-in-Err g c = record {
 pub returns : goal.returns
 returns g c = record {
   serves = (
-    opened c.in-Ok.depot c.serve_opened-status.new.depot c.in-Ok.ensures.given c.in-Ok.ensures.told c.serve_opened-status.ensures.serves c.bring_back.ensures.good
+    opened c.in-Ok.depot c.serve_opened-status.new.depot c.in-Ok.ensures.given c.in-Ok.ensures.shown c.serve_opened-status.ensures.serves c.bring_back.ensures.good
         (comes_back _ _ _ _ _ _ c.in-Ok.ensures.back (rw c.folder_word.ensures.value at c.bring_back.ensures.ok)),
     λ steady standing there whole.
         let ran = c.serve_opened-status.ensures.serves.ran in

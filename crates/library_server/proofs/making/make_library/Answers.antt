@@ -10,20 +10,20 @@ use Rattle.library_rules.specs.Creation.{opening_commit}
 use Rattle.library_server.proofs.WholeLemmas.{made_whole, names_of, new_names, steady_count, want_whole}
 use Rattle.library_server.proofs.making.make_library.Goals as goal
 
-pub returns-in-Ok-None-clause-told : goal.returns-in-Ok-None-clause-told
-returns-in-Ok-None-clause-told g c = λ standing there.
+pub returns-in-Ok-None-clause-shown : goal.returns-in-Ok-None-clause-shown
+returns-in-Ok-None-clause-shown g c = λ standing there.
     ((rw c.in-Ok-None.field-0-is at c.in-Ok-None.ensures.found) standing there, (rw c.in-Ok-None.field-0-is at c.in-Ok-None.ensures.ok) _ _ ∙ there)
 
-pub returns-in-Err-clause-told : goal.returns-in-Err-clause-told
-returns-in-Err-clause-told g c = λ standing there. c.in-Err.ensures.err _ _ ∙ there
+pub returns-in-Err-clause-shown : goal.returns-in-Err-clause-shown
+returns-in-Err-clause-shown g c = λ standing there. c.in-Err.ensures.err _ _ ∙ there
 
-pub returns-in-Ok-clause-told : goal.returns-in-Ok-clause-told
-returns-in-Ok-clause-told g c = λ standing there.
+pub returns-in-Ok-clause-shown : goal.returns-in-Ok-clause-shown
+returns-in-Ok-clause-shown g c = λ standing there.
     let made = (rw c.in-Ok-Some.field-0-is at c.in-Ok-Some.ensures.found) standing there in
-    (made.0, g.G.S.Shelf.faults c.in-Ok-Some.shelf, c.in-Ok.ensures.told no_contents made.1)
+    (made.0, g.G.S.Shelf.faults c.in-Ok-Some.shelf, c.in-Ok.ensures.shown no_contents made.1)
 
-pub returns-in-Err-make_on-clause-told : goal.returns-in-Err-make_on-clause-told
-returns-in-Err-make_on-clause-told g c = λ standing there.
+pub returns-in-Err-make_on-clause-shown : goal.returns-in-Err-make_on-clause-shown
+returns-in-Err-make_on-clause-shown g c = λ standing there.
     let made = (rw c.in-Ok-Some.field-0-is at c.in-Ok-Some.ensures.found) standing there in
     let back = comes_back _ _ _ _ _ _ (rw c.in-Ok-Some.field-0-is at c.in-Ok-Some.ensures.ok) c.give_back.ensures.ok in
     let left = c.in-Err-make_on.ensures.left no_contents made.1 in
@@ -42,7 +42,7 @@ returns-in-Err-clause-whole g c = λ steady standing there whole. want_whole c.i
 pub returns-in-Ok-clause-whole : goal.returns-in-Ok-clause-whole
 returns-in-Ok-clause-whole g c = λ steady standing there whole.
     let made = (rw c.in-Ok-Some.field-0-is at c.in-Ok-Some.ensures.found) standing there in
-    names_of g.G.S.Shelf.contents g.G.S.Shelf.faults c.in-Ok.depot _ (c.in-Ok.ensures.told no_contents made.1)
+    names_of g.G.S.Shelf.contents g.G.S.Shelf.faults c.in-Ok.depot _ (c.in-Ok.ensures.shown no_contents made.1)
     (new_names (opening_commit c.args.new.now.lib c.args.new.now.user c.args.moment).id _)
 
 pub returns-in-Err-make_on-clause-whole : goal.returns-in-Err-make_on-clause-whole

@@ -16,14 +16,14 @@ pub returns-in-Ok-None-clause-back : goal.returns-in-Ok-None-clause-back
 returns-in-Ok-None-clause-back g c =
     hands_after g.G.S.Shelf.contents _ _ _ _ _ c.open_absent.result (rw c.in-Ok-None.field-0-is at c.in-Ok-None.ensures.ok) c.open_absent.ensures.back
 
-pub returns-in-Ok-clause-told : goal.returns-in-Ok-clause-told
-returns-in-Ok-clause-told g c = λ standing there.
+pub returns-in-Ok-clause-shown : goal.returns-in-Ok-clause-shown
+returns-in-Ok-clause-shown g c = λ standing there.
     let found = (rw c.in-Ok-Some.field-0-is at (rw c.folder_word-folder.ensures.value at c.in-Ok-Some.ensures.found)) standing there in
-    let opens = c.in-Ok.ensures.told found.0 found.2 in
+    let opens = c.in-Ok.ensures.shown found.0 found.2 in
     (opens.0, opens.1, reopened found.0 found.1 opens.2)
 
-pub returns-in-Err-open_on-clause-told : goal.returns-in-Err-open_on-clause-told
-returns-in-Err-open_on-clause-told g c = λ standing there.
+pub returns-in-Err-open_on-clause-shown : goal.returns-in-Err-open_on-clause-shown
+returns-in-Err-open_on-clause-shown g c = λ standing there.
     let found = (rw c.in-Ok-Some.field-0-is at (rw c.folder_word-folder.ensures.value at c.in-Ok-Some.ensures.found)) standing there in
     let back = comes_back _ _ _ _ _ _
     (rw c.in-Ok-Some.field-0-is at (rw c.folder_word-folder.ensures.value at c.in-Ok-Some.ensures.ok))
@@ -38,8 +38,8 @@ returns-in-Err-open_on-clause-back g c =
     (rw c.in-Ok-Some.field-0-is at (rw c.folder_word-folder.ensures.value at c.in-Ok-Some.ensures.ok))
     (rw c.folder_word-folder.ensures.value at c.give_back.ensures.ok))
 
-pub returns-in-Err-clause-told : goal.returns-in-Err-clause-told
-returns-in-Err-clause-told g c = λ standing there. c.in-Err.ensures.err _ _ ∙ there
+pub returns-in-Err-clause-shown : goal.returns-in-Err-clause-shown
+returns-in-Err-clause-shown g c = λ standing there. c.in-Err.ensures.err _ _ ∙ there
 
 pub returns-in-Ok-clause-given : goal.returns-in-Ok-clause-given
 returns-in-Ok-clause-given g c = opened_state g.G.S.Shelf.may_give _ _ _ _ _ c.in-Ok.ensures.given c.in-Ok.ensures.named
@@ -56,7 +56,7 @@ returns-in-Err-clause-whole g c = λ steady standing there whole.
 pub returns-in-Ok-clause-whole : goal.returns-in-Ok-clause-whole
 returns-in-Ok-clause-whole g c = λ steady standing there whole.
     let found = (rw c.in-Ok-Some.field-0-is at (rw c.folder_word-folder.ensures.value at c.in-Ok-Some.ensures.found)) standing there in
-    let opens = c.in-Ok.ensures.told found.0 found.2 in
+    let opens = c.in-Ok.ensures.shown found.0 found.2 in
     names_of g.G.S.Shelf.contents g.G.S.Shelf.faults c.in-Ok.depot opens.0 opens.1 (opened_names c.args.lib found.0 opens.0 opens.2 (subst IsWhole found.1 whole))
 
 pub returns-in-Err-open_on-clause-whole : goal.returns-in-Err-open_on-clause-whole

@@ -8,11 +8,11 @@ use Rattle.library_server.proofs.LeftLemmas.{keeps_all, left_checked, left_unsta
 use Rattle.library_server.proofs.OpeningLemmas.{found_named, next_before, unstarted_before}
 use Rattle.library_server.proofs.opening.open_on.Goals as goal
 
-pub returns-in-Ok-start_named-clause-told : goal.returns-in-Ok-start_named-clause-told
-returns-in-Ok-start_named-clause-told g c = λ held there.
+pub returns-in-Ok-start_named-clause-shown : goal.returns-in-Ok-start_named-clause-shown
+returns-in-Ok-start_named-clause-shown g c = λ held there.
     let objects = c.in-Ok-check_named.ensures.kept.objects ∙ (c.in-Ok.ensures.ok.objects ∙ ap (option_map (λ (h : Contents). h.objects)) there) in
     let status = ap (option_map (λ (h : Contents). h.status)) (c.in-Ok-check_named.ensures.kept.shelf ∙ (c.in-Ok.ensures.ok.shelf ∙ there)) in
-    let opens = c.in-Ok-start_named.ensures.told held.objects objects in
+    let opens = c.in-Ok-start_named.ensures.shown held.objects objects in
     let count = g.S.Shelf.faults c.check_named.new.store.shelf in (
       opened held.objects count (library opens.found count held.objects),
       opens.state,

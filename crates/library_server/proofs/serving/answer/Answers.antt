@@ -3,4 +3,4 @@ use Rattle.library_server.proofs.WholeLemmas.{answers_whole}
 use Rattle.library_server.proofs.serving.answer.Goals as goal
 
 pub returns-clause-whole : goal.returns-clause-whole
-returns-clause-whole g c = answers_whole g.S.Shelf.contents g.S.Shelf.faults c.args.depot.now c.answer.new.self c.args.call.now c.args.moment c.answer.result c.answer.ensures.told c.answer.ensures.damaged c.answer.ensures.faults
+returns-clause-whole g c = answers_whole g.S.Shelf.contents g.S.Shelf.faults c.args.depot.now c.answer.new.self c.args.call.now c.args.moment c.answer.result c.answer.ensures.shown c.answer.ensures.damaged c.answer.ensures.faults

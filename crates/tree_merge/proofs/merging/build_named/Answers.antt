@@ -18,5 +18,5 @@ returns-in-Ok-clause-value c =
       conflicts = refl;
     })
 
-pub returns-in-Err-clause-caused : goal.returns-in-Err-clause-caused
-returns-in-Err-clause-caused c = subst IsCaused (sym c.merge_fault.ensures.value) (caused_as c.in-Err.fault c.in-Err.ensures.caused)
+pub returns-in-Err-clause-cause : goal.returns-in-Err-clause-cause
+returns-in-Err-clause-cause c = subst IsCaused (sym c.merge_fault.ensures.value) (caused_as c.in-Err.fault c.in-Err.ensures.cause)

@@ -142,8 +142,8 @@ returns-in-Err-clause-taken c id e sound =
     (λ name. above_popped c.loop-path.entries c.pop_last.new.self (c.in-Some.path, c.in-Some.entry) c.in-Some.ensures.found (c.in-Some.path ++ name ∷ []) (before_child c.in-Some.path name))
     refused.1)
 
-pub returns-in-Err-clause-caused : goal.returns-in-Err-clause-caused
-returns-in-Err-clause-caused c =
+pub returns-in-Err-clause-cause : goal.returns-in-Err-clause-cause
+returns-in-Err-clause-cause c =
     build_caused c.loop-path.made (held_at (map.get c.loop-path.held c.in-Some.path)) c.loop-path.invariant.named c.in-Err.fault
     (λ id e. (c.in-Err.ensures.taken id (ap Err e)).1)
 
@@ -162,7 +162,7 @@ returns-clause-taken c id e sound =
     (λ name. gone_all c.loop-path.entries c.in_default.ensures.absent (name ∷ []))
     (top_refused c.loop-path.made id c.loop-path.held c.root-root.result c.remove-top.result c.root-root.ensures.value c.remove-top.ensures.value refused))
 
-pub returns-clause-caused : goal.returns-clause-caused
-returns-clause-caused c =
+pub returns-clause-cause : goal.returns-clause-cause
+returns-clause-cause c =
     build_caused c.loop-path.made (held_at c.remove-top.result) c.loop-path.invariant.named c.in-Err-make_directory.fault
     (λ id e. c.in-Err-make_directory.ensures.taken id (ap Err e))

@@ -9,8 +9,8 @@ pub returns-clause-value : goal.returns-clause-value
 returns-clause-value g c objects told =
     store_due objects c.args.key.now (g.S.Shelf.may_give c.get.new.self.shelf) c.in-Err.fault c.in-Err.ensures.damaged (c.in-Err.ensures.refused objects told)
 
-pub returns-in-Ok-Some-clause-caused : goal.returns-in-Ok-Some-clause-caused
-returns-in-Ok-Some-clause-caused g c =
+pub returns-in-Ok-Some-clause-cause : goal.returns-in-Ok-Some-clause-cause
+returns-in-Ok-Some-clause-cause g c =
     other_collides c.args.key.now c.args.bytes.now c.in-Ok-Some.stored c.requires.own
     (subst (IsWhole (g.S.Shelf.may_give c.get.new.self.shelf) c.args.key.now) c.in-Ok-Some.field-0-is c.in-Ok-Some.ensures.value).1
     (ap₂ bytes_eq (sym c.slice.ensures.value) (sym c.slice-in-Ok-Some.ensures.value) ∙ sym c.are_equal.ensures.value ∙ c.if-are_equal.false)

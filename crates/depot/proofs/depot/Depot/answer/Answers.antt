@@ -11,8 +11,8 @@ use Rattle.depot.specs.FreshKeys.{RunsOn, told_there}
 use Rattle.depot.proofs.ServingLemmas.{denied_told}
 use Rattle.depot.proofs.depot.Depot.answer.Goals as goal
 
-pub returns-in-None-clause-told : goal.returns-in-None-clause-told
-returns-in-None-clause-told g c =
+pub returns-in-None-clause-shown : goal.returns-in-None-clause-shown
+returns-in-None-clause-shown g c =
     denied_told g.S.Shelf.contents g.S.Shelf.faults c.args.self.now c.args.call.now c.args.moment
     (subst (λ (old : DepotView g.row.S.Denot). permits (token_of old.state.tokens c.args.call.now.secret) c.args.call.now.act ≡ false) c.self.view_is
     (ap (λ (tokens : List Token). permits (token_of tokens c.args.call.now.secret) c.args.call.now.act) (sym c.slice.ensures.value) ∙ c.in-None.ensures.absent))

@@ -25,5 +25,5 @@ returns g c = record {
       (λ objects told. c.list_ids.ensures.value (library c.self.inside.parts.state (g.S.Shelf.faults c.self.inside.parts.store.shelf) objects) told (sym c.slice.ensures.value)
       (sound_at g.S.Shelf.contents g.S.Shelf.faults (record { store = c.self.inside.parts.store; state = c.self.inside.parts.state; unsettled = c.self.inside.parts.unsettled; running = None }) c.self.invariant objects (g.S.Shelf.faults c.self.inside.parts.store.shelf) told))
       (subst (λ (kept : List Install). MayAnswer c.list_ids.new.store.index (g.S.Shelf.may_give c.list_ids.new.store.shelf) (act.Ids c.args.server.now c.args.client.now) (ids_decided kept c.args.server.now) c.list_ids.result)
-      c.slice.ensures.value c.list_ids.ensures.cause) c.list_ids.ensures.damage c.list_ids.ensures.faults);
+      c.slice.ensures.value c.list_ids.ensures.cause) c.list_ids.ensures.damaged c.list_ids.ensures.faults);
 }

@@ -13,5 +13,5 @@ returns g c = record {
       (λ call moment right asks. missing_serves g.S.Shelf.contents g.S.Shelf.may_give g.S.Shelf.texts g.S.Shelf.faults (record { store = c.self.inside.parts.store; state = c.self.inside.parts.state; unsettled = c.self.inside.parts.unsettled; running = None }) call moment right c.args.kind c.args.ids.now asks
       c.missing_objects.result
       (λ objects told. c.missing_objects.ensures.value (library c.self.inside.parts.state (g.S.Shelf.faults c.self.inside.parts.store.shelf) objects) told)
-      c.missing_objects.ensures.cause (λ objects told. c.missing_objects.ensures.damage objects) (c.missing_objects.ensures.faults (g.S.Shelf.faults c.self.inside.parts.store.shelf)));
+      c.missing_objects.ensures.cause (λ objects told. c.missing_objects.ensures.damaged objects) (c.missing_objects.ensures.faults (g.S.Shelf.faults c.self.inside.parts.store.shelf)));
 }

@@ -20,5 +20,5 @@ returns g c = record {
       (λ call moment right asks. put_serves g.S.Shelf.contents g.S.Shelf.may_give g.S.Shelf.texts g.S.Shelf.faults (record { store = c.self.inside.parts.store; state = c.self.inside.parts.state; unsettled = c.self.inside.parts.unsettled; running = None }) call moment right c.args.key.now c.args.bytes.now asks
       c.put_object.new.store c.put_object.result c.put_object.ensures.kept c.put_object.ensures.written
       (λ objects told. c.put_object.ensures.value (library c.self.inside.parts.state (g.S.Shelf.faults c.self.inside.parts.store.shelf) objects) told refl)
-      c.put_object.ensures.cause c.put_object.ensures.damage c.put_object.ensures.faults c.put_object.ensures.lying);
+      c.put_object.ensures.cause c.put_object.ensures.damaged c.put_object.ensures.faults c.put_object.ensures.lying);
 }

@@ -33,7 +33,7 @@ returns-in-Err-clause-value g c = λ call asks updates.
     serves_refused g.S.Shelf.contents g.S.Shelf.may_give g.S.Shelf.texts g.S.Shelf.faults (record { store = c.args.self.now.store; state = c.args.self.now.state; unsettled = c.args.self.now.unsettled; running = None })
     call c.args.moment c.args.pushed updates c.plan_of.new.store c.in-Err.ensures.kept.kept c.in-Err.ensures.kept.written c.in-Err.why
     (λ objects told. c.in-Err.ensures.value objects (g.S.Shelf.faults c.args.self.now.store.shelf) told call asks updates) c.in-Err.ensures.kept.count
-    (c.in-Err.ensures.any call asks updates) c.in-Err.ensures.damage
+    (c.in-Err.ensures.any call asks updates) c.in-Err.ensures.damaged
 
 pub returns-in-Err-clause-stands : goal.returns-in-Err-clause-stands
 returns-in-Err-clause-stands g c =
