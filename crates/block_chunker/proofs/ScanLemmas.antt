@@ -1,6 +1,6 @@
 -- The first end of a chunk, from what the rolling hash finds.
 use Rattle.std.proofs.Common.{◌≡◌, ℕ, ◌-◌, ◌/◌, ◌^◌, ◌<◌, ◌≤◌, ◌==◌, ◌||◌, Bool, true, false, List, length, take, drop, refl, sym, ap, ◌∙◌, arith, ◌⊎◌, ⊎_elim, inl, inr}
-use Rattle.std.proofs.lemmas.Bool.{cases_lt, ne_eqb, eqb-true, false≢true}
+use Rattle.std.proofs.lemmas.Bool.{cases_lt, ne_eqb, eqb-true, false≢true, or_cases, false_from_ne_true}
 use Rattle.std.proofs.lemmas.List.{length-take-le}
 use Rattle.block_chunker.specs.declared.cuts.Cuts.{Cuts}
 use Rattle.block_chunker.specs.ChunkBoundaries.{window_hash, window, ends_in_cut}
@@ -15,10 +15,6 @@ or_of_true false b e = absurd (false≢true e)
 pub or_of_false : (a b : Bool) → a ≡ false → b ≡ (a || b)
 or_of_false true b e = absurd (false≢true (sym e))
 or_of_false false b e = refl
-
-or_cases : (a b : Bool) → (a || b) ≡ true → (a ≡ true) ⊎ (b ≡ true)
-or_cases true b e = inl refl
-or_cases false b e = inr e
 
 or_none : (a b : Bool) → (a || b) ≡ false → a ≡ false
 or_none true b e = absurd (false≢true (sym e))
@@ -45,17 +41,13 @@ IsFirstEnd-grown cuts bytes from end found is long short bounded h e = record {
   whole = λ t. h.whole (or_none found (end == cuts.max) (sym e ∙ t));
 }
 
-not_true : (b : Bool) → (b ≡ true → ⊥) → b ≡ false
-not_true true never = absurd (never refl)
-not_true false never = refl
-
 -- a first end behind a later place, where there is none up to it
 pub IsFirstEnd-join : (test : ℕ → Bool) (from next len end : ℕ) (found : Bool) → from ≤ next → ((k : ℕ) → from < k → k ≤ next → test k ≡ false) → IsFirstEnd test next len end found → IsFirstEnd test from len end found
 IsFirstEnd-join test from next len end found p none h = record {
   behind = omega (arith, h.behind);
   within = h.within;
   quiet = λ k a b. ⊎_elim (λ later. h.quiet k later b) (λ before. none k a before) (cases_lt next k);
-  told = λ a. ⊎_elim h.told (λ before. none end a before ∙ sym (not_true found (λ t. omega (arith, h.some t)))) (cases_lt next end);
+  told = λ a. ⊎_elim h.told (λ before. none end a before ∙ sym (false_from_ne_true found (λ t. omega (arith, h.some t)))) (cases_lt next end);
   some = λ t. omega (arith, h.some t);
   whole = h.whole;
 }

@@ -12,6 +12,7 @@ use Rattle.conflict_names.specs.CivilTime.{moment_of, stamp}
 use Rattle.conflict_names.specs.Naming.{ext_at, shown, number_text, naming}
 use Rattle.conflict_names.proofs.NumeralLemmas.{number_text-injective}
 use Rattle.conflict_names.proofs.PlainLemmas.{is_free, joined, one_more, all-free, stamp-plain, number_text-plain}
+use Rattle.ids.proofs.BasicLemmas.{none_from_option_map}
 
 free_from : (place : ℕ) (xs : List ℕ) → position_from is_separator place xs ≡ None → list_all is_free xs ≡ true
 free_from place [] e = refl
@@ -35,16 +36,12 @@ neither : {X : Type 0} (a b : Option X) → option_or a b ≡ None → (a ≡ No
 neither None b e = (refl, e)
 neither (Some x) b e = cc
 
-unmapped : {X Y : Type 0} (f : X → Y) (o : Option X) → option_map f o ≡ None → o ≡ None
-unmapped f None e = refl
-unmapped f (Some x) e = cc
-
 name_free : (name : List ℕ) → IsName name → list_all is_free name ≡ true
 name_free name h =
     let a = neither _ _ h.faultless in
     let b = neither _ _ a.1 in
     let c = neither _ _ b.1 in
-    let none : position is_separator name ≡ None = unmapped _ _ c.0 in
+    let none : position is_separator name ≡ None = none_from_option_map _ _ c.0 in
     free_from 0 name (sym (position_from-zero is_separator name) ∙ none)
 
 and_false : (x y : Bool) → y ≡ false → (x && y) ≡ false

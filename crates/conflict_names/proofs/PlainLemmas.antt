@@ -1,6 +1,6 @@
 -- The bytes of stamps and numbers: none is `/` or NUL, and all are ASCII.
 use Rattle.std.proofs.Common.{◌≡◌, ℕ, zero, suc, ◌+◌, ◌/◌, ◌%◌, ◌<◌, Bool, true, false, not, nat_lt, nat_le, ◌&&◌, ◌||◌, ◌==◌, cond, List, [], ◌∷◌, ◌++◌, refl, ◌∙◌, arith, IsAscii, ltb-true}
-use Rattle.std.proofs.lemmas.Bool.{and_parts}
+use Rattle.std.proofs.lemmas.Bool.{and_parts, and_from}
 use Rattle.std.proofs.lemmas.Bool.Decides.{nat_tests}
 use Rattle.std.proofs.lemmas.List.Folds.{list_all-append}
 use Rattle.std.proofs.lemmas.Str.Ascii.{IsAscii-nil, IsAscii-cons}
@@ -26,14 +26,11 @@ plain-ascii b h = grind (arith, nat_tests)
 digit-plain : (n : ℕ) → is_plain (digit n) ≡ true
 digit-plain n = grind (arith, nat_tests)
 
-pub both : (x y : Bool) → x ≡ true → y ≡ true → (x && y) ≡ true
-both x y a b = rw (a, b) refl
-
 pub joined : (p : ℕ → Bool) (xs ys : List ℕ) → list_all p xs ≡ true → list_all p ys ≡ true → list_all p (xs ++ ys) ≡ true
-joined p xs ys a b = list_all-append p xs ys ∙ both _ _ a b
+joined p xs ys a b = list_all-append p xs ys ∙ and_from _ _ a b
 
 pub one_more : (p : ℕ → Bool) (x : ℕ) (xs : List ℕ) → p x ≡ true → list_all p xs ≡ true → list_all p (x ∷ xs) ≡ true
-one_more p x xs a b = both _ _ a b
+one_more p x xs a b = and_from _ _ a b
 
 two-plain : (n : ℕ) → list_all is_plain (two_digits n) ≡ true
 two-plain n = one_more is_plain (digit (n / 10)) (digit n ∷ []) (digit-plain (n / 10)) (one_more is_plain (digit n) [] (digit-plain n) refl)

@@ -18,7 +18,7 @@ use Rattle.library_rules.specs.declared.entry.Entry.{Entry}
 use Rattle.library_rules.specs.declared.entry.Step.TheVariants as step
 use Rattle.library_rules.specs.declared.entry.Stored.{Stored}
 use Rattle.library_rules.proofs.ChangedLemmas.{faults_change, objects_change}
-use Rattle.library_rules.proofs.MemberLemmas.{or_left, same_id-itself}
+use Rattle.library_rules.proofs.MemberLemmas.{same_id-itself}
 use Rattle.library_rules.proofs.RefusedLemmas.{refused_stays}
 use Rattle.library_rules.proofs.UnmovedLemmas.{lone_apply, moved_nothing, refused_reads}
 use Rattle.library_state.specs.declared.call.Act.{Act}
@@ -37,6 +37,7 @@ use Rattle.object_graph.proofs.KeyLemmas.{same_key, same_key-itself}
 use Rattle.depot.specs.Answering.{AnswersBySome, permits}
 use Rattle.depot.specs.ObjectCalls.{Counts, IsFault, IsToldRefusal, SaysOr, is_counted, is_of_store}
 use Rattle.library_rules.proofs.CallsLemmas.{put_by}
+use Rattle.std.proofs.lemmas.Bool.{or_left}
 
 -- ---- what a call is due
 

@@ -8,7 +8,7 @@ use Rattle.ids.proofs.KeyOrderLemmas.{key_cmp_total, key_cmp_exact}
 use Rattle.library_rules.specs.LibraryState.{IsSound, State, kept_commits, last_number}
 use Rattle.library_rules.specs.Recovery.{StandsFor}
 use Rattle.library_rules.proofs.KeepingLemmas.{agrees_grown, still_complete}
-use Rattle.library_rules.proofs.MemberLemmas.{or_left, or_right, same_id-itself}
+use Rattle.library_rules.proofs.MemberLemmas.{same_id-itself}
 use Rattle.library_rules.proofs.ProperTextLemmas.{sound_is_proper}
 use Rattle.library_rules.proofs.ReopenedLemmas.{stands_by_its_objects}
 use Rattle.library_state.specs.StateSpelling.{text_of}
@@ -23,9 +23,10 @@ use Rattle.depot.specs.DepotView.{DepotView, Holds, HoldsOther, IsGood, library,
 use Rattle.depot.specs.Start.{first_incomplete, first_of, start_refusal, text_refusal}
 use Rattle.depot.specs.Standing.{IsOnShelf, StandsForNext}
 use Rattle.depot.specs.declared.error.StartFault.TheVariants as start
+use Rattle.std.proofs.lemmas.Bool.{or_left, or_right}
 
 -- what a store holds lies on its shelf
-indexed_lies : (index : Index) (held : Contents) → Keeps (indexed index held) held.objects
+pub indexed_lies : (index : Index) (held : Contents) → Keeps (indexed index held) held.objects
 indexed_lies index held = record { kept = λ key bytes there. by (is_some (map.get index key)) (map.get held.objects key) bytes (sym (get-retained held.objects index key) ∙ there) }
   where
     by : (b : Bool) (o : Option (List ℕ)) (bytes : List ℕ) → cond b o None ≡ Some bytes → o ≡ Some bytes

@@ -4,7 +4,7 @@ use Rattle.std.proofs.lemmas.List.Elements.{recursion_from_All}
 use Rattle.std.specs.List.{list_any, AllByRecursion}
 use Rattle.ids.specs.Key.{Objects}
 use Rattle.library_rules.specs.LibraryState.{IsSound, kept_commits, last_number, users_of}
-use Rattle.library_rules.proofs.MemberLemmas.{or_cases, same_id-true}
+use Rattle.library_rules.proofs.MemberLemmas.{same_id-true}
 use Rattle.library_state.specs.ProperState.{IsProper, IsProperToken}
 use Rattle.library_state.specs.declared.history.Install.{Install}
 use Rattle.library_state.specs.declared.state.LibState.{LibState}
@@ -28,6 +28,7 @@ use Rattle.depot.specs.declared.error.StartFault.TheVariants as start
 use Rattle.depot.proofs.CompleteLemmas.{damage_before, start_before}
 use Rattle.depot.proofs.GoodLemmas.{none_fresh, sound_told}
 use Rattle.depot.proofs.WritingLemmas.{written_at}
+use Rattle.std.proofs.lemmas.Bool.{or_cases}
 
 -- ---- commits that are complete, one after another
 

@@ -35,6 +35,7 @@ use Rattle.depot.specs.UpdateBase.{FindsSo, HasParent, LooksSo, ReadsOnly}
 use Rattle.depot.specs.UpdatePlan.{IsPlanFault, MergeRefuses}
 use Rattle.depot.specs.Refusals.{store_refusal, walk_refusal}
 use Rattle.depot.specs.declared.update_base.Look.{Look}
+use Rattle.tree_walk.proofs.ReadsLemmas.{keeps_then}
 
 -- ---- faults of a reading as refusals
 
@@ -262,9 +263,6 @@ may_refuse index may_give (walk.Store fault) cause = by fault cause
 
 -- ---- calls that read, one after another
 
-keeps_on : {S : Type 0} {contents : S → Option Contents} {old mid new : StoreView S} → Keeps contents old mid → Keeps contents mid new → Keeps contents old new
-keeps_on first second = record { index = second.index ∙ first.index; shelf = second.shelf ∙ first.shelf; objects = second.objects ∙ first.objects }
-
 counted_alike : (fault : WalkFault) → is_counted fault ≡ is_of_store (walk_refusal fault)
 counted_alike (walk.Incomplete key) = refl
 counted_alike (walk.Unreadable key) = refl
@@ -310,7 +308,7 @@ module _ {S : Type 0} {contents : S → Option Contents} {may_give : S → Slot 
   pub reads_only_then : {T U : Type 0} {old mid new : StoreView S} (value : T) (result : Result U Refusal)
       → Reads contents may_give texts faults old mid (Ok value) → ReadsOnly contents texts faults mid new result → ReadsOnly contents texts faults old new result
   reads_only_then {new = new} value result first second = record {
-    kept = keeps_on first.kept second.kept;
+    kept = keeps_then first.kept second.kept;
     written = second.written ∙ first.shelf.written;
     count = subst (λ n. FailsBy is_of_store n (faults new.shelf) result) first.count second.count;
   }

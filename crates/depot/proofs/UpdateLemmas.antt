@@ -15,7 +15,6 @@ use Rattle.library_rules.specs.declared.entry.Entry.{Entry}
 use Rattle.library_rules.specs.declared.entry.Step.TheVariants as step
 use Rattle.library_rules.specs.declared.entry.Stored.{Stored}
 use Rattle.library_rules.proofs.ChangedLemmas.{install_changes, objects_change}
-use Rattle.library_rules.proofs.MemberLemmas.{or_left}
 use Rattle.library_state.specs.declared.call.Act.TheVariants as act
 use Rattle.library_state.specs.declared.call.Call.{Call}
 use Rattle.library_state.specs.declared.refusal.Refusal.{Refusal}
@@ -32,6 +31,8 @@ use Rattle.depot.specs.UpdateInstall.{IsFront}
 use Rattle.depot.specs.UpdatePlan.{IsPlan, IsPlanFault, MergeRefuses, objects_in}
 use Rattle.depot.specs.declared.update_plan.Plan.{Plan}
 use Rattle.depot.proofs.AnsweringLemmas.{damage_differs, fault_answers, said_answers, says_answers}
+use Rattle.std.proofs.lemmas.Bool.{or_left}
+use Rattle.ids.proofs.BasicLemmas.{contains_more}
 
 -- ---- the first ones of a list
 
@@ -47,9 +48,6 @@ front_distinct : (xs ys : List Key) → IsDistinct (eq_by_cmp key_cmp) (xs ++ ys
 unfolding IsDistinct
 front_distinct [] ys all = tt
 front_distinct (x ∷ xs) ys all = (front_all (λ y. eq_by_cmp key_cmp x y ≡ false) xs ys all.0, front_distinct xs ys all.1)
-
-contains_more : {A : Type 0} (x y : A) (xs : List A) → Contains xs y → Contains (x ∷ xs) y
-contains_more x y xs has = (suc has.0, omega (arith, has.1), has.2)
 
 all_more : {A : Type 0} (x : A) (xs ys : List A) → AllByRecursion (Contains xs) ys → AllByRecursion (Contains (x ∷ xs)) ys
 all_more x xs [] all = tt

@@ -15,6 +15,7 @@ use Rattle.library_rules.proofs.KeepingLemmas.{grown}
 use Rattle.object_graph.proofs.KeyLemmas.{same_key, same_key-itself, same_key-true}
 use Rattle.depot.specs.UpdatePlan.{listed}
 use Rattle.depot.proofs.UpdatePlanLemmas.{all_gone_after}
+use Rattle.ids.proofs.BasicLemmas.{apart_from_is_lt}
 
 -- ---- entries in order
 
@@ -26,11 +27,6 @@ right_of : (a b : Bool) → T (a && b) → T b
 right_of true b h = h
 right_of false b h = absurd h
 
-less_apart : (r : Ordering) → T (is_lt r) → is_eq r ≡ false
-less_apart Less h = refl
-less_apart Equal h = absurd h
-less_apart Greater h = absurd h
-
 -- an entry is one of a list
 abbrev pub Among : (Key × List ℕ) → List (Key × List ℕ) → Type 0
 Among e [] = ⊥
@@ -40,13 +36,13 @@ Among e (f ∷ fs) = (e ≡ f) ⊎ Among e fs
 apart_below : (q : Key) (es : List (Key × List ℕ)) → T (below_all key_cmp q es) → AllByRecursion (λ key. same_key q key ≡ false) (keys_added (listed es))
 apart_below q [] h = tt
 apart_below q (e ∷ es) h =
-    (less_apart (key_cmp q e.0) (left_of (is_lt (key_cmp q e.0)) (below_all key_cmp q es) h), apart_below q es (right_of (is_lt (key_cmp q e.0)) (below_all key_cmp q es) h))
+    (apart_from_is_lt (key_cmp q e.0) (left_of (is_lt (key_cmp q e.0)) (below_all key_cmp q es) h), apart_below q es (right_of (is_lt (key_cmp q e.0)) (below_all key_cmp q es) h))
 
 none_below : (q : Key) (es : List (Key × List ℕ)) → T (below_all key_cmp q es) → map.find key_cmp q es ≡ None
 none_below q [] h = refl
 none_below q (e ∷ es) h =
     ap₂ (λ (b : Bool) (o : Option (List ℕ)). cond b (Some e.1) o)
-    (less_apart (key_cmp q e.0) (left_of (is_lt (key_cmp q e.0)) (below_all key_cmp q es) h))
+    (apart_from_is_lt (key_cmp q e.0) (left_of (is_lt (key_cmp q e.0)) (below_all key_cmp q es) h))
     (none_below q es (right_of (is_lt (key_cmp q e.0)) (below_all key_cmp q es) h))
 
 -- an entry of a list in order is what is found at its key

@@ -60,6 +60,7 @@ use Rattle.depot.proofs.UpdateBaseLemmas.{may_refuse, none_due, told_merge, walk
 use Rattle.depot.proofs.UpdateListedLemmas.{all_join, found_added, found_in, found_last, found_listed, listed_all, listed_once, once_pushed}
 use Rattle.depot.specs.Refusals.{merge_refusal, walk_refusal}
 use Rattle.depot.proofs.UpdateMadeLemmas.{commit_complete, commit_reads, copies_is, root_needed}
+use Rattle.ids.proofs.BasicLemmas.{same_from_bytes_eq}
 
 -- why a merge is refused, over any shelf
 pub merge_may : (index : Index) (may_give : ShelfSlot → Option (List ℕ) → Type 0) (fault : MergeFault) → merging.IsCaused fault
@@ -106,14 +107,11 @@ roots_at objects base one other pushed roots same are has = subst (λ h. HasRoot
 
 -- ---- what is refused
 
-text_same : (a b : List ℕ) → bytes_eq a b ≡ true → a ≡ b
-text_same a b e = same_text a b (sym e)
-
 other_there : (o : Option (List ℕ)) (other bytes : List ℕ) → o ≡ Some other → other ≢ bytes → other_bytes o bytes ≡ true
 other_there o other bytes is differs = ap (λ p. other_bytes p bytes) is ∙ by (bytes_eq other bytes) refl
   where
     by : (b : Bool) → bytes_eq other bytes ≡ b → not (bytes_eq other bytes) ≡ true
-    by true e = absurd (differs (text_same other bytes e))
+    by true e = absurd (differs (same_from_bytes_eq other bytes e))
     by false e = ap not e
 
 module _ (state : LibState) (count : ℕ) (objects : Objects) (moment : ℕ) (user base pushed : List ℕ) (roots : Roots)

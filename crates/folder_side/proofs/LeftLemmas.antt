@@ -15,6 +15,8 @@ use Rattle.folder_side.specs.Folder.{Contents, IsFolder, at, is_dir, is_other, n
 use Rattle.folder_side.specs.WorkingTree.{KeepsHidden, PlainDir, PlainFile, held_list, held_of, is_stuck, lacked, lacks}
 use Rattle.folder_side.proofs.ListingLemmas.{dir_above}
 use Rattle.folder_side.proofs.SortedEntryLemmas.{Rises-entries, found_of}
+use Rattle.std.proofs.lemmas.Bool.{or_cases, or_left, or_right, and_parts, and_from}
+use Rattle.ids.proofs.BasicLemmas.{contains_more}
 
 -- ---- entries that pass a test
 
@@ -41,26 +43,6 @@ module _ {X : Type 0} (test : PathV × X → Bool) where
       by true here is rest = record { entry = f; there = inl refl; is = here }
       by false here is rest = let more = rest is in record { entry = more.entry; there = inr more.there; is = more.is }
 
-both_true : (a b : Bool) → (a && b) ≡ true → (a ≡ true) × (b ≡ true)
-both_true true b is = (refl, is)
-both_true false b is = cc
-
-true_both : (a b : Bool) → a ≡ true → b ≡ true → (a && b) ≡ true
-true_both true b one other = other
-true_both false b one other = one
-
-either : (a b : Bool) → (a || b) ≡ true → (a ≡ true) ⊎ (b ≡ true)
-either true b is = inl refl
-either false b is = inr is
-
-true_left : (a b : Bool) → a ≡ true → (a || b) ≡ true
-true_left true b is = refl
-true_left false b is = cc
-
-true_right : (a b : Bool) → b ≡ true → (a || b) ≡ true
-true_right true b is = refl
-true_right false b is = is
-
 -- ---- why a directory is stuck
 
 abbrev hides_other : PathV → PathV × Holding → Bool
@@ -81,38 +63,38 @@ is_the_other Other is = refl
 
 caused : (c : Contents) (dir : PathV)
     → (list_any (hides_other dir) (map.entries c.paths) || list_any (hides_nameless dir) (map.entries c.nameless)) ≡ true → Cause c dir
-caused c dir is = elim (either (list_any (hides_other dir) (map.entries c.paths)) (list_any (hides_nameless dir) (map.entries c.nameless)) is) [
+caused c dir is = elim (or_cases (list_any (hides_other dir) (map.entries c.paths)) (list_any (hides_nameless dir) (map.entries c.nameless)) is) [
   | inl others ↦ of_other (some_of (hides_other dir) (map.entries c.paths) others)
   | inr hidden ↦ of_nameless (some_of (hides_nameless dir) (map.entries c.nameless) hidden)
 ]
   where
     of_other : Passes (hides_other dir) (map.entries c.paths) → Cause c dir
     of_other found =
-        let both = both_true (is_under dir found.entry.0) (is_other found.entry.1) found.is in
+        let both = and_parts (is_under dir found.entry.0) (is_other found.entry.1) found.is in
         let there = map.get-entries c.paths found.entry.0 ∙ found_of (map.entries c.paths) found.entry (Rises-entries c.paths) found.there in
         other found.entry.0 both.0 (there ∙ ap Some (is_the_other found.entry.1 both.1))
 
     of_nameless : Passes (hides_nameless dir) (map.entries c.nameless) → Cause c dir
     of_nameless found =
-        let both = both_true (is_within dir found.entry.0) (nat_lt 0 found.entry.1) found.is in
+        let both = and_parts (is_within dir found.entry.0) (nat_lt 0 found.entry.1) found.is in
         let there = map.get-entries c.nameless found.entry.0 ∙ found_of (map.entries c.nameless) found.entry (Rises-entries c.nameless) found.there in
         nameless found.entry.0 both.0 (ap (λ o. nat_lt 0 (unwrap_or o 0)) there ∙ both.1)
 
 hidden_by : (c : Contents) (dir : PathV) → Cause c dir
     → (list_any (hides_other dir) (map.entries c.paths) || list_any (hides_nameless dir) (map.entries c.nameless)) ≡ true
 hidden_by c dir (other path under is) =
-    true_left (list_any (hides_other dir) (map.entries c.paths)) (list_any (hides_nameless dir) (map.entries c.nameless))
+    or_left (list_any (hides_other dir) (map.entries c.paths)) (list_any (hides_nameless dir) (map.entries c.nameless))
     (any_of (hides_other dir) (map.entries c.paths) (path, Other) (in_found (map.entries c.paths) path Other (sym (map.get-entries c.paths path) ∙ is))
-    (true_both (is_under dir path) true under refl))
+    (and_from (is_under dir path) true under refl))
 hidden_by c dir (nameless path within many) = by (map.get c.nameless path) refl many
   where
     by : (o : Option ℕ) → map.get c.nameless path ≡ o → nat_lt 0 (unwrap_or o 0) ≡ true
         → (list_any (hides_other dir) (map.entries c.paths) || list_any (hides_nameless dir) (map.entries c.nameless)) ≡ true
     by None is more = cc
     by (Some count) is more =
-        true_right (list_any (hides_other dir) (map.entries c.paths)) (list_any (hides_nameless dir) (map.entries c.nameless))
+        or_right (list_any (hides_other dir) (map.entries c.paths)) (list_any (hides_nameless dir) (map.entries c.nameless))
         (any_of (hides_nameless dir) (map.entries c.nameless) (path, count) (in_found (map.entries c.nameless) path count (sym (map.get-entries c.nameless path) ∙ is))
-        (true_both (is_within dir path) (nat_lt 0 count) within more))
+        (and_from (is_within dir path) (nat_lt 0 count) within more))
 
 -- what hides something is a directory
 dir_of : (c : Contents) → IsFolder c → (dir : PathV) → dir ≢ [] → Cause c dir → at c dir ≡ Some Dir
@@ -146,10 +128,10 @@ dir_some (Some h) is = refl
 
 stuck_goes : (old new : Contents) → IsFolder old → IsFolder new → KeepsHidden old new → (dir : PathV) → is_stuck old dir ≡ true → is_stuck new dir ≡ true
 stuck_goes old new before folder keeps dir is =
-    let both = both_true (is_dir (at old dir)) (list_any (hides_other dir) (map.entries old.paths) || list_any (hides_nameless dir) (map.entries old.nameless)) is in
+    let both = and_parts (is_dir (at old dir)) (list_any (hides_other dir) (map.entries old.paths) || list_any (hides_nameless dir) (map.entries old.nameless)) is in
     let some : dir ≢ [] = λ none. true≢false (sym (dir_some (at old dir) both.0) ∙ ap is_some (ap (at old) none ∙ before.no_root)) in
     let cause = cause_goes old new keeps dir (caused old dir both.1) in
-    true_both (is_dir (at new dir)) (list_any (hides_other dir) (map.entries new.paths) || list_any (hides_nameless dir) (map.entries new.nameless))
+    and_from (is_dir (at new dir)) (list_any (hides_other dir) (map.entries new.paths) || list_any (hides_nameless dir) (map.entries new.nameless))
     (ap is_dir (dir_of new folder dir some cause)) (hidden_by new dir cause)
 
 hidden_back : (old new : Contents) → KeepsHidden old new → KeepsHidden new old
@@ -198,9 +180,6 @@ held_in_order tree c = over (map.entries c.paths)
     over [] = refl
     over (e ∷ es) = λ i. cons_option (lacks_is tree c e i) (over es i)
 
-contains_next : {X : Type 0} (y x : X) (xs : List X) → Contains xs x → Contains (y ∷ xs) x
-contains_next y x xs there = (suc there.0, omega (arith, there.1), there.2)
-
 -- a path that is listed for an entry
 record IsLacking (tree : Tree) (c : Contents) (entry : PathV × Holding) (path : PathV) : Type 0 where
   own : path ≡ entry.0
@@ -242,7 +221,7 @@ listed_in tree c (f ∷ es) e (inr there) is = by (lacks tree c f) (listed_in tr
   where
     by : (o : Option PathV) → Contains (filter_map (lacks tree c) es) e.0 → Contains (cons_option o (filter_map (lacks tree c) es)) e.0
     by None more = more
-    by (Some p) more = contains_next p e.0 (filter_map (lacks tree c) es) more
+    by (Some p) more = contains_more p e.0 (filter_map (lacks tree c) es) more
 
 is_a_dir : (o : Option Holding) → is_dir o ≡ true → o ≡ Some Dir
 is_a_dir None is = cc is
@@ -255,6 +234,6 @@ held_listed tree c path = (listed_for tree c path (map.entries c.paths), back)
   where
     back : (is_stuck c path ≡ true) × (map.get tree path ≡ None) → Contains (held_list tree c) path
     back (stuck, none) =
-        let dir = is_a_dir (at c path) (both_true (is_dir (at c path)) (list_any (hides_other path) (map.entries c.paths) || list_any (hides_nameless path) (map.entries c.nameless)) stuck).0 in
+        let dir = is_a_dir (at c path) (and_parts (is_dir (at c path)) (list_any (hides_other path) (map.entries c.paths) || list_any (hides_nameless path) (map.entries c.nameless)) stuck).0 in
         listed_in tree c (map.entries c.paths) (path, Dir) (in_found (map.entries c.paths) path Dir (sym (map.get-entries c.paths path) ∙ dir))
         (lacks_is tree c (path, Dir) ∙ lacking_is tree c path stuck none)

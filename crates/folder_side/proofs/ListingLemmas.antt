@@ -13,6 +13,7 @@ use Rattle.folder_side.specs.declared.holding.Holding.{Holding}
 use Rattle.folder_side.specs.declared.holding.Holding.TheVariants.{Dir}
 use Rattle.folder_side.specs.Folder.{Contents, IsFolder, at, kind_of, name_in, item_of, items_in, listing_in, listing_at, is_dir_at}
 use Rattle.folder_side.proofs.SortedEntryLemmas.{Rises-entries, found_of}
+use Rattle.ids.proofs.BasicLemmas.{pushed_is_some}
 
 -- a listing is that of its directory
 pub listing_is : (c : Contents) (dir : PathV) (listing : Listing) → Some listing ≡ listing_at c dir → listing ≡ listing_in c dir
@@ -107,16 +108,12 @@ item_of_path c dir name holding there =
 
 -- ---- what lies above
 
-no_end : (d : PathV) (n : List ℕ) → d ++ n ∷ [] ≢ []
-no_end [] n e = cc
-no_end (m ∷ d) n e = cc
-
 -- what has an entry below it is a directory
 pub dir_above : (c : Contents) → IsFolder c → (d : PathV) (n : List ℕ) (r : PathV) → d ≢ [] → IsSome (at c (d ++ n ∷ r)) → at c d ≡ Some Dir
 dir_above c folder d n [] other there = folder.in_dirs d n other there
 dir_above c folder d n (m ∷ r) other there =
     let split : (d ++ n ∷ []) ++ m ∷ r ≡ d ++ n ∷ m ∷ r = append_assoc d (n ∷ []) (m ∷ r) in
-    let next = dir_above c folder (d ++ n ∷ []) m r (no_end d n) (subst (λ p. IsSome (at c p)) (sym split) there) in
+    let next = dir_above c folder (d ++ n ∷ []) m r (pushed_is_some d n) (subst (λ p. IsSome (at c p)) (sym split) there) in
     folder.in_dirs d n other (ap is_some next)
 
 -- an entry under a directory lies within one that the directory lists
@@ -141,7 +138,7 @@ above c folder dir path under there =
         record { name = name; within = subst (λ p. is_within (dir ++ name ∷ []) p ≡ true) (sym (is ∙ sym (append-nil (dir ++ name ∷ [])))) (within_of (dir ++ name ∷ []) []); holding = found.0; there = ap (at c) (sym is) ∙ found.1 }
     by name (m ∷ rest) is =
         let split : (dir ++ name ∷ []) ++ m ∷ rest ≡ dir ++ name ∷ m ∷ rest = append_assoc dir (name ∷ []) (m ∷ rest) in
-        let dir_there = dir_above c folder (dir ++ name ∷ []) m rest (no_end dir name) (subst (λ p. IsSome (at c p)) (is ∙ sym split) there) in
+        let dir_there = dir_above c folder (dir ++ name ∷ []) m rest (pushed_is_some dir name) (subst (λ p. IsSome (at c p)) (is ∙ sym split) there) in
         record { name = name; within = subst (λ p. is_within (dir ++ name ∷ []) p ≡ true) (split ∙ sym is) (within_of (dir ++ name ∷ []) (m ∷ rest)); holding = Dir; there = dir_there }
 
 -- below what is no directory there is nothing

@@ -10,6 +10,7 @@ use Rattle.tree_model.specs.Path.{PathV, path_cmp}
 use Rattle.tree_model.specs.PathOrder.{paths_total, paths_exact}
 use Rattle.tree_model.proofs.ListedLemmas.{same_path, same_path-true, same_path-itself}
 use Rattle.tree_model.proofs.MovingLemmas.{In}
+use Rattle.ids.proofs.BasicLemmas.{none_from_is_some, both_from_T, less_from_is_lt}
 
 -- a path stands before every entry
 abbrev pub IsBefore : {X : Type 0} → PathV → List (PathV × X) → Type 0
@@ -21,25 +22,16 @@ abbrev pub Rises : {X : Type 0} → List (PathV × X) → Type 0
 Rises [] = Unit {0}
 Rises (e ∷ es) = IsBefore e.0 es × Rises es
 
-both_of : (a b : Bool) → T (a && b) → T a × T b
-both_of true b h = (tt, h)
-both_of false b h = absurd h
-
-less_of : (o : Ordering) → T (is_lt o) → o ≡ Less
-less_of Less h = refl
-less_of Equal h = absurd h
-less_of Greater h = absurd h
-
 before_of : {X : Type 0} (q : PathV) (es : List (PathV × X)) → T (below_all path_cmp q es) → IsBefore q es
 before_of q [] h = tt
 before_of q (e ∷ es) h =
-    let parts = both_of (is_lt (path_cmp q e.0)) (below_all path_cmp q es) h in
-    (less_of (path_cmp q e.0) parts.0, before_of q es parts.1)
+    let parts = both_from_T (is_lt (path_cmp q e.0)) (below_all path_cmp q es) h in
+    (less_from_is_lt (path_cmp q e.0) parts.0, before_of q es parts.1)
 
 rises_of : {X : Type 0} (es : List (PathV × X)) → T (map.is_sorted path_cmp es) → Rises es
 rises_of [] h = tt
 rises_of (e ∷ es) h =
-    let parts = both_of (below_all path_cmp e.0 es) (map.is_sorted path_cmp es) h in
+    let parts = both_from_T (below_all path_cmp e.0 es) (map.is_sorted path_cmp es) h in
     (before_of e.0 es parts.0, rises_of es parts.1)
 
 -- the entries of a map rise
@@ -97,10 +89,6 @@ found_of {X = X} (f ∷ es) e h (inl is) = subst (λ (g : PathV × X). map.find 
 found_of (f ∷ es) e h (inr there) = skip_first e.0 f es (less_apart_back f.0 e.0 (in_before f.0 e es h.0 there)) ∙ found_of es e h.1 there
 
 -- ---- two lists with the same paths
-
-only_none : {Z : Type 0} (o : Option Z) → is_some o ≡ false → o ≡ None
-only_none None e = refl
-only_none (Some z) e = cc
 
 module _ {X : Type 0} (test : X → Bool) where
   -- whether something is there that passes

@@ -1,7 +1,7 @@
 -- A request names a call exactly by that call's method and path. The lemmas that callers want are named_by_path and
 -- path_names.
 use Rattle.std.proofs.Common.{◌≡◌, ℕ, ◌<◌, Bool, true, false, cond, Option, None, Some, List, [], ◌∷◌, length, get_or, codes, nat_eq, refl, sym, ◌∙◌, ap, subst, arith, lit<, inl, inr, ◌⊎◌, not, ne_eqb, All}
-use Rattle.std.proofs.lemmas.Bool.{cases_lt, eqb-true, false_from_ne_true, true≢false}
+use Rattle.std.proofs.lemmas.Bool.{cases_lt, eqb-true, false_from_ne_true, true≢false, not-true}
 use Rattle.std.proofs.lemmas.List.Sums.{AllPass-from_list_all}
 use Rattle.std.specs.List.{list_all}
 use Rattle.hex.proofs.HexLemmas.{decode_of-encode_lower}
@@ -263,13 +263,9 @@ cut_again part [] free all = slice_split_none (λ c. nat_eq c 47) part free
 cut_again part (next ∷ more) free all =
     slice_split_at (λ c. nat_eq c 47) part 47 (join_with_byte 47 (next ∷ more)) free refl ∙ ap (λ (ps : List (List ℕ)). part ∷ ps) (cut_again next more all.0 all.1)
 
-not_true : (b : Bool) → not b ≡ true → b ≡ false
-not_true true h = let bad : ⊥ = cc in absurd bad
-not_true false h = refl
-
 -- a word without a slash
 free_word : (word : List ℕ) → list_all (λ c. not (nat_eq c 47)) word ≡ true → IsFree word
-free_word word h k d below = not_true _ (AllPass-from_list_all (λ c. not (nat_eq c 47)) word h k d below)
+free_word word h k d below = not-true _ (AllPass-from_list_all (λ c. not (nat_eq c 47)) word h k d below)
 
 free_library : (lib : List ℕ) → IsFree (hyphenated_text lower lib)
 free_library lib = no_slash_in library_form (hyphenated_text lower lib) (library.IsOf-hyphenated lib) (λ k. never_in_library (is_hyphen_place k))

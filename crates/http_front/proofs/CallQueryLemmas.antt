@@ -1,7 +1,7 @@
 -- A call's own query is read as what it asks for. The lemmas that callers want are check_asked, update_asked and
 -- ids_asked, at the end.
 use Rattle.std.proofs.Common.{◌≡◌, ℕ, nat_eq, Bool, true, false, List, [], ◌∷◌, ◌++◌, length, get_or, codes, Option, Some, None, Result, Ok, refl, sym, ap, ◌∙◌, arith, not, All, take, drop, ◌+◌, if◌then◌else◌, length-append, ne_eqb}
-use Rattle.std.proofs.lemmas.Bool.{true≢false}
+use Rattle.std.proofs.lemmas.Bool.{true≢false, not-true}
 use Rattle.std.proofs.lemmas.List.{drop_at, get_or_append_left, get_or_at, length_push, append_assoc, take_at}
 use Rattle.std.proofs.lemmas.List.Elements.{All-append, All-cons, All-from_get_or, All-get_or}
 use Rattle.std.proofs.lemmas.List.Splits.{slice_split_at, slice_split_none}
@@ -29,12 +29,8 @@ use Rattle.http_front.proofs.CallLemmas.{id_reads, path_names}
 abbrev Lacks : ℕ → List ℕ → Type 0
 Lacks c text = All (λ x. nat_eq x c ≡ false) text
 
-not_true : (b : Bool) → not b ≡ true → b ≡ false
-not_true true h = let bad : ⊥ = cc in absurd bad
-not_true false h = refl
-
 word_lacks : (c : ℕ) (word : List ℕ) → list_all (λ x. not (nat_eq x c)) word ≡ true → Lacks c word
-word_lacks c word h k d below = not_true _ (AllPass-from_list_all (λ x. not (nat_eq x c)) word h k d below)
+word_lacks c word h k d below = not-true _ (AllPass-from_list_all (λ x. not (nat_eq x c)) word h k d below)
 
 id_lacks_and : (id : List ℕ) → IsObjectId id → Lacks 38 (encode_lower id)
 id_lacks_and id is =

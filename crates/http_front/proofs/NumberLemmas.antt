@@ -20,7 +20,7 @@ nineteen_fit m i below few =
     let fits : 10 ^ 19 ≤ 2 ^ 64 = lit≤ tt in
     omega (arith, most, fits)
 
-digit_in_range : (c : ℕ) → is_ascii_digit c ≡ true → IsInRange 48 57 c
+pub digit_in_range : (c : ℕ) → is_ascii_digit c ≡ true → IsInRange 48 57 c
 digit_in_range c h = grind (arith, nat_tests)
 
 -- the value of a digit of the text

@@ -12,10 +12,7 @@ use Rattle.http_front.specs.IdArray.{array_text}
 use Rattle.library_state.specs.declared.refusal.Refusal.{Refusal}
 use Rattle.library_state.specs.declared.refusal.Refusal.TheVariants as refusal
 use Rattle.http_front.specs.RefusalText.{refused_body, refused_data}
-
-is_float-of_integer : (z : ℤ) → is_float (of_integer z) ≡ false
-is_float-of_integer (pos n) = refl
-is_float-of_integer (negsuc n) = refl
+use Rattle.json_words.proofs.FoundLemmas.{is_float-of_integer}
 
 pub no_float : (refusal : Refusal) → has_float (refused_data refusal) ≡ false
 no_float refusal.NoLibrary = refl

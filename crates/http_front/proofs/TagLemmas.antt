@@ -13,11 +13,9 @@ use Rattle.std.proofs.lemmas.Str.{IsUtf8-from_ascii}
 use Rattle.std.proofs.lemmas.Str.Parse.{IsDigitsTest, IsNumeralModel, numerals_by_value, without_leading_plus_none}
 use Rattle.http_front.specs.EntityTag.{quoted}
 use Rattle.http_front.proofs.ElementLemmas.{test_fails}
+use Rattle.http_front.proofs.NumberLemmas.{digit_in_range}
 
 -- ---- numbers
-
-digit_in_range : (c : ℕ) → is_ascii_digit c ≡ true → IsInRange 48 57 c
-digit_in_range c h = grind (arith, nat_tests)
 
 range_is_digit : (c : ℕ) → IsInRange 48 57 c → is_ascii_digit c ≡ true
 range_is_digit c h = grind (arith, nat_tests, h)

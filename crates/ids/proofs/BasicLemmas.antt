@@ -2,11 +2,12 @@
 -- Those on Bool are in the kit's library: or_left, or_right, or_parts, or_cases, and_parts, not-true, not-false of
 -- std.proofs.lemmas.Bool; or_assoc and or-false of std.proofs.Math.Bool; and nil_from_length, length_push, length-map of
 -- std.proofs.lemmas.List.
-use Rattle.std.proofs.Common.{◌≡◌, ◌≢◌, ℕ, List, [], ◌∷◌, ◌++◌, true, false, Option, Some, None, option_map, is_some, is_eq, is_lt, nat_cmp, Ordering, Less, Equal, Greater, refl, sym, ap, ◌∙◌}
+use Rattle.std.proofs.Common.{◌≡◌, ◌≢◌, ◌&&◌, ℕ, suc, List, [], ◌∷◌, ◌++◌, Bool, true, false, arith, Option, Some, None, option_map, is_some, is_eq, is_lt, nat_cmp, Ordering, Less, Equal, Greater, refl, sym, ap, ◌∙◌}
 use Rattle.std.specs.Prelude.{T}
 use Rattle.std.specs.Cmp.Lexicographic.{slice_cmp}
-use Rattle.std.specs.List.{AllByRecursion}
+use Rattle.std.specs.List.{AllByRecursion, Contains}
 use Rattle.std.specs.Str.{bytes_eq}
+use Rattle.std.proofs.lemmas.Bool.{false_from_ne_true}
 use Rattle.std.proofs.lemmas.Map.Text.{is_eq-slice_cmp}
 use Rattle.std.proofs.lemmas.Slice.Eq.{bytes_eq-Decides}
 
@@ -25,7 +26,13 @@ pub AllByRecursion-middle : {X : Type 0} (P : X → Type 0) (xs : List X) (x : X
 AllByRecursion-middle P [] x ys all = all.0
 AllByRecursion-middle P (y ∷ xs) x ys all = AllByRecursion-middle P xs x ys all.1
 
+pub contains_more : {X : Type 0} (y x : X) (xs : List X) → Contains xs x → Contains (y ∷ xs) x
+contains_more y x xs there = (suc there.0, omega (arith, there.1), there.2)
+
 -- ---- texts as bytes
+
+pub apart_from_bytes_eq : (xs ys : List ℕ) → xs ≢ ys → bytes_eq xs ys ≡ false
+apart_from_bytes_eq xs ys other = false_from_ne_true (bytes_eq xs ys) (λ is. other ((bytes_eq-Decides xs ys).0 is))
 
 pub same_from_bytes_eq : (xs ys : List ℕ) → bytes_eq xs ys ≡ true → xs ≡ ys
 same_from_bytes_eq xs ys is = (bytes_eq-Decides xs ys).0 is
@@ -33,7 +40,14 @@ same_from_bytes_eq xs ys is = (bytes_eq-Decides xs ys).0 is
 pub same_from_slice_cmp : (xs ys : List ℕ) → slice_cmp nat_cmp xs ys ≡ Equal → xs ≡ ys
 same_from_slice_cmp xs ys is = same_from_bytes_eq xs ys (sym (is_eq-slice_cmp xs ys) ∙ ap is_eq is)
 
--- ---- options and orders
+-- ---- tests, options and orders
+
+pub both_from_T : (x y : Bool) → T (x && y) → T x × T y
+both_from_T true y h = (tt, h)
+both_from_T false y h = absurd h
+
+pub same_from_some : {X : Type 0} (x y : X) → Some x ≡ Some y → x ≡ y
+same_from_some x y e = cc
 
 pub none_from_is_some : {X : Type 0} (o : Option X) → is_some o ≡ false → o ≡ None
 none_from_is_some None is = refl
@@ -47,3 +61,8 @@ pub apart_from_is_lt : (o : Ordering) → T (is_lt o) → is_eq o ≡ false
 apart_from_is_lt Less is = refl
 apart_from_is_lt Equal is = absurd is
 apart_from_is_lt Greater is = absurd is
+
+pub less_from_is_lt : (o : Ordering) → T (is_lt o) → o ≡ Less
+less_from_is_lt Less h = refl
+less_from_is_lt Equal h = absurd h
+less_from_is_lt Greater h = absurd h

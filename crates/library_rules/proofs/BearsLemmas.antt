@@ -22,9 +22,10 @@ use Rattle.library_rules.specs.MergeBase.{Based, Base, NoBase, base_of, refusal_
 use Rattle.library_rules.specs.Permitted.{DuePermits}
 use Rattle.library_rules.specs.declared.entry.Entry.{Entry}
 use Rattle.library_rules.proofs.KeepingLemmas.{grown, still_stored, still_complete, agrees_grown}
-use Rattle.library_rules.proofs.MemberLemmas.{or_cases, apart}
+use Rattle.library_rules.proofs.MemberLemmas.{apart}
 use Rattle.library_rules.proofs.SoundLemmas.{Bears}
 use Rattle.library_rules.proofs.CallsLemmas.{update_due-is, put_due-is, taken, put_by}
+use Rattle.std.proofs.lemmas.Bool.{or_cases}
 
 pub refused_not : (r : Reply) (why : Refusal) → r ≡ reply.Refused why → is_refused r ≡ false → ⊥
 refused_not r why is goes = apart (is_refused r) (ap is_refused is) goes

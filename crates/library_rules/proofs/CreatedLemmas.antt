@@ -16,7 +16,8 @@ use Rattle.library_rules.specs.Creation.{opening_commit, opening_object, created
 use Rattle.library_rules.specs.Changes.{put_new}
 use Rattle.library_rules.specs.LibraryState.{State, IsSound, users_of}
 use Rattle.library_rules.proofs.KeptHistoryLemmas.{cons_some}
-use Rattle.library_rules.proofs.MemberLemmas.{or_cases, same_id-true}
+use Rattle.library_rules.proofs.MemberLemmas.{same_id-true}
+use Rattle.std.proofs.lemmas.Bool.{or_cases}
 
 -- a commit with no file is complete once it is stored
 pub empty_complete : (A : Objects) (id : List ℕ) (commit : Commit) → commit_at A id ≡ Ok commit → commit.root ≡ nil → IsComplete A id

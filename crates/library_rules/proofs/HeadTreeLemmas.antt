@@ -19,8 +19,9 @@ use Rattle.library_rules.specs.LibraryState.{State, is_kept, head_of}
 use Rattle.library_rules.specs.MergeCommit.{RootTree, IsTreeAt, OfTrees, merge_of, merge_commit, Makes}
 use Rattle.library_rules.specs.declared.entry.Entry.{Entry}
 use Rattle.library_rules.proofs.HeadsLemmas.{taken_in, base_kept, head_after}
-use Rattle.library_rules.proofs.MemberLemmas.{same_id-true, same_id-itself, or_left, or_right}
+use Rattle.library_rules.proofs.MemberLemmas.{same_id-true, same_id-itself}
 use Rattle.library_rules.proofs.StepLemmas.{objects_after}
+use Rattle.std.proofs.lemmas.Bool.{or_left, or_right}
 
 -- ---- the head is kept
 

@@ -14,7 +14,8 @@ use Rattle.object_graph.proofs.StoredLemmas.{commit_stored, agree_kept}
 use Rattle.library_rules.specs.Changes.{put_new, with_added, without, keys_added}
 use Rattle.library_rules.specs.LibraryState.{kept_commits, is_kept, is_stored, is_needed}
 use Rattle.library_rules.specs.declared.entry.Stored.{Stored}
-use Rattle.library_rules.proofs.MemberLemmas.{or_cases, or_none, fails, apart, any_found}
+use Rattle.library_rules.proofs.MemberLemmas.{apart, any_found}
+use Rattle.std.proofs.lemmas.Bool.{or_cases, false_from_ne_true, or_parts}
 
 -- ---- objects that come
 
@@ -69,7 +70,7 @@ added_stored A (x ∷ added) key e = elim (or_cases (same_key key x.key) (is_in 
 pub kept_without : (A : Objects) (removed : List Key) (key : Key) → is_in removed key ≡ false → map.get (without A removed) key ≡ map.get A key
 kept_without A [] key e = refl
 kept_without A (k ∷ removed) key e =
-    let parts = or_none (same_key key k) (is_in removed key) e in
+    let parts = or_parts (same_key key k) (is_in removed key) e in
     kept_without (map.remove A k) removed key parts.1 ∙ map.get-remove key_cmp_total A k key ∙ ap (λ b. cond b None (map.get A key)) parts.0
 
 -- what is stored stays, where it doesn't leave
@@ -111,7 +112,7 @@ kept_needs A kept id key is_one e = any_found (λ commit. is_in (needs A commit)
 pub agrees_swept : (A : Objects) (kept : List Install) (removed : List Key) (id : List ℕ) → is_kept kept id ≡ true
     → ((key : Key) → is_in removed key ≡ true → is_needed A kept key ≡ false) → AgreeOn (needs A id) A (without A removed)
 agrees_swept A kept removed id is_one unneeded = record {
-  same = λ key e. kept_without A removed key (fails (is_in removed key) (λ gone. apart (is_needed A kept key) (kept_needs A kept id key is_one e) (unneeded key gone)));
+  same = λ key e. kept_without A removed key (false_from_ne_true (is_in removed key) (λ gone. apart (is_needed A kept key) (kept_needs A kept id key is_one e) (unneeded key gone)));
 }
 
 -- objects come or leave, and what kept commits need stays

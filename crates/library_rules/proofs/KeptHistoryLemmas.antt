@@ -4,7 +4,8 @@ use Rattle.library_state.specs.Retention.{is_recent, is_last, kept_for}
 use Rattle.library_state.specs.declared.history.Install.{Install}
 use Rattle.object_graph.specs.Objects.{same_id}
 use Rattle.library_rules.specs.LibraryState.{is_kept}
-use Rattle.library_rules.proofs.MemberLemmas.{or_cases, or_right, kept_append, same_id-true}
+use Rattle.library_rules.proofs.MemberLemmas.{kept_append, same_id-true}
+use Rattle.std.proofs.lemmas.Bool.{or_cases, or_right}
 
 pub cons_some : {A : Type 0} (x : A) (xs : List A) → x ∷ xs ≢ []
 cons_some x xs e = cc

@@ -12,6 +12,7 @@ use Rattle.object_graph.specs.Traversal.{is_in}
 use Rattle.object_graph.proofs.KeyLemmas.{same_key}
 use Rattle.library_rules.specs.Changes.{add_all}
 use Rattle.library_rules.specs.LibraryState.{kept_commits, is_kept}
+use Rattle.std.proofs.lemmas.Bool.{or_cases, or_left, or_right, false_from_ne_true, or_parts}
 
 pub same_id-true : (a b : List ℕ) → same_id a b ≡ true → a ≡ b
 same_id-true a b e = (bytes_decides a b).0 e
@@ -21,27 +22,7 @@ same_id-itself a = (bytes_decides a a).1 refl
 
 -- ---- tests
 
-pub or_cases : (a b : Bool) → (a || b) ≡ true → (a ≡ true) ⊎ (b ≡ true)
-or_cases true b e = inl refl
-or_cases false b e = inr e
-
-pub or_left : (a b : Bool) → a ≡ true → (a || b) ≡ true
-or_left a b e = ap (λ c. c || b) e
-
-pub or_right : (a b : Bool) → b ≡ true → (a || b) ≡ true
-or_right true b e = refl
-or_right false b e = e
-
-pub or_none : (a b : Bool) → (a || b) ≡ false → (a ≡ false) × (b ≡ false)
-or_none true b e = absurd (true≢false e)
-or_none false b e = (refl, e)
-
--- a test that can't pass fails
-pub fails : (b : Bool) → (b ≡ true → ⊥) → b ≡ false
-fails true never = absurd (never refl)
-fails false never = refl
-
--- a test that passes and fails
+-- a test that passes, and fails
 pub apart : (b : Bool) → b ≡ true → b ≡ false → ⊥
 apart b yes_it no_it = true≢false (sym yes_it ∙ no_it)
 

@@ -27,22 +27,12 @@ use Rattle.object_graph.specs.Traversal.{IsComplete}
 use Rattle.object_graph.specs.declared.fault.TreeFault.TheVariants.{Unreadable}
 use Rattle.object_graph.proofs.CommitLemmas.{commit_root}
 use Rattle.library_rules.specs.LibraryState.{State, is_kept, users_of, IsSound}
-use Rattle.library_rules.proofs.MemberLemmas.{or_left, or_right, same_id-true, same_id-itself}
+use Rattle.library_rules.proofs.MemberLemmas.{same_id-true, same_id-itself}
+use Rattle.std.proofs.lemmas.Bool.{or_left, or_right}
+use Rattle.ids.proofs.BasicLemmas.{same_from_some}
+use Rattle.json_words.proofs.CheckLemmas.{WentOn, went_on}
 
 -- ---- no commit is read that is named by forty zeros
-
--- what a step that gave a value had before it
-record WentOn {A B E : Type 0} (first : Result A E) (next : A → Result B E) (y : B) : Type 0 where
-  value : A
-  gave : first ≡ Ok value
-  goes : next value ≡ Ok y
-
-went_on : {A B E : Type 0} (first : Result A E) (next : A → Result B E) (y : B) → (first >>= next) ≡ Ok y → WentOn first next y
-went_on (Ok a) next y is = record { value = a; gave = refl; goes = is }
-went_on (Err e) next y is = cc
-
-same_some : {A : Type 0} (x y : A) → Some x ≡ Some y → x ≡ y
-same_some x y is = cc
 
 given : {A E : Type 0} (o : Option A) (fault : E) (y : A) → ok_or o fault ≡ Ok y → o ≡ Some y
 given (Some x) fault y is = cc
@@ -54,7 +44,7 @@ not_zeros (Some x) id is = by (bytes_eq x nil) refl is
   where
     by : (b : Bool) → bytes_eq x nil ≡ b → (if b then None else Some x) ≡ Some id → id ≢ nil
     by true test is = cc
-    by false test is = λ zeros. true≢false (sym ((bytes_decides x nil).1 (same_some x id is ∙ zeros)) ∙ test)
+    by false test is = λ zeros. true≢false (sym ((bytes_decides x nil).1 (same_from_some x id is ∙ zeros)) ∙ test)
 
 stored_not_zeros : (key : CommitKey) (d : Data) (id : List ℕ) → stored_id_at key d ≡ Ok id → id ≢ nil
 unfolding stored_id_at stored_id_of

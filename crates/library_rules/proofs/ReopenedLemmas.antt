@@ -11,7 +11,8 @@ use Rattle.object_graph.specs.Unchanged.{Keeps}
 use Rattle.library_rules.specs.LibraryState.{State, kept_commits, is_stored, is_needed, IsSound, last_number}
 use Rattle.library_rules.specs.Recovery.{StandsFor, opened}
 use Rattle.library_rules.proofs.KeepingLemmas.{agrees_grown, still_complete, same_needs, needs_stored}
-use Rattle.library_rules.proofs.MemberLemmas.{or_left, or_right, fails, apart, same_id-itself}
+use Rattle.library_rules.proofs.MemberLemmas.{apart, same_id-itself}
+use Rattle.std.proofs.lemmas.Bool.{or_left, or_right, false_from_ne_true}
 
 next_opening : (n : ℕ) → n < last_number → n + 1 ≤ last_number
 next_opening n less = omega arith
@@ -66,7 +67,7 @@ stands_by_its_objects s slot lying sound text reads keeps = record {
   text = text;
   reads = reads;
   lies = keeps;
-  garbage = λ key absent. fails (is_needed lying s.state.kept key) (λ e. apart (is_stored s.objects key) (there key e) absent);
+  garbage = λ key absent. false_from_ne_true (is_needed lying s.state.kept key) (λ e. apart (is_stored s.objects key) (there key e) absent);
 }
   where
     there : (key : Key) → is_needed lying s.state.kept key ≡ true → is_stored s.objects key ≡ true

@@ -21,9 +21,10 @@ use Rattle.library_rules.specs.Retried.{entry_at, IsUpdate, MayUpdate, IsRetaine
 use Rattle.library_rules.specs.declared.entry.Entry.{Entry}
 use Rattle.library_rules.specs.declared.entry.Step.{Step}
 use Rattle.library_rules.specs.declared.entry.Step.TheVariants as step
-use Rattle.library_rules.proofs.MemberLemmas.{or_left, or_right, same_id-itself, kept_append}
+use Rattle.library_rules.proofs.MemberLemmas.{same_id-itself, kept_append}
 use Rattle.library_rules.proofs.UnmovedLemmas.{moved_nothing}
 use Rattle.library_rules.proofs.CallsLemmas.{update_due-is}
+use Rattle.std.proofs.lemmas.Bool.{or_left, or_right}
 
 -- ---- an update keeps its commit
 

@@ -23,7 +23,8 @@ use Rattle.library_rules.specs.LibraryState.{State, Running, is_kept, is_stored,
 use Rattle.library_rules.specs.declared.entry.Stored.{Stored}
 use Rattle.library_rules.proofs.KeepingLemmas.{added_stored, still_stored, agrees_moved, still_complete}
 use Rattle.library_rules.proofs.KeptHistoryLemmas.{cut_kept, cut_some, installed_cases, push_some}
-use Rattle.library_rules.proofs.MemberLemmas.{or_cases, fails, apart, in_all}
+use Rattle.library_rules.proofs.MemberLemmas.{apart, in_all}
+use Rattle.std.proofs.lemmas.Bool.{or_cases, false_from_ne_true}
 
 -- ---- kept commits and fresh keys
 
@@ -56,7 +57,7 @@ module _ (A : Objects) (kept : List Install) (running : Option Running) (are : A
       fresh : (key : Key) → (is_in (keys_added added) key ≡ true) ⊎ (is_fresh running key ≡ true) → is_stored (without (with_added A added) removed) key ≡ true
       fresh key (inl new) = came key new one
       fresh key (inr old) = still_stored A added removed key (are.fresh_stored key old)
-          (fails (is_in removed key) (λ gone. apart (is_fresh running key) old (not_fresh key gone)))
+          (false_from_ne_true (is_in removed key) (λ gone. apart (is_fresh running key) old (not_fresh key gone)))
 
   pub kept_told : (keys : List Key) → ((key : Key) → is_in keys key ≡ true → is_stored A key ≡ true) → AreKept A kept (option_map (fresher keys) running)
   kept_told keys stored = record { some_kept = are.some_kept; complete = are.complete; fresh_stored = λ key e. by key (fresh_cases keys running key e) }

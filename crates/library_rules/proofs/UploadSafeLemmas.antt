@@ -2,7 +2,7 @@
 use Rattle.std.proofs.Common.{◌≡◌, ◌≢◌, inl, inr, ℕ, Bool, true, false, cond, List, [], ◌∷◌, Option, None, Some, option_map, refl, ap, ◌∙◌}
 use Rattle.std.specs.FinSet as set
 use Rattle.std.specs.List.{list_any}
-use Rattle.std.proofs.lemmas.Bool.{and_parts, and_from}
+use Rattle.std.proofs.lemmas.Bool.{and_parts, and_from, or_cases, or_left, or_right, false_from_ne_true}
 use Rattle.ids.specs.declared.key.Key.{Key}
 use Rattle.library_state.specs.declared.call.Act.{Act}
 use Rattle.library_state.specs.declared.call.Act.TheVariants as act
@@ -19,7 +19,7 @@ use Rattle.library_rules.specs.declared.entry.Entry.{Entry}
 use Rattle.library_rules.specs.declared.entry.Step.{Step}
 use Rattle.library_rules.specs.declared.entry.Step.TheVariants as step
 use Rattle.library_rules.proofs.KeepingLemmas.{same_needs, agrees_moved, kept_needs, still_stored}
-use Rattle.library_rules.proofs.MemberLemmas.{or_cases, or_left, or_right, fails, apart, in_all, same_id-itself}
+use Rattle.library_rules.proofs.MemberLemmas.{apart, in_all, same_id-itself}
 use Rattle.library_rules.proofs.RetriedLemmas.{kept_stays}
 use Rattle.library_rules.proofs.StepLemmas.{objects_after, spares}
 
@@ -125,7 +125,7 @@ nothing_leaves s e key none = ap (λ keys. is_in keys key) none
 
 sweep_spares : (s : State) (e : Entry) (key : Key) (run : Option Running) → SweepPermits s e run → is_shielded s run key ≡ true → is_in e.removed key ≡ false
 sweep_spares s e key None p shielded = nothing_leaves s e key p.0
-sweep_spares s e key (Some running) p shielded = fails (is_in e.removed key) (λ there.
+sweep_spares s e key (Some running) p shielded = false_from_ne_true (is_in e.removed key) (λ there.
     elim (or_cases (is_needed s.objects s.state.kept key) (set.contains running.fresh key) shielded) [
       | inl is ↦ apart (is_needed s.objects s.state.kept key) is (p.unneeded key there)
       | inr is ↦ apart (set.contains running.fresh key) is (p.not_fresh key there)

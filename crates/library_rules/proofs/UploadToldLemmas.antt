@@ -2,7 +2,7 @@
 use Rattle.std.proofs.Common.{◌≡◌, ◌⊎◌, inl, inr, ℕ, Bool, true, false, cond, List, [], ◌∷◌, ◌++◌, not, filter, Option, None, Some, option_map, refl, sym, ap, subst, ◌∙◌}
 use Rattle.std.specs.FinSet as set
 use Rattle.std.specs.List.{list_any}
-use Rattle.std.proofs.lemmas.Bool.{and_from}
+use Rattle.std.proofs.lemmas.Bool.{and_from, or_cases, or_left, or_right}
 use Rattle.ids.specs.declared.key.Key.{Key}
 use Rattle.ids.specs.declared.key.Kind.{Kind}
 use Rattle.library_state.specs.declared.call.Act.{Act}
@@ -27,9 +27,10 @@ use Rattle.library_rules.specs.declared.entry.Step.{Step}
 use Rattle.library_rules.specs.declared.entry.Step.TheVariants as step
 use Rattle.library_rules.specs.declared.entry.Stored.{Stored}
 use Rattle.library_rules.proofs.KeepingLemmas.{added_stored}
-use Rattle.library_rules.proofs.MemberLemmas.{same_id-true, same_id-itself, or_cases, or_left, or_right, in_all, apart}
+use Rattle.library_rules.proofs.MemberLemmas.{same_id-true, same_id-itself, in_all, apart}
 use Rattle.library_rules.proofs.StepLemmas.{objects_after}
 use Rattle.library_rules.proofs.CallsLemmas.{put_due-is, taken, put_by}
+use Rattle.object_graph.proofs.ReachingLemmas.{in_first}
 
 -- ---- fresh, where a collection runs
 
@@ -51,9 +52,6 @@ told_shielded s key (Some running) e = or_right (is_needed s.objects s.state.kep
 
 safe_by : (s : State) (key : Key) → is_stored s.objects key ≡ true → IsTold key s.running → is_safe s key ≡ true
 safe_by s key stored told = and_from (is_stored s.objects key) (is_shielded s s.running key) stored (told_shielded s key s.running told)
-
-itself_in : (key : Key) (keys : List Key) → is_in (key ∷ keys) key ≡ true
-itself_in key keys = or_left (same_key key key) (is_in keys key) (same_key-itself key)
 
 -- ---- what a put's answer tells of what was due
 
@@ -136,12 +134,12 @@ put_is_safe s e call key bytes new permits asked acts answers =
     elim put as (λ _. is_safe (apply s e) key ≡ true) [
       | inl before ↦
           let stored : is_stored (apply s e).objects key ≡ true = ap (λ A. is_stored A key) (objects_of_call s e [] before.1 asked_permits.1) ∙ before.2 in
-          let keys : is_in (told_by key (reply.Stored new)) key ≡ true = ap (λ b. is_in (told_by key (reply.Stored b)) key) before.0 ∙ itself_in key [] in
+          let keys : is_in (told_by key (reply.Stored new)) key ≡ true = ap (λ b. is_in (told_by key (reply.Stored b)) key) before.0 ∙ in_first key [] in
           safe_by (apply s e) key stored (subst T (sym running) (told_now key (told_by key (reply.Stored new)) (option_map (fresher (keys_added e.added)) s.running) keys))
       | inr adds ↦
           let x : Stored = record { key = key; bytes = bytes } in
-          let stored : is_stored (apply s e).objects key ≡ true = ap (λ A. is_stored A key) (objects_of_call s e (x ∷ []) adds asked_permits.1) ∙ added_stored s.objects (x ∷ []) key (itself_in key []) in
-          let keys : is_in (keys_added e.added) key ≡ true = ap (λ added. is_in (keys_added added) key) adds ∙ itself_in key [] in
+          let stored : is_stored (apply s e).objects key ≡ true = ap (λ A. is_stored A key) (objects_of_call s e (x ∷ []) adds asked_permits.1) ∙ added_stored s.objects (x ∷ []) key (in_first key []) in
+          let keys : is_in (keys_added e.added) key ≡ true = ap (λ added. is_in (keys_added added) key) adds ∙ in_first key [] in
           safe_by (apply s e) key stored (subst T (sym running) (still_told key (told_by key (reply.Stored new)) (option_map (fresher (keys_added e.added)) s.running) (told_now key (keys_added e.added) s.running keys)))
     ]
 
@@ -160,7 +158,7 @@ asked_key k (x ∷ ids) id e other =
     at_first x same true is = absurd (apart (is_nil x) is (subst (λ i. is_nil i ≡ false) same other))
     at_first x same false is =
         let P : List ℕ → Type 0 = λ i. is_in (record { kind = k; id = i } ∷ keys_of k ids) (record { kind = k; id = id }) ≡ true in
-        subst P same (itself_in (record { kind = k; id = id }) (keys_of k ids))
+        subst P same (in_first (record { kind = k; id = id }) (keys_of k ids))
 
     at_later : (x : List ℕ) (b : Bool) → is_in (keys_of k ids) (record { kind = k; id = id }) ≡ true → is_in (cond b (keys_of k ids) (record { kind = k; id = x } ∷ keys_of k ids)) (record { kind = k; id = id }) ≡ true
     at_later x true there = there

@@ -4,7 +4,7 @@ use Rattle.std.specs.Prelude.{is_some, unwrap_or}
 use Rattle.std.specs.FinMap as map
 use Rattle.depot.specs.DepotView.{DepotView, IsGood, running_library, state_of}
 use Rattle.depot.specs.Standing.{IsOnShelf}
-use Rattle.depot.proofs.StandingLemmas.{on_shelf}
+use Rattle.depot.proofs.StandingLemmas.{on_shelf, indexed_lies}
 use Rattle.folder_storage.specs.Ground.{Standing, Standings}
 use Rattle.library_rules.specs.LibraryState.{State}
 use Rattle.library_rules.specs.Recovery.{StandsFor}
@@ -21,10 +21,6 @@ retained_bytes : (b : Bool) (x : Option (List ℕ)) (bytes : List ℕ) → cond 
 retained_bytes true x bytes e = e
 retained_bytes false x bytes e = cc
 
--- what the store knows lies on the shelf
-pub indexed_lies : (index : Index) (held : Contents) → Keeps (indexed index held) held.objects
-indexed_lies index held = record {
-  kept = λ key bytes there. retained_bytes (is_some (map.get index key)) (map.get held.objects key) bytes (sym (get-retained held.objects index key) ∙ there);
 }
 
 pub mapped_from : {A B : Type 0} (f : A → B) (o : Option A) (b : B) → option_map f o ≡ Some b → (a : A) × (o ≡ Some a)

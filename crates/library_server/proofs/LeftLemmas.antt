@@ -23,7 +23,8 @@ use Rattle.library_server.specs.Making.{LeavesText, first_of}
 use Rattle.library_server.specs.declared.making.NewLibrary.{NewLibrary}
 use Rattle.library_server.specs.declared.not_done.NotStarted.{NotStarted}
 use Rattle.library_server.specs.declared.not_done.NotStarted.TheVariants as unstarted
-use Rattle.library_server.proofs.DepotLemmas.{indexed_lies, mapped_from, some_same}
+use Rattle.library_server.proofs.DepotLemmas.{mapped_from, some_same}
+use Rattle.depot.proofs.StandingLemmas.{indexed_lies}
 
 module _ {S : Type 0} (contents : S → Option Contents) where
   -- the slot of a shelf that tells it

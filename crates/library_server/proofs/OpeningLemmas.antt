@@ -22,10 +22,7 @@ use Rattle.server_words.specs.declared.command.Place.{Place}
 use Rattle.library_server.specs.LibraryOpening.{GivesOther, IsDueOpening, IsNotStarted, IsOpenedState, IsTextOf, of_text, opening_refusal, read_refusal}
 use Rattle.library_server.specs.declared.not_done.NotStarted.{NotStarted}
 use Rattle.library_server.specs.declared.not_done.NotStarted.TheVariants as unstarted
-
--- another id
-pub other_id : (a b : List ℕ) → a ≢ b → bytes_eq a b ≡ false
-other_id a b other = false_from_ne_true (bytes_eq a b) (λ t. other ((bytes_eq-Decides a b).0 t))
+use Rattle.ids.proofs.BasicLemmas.{apart_from_bytes_eq}
 
 -- a text that is the library's is opened as it is, or refused as it is
 due_named : (lib : List ℕ) (objects : Objects) (text : List ℕ) (found : LibState) → read_state text ≡ Ok found → found.lib ≡ lib
@@ -98,7 +95,7 @@ pub other_due : (lib : List ℕ) (objects : Objects) (status : Option (List ℕ)
 other_due lib objects status text found there reads other = ap (opening_refusal lib objects) there ∙ at
   where
     at : opening_refusal lib objects (Some text) ≡ Some unstarted.Other
-    at = rw (reads, other_id found.lib lib other) refl
+    at = rw (reads, apart_from_bytes_eq found.lib lib other) refl
 
 -- ---- a fault of the text alone
 

@@ -18,10 +18,11 @@ use Rattle.object_store.specs.declared.error.StoreFault.{StoreFault}
 use Rattle.object_store.specs.declared.error.StoreFault.TheVariants as store
 use Rattle.object_graph.specs.Unchanged.{Keeps}
 use Rattle.folder_storage.specs.Ground.{Kept, Standing}
-use Rattle.library_server.proofs.DepotLemmas.{indexed_lies, mapped_from, shelf_told, some_same, stands_again, state_is}
+use Rattle.library_server.proofs.DepotLemmas.{mapped_from, shelf_told, some_same, stands_again, state_is}
 use Rattle.library_server.specs.Standing.{StandsAs}
 use Rattle.library_server.specs.Adding.{IsTokenRefused, StandsWithText, RefusesToken, with_new}
 use Rattle.library_server.specs.declared.adding.NewToken.{NewToken}
+use Rattle.depot.proofs.StandingLemmas.{indexed_lies}
 
 -- the refusal that is due says which
 taken_first : (taken full : Bool) → ◌≡◌ {A = Option TokenFault} (cond taken (Some token.SecretTaken) (cond full (Some token.Full) None)) (Some token.SecretTaken) → taken ≡ true

@@ -10,10 +10,7 @@ use Rattle.local_index.specs.IndexSpelling.{directory_with, file_with, entry_dat
 use Rattle.local_index.specs.declared.index.Index.{Index}
 use Rattle.local_index.specs.declared.index.Known.{Known}
 use Rattle.local_index.specs.declared.index.Known.TheVariants.{Dir, File}
-
-is_float-of_integer : (z : ℤ) → is_float (of_integer z) ≡ false
-is_float-of_integer (pos n) = refl
-is_float-of_integer (negsuc n) = refl
+use Rattle.json_words.proofs.FoundLemmas.{is_float-of_integer}
 
 has_float-known_data : (path : PathV) (known : Known) → has_float (known_data path known) ≡ false
 unfolding directory_with file_with

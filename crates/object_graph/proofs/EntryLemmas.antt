@@ -10,7 +10,7 @@ use Rattle.std.specs.Cmp.{IsTotalOrder, Equal-is}
 use Rattle.std.specs.Cmp.Lexicographic.{nat_list_cmp_total}
 use Rattle.std.specs.Ordering.{eq_by_cmp, is_lt}
 use Rattle.std.proofs.lemmas.List.{nil_from_length}
-use Rattle.ids.proofs.BasicLemmas.{apart_from_is_lt}
+use Rattle.ids.proofs.BasicLemmas.{apart_from_is_lt, both_from_T}
 use Rattle.fs_objects.specs.declared.dirent.Dirent.{Dirent}
 use Rattle.object_graph.specs.Objects.{name_cmp, entry_named, by_name, in_name_order}
 
@@ -106,15 +106,11 @@ unfoldable pub Apart : List Dirent → Type 0
 Apart [] = Unit {0}
 Apart (e ∷ entries) = (entry_named e.name entries ≡ None) × Apart entries
 
-both_parts : (a b : Bool) → T (a && b) → T a × T b
-both_parts true b h = (tt, h)
-both_parts false b h = absurd h
-
 none_below : (p : List ℕ × Dirent) (entries : List (List ℕ × Dirent)) → p.0 ≡ p.1.name → Keyed entries → T (below_all name_cmp p.0 entries) → entry_named p.1.name (values_of entries) ≡ None
 unfolding Keyed
 none_below p [] same all below = refl
 none_below p (q ∷ entries) same all below =
-    let parts = both_parts (is_lt (name_cmp p.0 q.0)) (below_all name_cmp p.0 entries) below in
+    let parts = both_from_T (is_lt (name_cmp p.0 q.0)) (below_all name_cmp p.0 entries) below in
     let here : eq_by_cmp name_cmp p.1.name q.1.name ≡ false = ap₂ (eq_by_cmp name_cmp) (sym same) (sym all.0) ∙ apart_from_is_lt (name_cmp p.0 q.0) parts.0 in
     ap (λ (b : Bool). if b then Some q.1 else entry_named p.1.name (values_of entries)) here ∙ none_below p entries same all.1 parts.1
 
@@ -122,7 +118,7 @@ apart_values : (entries : List (List ℕ × Dirent)) → Keyed entries → T (ma
 unfolding Keyed Apart
 apart_values [] all sorted = tt
 apart_values (p ∷ entries) all sorted =
-    let parts = both_parts (below_all name_cmp p.0 entries) (map.is_sorted name_cmp entries) sorted in
+    let parts = both_from_T (below_all name_cmp p.0 entries) (map.is_sorted name_cmp entries) sorted in
     (none_below p entries all.0 all.1 parts.0, apart_values entries all.1 parts.1)
 
 pub apart_in_order : (entries : List Dirent) → Apart (in_name_order entries)

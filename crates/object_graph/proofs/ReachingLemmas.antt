@@ -21,7 +21,7 @@ use Rattle.object_graph.proofs.KeyLemmas.{Within, in_append, in_pushed, same_key
 use Rattle.object_graph.proofs.LocalityLemmas.{counted-visits}
 use Rattle.object_graph.proofs.SchemeLemmas.{Step, goes_on, none_before}
 
-in_first : (key : Key) (keys : List Key) → is_in (key ∷ keys) key ≡ true
+pub in_first : (key : Key) (keys : List Key) → is_in (key ∷ keys) key ≡ true
 in_first key keys = ap (λ b. b || is_in keys key) (same_key-itself key)
 
 in_parts : (xs ys : List Key) (key : Key) → is_in (xs ++ ys) key ≡ true → (is_in xs key ≡ true) ⊎ (is_in ys key ≡ true)

@@ -16,14 +16,12 @@ use Rattle.object_store.specs.declared.error.StoreFault.TheVariants as fault
 use Rattle.object_store.specs.declared.shelf.ShelfFailed.{ShelfFailed}
 use Rattle.object_store.specs.declared.shelf.ShelfFailed.TheVariants.{Shelf, NoMemory}
 use Rattle.object_store.specs.declared.shelf.Slot.TheVariants.{Object}
+use Rattle.ids.proofs.BasicLemmas.{same_from_some}
 
 -- each key of the index lies in these contents, with its size
 abbrev pub IsReady : Option Contents → Index → Type 0
 IsReady known index = (held : Contents) → known ≡ Some held → (key : Key) (size : ℕ)
     → map.get index key ≡ Some size → option_map length (map.get held.objects key) ≡ Some size
-
-same_some : {A : Type 0} (x y : A) → Some x ≡ Some y → x ≡ y
-same_some x y e = cc
 
 nothing : {A : Type 0} {B : Type 0} (x : A) → ◌≡◌ {A = Option A} None (Some x) → B
 nothing x e = absurd (true≢false (sym (ap is_some e)))
@@ -39,7 +37,7 @@ pub ready-put : (known : Option Contents) (index : Index) (key : Key) (bytes : L
     → IsReady (put_known known (Object key) bytes) (map.insert index key (length bytes))
 ready-put None index key bytes ready held told q size found = nothing held told
 ready-put (Some before) index key bytes ready held told q size found =
-    let objects : map.insert before.objects key bytes ≡ held.objects = ap (λ (c : Contents). c.objects) (same_some _ _ told) in
+    let objects : map.insert before.objects key bytes ≡ held.objects = ap (λ (c : Contents). c.objects) (same_from_some _ _ told) in
     let at : map.get held.objects q ≡ cond (eq_by_cmp key_cmp q key) (Some bytes) (map.get before.objects q) =
     ap (λ m. map.get m q) (sym objects) ∙ map.get-insert key_cmp_total before.objects key bytes q in
     ap (option_map length) at
@@ -55,7 +53,7 @@ pub ready-beside : (known : Option Contents) (index : Index) (key : Key) (bytes 
     → IsReady known index → IsReady (put_known known (Object key) bytes) index
 ready-beside None index key bytes absent ready held told q size found = nothing held told
 ready-beside (Some before) index key bytes absent ready held told q size found =
-    let objects : map.insert before.objects key bytes ≡ held.objects = ap (λ (c : Contents). c.objects) (same_some _ _ told) in
+    let objects : map.insert before.objects key bytes ≡ held.objects = ap (λ (c : Contents). c.objects) (same_from_some _ _ told) in
     let at : map.get held.objects q ≡ cond (eq_by_cmp key_cmp q key) (Some bytes) (map.get before.objects q) =
     ap (λ m. map.get m q) (sym objects) ∙ map.get-insert key_cmp_total before.objects key bytes q in
     ap (option_map length) at
@@ -71,7 +69,7 @@ pub ready-removed : (known : Option Contents) (index : Index) (key : Key) → Is
     → IsReady (removed_known known (Object key)) (map.remove index key)
 ready-removed None index key ready held told q size found = nothing held told
 ready-removed (Some before) index key ready held told q size found =
-    let objects : map.remove before.objects key ≡ held.objects = ap (λ (c : Contents). c.objects) (same_some _ _ told) in
+    let objects : map.remove before.objects key ≡ held.objects = ap (λ (c : Contents). c.objects) (same_from_some _ _ told) in
     let at : map.get held.objects q ≡ cond (eq_by_cmp key_cmp q key) None (map.get before.objects q) =
     ap (λ m. map.get m q) (sym objects) ∙ map.get-remove key_cmp_total before.objects key q in
     ap (option_map length) at
@@ -193,7 +191,7 @@ objects-given_up (Err (fault.Damaged want got)) old new index now key change = a
 pub held-at : (known : Option Contents) (index : Index) (objects : Objects) (key : Key) → option_map (indexed index) known ≡ Some objects
     → (held : Contents) × (known ≡ Some held) × (map.get objects key ≡ cond (is_some (map.get index key)) (map.get held.objects key) None)
 held-at None index objects key told = nothing objects told
-held-at (Some held) index objects key told = (held, refl, ap (λ m. map.get m key) (sym (same_some _ _ told)) ∙ get-indexed index held key)
+held-at (Some held) index objects key told = (held, refl, ap (λ m. map.get m key) (sym (same_from_some _ _ told)) ∙ get-indexed index held key)
 
 size_of : (i : Option ℕ) (x : Option (List ℕ)) → ((size : ℕ) → i ≡ Some size → option_map length x ≡ Some size)
     → i ≡ option_map length (cond (is_some i) x None)

@@ -23,6 +23,7 @@ use Rattle.object_store.specs.declared.put.Put.{Put}
 use Rattle.object_store.specs.declared.put.Put.TheVariants.{New, Same}
 use Rattle.object_store.specs.declared.shelf.Slot.{Slot}
 use Rattle.object_store.specs.declared.shelf.Slot.TheVariants.{Object}
+use Rattle.ids.proofs.BasicLemmas.{none_from_is_some}
 
 -- a fetch gives what is held under a key of the index
 pub given-stored : (known : Option Contents) (index : Index) (objects : Objects) (key : Key) → option_map (indexed index) known ≡ Some objects
@@ -42,10 +43,6 @@ pub there-held : (known : Option Contents) (index : Index) (objects : Objects) (
     → IsReady known index → is_some (map.get index key) ≡ true → is_some (map.get objects key) ≡ true
 there-held known index objects key told ready there =
     sym (sized (map.get objects key)) ∙ sym (ap is_some (sizes known index ready objects told key)) ∙ there
-
-none_of : {A : Type 0} (o : Option A) → is_some o ≡ false → o ≡ None
-none_of None e = refl
-none_of (Some x) e = absurd (true≢false e)
 
 -- what doesn't stand in the index isn't held
 pub not-held : (known : Option Contents) (index : Index) (objects : Objects) (key : Key) → option_map (indexed index) known ≡ Some objects
@@ -189,7 +186,7 @@ status-at (Some held) status e = (held, refl, inside held.status status e)
 
 -- a key that doesn't stand in the index
 pub absent-key : (index : Index) (key : Key) → is_some (map.get index key) ≡ false → map.get index key ≡ None
-absent-key index key absent = none_of (map.get index key) absent
+absent-key index key absent = none_from_is_some (map.get index key) absent
 
 -- ---- objects under their own names
 

@@ -25,13 +25,7 @@ use Rattle.server_words.specs.declared.command.Command.{Command}
 use Rattle.server_words.specs.declared.command.Command.TheVariants.{Create, Token, Inetd, Help, Version, Usage}
 use Rattle.server_words.specs.declared.command.Place.{Place}
 use Rattle.server_words.specs.declared.command.Place.TheVariants.{Memory, Folder}
-
--- a test of two words
-same_word : (xs ys : List ℕ) → bytes_eq xs ys ≡ true → xs ≡ ys
-same_word xs ys h = (bytes_eq-Decides xs ys).0 h
-
-other_word : (xs ys : List ℕ) → xs ≢ ys → bytes_eq xs ys ≡ false
-other_word xs ys h = false_from_ne_true (bytes_eq xs ys) (λ t. h (same_word xs ys t))
+use Rattle.ids.proofs.BasicLemmas.{same_from_bytes_eq, apart_from_bytes_eq}
 
 -- what a text is read as spells the text
 library_text_at : (text : List ℕ) (b : Bool) → has_form library_form text ≡ b → IfSome (cond b (parsed text) None) (λ id. text ≡ hyphenated_text lower id)
@@ -60,7 +54,7 @@ place_text_at folder false same = refl
 
 place_word_text : (folder : List ℕ) → IfSome (place_word folder) (λ place. folder ≡ place_text place)
 place_word_text [] = tt
-place_word_text (c ∷ cs) = place_text_at (c ∷ cs) (bytes_eq (c ∷ cs) (codes ":memory:")) (same_word (c ∷ cs) (codes ":memory:"))
+place_word_text (c ∷ cs) = place_text_at (c ∷ cs) (bytes_eq (c ∷ cs) (codes ":memory:")) (same_from_bytes_eq (c ∷ cs) (codes ":memory:"))
 
 right_text_at : (text : List ℕ) (r rw own : Bool) → (r ≡ true → text ≡ codes "r") → (rw ≡ true → text ≡ codes "rw") → (own ≡ true → text ≡ codes "own")
     → IfSome (cond r (Some Read) (cond rw (Some Write) (cond own (Some Owner) None))) (λ right. text ≡ right_text right)
@@ -72,7 +66,7 @@ right_text_at text false false false same-r same-rw same-own = tt
 right_word_text : (text : List ℕ) → IfSome (right_of text) (λ right. text ≡ right_text right)
 right_word_text text =
     right_text_at text (bytes_eq text (codes "r")) (bytes_eq text (codes "rw")) (bytes_eq text (codes "own"))
-    (same_word text (codes "r")) (same_word text (codes "rw")) (same_word text (codes "own"))
+    (same_from_bytes_eq text (codes "r")) (same_from_bytes_eq text (codes "rw")) (same_from_bytes_eq text (codes "own"))
 
 -- the words are the spelling of the command, unless it is Usage
 IsSpelling : List (List ℕ) → Command → Type 0
@@ -142,21 +136,21 @@ pub words_of-command_of : (words : List (List ℕ)) → command_of words ≢ Usa
 unfolding IsSpelling
 words_of-command_of [] other = absurd (other refl)
 words_of-command_of (word ∷ []) other =
-    lone_spelling_at word (bytes_eq word (codes "--help")) (bytes_eq word (codes "--version")) (same_word word (codes "--help")) (same_word word (codes "--version")) other
+    lone_spelling_at word (bytes_eq word (codes "--help")) (bytes_eq word (codes "--version")) (same_from_bytes_eq word (codes "--help")) (same_from_bytes_eq word (codes "--version")) other
 words_of-command_of (word ∷ folder ∷ []) other = absurd (other refl)
 words_of-command_of (word ∷ folder ∷ lib ∷ []) other =
-    short_spelling_at word folder lib (bytes_eq word (codes "inetd")) (same_word word (codes "inetd")) other
+    short_spelling_at word folder lib (bytes_eq word (codes "inetd")) (same_from_bytes_eq word (codes "inetd")) other
 words_of-command_of (word ∷ folder ∷ lib ∷ a ∷ []) other = absurd (other refl)
 words_of-command_of (word ∷ folder ∷ lib ∷ a ∷ b ∷ []) other = absurd (other refl)
 words_of-command_of (word ∷ folder ∷ lib ∷ a ∷ b ∷ c ∷ []) other =
-    long_spelling_at word folder lib a b c (bytes_eq word (codes "create")) (bytes_eq word (codes "token")) (same_word word (codes "create")) (same_word word (codes "token")) other
+    long_spelling_at word folder lib a b c (bytes_eq word (codes "create")) (bytes_eq word (codes "token")) (same_from_bytes_eq word (codes "create")) (same_from_bytes_eq word (codes "token")) other
 words_of-command_of (word ∷ folder ∷ lib ∷ a ∷ b ∷ c ∷ d ∷ more) other = absurd (other refl)
 
 -- what spells a part of a command is read as it
 place_word-place_text : (place : Place) → IsPlace place → place_word (place_text place) ≡ Some place
 place_word-place_text Memory is = refl
 place_word-place_text (Folder []) is = absurd (is.0 refl)
-place_word-place_text (Folder (c ∷ cs)) is = rw (other_word (c ∷ cs) (codes ":memory:") is.1)
+place_word-place_text (Folder (c ∷ cs)) is = rw (apart_from_bytes_eq (c ∷ cs) (codes ":memory:") is.1)
 
 library_id_of-text : (lib : List ℕ) → IsBytesOf 16 lib → library_id_of (hyphenated_text lower lib) ≡ Some lib
 library_id_of-text lib is = library_id_of-good (hyphenated_text lower lib) lib (IsOf-hyphenated lib) (parses_hyphenated lower lib (inl refl) is.0 is.1)

@@ -22,19 +22,16 @@ use Rattle.tree_merge.proofs.PathOrderLemmas.{before_child}
 use Rattle.tree_merge.proofs.DirentLemmas.{named_push, named_push_other}
 use Rattle.tree_merge.proofs.MadeLemmas.{kept_then, kept_itself}
 use Rattle.tree_merge.proofs.SameEntryLemmas.{entries_same, ids_same, entry_same, id_same, nothing_named, id_named}
+use Rattle.ids.proofs.BasicLemmas.{pushed_is_some}
 
 -- ---- entries of a sound table
-
-no_end : (d : PathV) (n : List ℕ) → d ++ n ∷ [] ≢ []
-no_end [] n e = cc
-no_end (m ∷ d) n e = cc
 
 -- what has something below it is a directory
 above : (W : Entries) → IsSound W → (p : PathV) (m : List ℕ) (q : PathV) → p ≢ [] → IsSome (map.get W (p ++ m ∷ q)) → map.get W p ≡ Some Dir
 above W sound p m [] other there = sound.in_dirs p m other there
 above W sound p m (k ∷ q) other there =
     let split : (p ++ m ∷ []) ++ k ∷ q ≡ p ++ m ∷ k ∷ q = append_assoc p (m ∷ []) (k ∷ q) in
-    let next : map.get W (p ++ m ∷ []) ≡ Some Dir = above W sound (p ++ m ∷ []) k q (no_end p m) (subst (λ (r : PathV). IsSome (map.get W r)) (sym split) there) in
+    let next : map.get W (p ++ m ∷ []) ≡ Some Dir = above W sound (p ++ m ∷ []) k q (pushed_is_some p m) (subst (λ (r : PathV). IsSome (map.get W r)) (sym split) there) in
     sound.in_dirs p m other (ap is_some next)
 
 nothing_below : (W : Entries) → IsSound W → (p : PathV) (m : List ℕ) (q : PathV) → p ≢ [] → (map.get W p ≡ Some Dir → ⊥) → map.get W (p ++ m ∷ q) ≡ None
@@ -80,7 +77,7 @@ built_start W H M sound none empty = record {
     below_none d n [] away = away
     below_none d n (m ∷ q) away =
         ap (map.get W) (sym (append_assoc d (n ∷ []) (m ∷ q)))
-        ∙ nothing_below W sound (d ++ n ∷ []) m q (no_end d n) (λ h. differ (sym away ∙ h))
+        ∙ nothing_below W sound (d ++ n ∷ []) m q (pushed_is_some d n) (λ h. differ (sym away ∙ h))
       where
         differ : None ≡ Some Dir → ⊥
         differ e = cc
@@ -107,7 +104,7 @@ module _ (W R after : Entries) (H H2 : PathV → List Dirent) (M M2 : Objects) (
   in_whole = sym (so.still path (ap is_some there)) ∙ there
 
   not_root : path ≢ []
-  not_root is = no_end d n (sym split ∙ is)
+  not_root is = pushed_is_some d n (sym split ∙ is)
 
   longer : path ≢ d
   longer is = apart_by d path (ap (path_cmp d) split ∙ before_child d n) is

@@ -4,7 +4,7 @@ use Rattle.std.specs.Bool.{one_answer}
 use Rattle.std.specs.Option.{option_or}
 use Rattle.std.specs.FinMap as map
 use Rattle.ids.specs.Key.{Objects}
-use Rattle.std.proofs.lemmas.Bool.{and_parts, or_cases}
+use Rattle.std.proofs.lemmas.Bool.{and_parts, or_cases, or_left, or_right}
 use Rattle.ids.proofs.BasicLemmas.{none_from_is_some}
 use Rattle.tree_model.specs.declared.node.FileVersion.{FileVersion}
 use Rattle.tree_model.specs.declared.node.Node.TheVariants as tree_node
@@ -77,13 +77,6 @@ module _ (objects : Objects) (s : Sides) (whole : Threes) (seen : AreSeen object
 
 -- ---- one path more
 
-or_first : (a b : Bool) → a ≡ true → (a || b) ≡ true
-or_first a b e = ap (λ r. r || b) e
-
-or_second : (a b : Bool) → b ≡ true → (a || b) ≡ true
-or_second true b e = refl
-or_second false b e = e
-
 or_none_of : {X : Type 0} (o p : Option X) → p ≡ None → option_or o p ≡ o
 or_none_of None p e = e
 or_none_of (Some x) p e = refl
@@ -145,8 +138,8 @@ module _ (objects : Objects) (s : Sides) (trees : AreTrees s) (whole : Threes) (
         from : stays s path ≡ true → (kept_by three || is_some (map.get marks path)) ≡ true
         from stay =
             elim ((stays_levels s path).0 stay) [
-              | inl kept ↦ or_first (kept_by three) (is_some (map.get marks path)) (sym (kept_seen objects s whole seen path three in_whole) ∙ kept)
-              | inr entry ↦ or_second (kept_by three) (is_some (map.get marks path)) (so.above path entry.name (behind (path ++ entry.name ∷ []) (before_child path entry.name)) entry.keeps)
+              | inl kept ↦ or_left (kept_by three) (is_some (map.get marks path)) (sym (kept_seen objects s whole seen path three in_whole) ∙ kept)
+              | inr entry ↦ or_right (kept_by three) (is_some (map.get marks path)) (so.above path entry.name (behind (path ++ entry.name ∷ []) (before_child path entry.name)) entry.keeps)
             ]
 
         to : (kept_by three || is_some (map.get marks path)) ≡ true → stays s path ≡ true
@@ -220,12 +213,12 @@ module _ (objects : Objects) (s : Sides) (trees : AreTrees s) (whole : Threes) (
     above_more dir n gone keeps = settled.marks dir ∙ by (same_path (dir ++ n ∷ []) path) refl
       where
         by : (b : Bool) → same_path (dir ++ n ∷ []) path ≡ b → (is_some (map.get marks dir) || (placing.keeps && same_path dir (parent_of path))) ≡ true
-        by false apart = or_first (is_some (map.get marks dir)) (placing.keeps && same_path dir (parent_of path)) (so.above dir n (gone_before (dir ++ n ∷ []) apart gone) keeps)
+        by false apart = or_left (is_some (map.get marks dir)) (placing.keeps && same_path dir (parent_of path)) (so.above dir n (gone_before (dir ++ n ∷ []) apart gone) keeps)
         by true tie =
             let is : dir ++ n ∷ [] ≡ path = same_path-true (dir ++ n ∷ []) path tie in
             let here : placing.keeps ≡ true = keeps_here ∙ ap (keeps_at s) (sym is) ∙ keeps in
             let own : same_path dir (parent_of path) ≡ true = ap (same_path dir) (ap parent_of (sym is) ∙ parent_push dir n) ∙ same_path-itself dir in
-            or_second (is_some (map.get marks dir)) (placing.keeps && same_path dir (parent_of path)) (ap₂ ◌&&◌ here own)
+            or_right (is_some (map.get marks dir)) (placing.keeps && same_path dir (parent_of path)) (ap₂ ◌&&◌ here own)
 
     marked_more : (dir : PathV) → is_some (map.get marks_after dir) ≡ true → HasKeptEntry s dir
     marked_more dir h =

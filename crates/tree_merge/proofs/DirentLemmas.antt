@@ -16,6 +16,7 @@ use Rattle.fs_objects.specs.declared.dirent.Dirent.{Dirent}
 use Rattle.fs_objects.proofs.OrderLemmas.{in_written_order-permutes, IsDistinct-in_written_order}
 use Rattle.object_graph.specs.Objects.{name_cmp, entry_named}
 use Rattle.object_graph.proofs.EntryLemmas.{names_total, same_name-true, named_name}
+use Rattle.ids.proofs.BasicLemmas.{contains_more}
 
 abbrev pub same_name : List ℕ → List ℕ → Bool
 same_name = eq_by_cmp name_cmp
@@ -29,9 +30,6 @@ same_name-apart m n apart = by (same_name m n) refl
     by : (b : Bool) → same_name m n ≡ b → same_name m n ≡ false
     by true is = absurd (apart (same_name-true m n is))
     by false is = is
-
-contains_more : {X : Type 0} (y x : X) (xs : List X) → Contains xs x → Contains (y ∷ xs) x
-contains_more y x xs c = (suc c.0, omega (arith, c.1), c.2)
 
 -- what is found by its name is one of the entries
 named_there : (n : List ℕ) (es : List Dirent) (e : Dirent) → entry_named n es ≡ Some e → Contains es e

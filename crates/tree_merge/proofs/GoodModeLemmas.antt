@@ -18,11 +18,7 @@ use Rattle.fs_objects.specs.declared.fault.BadFs.TheVariants.{NotJson, WrongType
 use Rattle.fs_objects.specs.declared.fault.FsKey.TheVariants.{KDirents, KId, KMode, KMtime, KName}
 use Rattle.fs_objects.specs.declared.file_object.FileObject.{FileObject}
 use Rattle.fs_objects.specs.declared.fs_object.FsObject.TheVariants.{File, Dir}
-use Rattle.object_graph.proofs.GoodNameLemmas.{WentOn}
-
-went_on : {A B E : Type 0} (first : Result A E) (next : A → Result B E) (y : B) → (first >>= next) ≡ Ok y → WentOn first next y
-went_on (Ok a) next y is = record { value = a; gave = refl; goes = is }
-went_on (Err e) next y is = cc
+use Rattle.json_words.proofs.CheckLemmas.{WentOn, went_on}
 
 abbrev pub has_known_mode : ℕ → Bool
 has_known_mode mode = is_file_mode mode || is_directory_mode mode

@@ -20,11 +20,8 @@ use Rattle.object_graph.specs.Unchanged.{Keeps}
 use Rattle.tree_merge.specs.declared.tree_builder.BuildFault.{BuildFault}
 use Rattle.tree_merge.specs.declared.tree_builder.BuildFault.TheVariants.{Taken, NoMemory}
 use Rattle.tree_merge.specs.TreeBuilding.{AreNamed, IsCausedInBuild, IsCollision, IsOwnName, HasMade, IsMade, IsRefused, IsRefusedList, Lists}
-use Rattle.object_graph.proofs.KeyLemmas.{same_key-true, same_key-itself}
+use Rattle.object_graph.proofs.KeyLemmas.{same_key-true, same_key-itself, same_key}
 use Rattle.tree_merge.proofs.DirentLemmas.{written_listing, distinct_none}
-
-abbrev same_key : Key → Key → Bool
-same_key = eq_by_cmp key_cmp
 
 get-made : (made : Objects) (key : Key) (bytes : List ℕ) (k : Key) → map.get (map.insert made key bytes) k ≡ cond (same_key k key) (Some bytes) (map.get made k)
 get-made made key bytes k = map.get-insert key_cmp_total made key bytes k

@@ -26,6 +26,7 @@ use Rattle.tree_merge.specs.declared.file_entry.FileEntry.{FileEntry}
 use Rattle.tree_merge.proofs.JoinedSideLemmas.{AreTreesOf, same_some, seen_len, sides_are_trees}
 use Rattle.tree_merge.proofs.MadeLemmas.{kept_itself}
 use Rattle.tree_merge.proofs.StoredTreeLemmas.{file_modes}
+use Rattle.ids.proofs.BasicLemmas.{none_from_option_map}
 
 -- ---- the merged entries
 
@@ -41,10 +42,6 @@ side_mode objects root tree is path version there = by (entry_below objects path
         let one : version_of objects file ≡ version = cc in
         subst (λ (v : FileVersion). is_file_mode v.mode ≡ true) one (file_modes objects path root (as_entry file) found file refl)
 
-none_back : {A B : Type 0} (f : A → B) (o : Option A) → option_map f o ≡ None → o ≡ None
-none_back f None is = refl
-none_back f (Some x) is = cc
-
 dir_back : (objects : Objects) (o : Option Entry) → is_dir (option_map (node_of objects) o) ≡ true → o ≡ Some Dir
 dir_back objects None is = cc
 dir_back objects (Some Dir) is = refl
@@ -57,7 +54,7 @@ module _ (objects : Objects) (base head pushed : List ℕ) (complete : AreComple
 
   pub sound : IsSound named.nodes
   sound = record {
-    no_root = none_back (node_of objects) (map.get named.nodes []) (sym (here.nodes []) ∙ whole.no_root);
+    no_root = none_from_option_map (node_of objects) (map.get named.nodes []) (sym (here.nodes []) ∙ whole.no_root);
     in_dirs = λ dir name other some.
         dir_back objects (map.get named.nodes dir)
         (ap is_dir (sym (here.nodes dir)) ∙ whole.in_dirs dir name other (ap is_some (here.nodes (dir ++ name ∷ [])) ∙ same_some (node_of objects) (map.get named.nodes (dir ++ name ∷ [])) ∙ some));

@@ -7,7 +7,8 @@ use Rattle.std.specs.FinMap.Entries.{below_all}
 use Rattle.tree_model.specs.Path.{PathV, path_cmp}
 use Rattle.tree_model.specs.PathOrder.{paths_total}
 use Rattle.tree_model.proofs.ListedLemmas.{same_path, same_path-true, same_path-itself, same_path-apart}
-use Rattle.tree_model.proofs.SortedEntryLemmas.{left_holds, right_holds, is_less}
+use Rattle.tree_model.proofs.SortedEntryLemmas.{left_holds, right_holds}
+use Rattle.ids.proofs.BasicLemmas.{less_from_is_lt}
 
 pub on_ok_more : {A E : Type 0} {P Q : Type 0} (r : Result A E) → (P → Q) → OnOk r P → OnOk r Q
 on_ok_more (Ok x) more h = more h
@@ -67,7 +68,7 @@ module _ {X : Type 0} where
       → map.find path_cmp q (es ++ e ∷ []) ≡ None
   none_above [] e q h above = ap (λ (b : Bool). cond b (Some e.1) None) (same_path-apart q e.0 (apart_by e.0 q above))
   none_above (f ∷ es) e q h above =
-      let below : path_cmp f.0 e.0 ≡ Less = is_less (path_cmp f.0 e.0) (below_last f.0 es e (left_holds (below_all path_cmp f.0 (es ++ e ∷ [])) (map.is_sorted path_cmp (es ++ e ∷ [])) h)) in
+      let below : path_cmp f.0 e.0 ≡ Less = less_from_is_lt (path_cmp f.0 e.0) (below_last f.0 es e (left_holds (below_all path_cmp f.0 (es ++ e ∷ [])) (map.is_sorted path_cmp (es ++ e ∷ [])) h)) in
       let far : path_cmp f.0 q ≡ Less = paths_total.trans f.0 e.0 q below above in
       ap₂ (λ (b : Bool) (o : Option X). cond b (Some f.1) o) (same_path-apart q f.0 (apart_by f.0 q far))
       (none_above es e q (right_holds (below_all path_cmp f.0 (es ++ e ∷ [])) (map.is_sorted path_cmp (es ++ e ∷ [])) h) above)
@@ -122,7 +123,7 @@ module _ {X : Type 0} where
       by : (b : Bool) → same_path q f.0 ≡ b → is_some (cond b (Some f.1) (map.find path_cmp q es)) ≡ true → (is_some (map.find path_cmp q es) ≡ true → path_cmp q e.0 ≡ Less) → path_cmp q e.0 ≡ Less
       by true tie some more =
           ap (λ (p : PathV). path_cmp p e.0) (same_path-true q f.0 tie)
-          ∙ is_less (path_cmp f.0 e.0) (below_last f.0 es e (left_holds (below_all path_cmp f.0 (es ++ e ∷ [])) (map.is_sorted path_cmp (es ++ e ∷ [])) h))
+          ∙ less_from_is_lt (path_cmp f.0 e.0) (below_last f.0 es e (left_holds (below_all path_cmp f.0 (es ++ e ∷ [])) (map.is_sorted path_cmp (es ++ e ∷ [])) h))
       by false apart some more = more some
 
   -- what is left stands before the last entry

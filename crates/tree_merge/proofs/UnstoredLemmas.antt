@@ -9,14 +9,11 @@ use Rattle.ids.specs.Key.{Objects, key_cmp}
 use Rattle.ids.specs.declared.key.Key.{Key}
 use Rattle.object_store.specs.Store.{has_other_name, is_named_by_bytes, same_bytes}
 use Rattle.ids.proofs.KeyOrderLemmas.{key_cmp_total}
-use Rattle.object_graph.proofs.KeyLemmas.{same_key-true}
+use Rattle.object_graph.proofs.KeyLemmas.{same_key-true, same_key}
 use Rattle.tree_merge.specs.Merging.{AreLeft, FindsSo, IsOtherAt, IsSameAt, IsStoredOther, LeavesSo}
 use Rattle.tree_merge.specs.TreeBuilding.{AreNamed, IsCollision, IsOwnName}
 use Rattle.tree_merge.specs.declared.merging.MergeFault.{MergeFault}
 use Rattle.tree_merge.specs.declared.merging.MergeFault.TheVariants.{Taken, TooLong, TooMany, Walk}
-
-abbrev pub same_key : Key → Key → Bool
-same_key = eq_by_cmp key_cmp
 
 -- some of what was made is still to be looked up
 pub record DropsSo (objects whole rest left : Objects) : Type 0 where

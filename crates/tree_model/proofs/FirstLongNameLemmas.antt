@@ -18,7 +18,8 @@ use Rattle.tree_model.specs.ThreeWayMerge.{merge, merge_by, merged, TooLong, Too
 use Rattle.tree_model.proofs.ListedLemmas.{same_path}
 use Rattle.tree_model.proofs.MovingLemmas.{In}
 use Rattle.tree_model.proofs.CopyLemmas.{contains_in}
-use Rattle.tree_model.proofs.SortedEntryLemmas.{left_holds, right_holds, is_less}
+use Rattle.tree_model.proofs.SortedEntryLemmas.{left_holds, right_holds}
+use Rattle.ids.proofs.BasicLemmas.{less_from_is_lt}
 
 -- what moves keeps its order
 pub moved_things : {X : Type 0} (is_used : PathV → Bool) (spot : X → ℕ → PathV) (t : ℕ) (xs : List X) (taken : List PathV)
@@ -52,7 +53,7 @@ all_above : (p : PathV) (ms : List Copy) → T (below_all path_cmp p (map_list (
     → AllByRecursion (λ (m : Copy). MAX_NAME < length (last_name m.1) → path_cmp p m.0.0 ≢ Greater) ms
 all_above p [] h = tt
 all_above p (m ∷ ms) h = (
-  (λ long. not_above (path_cmp p m.0.0) (is_less (path_cmp p m.0.0) (left_holds (is_lt (path_cmp p m.0.0)) (below_all path_cmp p (map_list (λ (m : Copy). m.0) ms)) h))),
+  (λ long. not_above (path_cmp p m.0.0) (less_from_is_lt (path_cmp p m.0.0) (left_holds (is_lt (path_cmp p m.0.0)) (below_all path_cmp p (map_list (λ (m : Copy). m.0) ms)) h))),
   all_above p ms (right_holds (is_lt (path_cmp p m.0.0)) (below_all path_cmp p (map_list (λ (m : Copy). m.0) ms)) h),
 )
 

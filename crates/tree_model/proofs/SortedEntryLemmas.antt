@@ -3,7 +3,7 @@ use Rattle.std.proofs.Common.{◌≡◌, ◌&&◌, Bool, true, false, cond, T, L
 use Rattle.std.specs.Ordering.{is_lt}
 use Rattle.std.specs.FinMap as map
 use Rattle.std.specs.FinMap.Entries.{below_all}
-use Rattle.ids.proofs.BasicLemmas.{apart_from_is_lt}
+use Rattle.ids.proofs.BasicLemmas.{apart_from_is_lt, less_from_is_lt}
 use Rattle.tree_model.specs.Path.{PathV, path_cmp}
 use Rattle.tree_model.proofs.ListedLemmas.{same_path, same_path-true, same_path-itself}
 use Rattle.tree_model.proofs.MovingLemmas.{In, found_in}
@@ -15,11 +15,6 @@ left_holds false b h = absurd h
 pub right_holds : (a b : Bool) → T (a && b) → T b
 right_holds true b h = h
 right_holds false b h = absurd h
-
-pub is_less : (r : Ordering) → T (is_lt r) → r ≡ Less
-is_less Less h = refl
-is_less Equal h = absurd h
-is_less Greater h = absurd h
 
 pub less_is : (r : Ordering) → r ≡ Less → T (is_lt r)
 less_is r e = subst (λ (q : Ordering). T (is_lt q)) (sym e) tt

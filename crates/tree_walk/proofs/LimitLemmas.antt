@@ -9,16 +9,13 @@ use Rattle.tree_model.specs.PathOrder.{paths_total, paths_exact}
 use Rattle.object_graph.specs.Listing.{Listed}
 use Rattle.object_graph.specs.declared.entry.Entry.{Entry}
 use Rattle.tree_walk.specs.Limits.{AreFound, IsEntryPath, IsWithinLimits}
+use Rattle.ids.proofs.BasicLemmas.{pushed_is_some}
 
 -- ---- one entry more
 
-some_names : (path : PathV) (name : List ℕ) → path ++ name ∷ [] ≢ []
-some_names [] name is = cc
-some_names (n ∷ path) name is = cc
-
 entry_path : (path own : PathV) (name : List ℕ) → length path < 100 → own ≡ path ++ name ∷ [] → IsPath own → IsEntryPath own
 entry_path path own name fits is named = record {
-  some = λ none. some_names path name (sym is ∙ none);
+  some = λ none. pushed_is_some path name (sym is ∙ none);
   named = named;
   bound = omega (arith, ap length is, length-append path (name ∷ []));
 }

@@ -36,7 +36,7 @@ other_id id b same is = by (is_nil id) refl
     by true e = impossible (sym is ∙ same.1 ((bytes_decides id nil).0 e))
     by false e = e
 
-keeps_then : {S : Type 0} {contents : S → Option Contents} {old mid new : StoreView S} → Keeps contents old mid → Keeps contents mid new → Keeps contents old new
+pub keeps_then : {S : Type 0} {contents : S → Option Contents} {old mid new : StoreView S} → Keeps contents old mid → Keeps contents mid new → Keeps contents old new
 keeps_then first second = record { index = second.index ∙ first.index; shelf = second.shelf ∙ first.shelf; objects = second.objects ∙ first.objects }
 
 module _ {S : Type 0} {contents : S → Option Contents} {may_give : S → Slot → Option (List ℕ) → Type 0} {texts faults : S → ℕ} where

@@ -29,6 +29,7 @@ use Rattle.tree_walk.specs.Visits.{MetView, HasMet, IsMet, Walks, no_repeat, see
 use Rattle.tree_walk.specs.declared.fault.WalkFault.{WalkFault}
 use Rattle.tree_walk.proofs.FileLemmas.{blocks_walk, file_anywhere, no_block_due, whole_size}
 use Rattle.tree_walk.proofs.StepsLemmas.{due_of, due_unread, one_more, step_commit, step_entries, step_object, step_on, step_stops}
+use Rattle.std.proofs.lemmas.Bool.{not-true, and_parts}
 
 -- ---- keys, each once
 
@@ -51,26 +52,18 @@ with_blocks-once (id ∷ ids) keys =
     ∙ once_append (with_key keys (block_key id)) (keys ++ block_key id ∷ []) (block_keys ids) (with_key-once keys (block_key id))
     ∙ ap (distinct_from []) (append_assoc keys (block_key id ∷ []) (block_keys ids))
 
-not_met : (b : Bool) → not b ≡ true → b ≡ false
-not_met true e = cc
-not_met false e = refl
-
-both : (a b : Bool) → (a && b) ≡ true → (a ≡ true) × (b ≡ true)
-both true b e = (refl, e)
-both false b e = cc
-
 -- what stands once is its own list of distinct keys
 pub distinct-once : (met keys : List Key) → no_repeat met keys ≡ true → distinct_from met keys ≡ keys
 distinct-once met [] once = refl
 distinct-once met (key ∷ keys) once =
-    let parts = both (not (is_in met key)) (no_repeat (key ∷ met) keys) once in
-    ap (λ (b : Bool). if b then distinct_from met keys else key ∷ distinct_from (key ∷ met) keys) (not_met (is_in met key) parts.0)
+    let parts = and_parts (not (is_in met key)) (no_repeat (key ∷ met) keys) once in
+    ap (λ (b : Bool). if b then distinct_from met keys else key ∷ distinct_from (key ∷ met) keys) (not-true (is_in met key) parts.0)
     ∙ ap (λ ks. key ∷ ks) (distinct-once (key ∷ met) keys parts.1)
 
 no_repeat_push : (met keys : List Key) (last : Key) → no_repeat met keys ≡ true → is_in met last ≡ false → is_in keys last ≡ false → no_repeat met (keys ++ last ∷ []) ≡ true
 no_repeat_push met [] last once new apart = ap (λ (b : Bool). not b && true) new
 no_repeat_push met (key ∷ keys) last once new apart =
-    let parts = both (not (is_in met key)) (no_repeat (key ∷ met) keys) once in
+    let parts = and_parts (not (is_in met key)) (no_repeat (key ∷ met) keys) once in
     let first : same_key last key ≡ false = left_false (same_key last key) (is_in keys last) apart in
     let rest : is_in keys last ≡ false = right_false (same_key last key) (is_in keys last) apart in
     ap₂ ◌&&◌ parts.0 (no_repeat_push (key ∷ met) keys last parts.1 (ap₂ ◌||◌ first new) rest)

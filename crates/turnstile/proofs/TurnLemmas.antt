@@ -17,10 +17,7 @@ use Rattle.turnstile.specs.Rule.Place.{home, away}
 use Rattle.turnstile.specs.Steps.{Participant, Looked, Released}
 use Rattle.turnstile.proofs.ListsLemmas.{prefix_refl, prefix_length}
 use Rattle.turnstile.proofs.RuleLemmas.{total-set, each_set, inside, one_view, made_set, out_set, still, one_turn, alone, at_home, from_home}
-
-pub not_true : (b : Bool) → (b ≡ true → ⊥) → b ≡ false
-not_true true e = absurd (e refl)
-not_true false e = refl
+use Rattle.std.proofs.lemmas.Bool.{false_from_ne_true}
 
 dec_ticket : (o : Option ℕ) (n : ℕ) → Dec (o ≡ Some n)
 dec_ticket None n = no (λ e. cc)
@@ -32,7 +29,7 @@ module _ {V E : Type 0} (stands : V → List E → V → Type 0) (k : About V) w
 
   -- look, where the ticket is served: no other has the turn
   free_for : (s : State (Parcel V E) (View V E)) (r : Rule s) (id : ℕ) (v : View V E) → get_elem? s.views id ≡ some v → v.turn ≡ false → v.ticket ≡ Some r.serving → IsFree s.views
-  free_for s r id v at none_yet ticket j u there = not_true u.turn (λ turn.
+  free_for s r id v at none_yet ticket j u there = false_from_ne_true u.turn (λ turn.
       let g = r.each j u there in
       let f = r.each id v at in
       let e : j ≡ id = sym (g.ticketed r.serving (g.turning turn).0).2 ∙ (f.ticketed r.serving ticket).2 in
@@ -167,7 +164,7 @@ module _ {V E : Type 0} (stands : V → List E → V → Type 0) (k : About V) w
         made = λ p before. made_set s.views id v w at (λ q h. h) (r.maker p) p (r.made p before);
         place = home q (set_homes ∙ ap (λ hs. set hs 0 (some q)) slot.0)
             (y, value, subst (λ (z : V × List E). stands z.0 z.1 y) (λ i. (same i, t.1 i)) stood)
-            (each_set (λ j (u : View V E). u.turn ≡ false) s.views id w refl (λ j u other e. not_true u.turn (λ on. apart j u other e on)))
+            (each_set (λ j (u : View V E). u.turn ≡ false) s.views id w refl (λ j u other e. false_from_ne_true u.turn (λ on. apart j u other e on)))
             (omega arith);
       }
 

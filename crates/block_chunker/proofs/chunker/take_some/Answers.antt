@@ -1,18 +1,19 @@
 use Rattle.std.proofs.Common.{rules, subst}
 use Rattle.block_chunker.specs.ChunkerProgress.{GrowsBy}
 use Rattle.block_chunker.proofs.RollingHashLemmas.{chunk_hash-none}
-use Rattle.block_chunker.proofs.ChunkerLemmas.{TakesSome-on, TakesSome-end, GrowsBy-short, is_false, is_true}
+use Rattle.block_chunker.proofs.ChunkerLemmas.{TakesSome-on, TakesSome-end, GrowsBy-short, is_true}
 use Rattle.block_chunker.proofs.chunker.take_some.Goals as goal
+use Rattle.std.proofs.lemmas.Bool.{not-true}
 
 pub returns-then-not-growth-clause-ok : goal.returns-then-not-growth-clause-ok
 returns-then-not-growth-clause-ok c =
     TakesSome-on c.args.cuts c.args.bytes.now.items c.grow.new.bytes.items c.args.piece.now c.args.chunks.now _
-    (subst (λ b. GrowsBy c.args.cuts c.args.bytes.now.items c.grow.new.bytes.items c.args.piece.now c.in_ok-growth.growth.taken b) (is_false _ c.if-not-growth.true) c.in_ok-growth.ensures.ok)
+    (subst (λ b. GrowsBy c.args.cuts c.args.bytes.now.items c.grow.new.bytes.items c.args.piece.now c.in_ok-growth.growth.taken b) (not-true _ c.if-not-growth.true) c.in_ok-growth.ensures.ok)
 
 pub returns-then-not-growth-clause-bound : goal.returns-then-not-growth-clause-bound
 returns-then-not-growth-clause-bound c =
     GrowsBy-short c.args.cuts c.args.bytes.now.items c.grow.new.bytes.items c.args.piece.now c.in_ok-growth.growth.taken
-    (subst (λ b. GrowsBy c.args.cuts c.args.bytes.now.items c.grow.new.bytes.items c.args.piece.now c.in_ok-growth.growth.taken b) (is_false _ c.if-not-growth.true) c.in_ok-growth.ensures.ok)
+    (subst (λ b. GrowsBy c.args.cuts c.args.bytes.now.items c.grow.new.bytes.items c.args.piece.now c.in_ok-growth.growth.taken b) (not-true _ c.if-not-growth.true) c.in_ok-growth.ensures.ok)
     c.in_ok-growth.ensures.bound
 
 pub returns-in_err-push-clause-hash : goal.returns-in_err-push-clause-hash
