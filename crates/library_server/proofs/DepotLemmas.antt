@@ -13,15 +13,7 @@ use Rattle.object_store.proofs.MapLemmas.{get-retained}
 use Rattle.object_store.specs.Shelf.{Contents}
 use Rattle.object_store.specs.StoreView.{Index, indexed}
 use Rattle.library_server.specs.Standing.{ComesBack, StandsAs}
-
-pub some_same : {A : Type 0} (a b : A) → ◌≡◌ {A = Option A} (Some a) (Some b) → a ≡ b
-some_same a b e = ap (λ o. unwrap_or o a) e
-
-retained_bytes : (b : Bool) (x : Option (List ℕ)) (bytes : List ℕ) → cond b x None ≡ Some bytes → x ≡ Some bytes
-retained_bytes true x bytes e = e
-retained_bytes false x bytes e = cc
-
-}
+use Rattle.ids.proofs.BasicLemmas.{same_from_some}
 
 pub mapped_from : {A B : Type 0} (f : A → B) (o : Option A) (b : B) → option_map f o ≡ Some b → (a : A) × (o ≡ Some a)
 mapped_from f (Some a) b e = (a, refl)
@@ -39,7 +31,7 @@ module _ {S : Type 0} (contents : S → Option Contents) (faults : S → ℕ) wh
   pub state_is : (depot : DepotView S) (held : Contents) (s : State) → contents depot.store.shelf ≡ Some held → state_of contents faults depot ≡ Some s
       → s ≡ running_library depot.state depot.running (faults depot.store.shelf) (indexed depot.store.index held)
   state_is depot held s there told =
-      some_same s (running_library depot.state depot.running (faults depot.store.shelf) (indexed depot.store.index held))
+      same_from_some s (running_library depot.state depot.running (faults depot.store.shelf) (indexed depot.store.index held))
       (sym told ∙ ap (λ o. option_map (running_library depot.state depot.running (faults depot.store.shelf)) (option_map (indexed depot.store.index) o)) there)
 
   -- the shelf of a settled depot stands for its state

@@ -23,8 +23,9 @@ use Rattle.library_server.specs.Making.{LeavesText, first_of}
 use Rattle.library_server.specs.declared.making.NewLibrary.{NewLibrary}
 use Rattle.library_server.specs.declared.not_done.NotStarted.{NotStarted}
 use Rattle.library_server.specs.declared.not_done.NotStarted.TheVariants as unstarted
-use Rattle.library_server.proofs.DepotLemmas.{mapped_from, some_same}
+use Rattle.library_server.proofs.DepotLemmas.{mapped_from}
 use Rattle.depot.proofs.StandingLemmas.{indexed_lies}
+use Rattle.ids.proofs.BasicLemmas.{same_from_some}
 
 module _ {S : Type 0} (contents : S → Option Contents) where
   -- the slot of a shelf that tells it
@@ -32,7 +33,7 @@ module _ {S : Type 0} (contents : S → Option Contents) where
       → (h : Contents) × (contents store.shelf ≡ Some h) × (h.status ≡ status)
   slot_told store status at =
       let shelf = mapped_from (λ (c : Contents). c.status) (contents store.shelf) status at in
-      (shelf.0, shelf.1, some_same shelf.0.status status (sym (ap (option_map (λ (c : Contents). c.status)) shelf.1) ∙ at))
+      (shelf.0, shelf.1, same_from_some shelf.0.status status (sym (ap (option_map (λ (c : Contents). c.status)) shelf.1) ∙ at))
 
   unmade_slot : (given store : StoreView S) (x : Stored) (first : LibState) (held : Contents) → LeftUnmade contents given x first store
       → status_of contents given ≡ Some held.status → (status_of contents store ≡ Some held.status) ⊎ (status_of contents store ≡ Some (Some (text_of first)))
@@ -63,7 +64,7 @@ module _ {S : Type 0} (contents : S → Option Contents) where
   lies : (store : StoreView S) (objects : Objects) (h : Contents) → contents store.shelf ≡ Some h → objects_of contents store ≡ Some objects → Keeps objects h.objects
   lies store objects h told at =
       subst (λ objs. Keeps objs h.objects)
-      (some_same (indexed store.index h) objects (sym (ap (option_map (indexed store.index)) told) ∙ at)) (indexed_lies store.index h)
+      (same_from_some (indexed store.index h) objects (sym (ap (option_map (indexed store.index)) told) ∙ at)) (indexed_lies store.index h)
 
   unraised_slot : (given store : StoreView S) (held : Contents) (why : StartFault) → status_of contents store ≡ status_of contents given
       → status_of contents given ≡ Some held.status → objects_of contents store ≡ Some held.objects → LeavesOpened why held (contents store.shelf)

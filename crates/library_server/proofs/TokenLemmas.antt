@@ -18,11 +18,12 @@ use Rattle.object_store.specs.declared.error.StoreFault.{StoreFault}
 use Rattle.object_store.specs.declared.error.StoreFault.TheVariants as store
 use Rattle.object_graph.specs.Unchanged.{Keeps}
 use Rattle.folder_storage.specs.Ground.{Kept, Standing}
-use Rattle.library_server.proofs.DepotLemmas.{mapped_from, shelf_told, some_same, stands_again, state_is}
+use Rattle.library_server.proofs.DepotLemmas.{mapped_from, shelf_told, stands_again, state_is}
 use Rattle.library_server.specs.Standing.{StandsAs}
 use Rattle.library_server.specs.Adding.{IsTokenRefused, StandsWithText, RefusesToken, with_new}
 use Rattle.library_server.specs.declared.adding.NewToken.{NewToken}
 use Rattle.depot.proofs.StandingLemmas.{indexed_lies}
+use Rattle.ids.proofs.BasicLemmas.{same_from_some}
 
 -- the refusal that is due says which
 taken_first : (taken full : Bool) → ◌≡◌ {A = Option TokenFault} (cond taken (Some token.SecretTaken) (cond full (Some token.Full) None)) (Some token.SecretTaken) → taken ≡ true
@@ -113,12 +114,12 @@ module _ {S : Type 0} (contents : S → Option Contents) (faults : S → ℕ) wh
       let objects : objects_of contents now.store ≡ Some (indexed old.store.index held) = kept ∙ ap (option_map (indexed old.store.index)) there in
       let left = mapped_from (indexed now.store.index) (contents now.store.shelf) (indexed old.store.index held) objects in
       let same : indexed now.store.index left.0 ≡ indexed old.store.index held =
-      some_same (indexed now.store.index left.0) (indexed old.store.index held) (sym (ap (option_map (indexed now.store.index)) left.1) ∙ objects) in
+      same_from_some (indexed now.store.index left.0) (indexed old.store.index held) (sym (ap (option_map (indexed now.store.index)) left.1) ∙ objects) in
       record {
         held = left.0;
         there = back left.0 left.1;
         lies = subst (λ objs. Keeps objs left.0.objects) same (indexed_lies now.store.index left.0);
-        text = some_same left.0.status (Some (text_of t.state)) (sym (ap (option_map (λ (c : Contents). c.status)) left.1) ∙ text);
+        text = same_from_some left.0.status (Some (text_of t.state)) (sym (ap (option_map (λ (c : Contents). c.status)) left.1) ∙ text);
       }
 
   -- the refusal of a token, of the library that was opened

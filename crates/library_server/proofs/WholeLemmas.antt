@@ -46,7 +46,7 @@ use Rattle.object_store.specs.declared.shelf.ShelfFailed.{ShelfFailed}
 use Rattle.object_store.specs.declared.shelf.ShelfFailed.TheVariants as shelf
 use Rattle.object_store.specs.declared.shelf.Slot.{Slot}
 use Rattle.worker_server.specs.Calls.{AtAMoment, Told, Ran}
-use Rattle.library_server.proofs.DepotLemmas.{mapped_from, some_same}
+use Rattle.library_server.proofs.DepotLemmas.{mapped_from}
 use Rattle.library_server.proofs.NamesLemmas.{names_new, names_stepped}
 use Rattle.library_server.proofs.TokenLemmas.{freed}
 use Rattle.library_server.specs.Answering.{AnswersOn, NamesIn, NeverFails, is_storage_reply}
@@ -60,6 +60,7 @@ use Rattle.library_server.specs.declared.not_done.NotAdded.{NotAdded}
 use Rattle.library_server.specs.declared.not_done.NotMade.{NotMade}
 use Rattle.library_server.specs.declared.not_done.NotStarted.{NotStarted}
 use Rattle.library_server.specs.declared.not_done.NotStarted.TheVariants as unstarted
+use Rattle.ids.proofs.BasicLemmas.{same_from_some}
 
 -- a count that stays 0 didn't rise
 never_rose : Rose 0 0 → ⊥
@@ -90,7 +91,7 @@ module _ {S : Type 0} (contents : S → Option Contents) (faults : S → ℕ) wh
   names_of depot s told names =
       let found = mapped_from (running_library depot.state depot.running (faults depot.store.shelf)) (objects_of contents depot.store) s told in
       let same : running_library depot.state depot.running (faults depot.store.shelf) found.0 ≡ s =
-      some_same (running_library depot.state depot.running (faults depot.store.shelf) found.0) s
+      same_from_some (running_library depot.state depot.running (faults depot.store.shelf) found.0) s
       (sym (ap (option_map (running_library depot.state depot.running (faults depot.store.shelf))) found.1) ∙ told) in
       (found.0, found.1, subst (λ (z : State). HasNames z.objects) (sym same) names)
 
@@ -121,7 +122,7 @@ make_free (make.Store store.NoMemory) count free = refl
 
 make_due : (why : MakeFault) (b : Bool) (id : List ℕ) → option_map make.Store (first_refusal (cond b (Some (store.Taken id)) None) None) ≡ Some why
     → is_storage_fault (fault_of_make why) ≡ false
-make_due why true id due = subst (λ w. is_storage_fault (fault_of_make w) ≡ false) (some_same (make.Store (store.Taken id)) why due) refl
+make_due why true id due = subst (λ w. is_storage_fault (fault_of_make w) ≡ false) (same_from_some (make.Store (store.Taken id)) why due) refl
 make_due why false id due = absurd (cc)
 
 -- the opening commit is put on an empty shelf: that is refused for forty zeros, or for want of memory
@@ -150,7 +151,7 @@ abbrev IsOfText : NotStarted → Type 0
 IsOfText why = is_storage_fault (fault_of_not_started why) ≡ false
 
 told_of_text : (is why : NotStarted) → ◌≡◌ {A = Option NotStarted} (Some is) (Some why) → IsOfText is → IsOfText why
-told_of_text is why same of_text = subst IsOfText (some_same is why same) of_text
+told_of_text is why same of_text = subst IsOfText (same_from_some is why same) of_text
 
 state_whole : (b : Bool) (o : Option TreeFault) (why : NotStarted) → option_map unstarted.Fault (cond b (Some start.Worn) (option_map start.Walk o)) ≡ Some why → IsOfText why
 state_whole true o why due = told_of_text (unstarted.Fault start.Worn) why due refl
