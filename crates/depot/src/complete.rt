@@ -1,18 +1,20 @@
 //! Whether a commit is complete.
-ghost use Rattle.std.specs.Prelude.{◌≡◌, Some, IfErr};
+ghost use Rattle.std.specs.Prelude.{◌≡◌, Some, IfErr, ⊤};
 ghost use Rattle.ids.specs.FaultCount.{FailsBy};
 ghost use Rattle.ids.specs.Key.{Objects};
 ghost use Rattle.object_graph.specs.Traversal.{walk_commit};
 ghost use Rattle.object_store.specs.StoreView.{Keeps, ReadsShelf, objects_of};
 ghost use Rattle.depot.specs.Start.{ChecksSo, IsCheckFault, check_fault_of, first_incomplete, first_of, is_check_counted};
 ghost use Rattle.library_rules.specs.LibraryState.{kept_commits};
+ghost use Rattle.tree_walk.specs.KnownTrees.{Fits};
+ghost use Rattle.tree_walk.specs.Reading.{Answers, Reads};
 
 use ids::ObjId;
 use library_state::Install;
 use object_graph::TreeFault;
 use object_store::{Shelf, Store, StoreFault};
 use std::alloc::Global;
-use tree_walk::{WalkFault, needs};
+use tree_walk::{Known, WalkFault, check};
 
 /// Why a commit was not found complete.
 #[derive(Debug, PartialEq, Eq, Drop)]
@@ -23,20 +25,37 @@ pub(crate) enum CheckFault {
     Store(StoreFault),
 }
 
-/// Whether all that the commit needs is stored and can be read.
-pub(crate) fn check_complete<S: Shelf>(
+/// Whether a pushed commit is complete. Each directory and each file is read once, under however many names it stands.
+pub(crate) fn check_pushed<S: Shelf>(
     alloc: Global,
     store: &mut Store<S>,
     commit: ObjId,
+) -> Result<(), WalkFault>
+    ensures value { (objects : Objects) → objects_of S.contents store.old ≡ Some objects
+        → Answers objects (walk_commit objects commit).fault (λ done. ⊤) result }
+    ensures kept { Reads S.contents S.may_give S.texts S.faults store.old store.new result }
+{
+    let mut known = Known::new(alloc);
+    check(alloc, store, &mut known, commit)
+}
+
+/// Whether all that the commit needs is stored and can be read. What is found whole becomes known.
+pub(crate) fn check_complete<S: Shelf>(
+    alloc: Global,
+    store: &mut Store<S>,
+    known: &mut Known,
+    commit: ObjId,
 ) -> Result<(), CheckFault>
+    requires known { (objects : Objects) → objects_of S.contents store.old ≡ Some objects → Fits objects known.old }
+    ensures known { (objects : Objects) → objects_of S.contents store.old ≡ Some objects → Fits objects known.new }
     ensures value { (objects : Objects) → objects_of S.contents store.old ≡ Some objects → ChecksSo objects (walk_commit objects commit).fault result }
     ensures kept { Keeps S.contents store.old store.new }
     ensures reads { ReadsShelf S.may_give S.texts store.old.shelf store.new.shelf }
     ensures cause { IfErr result (IsCheckFault (S.may_give store.old.shelf)) }
     ensures faults { FailsBy is_check_counted (S.faults store.old.shelf) (S.faults store.new.shelf) result }
 {
-    match needs(alloc, store, commit) {
-        Ok(_) => Ok(()),
+    match check(alloc, store, known, commit) {
+        Ok(()) => Ok(()),
         Err(fault) => Err(check_fault(fault)),
     }
 }
@@ -56,7 +75,8 @@ fn check_fault(fault: WalkFault) -> CheckFault
     }
 }
 
-/// Whether each kept commit is complete, each head before its pushed commit.
+/// Whether each kept commit is complete, each head before its pushed commit. What one of them was found to need is not
+/// read again for another.
 pub(crate) fn check_kept<S: Shelf>(
     alloc: Global,
     store: &mut Store<S>,
@@ -69,8 +89,27 @@ pub(crate) fn check_kept<S: Shelf>(
     ensures cause { IfErr result (IsCheckFault (S.may_give store.old.shelf)) }
     ensures faults { FailsBy is_check_counted (S.faults store.old.shelf) (S.faults store.new.shelf) result }
 {
+    let mut known = Known::new(alloc);
+    check_installs(alloc, store, &mut known, kept)
+}
+
+/// The same by what is known.
+fn check_installs<S: Shelf>(
+    alloc: Global,
+    store: &mut Store<S>,
+    known: &mut Known,
+    kept: &[Install],
+) -> Result<(), CheckFault>
+    requires known { (objects : Objects) → objects_of S.contents store.old ≡ Some objects → Fits objects known.old }
+    ensures value { (objects : Objects) → objects_of S.contents store.old ≡ Some objects
+        → ChecksSo objects (first_incomplete objects (kept_commits kept.now)) result }
+    ensures kept { Keeps S.contents store.old store.new }
+    ensures reads { ReadsShelf S.may_give S.texts store.old.shelf store.new.shelf }
+    ensures cause { IfErr result (IsCheckFault (S.may_give store.old.shelf)) }
+    ensures faults { FailsBy is_check_counted (S.faults store.old.shelf) (S.faults store.new.shelf) result }
+{
     for install in kept {
-        match check_install(alloc, store, install) {
+        match check_install(alloc, store, known, install) {
             Ok(()) => {}
             Err(fault) => return Err(fault),
         }
@@ -82,8 +121,11 @@ pub(crate) fn check_kept<S: Shelf>(
 fn check_install<S: Shelf>(
     alloc: Global,
     store: &mut Store<S>,
+    known: &mut Known,
     install: &Install,
 ) -> Result<(), CheckFault>
+    requires known { (objects : Objects) → objects_of S.contents store.old ≡ Some objects → Fits objects known.old }
+    ensures known { (objects : Objects) → objects_of S.contents store.old ≡ Some objects → Fits objects known.new }
     ensures value { (objects : Objects) → objects_of S.contents store.old ≡ Some objects
         → ChecksSo objects (first_of (walk_commit objects install.now.head).fault (walk_commit objects install.now.pushed).fault) result }
     ensures kept { Keeps S.contents store.old store.new }
@@ -91,12 +133,12 @@ fn check_install<S: Shelf>(
     ensures cause { IfErr result (IsCheckFault (S.may_give store.old.shelf)) }
     ensures faults { FailsBy is_check_counted (S.faults store.old.shelf) (S.faults store.new.shelf) result }
 {
-    match check_complete(alloc, store, install.head) {
+    match check_complete(alloc, store, known, install.head) {
         Ok(()) => {}
         Err(fault) => return Err(fault),
     }
     if install.pushed == install.head {
         return Ok(());
     }
-    check_complete(alloc, store, install.pushed)
+    check_complete(alloc, store, known, install.pushed)
 }

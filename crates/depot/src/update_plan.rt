@@ -14,6 +14,7 @@ ghost use Rattle.depot.specs.ObjectCalls.{IsToldDamageOf};
 ghost use Rattle.depot.specs.UpdateBase.{ReadsOnly};
 ghost use Rattle.depot.specs.UpdatePlan.{DecidesCall, DecidesSo, HasNames, PlansDue, PlansSo};
 
+use crate::complete::check_pushed;
 use crate::history::{is_head, is_kept};
 use crate::refusals::walk_refusal;
 use crate::update_base::{Found, find_base};
@@ -22,7 +23,6 @@ use ids::{Bytes, KeyTable, ObjId, Text};
 use library_state::{LibState, Refusal, Token};
 use object_store::{Shelf, Store};
 use std::alloc::Global;
-use tree_walk::needs;
 
 /// What an update that is not refused does.
 #[derive(Drop)]
@@ -144,8 +144,8 @@ fn plan_based<S: Shelf>(
     ensures damaged { (objects : Objects) → objects_of S.contents store.old ≡ Some objects → IfErr result (IsToldDamageOf objects) }
     ensures kept { ReadsOnly S.contents S.texts S.faults store.old store.new result }
 {
-    match needs(alloc, store, pushed) {
-        Ok(_) => {}
+    match check_pushed(alloc, store, pushed) {
+        Ok(()) => {}
         Err(fault) => return Err(walk_refusal(fault)),
     }
     if is_head(state.kept.slice(), &base) {
