@@ -28,7 +28,7 @@ const NO_CREATOR: &str = "0000000000000000000000000000000000000000";
 
 impl Commit {
     ghost use Rattle.std.specs.Prelude.{◌≡◌, IfOk};
-    ghost use Rattle.json_words.specs.Answer.{Answers};
+    ghost use Rattle.json_words.specs.Answer.{ReadsAs};
     ghost use Rattle.commit_objects.specs.Commit.{commit_of};
     ghost use Rattle.commit_objects.specs.Made.{made};
     ghost use Rattle.commit_objects.specs.Proper.{IsProper};
@@ -38,7 +38,7 @@ impl Commit {
     ///
     /// Whether the id is that of the text is not asked: a commit's name is the one that it bears.
     pub fn read(alloc: Global, bytes: &[u8]) -> Result<Commit, CommitFault>
-        ensures value { Answers result (commit_of bytes.now) }
+        ensures value { ReadsAs result (commit_of bytes.now) }
         ensures proper { IfOk result IsProper }
     {
         let value = match kept_value(alloc, bytes)? {

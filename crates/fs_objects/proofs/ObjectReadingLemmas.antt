@@ -15,7 +15,7 @@ use Rattle.serde_json.specs.Read.{of_json, converted, read}
 use Rattle.json_tokens.proofs.ConvertedLemmas.{whole_read, whole_and_more, whole_refused}
 use Rattle.json_tokens.proofs.FrontLemmas.{FrontIs-array, FrontIs-object, NoFront-array, NoFront-object}
 use Rattle.json_words.proofs.JsonLemmas.{json_of-none, json_of-utf8}
-use Rattle.json_words.specs.Answer.{Answers, OnBad}
+use Rattle.json_words.specs.Answer.{ReadsAs, OnBad}
 use Rattle.json_words.specs.Check.{◌>>=◌, holds, ok_or, result_map}
 use Rattle.json_words.specs.Fields.{is_object}
 use Rattle.json_tokens.specs.Front.{FrontIs, NoFront, ItemsAre, NoItems, MembersAre, NoMembers}
@@ -93,7 +93,7 @@ fs_of-no_text bytes never = fs_of-read bytes None (json_of-none bytes (λ utf8. 
 
 -- the fault of a part is that of the whole
 pub told_by_part : (fault : ReadFault json_words.NotJson) (wanted : Result FsObject BadFs) (P : Type 0) → (P → wanted ≡ Err NotJson) → OnBad {A = Parts} {E = json_words.NotJson} (Err fault) P
-    → Answers {A = FsObject} {E = BadFs} (Err (fault_of fault)) wanted
+    → ReadsAs {A = FsObject} {E = BadFs} (Err (fault_of fault)) wanted
 told_by_part (Bad bad) wanted P hands holds = hands holds
 told_by_part NoMemory wanted P hands holds = tt
 

@@ -2,7 +2,7 @@
 ghost use Rattle.std.specs.Prelude.{◌≡◌, ◌∷◌, ◌++◌, ◌<◌, List, [], length, All, IfOk, OnOk};
 ghost use Rattle.serde_json.specs.Data.{Data, Items as JsonItems};
 ghost use Rattle.serde_json.specs.View.{view};
-ghost use Rattle.json_words.specs.Answer.{Answers, OnBad};
+ghost use Rattle.json_words.specs.Answer.{ReadsAs, OnBad};
 ghost use Rattle.json_words.specs.Fields.{list_of};
 ghost use Rattle.json_tokens.specs.Front.{FrontIs, NoFront, ItemsAre, NoItems};
 ghost use Rattle.fs_objects.specs.Directory.{entry_of, entries_after};
@@ -117,7 +117,7 @@ fn next_entry(
     item: &Value,
 ) -> Result<Dirent, FsFault>
     requires known { HasNames names.old.keys earlier.now }
-    ensures value { Answers result (entry_of earlier.now (view item.now)) }
+    ensures value { ReadsAs result (entry_of earlier.now (view item.now)) }
     ensures proper { IfOk result IsProperEntry }
     ensures known { IfOk result (λ entry. HasNames names.new.keys (earlier.now ++ entry ∷ [])) }
 {

@@ -2,7 +2,7 @@
 ghost use Rattle.std.specs.Prelude.{◌≡◌, ◌||◌, false, [], IfOk, IsTrue};
 ghost use Rattle.serde_json.specs.View.{view};
 ghost use Rattle.tree_model.specs.Name.{name_fault};
-ghost use Rattle.json_words.specs.Answer.{Answers};
+ghost use Rattle.json_words.specs.Answer.{ReadsAs};
 ghost use Rattle.json_words.specs.Check.{result_map};
 ghost use Rattle.fs_objects.specs.Directory.{head_of, details_of, entry_from};
 ghost use Rattle.fs_objects.specs.Mode.{is_file_mode, is_directory_mode};
@@ -40,7 +40,7 @@ pub struct Details<'a> {
 pub(crate) fn entry_from(alloc: Global, head: Head<'_>, item: &Value) -> Result<Dirent, FsFault>
     requires good { name_fault head.name.now ≡ None }
     requires known { IsTrue (is_file_mode head.mode || is_directory_mode head.mode) }
-    ensures value { Answers result (entry_from (head_seen head.entry) (view item.now)) }
+    ensures value { ReadsAs result (entry_from (head_seen head.entry) (view item.now)) }
     ensures proper { IfOk result IsProperEntry }
 {
     let details = details_of(item, head.mode)?;

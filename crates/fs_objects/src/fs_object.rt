@@ -1,7 +1,7 @@
 //! File and directory objects, read and written.
 ghost use Rattle.std.specs.Prelude.{◌≡◌, IfOk, OnOk};
 ghost use Rattle.std.specs.List.Sorted.{IsPermutation};
-ghost use Rattle.json_words.specs.Answer.{Answers};
+ghost use Rattle.json_words.specs.Answer.{ReadsAs};
 ghost use Rattle.fs_objects.specs.FsObject.{fs_of};
 ghost use Rattle.fs_objects.specs.Proper.{IsProper};
 ghost use Rattle.fs_objects.specs.Spelling.{as_written, text_of, in_written_order, HasSameEntries};
@@ -30,7 +30,7 @@ impl FsObject {
     /// times the bytes in all, whatever the text holds. What no object has, it passes over. It takes n log n steps for n
     /// entries, and else as many as there are bytes. No clause says these.
     pub fn read(alloc: Global, bytes: &[u8]) -> Result<FsObject, FsFault>
-        ensures value { Answers result (fs_of bytes.now) }
+        ensures value { ReadsAs result (fs_of bytes.now) }
         ensures proper { IfOk result IsProper }
     {
         match from_utf8(bytes) {

@@ -6,7 +6,7 @@ ghost use Rattle.json.specs.Reads.{token_of};
 ghost use Rattle.serde_json.specs.Data.{Data, Members, object};
 ghost use Rattle.serde_json.specs.Find.{as_array};
 ghost use Rattle.serde_json.specs.Read.{read as read_text};
-ghost use Rattle.json_words.specs.Answer.{Answers, OnBad};
+ghost use Rattle.json_words.specs.Answer.{ReadsAs, OnBad};
 ghost use Rattle.json_words.specs.Check.{each, result_map};
 ghost use Rattle.json_words.specs.Fields.{is_object};
 ghost use Rattle.json_tokens.specs.Front.{FrontIs, NoFront, MembersAre, NoMembers};
@@ -38,7 +38,7 @@ type PartFault = ReadFault<NotJson>;
 
 /// The object whose text this is.
 pub fn read_object(alloc: Global, text: &str) -> Result<FsObject, FsFault>
-    ensures value { Answers result (fs_of text.now) }
+    ensures value { ReadsAs result (fs_of text.now) }
     ensures proper { IfOk result IsProper }
 {
     let mut scratch = Scratch::new(alloc);

@@ -2,7 +2,7 @@
 ghost use Rattle.std.specs.Prelude.{◌≡◌, ◌≢◌, All, IfOk};
 ghost use Rattle.ids.specs.ObjectId.{nil};
 ghost use Rattle.serde_json.specs.Data.{no_members};
-ghost use Rattle.json_words.specs.Answer.{Answers};
+ghost use Rattle.json_words.specs.Answer.{ReadsAs};
 ghost use Rattle.fs_objects.specs.Parts.{IsPartsOf, AreProper, HasProperBlocks, HasProperEntries, kind_from, version_from, file_from, directory_from, object_from};
 ghost use Rattle.fs_objects.specs.Proper.{IsProper, IsProperEntry};
 
@@ -46,7 +46,7 @@ pub fn no_parts() -> Parts
 /// The object that the parts make, or the first failing check.
 #[tactic(auto, unfolding(crate::specs::Parts::object_from))]
 pub fn object_from(parts: Parts) -> Result<FsObject, FsFault>
-    ensures value { Answers result (object_from parts) }
+    ensures value { ReadsAs result (object_from parts) }
     ensures proper { AreProper parts → IfOk result IsProper }
 {
     let number = kind_from(parts.kind)?;

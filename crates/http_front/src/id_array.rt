@@ -6,7 +6,7 @@ ghost use Rattle.serde_json.specs.Data.{Data, Items, array};
 ghost use Rattle.serde_json.specs.Read.{read};
 ghost use Rattle.serde_json.specs.View.{view, items_of};
 ghost use Rattle.serde_json.specs.Written.{compact_text, has_float};
-ghost use Rattle.json_words.specs.Answer.{Answers};
+ghost use Rattle.json_words.specs.Answer.{ReadsAs};
 ghost use Rattle.json_words.specs.Check.{each};
 ghost use Rattle.json_words.specs.Fields.{list_of};
 ghost use Rattle.json_words.specs.IdText.{id_data, id_in, object_id_of};
@@ -26,7 +26,7 @@ use std::str::from_utf8;
 ///
 /// The body is read token by token, and no value of it is kept but the ids. It takes the memory of the body once more.
 pub(crate) fn read_ids(alloc: Global, body: &[u8]) -> Result<IdList, ReadFault<u64>>
-    ensures value { Answers result (ids_of body.now) }
+    ensures value { ReadsAs result (ids_of body.now) }
 {
     match from_utf8(body) {
         Ok(text) => ids_of_text(alloc, text),
@@ -36,7 +36,7 @@ pub(crate) fn read_ids(alloc: Global, body: &[u8]) -> Result<IdList, ReadFault<u
 
 /// The ids of a text that is such an array, with nothing behind it.
 fn ids_of_text(alloc: Global, text: &str) -> Result<IdList, ReadFault<u64>>
-    ensures value { Answers result (ids_of_read (read text.now)) }
+    ensures value { ReadsAs result (ids_of_read (read text.now)) }
 {
     let mut scratch = Scratch::new(alloc);
     let mut reader = Reader::new(text, &mut scratch)?;

@@ -40,7 +40,7 @@ pub const MAX_DAYS: i64 = 36_500;
 
 impl LibState {
     ghost use Rattle.std.specs.Prelude.{◌≡◌, Ok, IfOk, OnOk};
-    ghost use Rattle.json_words.specs.Answer.{Answers};
+    ghost use Rattle.json_words.specs.Answer.{ReadsAs};
     ghost use Rattle.library_state.specs.ProperState.{IsProper};
     ghost use Rattle.library_state.specs.Retention.{kept_for};
     ghost use Rattle.library_state.specs.StateSpelling.{text_of};
@@ -50,7 +50,7 @@ impl LibState {
     /// Reads a state text, version 1. Of several failing checks the first is answered.
     #[tactic(auto, unfolding(crate::specs::StateText::state_of))]
     pub fn read(alloc: Global, text: &[u8]) -> Result<LibState, StateFault>
-        ensures value { Answers result (state_of text.now) }
+        ensures value { ReadsAs result (state_of text.now) }
         ensures proper { IfOk result IsProper }
     {
         let value = match parse(alloc, text)? {

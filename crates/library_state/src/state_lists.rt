@@ -2,7 +2,7 @@
 ghost use Rattle.std.specs.Prelude.{◌≡◌, ◌≢◌, ◌≤◌, [], map, length, false, All, IfOk};
 ghost use Rattle.ids.specs.ObjectId.{nil};
 ghost use Rattle.serde_json.specs.View.{view};
-ghost use Rattle.json_words.specs.Answer.{Answers};
+ghost use Rattle.json_words.specs.Answer.{ReadsAs};
 ghost use Rattle.json_words.specs.Check.{result_map, each};
 ghost use Rattle.json_words.specs.Fields.{array_field};
 ghost use Rattle.json_words.specs.IdText.{object_id_of};
@@ -37,7 +37,7 @@ pub struct TokenParts<'a> {
 /// The retained head updates, at least one.
 #[tactic(auto, unfolding(crate::specs::StateText::kept_in))]
 pub fn kept_in(alloc: Global, value: &Value) -> Result<History, StateFault>
-    ensures value { Answers result (kept_in (view value.now)) }
+    ensures value { ReadsAs result (kept_in (view value.now)) }
     ensures some_kept { IfOk result (λ kept. 1 ≤ length kept) }
     ensures proper { IfOk result (All IsProperInstall) }
 {
@@ -61,7 +61,7 @@ fn list_at<'a>(value: &'a Value, name: &str, key: StateKey) -> Result<&'a [Value
 
 /// The head updates that the items of an array are.
 fn read_installs(alloc: Global, items: &[Value]) -> Result<History, StateFault>
-    ensures value { Answers result (each install_of (map view items.now)) }
+    ensures value { ReadsAs result (each install_of (map view items.now)) }
     ensures same { IfOk result (λ kept. length kept ≡ length items.now) }
     ensures proper { IfOk result (All IsProperInstall) }
 {
@@ -106,7 +106,7 @@ fn stored_id_at(value: &Value, name: &str) -> Result<ObjId, StateKey>
 /// The tokens, which saw no collection past this one.
 #[tactic(auto, unfolding(crate::specs::StateText::tokens_in))]
 pub fn tokens_in(alloc: Global, value: &Value, collection: u64) -> Result<Items<Token>, StateFault>
-    ensures value { Answers result (tokens_in collection (view value.now)) }
+    ensures value { ReadsAs result (tokens_in collection (view value.now)) }
     ensures proper { IfOk result (AreProperTokens collection) }
 {
     let items = list_at(value, "tokens", StateKey::Tokens)?;
@@ -119,7 +119,7 @@ pub fn tokens_in(alloc: Global, value: &Value, collection: u64) -> Result<Items<
 /// The tokens that the items of an array are, of which there are few.
 fn read_tokens(alloc: Global, items: &[Value], collection: u64) -> Result<Items<Token>, StateFault>
     requires fits { length items.now ≤ MAX_TOKENS }
-    ensures value { Answers result (tokens_after collection [] (map view items.now)) }
+    ensures value { ReadsAs result (tokens_after collection [] (map view items.now)) }
     ensures proper { IfOk result (AreProperTokens collection) }
 {
     let mut tokens = Items::new(alloc);
@@ -144,7 +144,7 @@ fn token_of(
     collection: u64,
     others: &[Token],
 ) -> Result<Token, StateFault>
-    ensures value { Answers result (token_of collection others.now (view value.now)) }
+    ensures value { ReadsAs result (token_of collection others.now (view value.now)) }
     ensures proper { IfOk result (IsProperToken collection) }
     ensures new { IfOk result (λ token. is_taken others.now token.secret ≡ false) }
 {

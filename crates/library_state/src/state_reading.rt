@@ -1,7 +1,7 @@
 //! Reading of state texts.
 ghost use Rattle.std.specs.Prelude.{◌≡◌, ◌≤◌, true, length, IfOk};
 ghost use Rattle.serde_json.specs.View.{view};
-ghost use Rattle.json_words.specs.Answer.{Answers};
+ghost use Rattle.json_words.specs.Answer.{ReadsAs};
 ghost use Rattle.json_words.specs.Check.{result_map};
 ghost use Rattle.library_state.specs.ProperState.{IsProper};
 ghost use Rattle.library_state.specs.StateText.{last_number, right_version, collection_in, is_day_count, days_in, library_in, name_in, opening_in, state_in};
@@ -20,7 +20,7 @@ use std::alloc::Global;
 /// The state that a JSON object is.
 #[tactic(auto, unfolding(crate::specs::StateText::state_in))]
 pub fn state_from(alloc: Global, value: &Value) -> Result<LibState, StateFault>
-    ensures value { Answers result (state_in (view value.now)) }
+    ensures value { ReadsAs result (state_in (view value.now)) }
     ensures proper { IfOk result IsProper }
 {
     right_version(value)?;

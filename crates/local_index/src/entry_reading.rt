@@ -3,7 +3,7 @@ ghost use Rattle.std.specs.Prelude.{◌≡◌, ◌≢◌, ◌==◌, [], true, ma
 ghost use Rattle.std.specs.List.{slice_split};
 ghost use Rattle.std.specs.FinMap as map;
 ghost use Rattle.serde_json.specs.View.{view};
-ghost use Rattle.json_words.specs.Answer.{Answers};
+ghost use Rattle.json_words.specs.Answer.{ReadsAs};
 ghost use Rattle.json_words.specs.Check.{result_map};
 ghost use Rattle.json_words.specs.Fields.{has_only};
 ghost use Rattle.local_index.specs.declared.fault.IndexKey.TheVariants as key;
@@ -27,7 +27,7 @@ use tree_model::{Name, NameFault, Path, PathTable};
 /// The entries, no two at one path, each in a directory of them.
 #[tactic(auto, unfolding(crate::specs::IndexText::entries_in))]
 pub fn read_entries(alloc: Global, value: &Value) -> Result<PathTable<Known>, IndexFault>
-    ensures value { Answers result (entries_in (view value.now)) }
+    ensures value { ReadsAs result (entries_in (view value.now)) }
     ensures sound { IfOk result IsSound }
     ensures proper { IfOk result (λ entries. all_stand entries ≡ true) }
 {
@@ -44,7 +44,7 @@ pub fn read_entries(alloc: Global, value: &Value) -> Result<PathTable<Known>, In
 
 /// The entries that the items of an array are.
 fn read_items(alloc: Global, items: &[Value]) -> Result<PathTable<Known>, IndexFault>
-    ensures value { Answers result (with_entries map.empty (list_map view items.now)) }
+    ensures value { ReadsAs result (with_entries map.empty (list_map view items.now)) }
     ensures sound { IfOk result IsSound }
 {
     let mut entries = PathTable::new(alloc);
@@ -60,7 +60,7 @@ fn read_items(alloc: Global, items: &[Value]) -> Result<PathTable<Known>, IndexF
 /// Puts an entry into the table, at a path that has none yet.
 #[tactic(auto, unfolding(crate::specs::IndexText::with_entry))]
 fn read_item(alloc: Global, entries: &mut PathTable<Known>, item: &Value) -> Result<(), IndexFault>
-    ensures value { Answers (result_map (λ _. entries.new) result) (with_entry entries.old (view item.now)) }
+    ensures value { ReadsAs (result_map (λ _. entries.new) result) (with_entry entries.old (view item.now)) }
     ensures sound { OnOk result (IsSound entries.old → IsSound entries.new) }
 {
     let path = read_path(alloc, item)?;
@@ -75,7 +75,7 @@ fn read_item(alloc: Global, entries: &mut PathTable<Known>, item: &Value) -> Res
 /// The path of an entry.
 #[tactic(auto, unfolding(crate::specs::IndexText::path_in))]
 fn read_path(alloc: Global, item: &Value) -> Result<Path, IndexFault>
-    ensures value { Answers result (path_in (view item.now)) }
+    ensures value { ReadsAs result (path_in (view item.now)) }
     ensures proper { IfOk result (λ path. path ≢ []) }
 {
     let text = match text_field(item, "path") {
@@ -123,7 +123,7 @@ fn good_path(alloc: Global, names: &[&str]) -> Result<Option<Path>, AllocError>
 /// What an entry is: with its path alone a directory, else a file.
 #[tactic(auto, unfolding(crate::specs::IndexText::known_in))]
 fn read_known(alloc: Global, item: &Value) -> Result<Known, IndexFault>
-    ensures value { Answers result (known_in (view item.now)) }
+    ensures value { ReadsAs result (known_in (view item.now)) }
     ensures proper { IfOk result HasFileMode }
 {
     if has_only(item, &["path"]) {

@@ -39,7 +39,7 @@ pub struct Index {
 impl Index {
     ghost use Rattle.std.specs.Prelude.{◌≡◌, None, Ok, IfOk};
     ghost use Rattle.std.specs.FinMap as map;
-    ghost use Rattle.json_words.specs.Answer.{Answers};
+    ghost use Rattle.json_words.specs.Answer.{ReadsAs};
     ghost use Rattle.local_index.specs.IndexText.{index_of};
     ghost use Rattle.local_index.specs.IndexSpelling.{text_of, IsProper};
 
@@ -62,7 +62,7 @@ impl Index {
     /// No clause says these.
     #[tactic(auto, unfolding(crate::specs::IndexText::index_of))]
     pub fn read(alloc: Global, text: &[u8]) -> Result<Index, IndexFault>
-        ensures value { Answers result (index_of text.now) }
+        ensures value { ReadsAs result (index_of text.now) }
         ensures proper { IfOk result IsProper }
     {
         match parse(alloc, text)? {

@@ -2,7 +2,7 @@
 ghost use Rattle.std.specs.Prelude.{◌≡◌, ◌≢◌, Some, IfOk};
 ghost use Rattle.ids.specs.ObjectId.{nil};
 ghost use Rattle.serde_json.specs.View.{view};
-ghost use Rattle.json_words.specs.Answer.{Answers};
+ghost use Rattle.json_words.specs.Answer.{ReadsAs};
 ghost use Rattle.json_words.specs.Fields.{has_only};
 ghost use Rattle.local_index.specs.IndexSpelling.{IsProper};
 ghost use Rattle.local_index.specs.IndexText.{right_version, library_in, base_from, base_in, index_keys, index_in};
@@ -18,7 +18,7 @@ use std::alloc::Global;
 /// The index that a JSON object is.
 #[tactic(auto, unfolding(crate::specs::IndexText::index_in))]
 pub fn read_index(alloc: Global, value: &Value) -> Result<Index, IndexFault>
-    ensures value { Answers result (index_in (view value.now)) }
+    ensures value { ReadsAs result (index_in (view value.now)) }
     ensures proper { IfOk result IsProper }
 {
     right_version(value)?;

@@ -9,7 +9,7 @@ use Rattle.ids.specs.declared.key.Key.{Key}
 use Rattle.ids.proofs.KeyOrderLemmas.{key_cmp_total}
 use Rattle.object_store.proofs.MapLemmas.{tied_key}
 use Rattle.object_store.proofs.ShelfLemmas.{put_lies, removed_lies}
-use Rattle.object_store.specs.MemoryShelf.{Answers, MemoryShelfState}
+use Rattle.object_store.specs.MemoryShelf.{ShelfAnswers, MemoryShelfState}
 use Rattle.object_store.specs.OddShelf.{GivesOdd, OddAfter, OddShelfState, odd_or}
 use Rattle.object_store.specs.Shelf.{Contents, GivesAlso, GivesNoMore, Tells, lies_in, with_put, without}
 use Rattle.object_store.specs.declared.shelf.Slot.{Slot}
@@ -96,10 +96,10 @@ module _ (old new : OddShelfState) where
       (beside_it (without old.inner.contents slot) slot None (removed_lies old.inner.contents slot) contents)
 
   -- the same where the shelf below answers it as done
-  pub odd_put_by : (slot : Slot) (bytes : List ℕ) (done : ⊤) → Answers old.inner new.inner (with_put old.inner.contents slot bytes) (Ok done) → OddAfter old new slot (Ok done)
+  pub odd_put_by : (slot : Slot) (bytes : List ℕ) (done : ⊤) → ShelfAnswers old.inner new.inner (with_put old.inner.contents slot bytes) (Ok done) → OddAfter old new slot (Ok done)
       → GivesAlso (GivesOdd old) (GivesOdd new) slot (Some bytes)
   odd_put_by slot bytes done is odd = odd_put slot bytes (ap (λ (s : MemoryShelfState). s.contents) is.after) odd.0 odd.1.0 odd.1.1
 
-  pub odd_removed_by : (slot : Slot) (done : ⊤) → Answers old.inner new.inner (without old.inner.contents slot) (Ok done) → OddAfter old new slot (Ok done)
+  pub odd_removed_by : (slot : Slot) (done : ⊤) → ShelfAnswers old.inner new.inner (without old.inner.contents slot) (Ok done) → OddAfter old new slot (Ok done)
       → GivesAlso (GivesOdd old) (GivesOdd new) slot None
   odd_removed_by slot done is odd = odd_removed slot (ap (λ (s : MemoryShelfState). s.contents) is.after) odd.0 odd.1.0 odd.1.1

@@ -8,7 +8,7 @@ use Rattle.ids.specs.Key.{key_cmp}
 use Rattle.ids.specs.declared.key.Key.{Key}
 use Rattle.ids.proofs.KeyOrderLemmas.{key_cmp_total}
 use Rattle.object_store.proofs.MapLemmas.{tied_key}
-use Rattle.object_store.specs.MemoryShelf.{Answers, MemoryShelfState}
+use Rattle.object_store.specs.MemoryShelf.{ShelfAnswers, MemoryShelfState}
 use Rattle.object_store.specs.Shelf.{Changes, Contents, GivesAlso, GivesNoMore, Tells, lies_in, put_known, removed_known, texts_after, with_put, without}
 use Rattle.object_store.specs.StoreView.{ChangesShelf, ReadsShelf}
 use Rattle.object_store.specs.declared.shelf.ShelfFailed.{ShelfFailed}
@@ -75,14 +75,14 @@ tells_removed old new slot result is =
 
 -- the same of a shelf in memory
 pub answers_put : (old new : MemoryShelfState) (slot : Slot) (bytes : List ℕ) (result : Result ⊤ ShelfFailed)
-    → Answers old new (with_put old.contents slot bytes) result → GivesAlso (Tells old.contents) (Tells new.contents) slot (Some bytes)
+    → ShelfAnswers old new (with_put old.contents slot bytes) result → GivesAlso (Tells old.contents) (Tells new.contents) slot (Some bytes)
 answers_put old new slot bytes (Ok done) is =
     changed_lies old.contents (with_put old.contents slot bytes) new.contents slot (Some bytes) (put_lies old.contents slot bytes) (inr (ap (λ (s : MemoryShelfState). s.contents) is.after))
 answers_put old new slot bytes (Err failed) is =
     changed_lies old.contents (with_put old.contents slot bytes) new.contents slot (Some bytes) (put_lies old.contents slot bytes) (inl (ap (λ (s : MemoryShelfState). s.contents) is.after))
 
 pub answers_removed : (old new : MemoryShelfState) (slot : Slot) (result : Result ⊤ ShelfFailed)
-    → Answers old new (without old.contents slot) result → GivesAlso (Tells old.contents) (Tells new.contents) slot None
+    → ShelfAnswers old new (without old.contents slot) result → GivesAlso (Tells old.contents) (Tells new.contents) slot None
 answers_removed old new slot (Ok done) is =
     changed_lies old.contents (without old.contents slot) new.contents slot None (removed_lies old.contents slot) (inr (ap (λ (s : MemoryShelfState). s.contents) is.after))
 answers_removed old new slot (Err failed) is =

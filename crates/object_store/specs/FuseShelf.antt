@@ -1,7 +1,7 @@
 -- A shelf that stops after so many calls, as contracts see it. Read first: MemoryShelf. Our own.
 use Rattle.std.specs.Prelude.{◌≡◌, ℕ, ◌-◌, ◌<◌, Bool, true, false, List, Option, Some, Result, Err, nat_lt, if◌then◌else◌, ⊤, refl}
 use Rattle.std.specs.Coded.{Coded, code_by, coded×, coded_bool, coded_ℕ}
-use Rattle.object_store.specs.MemoryShelf.{Answers, MemoryShelfState, counted, memory_shelf_code, what_is_told}
+use Rattle.object_store.specs.MemoryShelf.{ShelfAnswers, MemoryShelfState, counted, memory_shelf_code, what_is_told}
 use Rattle.object_store.specs.Shelf.{Contents, lies_in}
 use Rattle.object_store.specs.declared.shelf.ShelfFailed.{ShelfFailed}
 use Rattle.object_store.specs.declared.shelf.ShelfFailed.TheVariants.{Shelf, NoMemory}
@@ -40,7 +40,7 @@ failed_by shelf NoMemory = shelf
 pub record Passes {T : Type 0} (old new : FuseShelfState) (changed : Contents) (result : Result T ShelfFailed) : Type 0 where
   pub left : new.left ≡ old.left - 1
   pub late : new.late ≡ (if nat_lt 0 old.left then old.late else false)
-  pub passed : 0 < old.left → Answers old.inner new.inner changed result
+  pub passed : 0 < old.left → ShelfAnswers old.inner new.inner changed result
   pub stopped : old.left ≡ 0 → result ≡ Err Shelf
 
 -- a call that reads changes nothing where it failed
@@ -52,7 +52,7 @@ pub record PassesRead {T : Type 0} (old new : FuseShelfState) (result : Result T
 pub record PassesChange (old new : FuseShelfState) (changed : Contents) (result : Result ⊤ ShelfFailed) : Type 0 where
   pub passes : Passes old new changed result
   pub kept : old.left ≡ 0 → old.late ≡ false → new.inner ≡ old.inner
-  pub made : old.left ≡ 0 → old.late ≡ true → (answer : Result ⊤ ShelfFailed) × Answers old.inner new.inner changed answer
+  pub made : old.left ≡ 0 → old.late ≡ true → (answer : Result ⊤ ShelfFailed) × ShelfAnswers old.inner new.inner changed answer
 
 -- it gives what it tells
 pub fuse_told : (shelf : FuseShelfState) (held : Contents) (slot : Slot) (given : Option (List ℕ))

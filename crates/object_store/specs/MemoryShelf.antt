@@ -62,7 +62,7 @@ contents_after old changed (Err failed) = old
 
 -- a call that is to fail answers Shelf, and no other does; what it leaves is the counted shelf, with these contents
 -- where it is answered as done, and with some count of texts
-pub record Answers {T : Type 0} (old new : MemoryShelfState) (changed : Contents) (result : Result T ShelfFailed) : Type 0 where
+pub record ShelfAnswers {T : Type 0} (old new : MemoryShelfState) (changed : Contents) (result : Result T ShelfFailed) : Type 0 where
   pub fails : (IsFailure result) ↔ IsTrue (fails_next old)
   pub after : new ≡ record (begun old) { contents = contents_after old.contents changed result; texts = new.texts }
 

@@ -1,7 +1,7 @@
 //! A shelf in memory, and the calls that are to fail.
 ghost use Rattle.std.specs.Prelude.{◌≡◌, ◌<◌, ◌^◌, ℕ, List, length, IfOk, IfErr, OnErr, Some, None, not, is_some, option_copied};
 ghost use Rattle.std.specs.FinMap as map;
-ghost use Rattle.object_store.specs.MemoryShelf.{Answers, FindsAt, FindsKey, HasIds, IsLeastFrom, begun, fails_next, is_due};
+ghost use Rattle.object_store.specs.MemoryShelf.{ShelfAnswers, FindsAt, FindsKey, HasIds, IsLeastFrom, begun, fails_next, is_due};
 ghost use Rattle.object_store.specs.Shelf.{Changes, Contents, CountsFaults, FindsNext, GivesAlso, GivesNoMore, Tells, lies_in, put_known, removed_known, texts_after, with_put, without};
 
 use crate::shelf::{Found, Shelf, ShelfFailed, Slot};
@@ -81,7 +81,7 @@ impl MemoryShelf {
     /// A removal.
     fn empty_slot(&mut self, slot: Slot) -> Result<(), ShelfFailed>
         ensures faults { CountsFaults self.old.faults self.new.faults result }
-        ensures value { Answers self.old self.new (without self.old.contents slot) result }
+        ensures value { ShelfAnswers self.old self.new (without self.old.contents slot) result }
         ensures texts { self.new.texts ≡ self.old.texts }
     {
         if !self.begin() {
@@ -97,7 +97,7 @@ impl MemoryShelf {
     /// A put, but for the count of texts.
     fn put_bytes(&mut self, slot: Slot, bytes: &[u8]) -> Result<(), ShelfFailed>
         ensures faults { CountsFaults self.old.faults self.new.faults result }
-        ensures value { Answers self.old self.new (with_put self.old.contents slot bytes.now) result }
+        ensures value { ShelfAnswers self.old self.new (with_put self.old.contents slot bytes.now) result }
         ensures texts { self.new.texts ≡ self.old.texts }
     {
         if !self.begin() {
@@ -132,7 +132,7 @@ impl Shelf for MemoryShelf {
         ensures faults { CountsFaults self.old.faults self.new.faults result }
         ensures gives { GivesNoMore (Tells self.old.contents) (Tells self.new.contents) }
         ensures texts { self.new.texts ≡ self.old.texts }
-        ensures value { Answers self.old self.new self.old.contents result }
+        ensures value { ShelfAnswers self.old self.new self.old.contents result }
     {
         if !self.begin() {
             return Err(ShelfFailed::Shelf);
@@ -148,7 +148,7 @@ impl Shelf for MemoryShelf {
         ensures faults { CountsFaults self.old.faults self.new.faults result }
         ensures gives { GivesAlso (Tells self.old.contents) (Tells self.new.contents) slot (Some bytes.now) }
         ensures texts { self.new.texts ≡ texts_after slot self.old.texts }
-        ensures value { Answers self.old self.new (with_put self.old.contents slot bytes.now) result }
+        ensures value { ShelfAnswers self.old self.new (with_put self.old.contents slot bytes.now) result }
     {
         self.texts.count_put(&slot);
         self.put_bytes(slot, bytes)
@@ -159,7 +159,7 @@ impl Shelf for MemoryShelf {
         ensures faults { CountsFaults self.old.faults self.new.faults result }
         ensures gives { GivesAlso (Tells self.old.contents) (Tells self.new.contents) slot None }
         ensures texts { self.new.texts ≡ self.old.texts }
-        ensures value { Answers self.old self.new (without self.old.contents slot) result }
+        ensures value { ShelfAnswers self.old self.new (without self.old.contents slot) result }
     {
         self.empty_slot(slot)
     }
@@ -170,7 +170,7 @@ impl Shelf for MemoryShelf {
         ensures faults { CountsFaults self.old.faults self.new.faults result }
         ensures gives { GivesNoMore (Tells self.old.contents) (Tells self.new.contents) }
         ensures texts { self.new.texts ≡ self.old.texts }
-        ensures value { Answers self.old self.new self.old.contents result }
+        ensures value { ShelfAnswers self.old self.new self.old.contents result }
     {
         if !self.begin() {
             return Err(ShelfFailed::Shelf);

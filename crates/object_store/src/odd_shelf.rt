@@ -1,6 +1,6 @@
 //! A shelf that gives odd bytes for one slot, as a disk that went bad.
 ghost use Rattle.std.specs.Prelude.{◌≡◌, ◌↔◌, ℕ, List, IfOk, IfErr, IsTrue, Some, None, Option};
-ghost use Rattle.object_store.specs.MemoryShelf.{Answers};
+ghost use Rattle.object_store.specs.MemoryShelf.{ShelfAnswers};
 ghost use Rattle.object_store.specs.OddShelf.{GivesOdd, KeepsOdd, OddAfter, odd_or};
 ghost use Rattle.object_store.specs.Shelf.{Changes, Contents, CountsFaults, FindsNext, GivesAlso, GivesNoMore, put_known, removed_known, texts_after, with_put, without};
 
@@ -61,7 +61,7 @@ impl Shelf for OddShelf {
         ensures faults { CountsFaults self.old.inner.faults self.new.inner.faults result }
         ensures gives { GivesNoMore (GivesOdd self.old) (GivesOdd self.new) }
         ensures texts { self.new.inner.texts ≡ self.old.inner.texts }
-        ensures value { Answers self.old.inner self.new.inner self.old.inner.contents result }
+        ensures value { ShelfAnswers self.old.inner self.new.inner self.old.inner.contents result }
         ensures odd { KeepsOdd self.old self.new }
     {
         let here = is_same(&self.slot, &slot);
@@ -80,7 +80,7 @@ impl Shelf for OddShelf {
         ensures faults { CountsFaults self.old.inner.faults self.new.inner.faults result }
         ensures gives { GivesAlso (GivesOdd self.old) (GivesOdd self.new) slot (Some bytes.now) }
         ensures texts { self.new.inner.texts ≡ texts_after slot self.old.inner.texts }
-        ensures value { Answers self.old.inner self.new.inner (with_put self.old.inner.contents slot bytes.now) result }
+        ensures value { ShelfAnswers self.old.inner self.new.inner (with_put self.old.inner.contents slot bytes.now) result }
         ensures odd { OddAfter self.old self.new slot result }
     {
         let here = is_same(&self.slot, &slot);
@@ -99,7 +99,7 @@ impl Shelf for OddShelf {
         ensures faults { CountsFaults self.old.inner.faults self.new.inner.faults result }
         ensures gives { GivesAlso (GivesOdd self.old) (GivesOdd self.new) slot None }
         ensures texts { self.new.inner.texts ≡ self.old.inner.texts }
-        ensures value { Answers self.old.inner self.new.inner (without self.old.inner.contents slot) result }
+        ensures value { ShelfAnswers self.old.inner self.new.inner (without self.old.inner.contents slot) result }
         ensures odd { OddAfter self.old self.new slot result }
     {
         let here = is_same(&self.slot, &slot);
@@ -119,7 +119,7 @@ impl Shelf for OddShelf {
         ensures faults { CountsFaults self.old.inner.faults self.new.inner.faults result }
         ensures gives { GivesNoMore (GivesOdd self.old) (GivesOdd self.new) }
         ensures texts { self.new.inner.texts ≡ self.old.inner.texts }
-        ensures value { Answers self.old.inner self.new.inner self.old.inner.contents result }
+        ensures value { ShelfAnswers self.old.inner self.new.inner self.old.inner.contents result }
         ensures told { IfOk result (FindsNext self.old.inner.contents.objects kind after) }
         ensures odd { KeepsOdd self.old self.new }
     {

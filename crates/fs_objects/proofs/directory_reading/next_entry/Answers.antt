@@ -3,7 +3,7 @@ use Rattle.std.proofs.Common.{◌≡◌, ◌++◌, ◌∷◌, [], Result, Ok, Er
 use Rattle.std.proofs.lemmas.Bool.{not-false, not-true}
 use Rattle.serde_json.specs.Data.{Data}
 use Rattle.serde_json.specs.View.{view}
-use Rattle.json_words.specs.Answer.{Answers}
+use Rattle.json_words.specs.Answer.{ReadsAs}
 use Rattle.json_words.specs.declared.answer.ReadFault.{ReadFault}
 use Rattle.fs_objects.specs.Directory as directory
 use Rattle.fs_objects.specs.Directory.{head_of, entry_from, is_taken, names_of}
@@ -15,7 +15,7 @@ use Rattle.fs_objects.proofs.DirectoryLemmas.{entry_of-bad_head, entry_of-twice,
 use Rattle.fs_objects.proofs.NameSetLemmas.{HasNames-push}
 use Rattle.fs_objects.proofs.directory_reading.next_entry.Goals as goal
 
-named : (Q : Dirent → Type 0) (r : Result Dirent (ReadFault BadFs)) (head : directory.Head) (d : Data) → Answers r (entry_from head d) → ((entry : Dirent) → entry.name ≡ head.name → Q entry) → IfOk r Q
+named : (Q : Dirent → Type 0) (r : Result Dirent (ReadFault BadFs)) (head : directory.Head) (d : Data) → ReadsAs r (entry_from head d) → ((entry : Dirent) → entry.name ≡ head.name → Q entry) → IfOk r Q
 named Q (Ok entry) head d is then = then entry (entry_from-name head d entry is)
 named Q (Err fault) head d is then = tt
 

@@ -4,7 +4,7 @@ use Rattle.std.proofs.lemmas.List.{length-append}
 use Rattle.std.proofs.lemmas.List.Elements.{All-push}
 use Rattle.std.specs.List.{IsDistinct}
 use Rattle.serde_json.specs.View.{view}
-use Rattle.json_words.proofs.AnswerLemmas.{Answers-handed_on}
+use Rattle.json_words.proofs.AnswerLemmas.{ReadsAs-handed_on}
 use Rattle.library_state.specs.StateText.{token_of, tokens_after}
 use Rattle.library_state.specs.ProperState.{IsProperToken}
 use Rattle.library_state.specs.Tokens.{is_taken}
@@ -31,7 +31,7 @@ returns-in-Err c =
     let others = ap (λ tokens. token_of c.args.collection tokens d) c.slice.ensures.value in
     record {
       value =
-          Answers-handed_on c.in-Err.fault _ _
+          ReadsAs-handed_on c.in-Err.fault _ _
           (λ bad is. sym c.loop-item.invariant.ahead ∙ next ∙ tokens_after-err c.args.collection done d rest bad (sym others ∙ is)) c.in-Err.ensures.value;
       proper = tt;
     }
