@@ -25,7 +25,8 @@ pub(crate) enum CheckFault {
     Store(StoreFault),
 }
 
-/// Whether a pushed commit is complete. Each directory and each file is read once, under however many names it stands.
+/// Whether a pushed commit is complete. What was found whole is not read again, under however many names it stands, where it
+/// fits at its place and there was memory to keep that.
 pub(crate) fn check_pushed<S: Shelf>(
     alloc: Global,
     store: &mut Store<S>,

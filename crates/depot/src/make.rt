@@ -1,4 +1,4 @@
-//! How a library is made, and opened again.
+//! How a library is made.
 ghost use Rattle.library_state.specs.declared.state.TheConstants.{MAX_STATE_NAME};
 ghost use Rattle.std.specs.Prelude.{◌≡◌, ◌≤◌, ℕ, List, length, Some, None, IfOk, IfErr, OnOk, OnErr, Option, ⊤, Ok, false};
 ghost use Rattle.ids.specs.FaultCount.{FailsBy};

@@ -16,7 +16,7 @@ use Rattle.object_store.specs.declared.shelf.Slot.{Slot}
 use Rattle.worker_server.specs.declared.host.Answer.{Answer}
 
 -- the library answered: by the rules where its shelf tells what it holds, and over every shelf with its cause; one who may
--- not ask is denied whatever the shelf does; and what is left can be opened again
+-- not ask is denied whatever the shelf does; and what is left stands for a library, where its shelf tells what it holds
 pub record IsAnswered {S : Type 0} (contents : S → Option Contents) (may_give : S → Slot → Option (List ℕ) → Type 0) (texts faults : S → ℕ)
     (old : DepotView S) (call : Call) (moment : ℕ) (r : Reply) (new : DepotView S) : Type 0 where
   pub serves : Serves contents may_give texts faults old call moment r new

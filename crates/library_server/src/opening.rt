@@ -73,7 +73,7 @@ pub(crate) fn open_library<G: Ground, C: Clock>(
     }
 }
 
-/// Gives back the shelf of a library that was opened or made, which can be opened again.
+/// Gives back the shelf of a library that was opened or made. Where it tells what it holds, it stands for a library.
 pub(crate) fn bring_back<G: Ground>(libraries: &mut G, folder: &str, lib: LibId, depot: Depot<G::S>)
     ensures ok { TakesBack (G.stands libraries.old) (G.stands libraries.new) folder.now lib (G.S.contents depot.store.shelf) }
     ensures good { IsGood G.S.contents G.S.faults depot }
