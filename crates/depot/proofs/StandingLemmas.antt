@@ -20,10 +20,11 @@ use Rattle.object_store.specs.Shelf.{Contents}
 use Rattle.object_store.specs.StoreView.{HasNoStray, Index, StoreView, indexed, objects_of}
 use Rattle.object_store.proofs.MapLemmas.{get-retained}
 use Rattle.depot.specs.DepotView.{DepotView, Holds, HoldsOther, IsGood, library, running_library, state_of}
-use Rattle.depot.specs.Start.{first_incomplete, first_of, start_refusal, text_refusal}
+use Rattle.depot.specs.Start.{first_incomplete, start_refusal, text_refusal}
 use Rattle.depot.specs.Standing.{IsOnShelf, StandsForNext}
 use Rattle.depot.specs.declared.error.StartFault.TheVariants as start
 use Rattle.std.proofs.lemmas.Bool.{or_left, or_right}
+use Rattle.tree_walk.specs.Files.{first_due}
 
 -- what a store holds lies on its shelf
 pub indexed_lies : (index : Index) (held : Contents) → Keeps (indexed index held) held.objects
@@ -85,7 +86,7 @@ module _ {S : Type 0} (contents : S → Option Contents) (faults : S → ℕ) (d
 none_incomplete : (lying : Objects) (ids : List (List ℕ)) → ((id : List ℕ) → list_any (same_id id) ids ≡ true → IsComplete lying id) → first_incomplete lying ids ≡ None
 none_incomplete lying [] each = refl
 none_incomplete lying (id ∷ ids) each =
-    ap (λ o. first_of o (first_incomplete lying ids)) (each id (or_left (same_id id id) (list_any (same_id id) ids) (same_id-itself id)))
+    ap (λ o. first_due o (first_incomplete lying ids)) (each id (or_left (same_id id id) (list_any (same_id id) ids) (same_id-itself id)))
     ∙ none_incomplete lying ids (λ other e. each other (or_right (same_id other id) (list_any (same_id other) ids) e))
 
 pub opens : (s : State) (slot : Option (List ℕ)) (lying : Objects) → IsSound s → StandsFor slot lying s

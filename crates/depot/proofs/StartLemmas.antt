@@ -21,7 +21,7 @@ use Rattle.object_store.specs.declared.shelf.Slot.{Slot}
 use Rattle.object_store.specs.declared.shelf.Slot.TheVariants.{Status}
 use Rattle.object_store.specs.declared.error.StoreFault.TheVariants.{Taken, Wrong, Damaged, Shelf, NoMemory}
 use Rattle.depot.specs.DepotView.{library, IsGood, IsSoundIn}
-use Rattle.depot.specs.Start.{IsFound, IsOpened, LeftUnopenedBy, GivesBad, IsGiven, IsStartFault, IsStateFault, first_incomplete, first_of, next_opening, raised, state_refusal, untouched}
+use Rattle.depot.specs.Start.{IsFound, IsOpened, LeftUnopenedBy, GivesBad, IsGiven, IsStartFault, IsStateFault, first_incomplete, next_opening, raised, state_refusal, untouched}
 use Rattle.depot.specs.Writing.{Writes, written}
 use Rattle.depot.specs.declared.error.StartFault.{StartFault}
 use Rattle.depot.specs.declared.error.StartFault.TheVariants as start
@@ -29,10 +29,11 @@ use Rattle.depot.proofs.CompleteLemmas.{damage_before, start_before}
 use Rattle.depot.proofs.GoodLemmas.{none_fresh, sound_told}
 use Rattle.depot.proofs.WritingLemmas.{written_at}
 use Rattle.std.proofs.lemmas.Bool.{or_cases}
+use Rattle.tree_walk.specs.Files.{first_due}
 
 -- ---- commits that are complete, one after another
 
-first_none : (a b : Option TreeFault) → first_of a b ≡ None → (a ≡ None) × (b ≡ None)
+first_none : (a b : Option TreeFault) → first_due a b ≡ None → (a ≡ None) × (b ≡ None)
 first_none None b e = (refl, e)
 first_none (Some fault) b e = cc
 

@@ -11,7 +11,6 @@ use Rattle.library_rules.specs.LibraryState.{State, IsSound, head_of, is_kept}
 use Rattle.library_rules.specs.declared.entry.Step.TheVariants as step
 use Rattle.library_rules.specs.declared.entry.Stored.{Stored}
 use Rattle.library_rules.proofs.JoinedLemmas.{sound_stands, step_stands}
-use Rattle.library_rules.proofs.KeptHistoryLemmas.{push_some}
 use Rattle.library_rules.proofs.SoundLemmas.{sound_counted}
 use Rattle.library_state.specs.StateSpelling.{text_of}
 use Rattle.library_state.specs.declared.call.Act.TheVariants as act
@@ -42,6 +41,7 @@ use Rattle.depot.proofs.UpdateInstallLemmas.{counted_same, free_told}
 use Rattle.depot.proofs.UpdateLemmas.{done_answers, done_may, kept_answers, refused_answers, stopped_answers}
 use Rattle.depot.specs.Refusals.{store_refusal}
 use Rattle.depot.proofs.WritingLemmas.{holds_after, written_at}
+use Rattle.ids.proofs.BasicLemmas.{pushed_is_some}
 
 -- ---- what is held
 
@@ -217,7 +217,7 @@ module _ {S : Type 0} (contents : S → Option Contents) (may_give : S → Shelf
 
         pub good_done : IsGood contents faults (at_rest old) → IsGood contents faults new
         good_done good = record {
-          head = subst (λ (st : LibState). st.kept ≢ []) (sym same) (push_some old.state.kept (record { head = plan.head; pushed = pushed; at = moment }));
+          head = subst (λ (st : LibState). st.kept ≢ []) (sym same) (pushed_is_some old.state.kept (record { head = plan.head; pushed = pushed; at = moment }));
           reads = subst ReadsBack (sym same) done.text.reads;
           fresh = none_fresh contents faults store;
           sound = sound_told contents faults new (λ objects told.

@@ -17,9 +17,9 @@ use Rattle.object_store.specs.declared.error.StoreFault.TheVariants.{Taken, Wron
 use Rattle.object_store.specs.declared.shelf.Slot.{Slot as ShelfSlot}
 use Rattle.depot.specs.Answering.{MayRefuseUpdate}
 use Rattle.depot.specs.ObjectCalls.{IsToldRefusal, is_of_store}
-use Rattle.depot.specs.UpdateInstall.{ArePuttable, ArePuttableIn, Held, InstallsText, IsCarriedOut, LeftBehind, StoresPart, StoresSo, unsure, with_all}
+use Rattle.depot.specs.UpdateInstall.{ArePuttable, ArePuttableIn, Held, IsCarriedOut, LeftBehind, StoresPart, StoresSo, unsure, with_all}
 use Rattle.depot.specs.UpdatePlan.{AreNamed}
-use Rattle.depot.specs.Writing.{IsWritten, LeftBy, SettlesSo, Slot, Writes, again, leaves_open, nothing, open_next, open_present, settled}
+use Rattle.depot.specs.Writing.{IsWritten, LeftBy, SettlesSo, Slot, Writes, again, leaves_open, nothing, open_next, open_present, settled, RewritesSo}
 use Rattle.depot.proofs.UpdateBaseLemmas.{damage_apart}
 use Rattle.depot.specs.Refusals.{store_refusal}
 use Rattle.depot.proofs.WritingLemmas.{stored_as_put}
@@ -154,7 +154,7 @@ settled_slot false present old new so = so.0
 
 -- a text that was written after it was settled
 pub noted : (unsettled still : Bool) (present next : LibState) (old mid new : Slot) (result : Result ⊤ StoreFault) → mid ≡ settled unsettled present old → still ≡ leaves_open result
-    → Writes next mid new result → InstallsText unsettled present next old still new result
+    → Writes next mid new result → RewritesSo unsettled present next old still new result
 noted unsettled still present next old mid new (Ok done) first left so = (left, subst (λ s. IsWritten next s new) first so)
 noted unsettled still present next old mid new (Err (Taken id)) first left so = absurd so
 noted unsettled still present next old mid new (Err (Wrong id)) first left so = absurd so
@@ -203,7 +203,7 @@ left_unsure fault unsettled still present mid next all old new slot free stored 
     unsure free stored (subst (λ (state : LibState). LeftBy fault unsettled state next old.slot still new.slot) same (subst (λ (s : Slot). LeftBy fault unsettled mid next s still new.slot) kept left))
 
 pub carried_out : (unsettled still : Bool) (present mid next : LibState) (all : List Stored) (old new : Held) (slot : Slot) → new.objects ≡ with_all all old.objects → mid ≡ present → slot ≡ old.slot
-    → InstallsText unsettled mid next slot still new.slot (Ok tt) → IsCarriedOut unsettled present next all old still new
+    → RewritesSo unsettled mid next slot still new.slot (Ok tt) → IsCarriedOut unsettled present next all old still new
 carried_out unsettled still present mid next all old new slot stored same kept text = record {
   objects = stored;
   settles = text.0;

@@ -25,6 +25,7 @@ use Rattle.depot.specs.declared.complete.CheckFault.{CheckFault}
 use Rattle.depot.specs.declared.complete.CheckFault.TheVariants as check
 use Rattle.depot.specs.declared.error.StartFault.{StartFault}
 use Rattle.depot.specs.declared.error.StartFault.TheVariants as start
+use Rattle.tree_walk.specs.Files.{first_due}
 
 -- ---- a store's fault in a call that reads
 
@@ -71,15 +72,10 @@ abbrev pub is_check_counted : CheckFault → Bool
 is_check_counted (check.Tree fault) = false
 is_check_counted (check.Store fault) = is_of_shelf fault
 
--- the first of two faults
-abbrev pub first_of : Option TreeFault → Option TreeFault → Option TreeFault
-first_of None later = later
-first_of (Some fault) later = Some fault
-
 -- the first fault of the first of these commits that isn't complete
 abbrev pub first_incomplete : Objects → List (List ℕ) → Option TreeFault
 first_incomplete objects [] = None
-first_incomplete objects (id ∷ ids) = first_of (walk_commit objects id).fault (first_incomplete objects ids)
+first_incomplete objects (id ∷ ids) = first_due (walk_commit objects id).fault (first_incomplete objects ids)
 
 -- ---- opening
 

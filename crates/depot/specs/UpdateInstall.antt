@@ -44,11 +44,6 @@ ArePuttableIn known added = (objects : Objects) → known ≡ Some objects → A
 abbrev pub IsWriteFault : (ShelfSlot → Option (List ℕ) → Type 0) → StoreFault → Type 0
 IsWriteFault may_give fault = (index : Index) → MayRefuseUpdate index may_give (store_refusal fault)
 
--- a text that is written in the place of the present one, after that where it was open
-abbrev pub InstallsText : Bool → LibState → LibState → Slot → Bool → Slot → Result ⊤ StoreFault → Type 0
-InstallsText unsettled present next old still new (Ok done) = (still ≡ false) × IsWritten next (settled unsettled present old) new
-InstallsText unsettled present next old still new (Err fault) = LeftBy fault unsettled present next old still new
-
 -- the objects and the slot, where they are told, and the count of texts that were put
 pub record Held : Type 0 where
   pub objects : Option Objects

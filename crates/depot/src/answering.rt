@@ -107,17 +107,5 @@ fn place_of(tokens: &[Token], secret: &Secret) -> Option<usize>
 fn is_enough(needed: Right, right: Right) -> bool
     ensures value { result ≡ nat_le (right_number needed) (right_number right) }
 {
-    match needed {
-        Right::Read => true,
-        Right::Write => match right {
-            Right::Read => false,
-            Right::Write => true,
-            Right::Owner => true,
-        },
-        Right::Owner => match right {
-            Right::Read => false,
-            Right::Write => false,
-            Right::Owner => true,
-        },
-    }
+    needed <= right
 }

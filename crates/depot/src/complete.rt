@@ -4,10 +4,11 @@ ghost use Rattle.ids.specs.FaultCount.{FailsBy};
 ghost use Rattle.ids.specs.Key.{Objects};
 ghost use Rattle.object_graph.specs.Traversal.{walk_commit};
 ghost use Rattle.object_store.specs.StoreView.{Keeps, ReadsShelf, objects_of};
-ghost use Rattle.depot.specs.Start.{ChecksSo, IsCheckFault, check_fault_of, first_incomplete, first_of, is_check_counted};
+ghost use Rattle.depot.specs.Start.{ChecksSo, IsCheckFault, check_fault_of, first_incomplete, is_check_counted};
 ghost use Rattle.library_rules.specs.LibraryState.{kept_commits};
 ghost use Rattle.tree_walk.specs.KnownTrees.{Fits};
 ghost use Rattle.tree_walk.specs.Reading.{Answers, Reads};
+ghost use Rattle.tree_walk.specs.Files.{first_due};
 
 use ids::ObjId;
 use library_state::Install;
@@ -128,7 +129,7 @@ fn check_install<S: Shelf>(
     requires known { (objects : Objects) → objects_of S.contents store.old ≡ Some objects → Fits objects known.old }
     ensures known { (objects : Objects) → objects_of S.contents store.old ≡ Some objects → Fits objects known.new }
     ensures value { (objects : Objects) → objects_of S.contents store.old ≡ Some objects
-        → ChecksSo objects (first_of (walk_commit objects install.now.head).fault (walk_commit objects install.now.pushed).fault) result }
+        → ChecksSo objects (first_due (walk_commit objects install.now.head).fault (walk_commit objects install.now.pushed).fault) result }
     ensures kept { Keeps S.contents store.old store.new }
     ensures reads { ReadsShelf S.may_give S.texts store.old.shelf store.new.shelf }
     ensures cause { IfErr result (IsCheckFault (S.may_give store.old.shelf)) }

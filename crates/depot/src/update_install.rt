@@ -8,9 +8,9 @@ ghost use Rattle.library_state.specs.declared.state.LibState.{LibState};
 ghost use Rattle.object_store.specs.Store.{CountsShelf, is_free, is_of_shelf};
 ghost use Rattle.object_store.specs.StoreView.{AddsNoStray, StraysBy, objects_of, status_of};
 ghost use Rattle.depot.specs.Answering.{with_install};
-ghost use Rattle.depot.specs.UpdateInstall.{ArePuttableIn, CarriesSo, InstallsText, IsWriteFault, StoresSo, held_in};
+ghost use Rattle.depot.specs.UpdateInstall.{ArePuttableIn, CarriesSo, IsWriteFault, StoresSo, held_in};
 ghost use Rattle.depot.specs.UpdatePlan.{AreNamed, listed, objects_in, own_object};
-ghost use Rattle.depot.specs.Writing.{ReadsBack};
+ghost use Rattle.depot.specs.Writing.{ReadsBack, RewritesSo};
 
 use crate::depot::Parts;
 use crate::update_plan::Plan;
@@ -60,7 +60,7 @@ impl<S: Shelf> Parts<S> {
     /// Writes a text in the place of the present state's, which is written before where it is open whether it stands.
     fn write_installed(&mut self, text: &[u8]) -> Result<(), StoreFault>
         ensures value { (next : LibState) → text.now ≡ text_of next → ReadsBack next
-            → InstallsText self.old.unsettled self.old.state next (status_of S.contents self.old.store) self.new.unsettled (status_of S.contents self.new.store) result }
+            → RewritesSo self.old.unsettled self.old.state next (status_of S.contents self.old.store) self.new.unsettled (status_of S.contents self.new.store) result }
         ensures stays { self.new.state ≡ self.old.state }
         ensures kept { objects_of S.contents self.new.store ≡ objects_of S.contents self.old.store }
         ensures lying { AddsNoStray S.contents self.old.store self.new.store }

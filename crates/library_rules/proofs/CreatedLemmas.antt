@@ -18,6 +18,7 @@ use Rattle.library_rules.specs.LibraryState.{State, IsSound, users_of}
 use Rattle.library_rules.proofs.KeptHistoryLemmas.{cons_some}
 use Rattle.library_rules.proofs.MemberLemmas.{same_id-true}
 use Rattle.std.proofs.lemmas.Bool.{or_cases}
+use Rattle.ids.proofs.BasicLemmas.{AllByRecursion-push}
 
 -- a commit with no file is complete once it is stored
 pub empty_complete : (A : Objects) (id : List ℕ) (commit : Commit) → commit_at A id ≡ Ok commit → commit.root ≡ nil → IsComplete A id
@@ -73,10 +74,6 @@ users_push : (tokens : List Token) (t : Token) → users_of (tokens ++ t ∷ [])
 users_push [] t = refl
 users_push (x ∷ tokens) t = ap (λ users. x.user ∷ users) (users_push tokens t)
 
-all_push : {A : Type 0} (P : A → Type 0) (xs : List A) (x : A) → AllByRecursion P xs → P x → AllByRecursion P (xs ++ x ∷ [])
-all_push P [] x all one = (one, tt)
-all_push P (y ∷ xs) x all one = (all.0, all_push P xs x all.1 one)
-
 bytes_swap : (a b : List ℕ) → bytes_eq a b ≡ false → bytes_eq b a ≡ false
 bytes_swap a b apart = by (bytes_eq b a) refl
   where
@@ -100,7 +97,7 @@ distinct_push : (secrets : List (List ℕ)) (secret : List ℕ) → IsDistinct b
     → IsDistinct bytes_eq (secrets ++ secret ∷ [])
 unfolding IsDistinct
 distinct_push [] secret distinct free = (tt, tt)
-distinct_push (x ∷ secrets) secret distinct free = (all_push (λ y. bytes_eq x y ≡ false) secrets secret distinct.0 free.0, distinct_push secrets secret distinct.1 free.1)
+distinct_push (x ∷ secrets) secret distinct free = (AllByRecursion-push (λ y. bytes_eq x y ≡ false) secrets secret distinct.0 free.0, distinct_push secrets secret distinct.1 free.1)
 
 length_push : {A : Type 0} (xs : List A) (x : A) → length (xs ++ x ∷ []) ≡ length xs + 1
 length_push [] x = refl
@@ -117,9 +114,9 @@ sound_with_token s user secret right sound free room some_user user_fits = recor
     secrets = subst (IsDistinct bytes_eq) (sym (secrets_push s.state.tokens t))
         (distinct_push (secrets_of s.state.tokens) secret sound.tokens.secrets (none_taken s.state.tokens secret free));
     few = subst (λ k. k ≤ 1000) (sym (length_push s.state.tokens t)) (fits (length s.state.tokens) room);
-    lasts = all_push (λ (x : Token). x.last ≤ s.state.collection) s.state.tokens t sound.tokens.lasts zero-le;
+    lasts = AllByRecursion-push (λ (x : Token). x.last ≤ s.state.collection) s.state.tokens t sound.tokens.lasts zero-le;
     users = subst (AllByRecursion (λ u. (1 ≤ length u) × (length u ≤ 255))) (sym (users_push s.state.tokens t))
-        (all_push (λ u. (1 ≤ length u) × (length u ≤ 255)) (users_of s.state.tokens) user sound.tokens.users (some_user, user_fits));
+        (AllByRecursion-push (λ u. (1 ≤ length u) × (length u ≤ 255)) (users_of s.state.tokens) user sound.tokens.users (some_user, user_fits));
   };
   numbers = sound.numbers;
 }

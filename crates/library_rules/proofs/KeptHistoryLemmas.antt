@@ -6,13 +6,10 @@ use Rattle.object_graph.specs.Objects.{same_id}
 use Rattle.library_rules.specs.LibraryState.{is_kept}
 use Rattle.library_rules.proofs.MemberLemmas.{kept_append, same_id-true}
 use Rattle.std.proofs.lemmas.Bool.{or_cases, or_right}
+use Rattle.ids.proofs.BasicLemmas.{pushed_is_some}
 
 pub cons_some : {A : Type 0} (x : A) (xs : List A) → x ∷ xs ≢ []
 cons_some x xs e = cc
-
-pub push_some : {A : Type 0} (xs : List A) (x : A) → xs ++ x ∷ [] ≢ []
-push_some [] x = cons_some x []
-push_some (y ∷ xs) x = cons_some y (xs ++ x ∷ [])
 
 rest_none : {A : Type 0} (front rest : List A) → front ++ rest ≡ [] → rest ≡ []
 rest_none [] rest e = e

@@ -22,9 +22,10 @@ use Rattle.library_rules.specs.Changes.{with_added, without, keys_added, fresher
 use Rattle.library_rules.specs.LibraryState.{State, Running, is_kept, is_stored, is_needed, is_fresh, AreKept, AreTokens, AreNumbers, IsSound, users_of, last_number, is_day_count}
 use Rattle.library_rules.specs.declared.entry.Stored.{Stored}
 use Rattle.library_rules.proofs.KeepingLemmas.{added_stored, still_stored, agrees_moved, still_complete}
-use Rattle.library_rules.proofs.KeptHistoryLemmas.{cut_kept, cut_some, installed_cases, push_some}
+use Rattle.library_rules.proofs.KeptHistoryLemmas.{cut_kept, cut_some, installed_cases}
 use Rattle.library_rules.proofs.MemberLemmas.{apart, in_all}
 use Rattle.std.proofs.lemmas.Bool.{or_cases, false_from_ne_true}
+use Rattle.ids.proofs.BasicLemmas.{pushed_is_some}
 
 -- ---- kept commits and fresh keys
 
@@ -69,7 +70,7 @@ module _ (A : Objects) (kept : List Install) (running : Option Running) (are : A
   pub kept_installed : (head pushed : List ℕ) (moment : ℕ) → IsComplete A head → IsComplete A pushed
       → AreKept A (kept ++ record { head = head; pushed = pushed; at = moment } ∷ []) running
   kept_installed head pushed moment head_is pushed_is = record {
-    some_kept = push_some kept (record { head = head; pushed = pushed; at = moment });
+    some_kept = pushed_is_some kept (record { head = head; pushed = pushed; at = moment });
     complete = λ id e. by id (installed_cases kept head pushed moment id e);
     fresh_stored = are.fresh_stored;
   }
