@@ -21,6 +21,12 @@ ghost use Rattle.library_rules.specs.Recovery.{StandsFor, opened};
 ghost use Rattle.library_rules.specs.declared.entry.Entry.{Entry};
 ghost use Rattle.library_rules.specs.declared.entry.Step.{Step};
 ghost use Rattle.library_rules.specs.declared.entry.Step.TheVariants.{Asked};
+ghost use Rattle.library_rules.specs.declared.limits.TheConstants.{MAX_STEPS};
+
+/// A merge base is at most 128 first parents from the pushed commit.
+pub fn the_limit_of_a_merge_base()
+    ensures { MAX_STEPS ≡ 128 }
+{}
 
 /// A refused call leaves everything as it was, but for what it stored, which is fresh, and the count of faults.
 pub fn a_refused_call_changes_nothing_but_what_it_stored()
