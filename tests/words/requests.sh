@@ -175,8 +175,13 @@ merged() {
     merge_parent=$1 merge_second=$2 merge_root=$3 merge_flag=${4-}
 }
 
-# cut_off: no whole request stands at the front of what was sent last, so the connection ends.
-cut_off() {
+# ends_with STATUS REASON: what was sent last is no request, so the connection ends with this reply.
+ends_with() {
     closes=yes
-    told 501 '{"reason":"coding"}'
+    told "$1" "{\"reason\":\"$2\"}"
+}
+
+# goes_on: the interim reply.
+goes_on() {
+    printf 'HTTP/1.1 100 Continue\r\n\r\n' >> "wanted.$piece"
 }

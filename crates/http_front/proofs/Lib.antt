@@ -2,6 +2,7 @@ pub mod BrokenTextLemmas
 pub mod CallLemmas
 pub mod CallQueryLemmas
 pub mod ElementLemmas
+pub mod EndLemmas
 pub mod FieldLemmas
 pub mod HeadLemmas
 pub mod IdArrayLemmas

@@ -1,16 +1,17 @@
 -- From what stands in a buffer to what the whole input is. `buffer ++ more` is the input: what was taken
--- and not yet used, and what the link has left. The key lemmas are head_at, request_at, refused_on and
--- one_head, and those that say that no plain request comes: no_plain_open, no_plain_refused,
--- no_plain_short, no_plain_expects.
-use Rattle.std.proofs.Common.{◌≡◌, ℕ, zero, suc, ◌+◌, ◌<◌, ◌≤◌, true, false, List, [], ◌∷◌, ◌++◌, length, take, drop, refl, sym, ap, subst, ◌∙◌, arith, append_assoc, length-append, Result, Ok, Err, nat_le, ◌⊎◌, inl, inr}
+-- and not yet used, and what the link has left. The key lemmas are head_at, request_at, refused_on, bad_status and
+-- one_head, and those that say that no whole request comes: no_whole_open, no_whole_refused, no_whole_short.
+use Rattle.std.proofs.Common.{◌≡◌, ℕ, zero, suc, ◌+◌, ◌<◌, ◌≤◌, Bool, true, false, cond, Option, None, Some, List, [], ◌∷◌, ◌++◌, length, take, drop, refl, sym, ap, subst, ◌∙◌, arith, append_assoc, length-append, Result, Ok, Err, nat_le, ◌⊎◌, inl, inr}
 use Rattle.std.proofs.lemmas.Bool.{leb-true}
 use Rattle.std.proofs.lemmas.List.{take-append-drop, take-take, take_at, drop_at, take-append-le, length-take-le, length-take, length-drop}
 use Rattle.httparse.specs.Grammar.{RequestHead, ReadsRequest, print_request, HasNoRequest}
 use Rattle.httparse.specs.Spans.{RequestOverflows}
 use Rattle.httparse.proofs.GrammarLemmas.{request_unique, ReadsRequest-append}
 use Rattle.http_front.specs.TargetFront.{MayBecomeHead}
-use Rattle.http_front.specs.RequestHead.{judge, is_plain}
-use Rattle.http_front.specs.RequestStream.{Request, IsHeadAt, IsRequest, IsOpen, IsRefused, by_head, by_bytes, by_length, HasNoPlain, Reads, Extends, front_of}
+use Rattle.http_front.specs.ReplyText.{is_bad_status}
+use Rattle.http_front.specs.RequestHead.{judge, judged, judged_by, has_coding, body_length, has_host, fields_of, method_of}
+use Rattle.http_front.specs.Route.{limit_of}
+use Rattle.http_front.specs.RequestStream.{Request, IsHeadAt, IsRequest, IsOpen, IsCutAfter, in_head, in_body, IsRefused, by_head, by_bytes, by_length, HasNoWhole, Reads, Extends, front_of}
 use Rattle.http_front.specs.NextHead.{IsBad, of_head, of_bytes, of_length}
 
 -- ---- lists
@@ -29,7 +30,7 @@ joined n buffer more =
 -- ---- heads, with the number of bytes that are looked at as a variable
 
 -- a short head of the input is one of its front
-reads_front : (n : ℕ) (input : List ℕ) (head : RequestHead) (rest : List ℕ) → ReadsRequest input head rest
+pub reads_front : (n : ℕ) (input : List ℕ) (head : RequestHead) (rest : List ℕ) → ReadsRequest input head rest
     → length (print_request head) ≤ n
     → ReadsRequest (take n input) head (drop (length (print_request head)) (take n input))
 reads_front n input head rest reads short =
@@ -131,7 +132,36 @@ refused_on buffer more status (of_length is full none may) =
     let still = open_on 16384 buffer more long.0 none may in
     by_length is long.1 (record { none = still.0; may = still.1 })
 
--- ---- no plain request
+-- ---- the statuses of what is refused
+
+abbrev Refusal_as : ℕ → Result ℕ ℕ
+Refusal_as status = Err status
+
+bad_of : (a status : ℕ) → Refusal_as a ≡ Refusal_as status → is_bad_status a ≡ true → is_bad_status status ≡ true
+bad_of a status e bad =
+    let same : a ≡ status = cc in
+    subst (λ s. is_bad_status s ≡ true) same bad
+
+judged_status : (coded : Bool) (size : Option ℕ) (host : Bool) (limit status : ℕ) → judged coded size host limit ≡ Err status
+    → is_bad_status status ≡ true
+judged_status true size host limit status e = bad_of 501 status e refl
+judged_status false None host limit status e = bad_of 400 status e refl
+judged_status false (Some size) false limit status e = bad_of 400 status e refl
+judged_status false (Some size) true limit status e = by_size (nat_le size limit) e
+  where
+    by_size : (fits : Bool) → cond fits (Ok size) (Err 413) ≡ Err status → is_bad_status status ≡ true
+    by_size true e = absurd (cc)
+    by_size false e = bad_of 413 status e refl
+
+pub bad_status : (front : List ℕ) (full : Bool) (status : ℕ) → IsBad front full status → is_bad_status status ≡ true
+unfolding judged_by
+bad_status front full status (of_head head rest reads few judged) =
+    let fields = fields_of head in
+    judged_status (has_coding fields) (body_length fields) (has_host head.minor fields) (limit_of (method_of head.method) head.target) status judged
+bad_status front full status (of_bytes is over) = ap is_bad_status is
+bad_status front full status (of_length is full_is none may) = ap is_bad_status is
+
+-- ---- no whole request
 
 abbrev accepted_as : ℕ → Result ℕ ℕ
 accepted_as size = Ok size
@@ -140,48 +170,45 @@ abbrev refused_as : ℕ → Result ℕ ℕ
 refused_as status = Err status
 
 -- where no head stands there
-pub no_plain_open : (input : List ℕ) → HasNoRequest (front_of input) → HasNoPlain input
-no_plain_open input none request rest plain =
-    let head = plain.is.head in
+pub no_whole_open : (input : List ℕ) → HasNoRequest (front_of input) → HasNoWhole input
+no_whole_open input none request rest whole =
+    let head = whole.head in
     none request.head _ (reads_front 16384 input request.head _ head.reads head.short)
 
 -- where the body is too short
-pub no_plain_short : (input : List ℕ) (head : RequestHead) (after : List ℕ) (size : ℕ) → IsHeadAt input head after
-    → judge head ≡ Ok size → length after < size → HasNoPlain input
-no_plain_short input head after size is judged short request rest plain =
-    let same = one_head input head request.head after (request.body ++ rest) is plain.is.head in
-    let size_is : accepted_as size ≡ accepted_as (length request.body) = sym judged ∙ ap judge same.0 ∙ plain.is.accepted in
-    let whole : length after ≡ length request.body + length rest = ap length same.1 ∙ length-append request.body rest in
-    absurd (not_short size (length request.body) (length after) (length rest) size_is whole short)
+pub no_whole_short : (input : List ℕ) (head : RequestHead) (after : List ℕ) (size : ℕ) → IsHeadAt input head after
+    → judge head ≡ Ok size → length after < size → HasNoWhole input
+no_whole_short input head after size is judged short request rest whole =
+    let same = one_head input head request.head after (request.body ++ rest) is whole.head in
+    let size_is : accepted_as size ≡ accepted_as (length request.body) = sym judged ∙ ap judge same.0 ∙ whole.accepted in
+    let all : length after ≡ length request.body + length rest = ap length same.1 ∙ length-append request.body rest in
+    absurd (not_short size (length request.body) (length after) (length rest) size_is all short)
   where
     not_short : (size body after rest : ℕ) → accepted_as size ≡ accepted_as body → after ≡ body + rest → after < size → ⊥
     not_short size body after rest same whole short =
         let same_size : size ≡ body = cc in
         omega (arith, same_size, whole, short)
 
--- where the head has an `Expect` field
-pub no_plain_expects : (input : List ℕ) (head : RequestHead) (after : List ℕ) → IsHeadAt input head after
-    → is_plain head ≡ false → HasNoPlain input
-no_plain_expects input head after is expecting request rest plain =
-    let same = one_head input head request.head after (request.body ++ rest) is plain.is.head in
-    let differ : true ≡ false = sym plain.plain ∙ ap is_plain (sym same.0) ∙ expecting in
-    absurd (cc)
-
 -- where what is left is refused
-pub no_plain_refused : (input : List ℕ) (status : ℕ) → IsRefused input status → HasNoPlain input
-no_plain_refused input status (by_head head after is judged) request rest plain =
-    let same = one_head input head request.head after (request.body ++ rest) is plain.is.head in
-    let differ : accepted_as (length request.body) ≡ refused_as status = sym plain.is.accepted ∙ ap judge (sym same.0) ∙ judged in
+pub no_whole_refused : (input : List ℕ) (status : ℕ) → IsRefused input status → HasNoWhole input
+no_whole_refused input status (by_head head after is judged) request rest whole =
+    let same = one_head input head request.head after (request.body ++ rest) is whole.head in
+    let differ : accepted_as (length request.body) ≡ refused_as status = sym whole.accepted ∙ ap judge (sym same.0) ∙ judged in
     absurd (cc)
-no_plain_refused input status (by_bytes is over) request rest plain =
-    let head = plain.is.head in
+no_whole_refused input status (by_bytes is over) request rest whole =
+    let head = whole.head in
     let many = over (drop 16384 input) request.head _ (head.reads.0, take-append-drop 16384 input ∙ head.reads.1) in
     absurd (too_many (length request.head.fields) many head.few)
   where
     too_many : (n : ℕ) → 64 < n → n ≤ 64 → ⊥
     too_many n many few = omega arith
-no_plain_refused input status (by_length is long unread) request rest plain =
-    no_plain_open input unread.none request rest plain
+no_whole_refused input status (by_length is long unread) request rest whole =
+    no_whole_open input unread.none request rest whole
+
+-- where it is cut short
+pub no_whole_cut : (input given : List ℕ) → IsCutAfter input given → HasNoWhole input
+no_whole_cut input given (in_head some short unread none) = no_whole_open input unread.none
+no_whole_cut input given (in_body head after size at judged short due) = no_whole_short input head after size at judged short
 
 -- ---- an input spells its requests in one way
 

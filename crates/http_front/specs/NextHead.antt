@@ -1,6 +1,6 @@
 -- What stands at the front of a buffer: a head, the beginning of one, or what is no head that is served.
 -- Read first: RequestHead, RequestStream; here: IsNext.
-use Rattle.std.specs.Prelude.{ℕ, ◌≡◌, ◌<◌, ◌≤◌, ◌^◌, ◌⊎◌, Bool, true, false, nat_le, Option, None, Some, Ok, Err, List, length, take, drop, codes, decimal}
+use Rattle.std.specs.Prelude.{ℕ, ◌≡◌, ◌<◌, ◌≤◌, ◌^◌, Bool, true, false, nat_le, Option, None, Some, Ok, Err, List, length, take, drop, codes, decimal}
 use Rattle.hex.specs.Hex.{IsBytes, encode_lower}
 use Rattle.httparse.specs.Grammar.{RequestHead, ReadsRequest, print_request, HasNoRequest}
 use Rattle.httparse.specs.Spans.{RequestOverflows}
@@ -8,7 +8,7 @@ use Rattle.library_state.specs.declared.tag.Tag.{Tag}
 use Rattle.http_front.specs.TargetFront.{MayBecomeHead}
 use Rattle.http_front.specs.Fields.{Found, once, found, values_of}
 use Rattle.http_front.specs.EntityTag.{numbers_text, tag_text}
-use Rattle.http_front.specs.RequestHead.{fields_of, judge, expects, closes, is_plain, method_of}
+use Rattle.http_front.specs.RequestHead.{fields_of, judge, expects, closes, method_of}
 use Rattle.http_front.specs.declared.head.Head.{Head}
 use Rattle.http_front.specs.declared.head.Next.{Next}
 use Rattle.http_front.specs.declared.head.Next.TheVariants as next
@@ -83,23 +83,3 @@ IsNextIn front full (next.Bad status) = IsBad front full status
 -- what stands at the front of the buffer
 abbrev pub IsNext : List ℕ → Next → Type 0
 IsNext buffer told = IsNextIn (take 16384 buffer) (nat_le 16384 (length buffer)) told
-
--- a head with an `Expect` field stands there, and nothing else speaks against it
-pub record HasExpecting (front : List ℕ) : Type 0 where
-  pub request : RequestHead
-  pub rest : List ℕ
-  pub size : ℕ
-  pub reads : ReadsRequest front request rest
-  pub few : length request.fields ≤ 64
-  pub accepted : judge request ≡ Ok size
-  pub expecting : is_plain request ≡ false
-
--- the same, where a head with an `Expect` field is refused
-abbrev pub IsNextPlainIn : List ℕ → Bool → Next → Type 0
-IsNextPlainIn front full next.Need = (full ≡ false) × HasNoRequest front × MayBecomeHead front
-IsNextPlainIn front full (next.Head head) =
-    (request : RequestHead) × IsHeadOf front head request × (is_plain request ≡ true)
-IsNextPlainIn front full (next.Bad status) = IsBad front full status ⊎ ((status ≡ 501) × HasExpecting front)
-
-abbrev pub IsNextPlain : List ℕ → Next → Type 0
-IsNextPlain buffer told = IsNextPlainIn (take 16384 buffer) (nat_le 16384 (length buffer)) told

@@ -1,15 +1,13 @@
--- A head as it was read, before and after its spans are tied to a head of the grammar. Read first: NextHead.
-use Rattle.std.specs.Prelude.{ℕ, ◌≡◌, Bool, false, not, Ok, Err, List, codes}
-use Rattle.httparse.specs.Grammar.{RequestHead, HasNoRequest}
+-- A head as it was read, before its spans are tied to a head of the grammar. Read first: NextHead.
+use Rattle.std.specs.Prelude.{ℕ, ◌≡◌, Ok, Err, List, codes}
 use Rattle.httparse.specs.Spans.{span_bytes}
 use Rattle.httparse.specs.declared.spans.RequestSpans.{RequestSpans}
-use Rattle.http_front.specs.TargetFront.{MayBecomeHead}
 use Rattle.http_front.specs.Fields.{FieldList, found, values_of}
-use Rattle.http_front.specs.RequestHead.{has_expect, closes_by, expects_by, method_of, is_plain, judged_by}
-use Rattle.http_front.specs.NextHead.{IsTokenIn, IsTagIn, IsHeadOf, IsBad}
+use Rattle.http_front.specs.RequestHead.{closes_by, expects_by, method_of, judged_by}
+use Rattle.http_front.specs.NextHead.{IsTokenIn, IsTagIn}
 use Rattle.http_front.specs.declared.head.Head.{Head}
-use Rattle.http_front.specs.declared.head.Parsed.{Parsed}
-use Rattle.http_front.specs.declared.head.Parsed.TheVariants.{Need, Whole, Bad}
+use Rattle.http_front.specs.declared.head.Next.{Next}
+use Rattle.http_front.specs.declared.head.Next.TheVariants as next
 
 -- the head is what the spans and the fields say
 pub record IsHeadBy (front : List ℕ) (spans : RequestSpans) (fields : FieldList) (head : Head) : Type 0 where
@@ -23,16 +21,8 @@ pub record IsHeadBy (front : List ℕ) (spans : RequestSpans) (fields : FieldLis
   pub tag : IsTagIn (found (values_of (codes "if-none-match") fields)) head.tag
 
 -- what the spans and the fields make
-abbrev pub IsParsedBy : List ℕ → RequestSpans → FieldList → Parsed → Type 0
-IsParsedBy front spans fields Need = ⊥
-IsParsedBy front spans fields (Whole head plain) =
-    IsHeadBy front spans fields head × (plain ≡ not (has_expect fields))
-IsParsedBy front spans fields (Bad status) =
+abbrev pub IsParsedBy : List ℕ → RequestSpans → FieldList → Next → Type 0
+IsParsedBy front spans fields next.Need = ⊥
+IsParsedBy front spans fields (next.Head head) = IsHeadBy front spans fields head
+IsParsedBy front spans fields (next.Bad status) =
     judged_by spans.version (span_bytes front spans.method) (span_bytes front spans.path) fields ≡ Err status
-
--- what stands at the front
-abbrev pub IsParsed : List ℕ → Bool → Parsed → Type 0
-IsParsed front full Need = (full ≡ false) × HasNoRequest front × MayBecomeHead front
-IsParsed front full (Whole head plain) =
-    (request : RequestHead) × IsHeadOf front head request × (plain ≡ is_plain request)
-IsParsed front full (Bad status) = IsBad front full status

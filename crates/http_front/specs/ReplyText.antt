@@ -109,3 +109,10 @@ bad_parts status =
 
 unfoldable pub bad_text : ℕ → List ℕ
 bad_text status = written (bad_parts status) true
+
+-- what a client that waits is told before it sends a body (RFC 9110, section 15.2.1)
+abbrev pub interim_text : List ℕ
+interim_text = codes "HTTP/1.1 100 Continue" ++ end_of_line ++ end_of_line
+
+abbrev pub interim_due : Bool → List ℕ
+interim_due waits = if waits then interim_text else []

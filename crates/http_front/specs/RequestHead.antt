@@ -45,10 +45,7 @@ body_length fields = length_in (found (values_of (codes "content-length") fields
 abbrev pub has_host : ℕ → FieldList → Bool
 has_host minor fields = (minor == 0) || is_once (found (values_of (codes "host") fields))
 
--- some `Expect` field is there, whatever its value
-abbrev pub has_expect : FieldList → Bool
-has_expect fields = not (is_absent (found (values_of (codes "expect") fields)))
-
+-- some `Expect` field has the value `100-continue`
 abbrev pub wants_continue : FieldList → Bool
 wants_continue fields = list_any (is_word (codes "100-continue")) (values_of (codes "expect") fields)
 
@@ -86,7 +83,3 @@ expects_after (Err status) head = false
 
 abbrev pub expects : RequestHead → Bool
 expects head = expects_after (judge head) head
-
--- the head has no `Expect` field at all
-abbrev pub is_plain : RequestHead → Bool
-is_plain head = not (has_expect (fields_of head))

@@ -1,10 +1,11 @@
 -- The requests that a stream of bytes spells, one after the other, and where they end. The head is read
 -- from the first 16,384 bytes of what is left, and has at most 64 fields. Read first: RequestHead.
-use Rattle.std.specs.Prelude.{ℕ, ◌≡◌, ◌≢◌, ◌<◌, ◌≤◌, true, false, Ok, Err, List, [], ◌∷◌, ◌++◌, length, take, ⊤}
+use Rattle.std.specs.Prelude.{ℕ, ◌≡◌, ◌≢◌, ◌<◌, ◌≤◌, false, Ok, Err, List, [], ◌∷◌, ◌++◌, length, take, ⊤}
 use Rattle.httparse.specs.Grammar.{RequestHead, ReadsRequest, print_request, HasNoRequest}
 use Rattle.httparse.specs.Spans.{RequestOverflows}
 use Rattle.http_front.specs.TargetFront.{MayBecomeHead}
-use Rattle.http_front.specs.RequestHead.{judge, closes, is_plain}
+use Rattle.http_front.specs.ReplyText.{interim_due}
+use Rattle.http_front.specs.RequestHead.{judge, closes, expects}
 
 -- a request: its head and its body
 pub record Request : Type 0 where
@@ -47,11 +48,15 @@ pub record IsOpen (rest : List ℕ) : Type 0 where
   pub none : HasNoRequest (front_of rest)
   pub may : MayBecomeHead (front_of rest)
 
--- the input ends within a request
-pub data IsCutAfter (rest : List ℕ) : Type 0 where
-  in_head : rest ≢ [] → length rest < 16384 → IsOpen rest → IsCutAfter rest
+-- the interim reply that a head waits for, if it does, whether or not bytes of the body come with the head
+abbrev pub interim_of : RequestHead → List ℕ
+interim_of head = interim_due (expects head)
+
+-- the input ends within a request, for which these bytes were given: the interim reply of its head, if that waits for one
+pub data IsCutAfter (rest given : List ℕ) : Type 0 where
+  in_head : rest ≢ [] → length rest < 16384 → IsOpen rest → given ≡ [] → IsCutAfter rest given
   in_body : (head : RequestHead) (after : List ℕ) (length_due : ℕ) → IsHeadAt rest head after
-      → judge head ≡ Ok length_due → length after < length_due → IsCutAfter rest
+      → judge head ≡ Ok length_due → length after < length_due → given ≡ interim_of head → IsCutAfter rest given
 
 -- what is left begins with no request, for the cause that the status tells
 pub data IsRefused (rest : List ℕ) (status : ℕ) : Type 0 where
@@ -60,11 +65,12 @@ pub data IsRefused (rest : List ℕ) (status : ℕ) : Type 0 where
   by_bytes : status ≡ 400 → RequestOverflows 64 (front_of rest) → IsRefused rest status
   by_length : status ≡ 431 → 16384 ≤ length rest → IsOpen rest → IsRefused rest status
 
--- a request without any `Expect` field
-pub record IsPlain (input : List ℕ) (request : Request) (rest : List ℕ) : Type 0 where
-  pub is : IsRequest input request rest
-  pub plain : is_plain request.head ≡ true
+-- the input begins with no whole request
+abbrev pub HasNoWhole : List ℕ → Type 0
+HasNoWhole input = (request : Request) (rest : List ℕ) → IsRequest input request rest → ⊥
 
--- the input begins with no such request
-abbrev pub HasNoPlain : List ℕ → Type 0
-HasNoPlain input = (request : Request) (rest : List ℕ) → IsPlain input request rest → ⊥
+-- no head stands there, and none of at most 64 fields can come. Whether this is told as cut short or as refused, and with
+-- which status, is free
+pub record NeedsManyFields (rest : List ℕ) : Type 0 where
+  pub none : HasNoRequest (front_of rest)
+  pub many : RequestOverflows 64 (front_of rest)

@@ -1,12 +1,12 @@
 //! What a request's head says of the connection: whether it ends, and whether the client waits.
-ghost use Rattle.std.specs.Prelude.{◌≡◌, ◌≤◌, length, All, not, codes, slice_range};
+ghost use Rattle.std.specs.Prelude.{◌≡◌, ◌≤◌, length, All, codes, slice_range};
 ghost use Rattle.std.specs.List.{list_any};
 ghost use Rattle.httparse.specs.Grammar.{is_ows, trim_ows};
 ghost use Rattle.httparse.specs.Spans.{IsHeaderWithin};
 ghost use Rattle.http_front.specs.Fields.{fields_at, has_element, is_word, values_of};
-ghost use Rattle.http_front.specs.RequestHead.{closes_by, expects_by, has_expect, wants_close};
+ghost use Rattle.http_front.specs.RequestHead.{closes_by, expects_by, wants_close};
 
-use crate::fields::{Seen, has_word, is_word, look_for};
+use crate::fields::{has_word, is_word};
 use httparse::spans::HeaderSpan;
 
 /// Whether the client waits for the interim reply before it sends a body of that length.
@@ -19,17 +19,6 @@ pub(crate) fn expects(minor: u8, body: u64, bytes: &[u8], headers: &[HeaderSpan]
         return false;
     }
     has_word(b"expect", b"100-continue", bytes, headers)
-}
-
-/// Whether there is no `Expect` field at all.
-pub(crate) fn is_plain(bytes: &[u8], headers: &[HeaderSpan]) -> bool
-    requires { All (IsHeaderWithin (length bytes.now)) headers.now }
-    ensures { result ≡ not (has_expect (fields_at bytes.now headers.now)) }
-{
-    match look_for(b"expect", bytes, headers) {
-        Seen::Never => true,
-        _ => false,
-    }
 }
 
 /// Whether the connection ends after the reply.

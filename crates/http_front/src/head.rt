@@ -3,12 +3,12 @@ ghost use Rattle.std.specs.Prelude.{◌≡◌, ◌≤◌, take, length, map, nat
 ghost use Rattle.httparse.specs.Grammar.{HasNoRequest, MayBecomeRequest};
 ghost use Rattle.httparse.specs.Spans.{IsHeaderWithin, IsWithin, span_bytes};
 ghost use Rattle.http_front.specs.Fields.{fields_at};
-ghost use Rattle.http_front.specs.NextHead.{IsNext, IsNextPlain};
-ghost use Rattle.http_front.specs.ParsedHead.{IsParsed, IsParsedBy};
+ghost use Rattle.http_front.specs.NextHead.{IsNext, IsNextIn};
+ghost use Rattle.http_front.specs.ParsedHead.{IsParsedBy};
 ghost use Rattle.http_front.specs.RequestHead.{judged_by};
 
 use crate::entity_tag::read_tag;
-use crate::expectation::{closes, expects, is_plain};
+use crate::expectation::{closes, expects};
 use crate::judgement::{judge, method_of};
 use crate::method::Method;
 use crate::target_front::breaks_target;
@@ -56,14 +56,6 @@ pub enum Next {
     Bad(u16),
 }
 
-/// What was read of a head; `Whole` also tells whether it has no `Expect` field.
-#[derive(Drop)]
-enum Parsed {
-    Need,
-    Whole(Head, bool),
-    Bad(u16),
-}
-
 /// Reads the head at the front of the buffer, which begins with the bytes after the last request.
 ///
 /// The grammar is that of RFC 9112, sections 2 to 5; that no more than 16,384 bytes and 64 fields
@@ -78,24 +70,7 @@ enum Parsed {
 pub fn next_head(alloc: Global, buffer: &[u8]) -> Result<Next, AllocError>
     ensures value { IfOk result (IsNext buffer.now) }
 {
-    match parse(alloc, front_of(buffer), buffer.len() >= HEAD_LIMIT)? {
-        Parsed::Need => Ok(Next::Need),
-        Parsed::Whole(head, _) => Ok(Next::Head(head)),
-        Parsed::Bad(status) => Ok(Next::Bad(status)),
-    }
-}
-
-/// The same, but a head that would be accepted is refused with 501 where it has an `Expect` field,
-/// since no interim reply is sent so far.
-pub fn next_plain_head(alloc: Global, buffer: &[u8]) -> Result<Next, AllocError>
-    ensures value { IfOk result (IsNextPlain buffer.now) }
-{
-    match parse(alloc, front_of(buffer), buffer.len() >= HEAD_LIMIT)? {
-        Parsed::Need => Ok(Next::Need),
-        Parsed::Whole(head, true) => Ok(Next::Head(head)),
-        Parsed::Whole(_, false) => Ok(Next::Bad(501)),
-        Parsed::Bad(status) => Ok(Next::Bad(status)),
-    }
+    parse(alloc, front_of(buffer), buffer.len() >= HEAD_LIMIT)
 }
 
 /// The bytes of which a head is read.
@@ -106,8 +81,8 @@ fn front_of(buffer: &[u8]) -> &[u8]
 }
 
 /// Reads the head at the front, which is full where it is as long as a head may be.
-fn parse(alloc: Global, front: &[u8], full: bool) -> Result<Parsed, AllocError>
-    ensures { IfOk result (IsParsed front.now full) }
+fn parse(alloc: Global, front: &[u8], full: bool) -> Result<Next, AllocError>
+    ensures { IfOk result (IsNextIn front.now full) }
 {
     let mut headers = [EMPTY_HEADER_SPAN; FIELD_ROOM];
     match parse_request(front, &mut headers) {
@@ -119,23 +94,23 @@ fn parse(alloc: Global, front: &[u8], full: bool) -> Result<Parsed, AllocError>
             head_at(alloc, front, spans, target, &headers[..spans.headers])
         }
         Ok(Status::Partial) => Ok(unfinished(front, full)),
-        Err(_) => Ok(Parsed::Bad(400)),
+        Err(_) => Ok(Next::Bad(400)),
     }
 }
 
 /// What is told of a front that holds no whole head.
-fn unfinished(front: &[u8], full: bool) -> Parsed
+fn unfinished(front: &[u8], full: bool) -> Next
     requires none { HasNoRequest front.now }
     requires may { MayBecomeRequest front.now }
-    ensures { IsParsed front.now full result }
+    ensures { IsNextIn front.now full result }
 {
     if breaks_target(front) {
-        return Parsed::Bad(400);
+        return Next::Bad(400);
     }
     if full {
-        return Parsed::Bad(431);
+        return Next::Bad(431);
     }
-    Parsed::Need
+    Next::Need
 }
 
 /// Judges the head that the spans cover, and keeps what is asked for.
@@ -145,7 +120,7 @@ fn head_at(
     spans: RequestSpans,
     target: &str,
     headers: &[HeaderSpan],
-) -> Result<Parsed, AllocError>
+) -> Result<Next, AllocError>
     requires method { IsWithin (length front.now) spans.method }
     requires target { target.now ≡ span_bytes front.now spans.path }
     requires fields { All (IsHeaderWithin (length front.now)) headers.now }
@@ -154,7 +129,7 @@ fn head_at(
     let method = method_of(spans.method.of(front));
     let body = match judge(spans.version, method, target, front, headers) {
         Ok(body) => body,
-        Err(status) => return Ok(Parsed::Bad(status)),
+        Err(status) => return Ok(Next::Bad(status)),
     };
     let head = Head {
         used: spans.len as u64,
@@ -166,5 +141,5 @@ fn head_at(
         token: read_token(front, headers),
         tag: read_tag(front, headers),
     };
-    Ok(Parsed::Whole(head, is_plain(front, headers)))
+    Ok(Next::Head(head))
 }

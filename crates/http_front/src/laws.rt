@@ -1,11 +1,11 @@
 //! Theorems about the stream of requests and the table of calls.
-ghost use Rattle.std.specs.Prelude.{◌≡◌, ◌⊎◌, ℕ, List, Option, Result, Ok, Some};
+ghost use Rattle.std.specs.Prelude.{◌≡◌, ◌⊎◌, ℕ, List, [], Option, Result, Ok, Some};
 ghost use Rattle.library_state.specs.declared.call.Op.{Op};
 ghost use Rattle.library_state.specs.declared.refusal.Refusal.{Refusal};
 ghost use Rattle.http_front.specs.CallQuery.{IsClient, IsObjectId, check_query, ids_query, update_query};
 ghost use Rattle.http_front.specs.Order.{IsOrder, asked_of};
 ghost use Rattle.http_front.specs.Query.{query_of};
-ghost use Rattle.http_front.specs.RequestStream.{Extends, Reads, Request};
+ghost use Rattle.http_front.specs.RequestStream.{Extends, HasNoWhole, IsCutAfter, IsRefused, NeedsManyFields, Reads, Request};
 ghost use Rattle.http_front.specs.Route.{IsCall, IsLibrary, method_in, path_in, route_of};
 ghost use Rattle.http_front.specs.Target.{path_of};
 ghost use Rattle.http_front.specs.declared.method.Method.{Method};
@@ -18,6 +18,24 @@ pub fn an_input_spells_its_requests_in_one_way()
     ensures { (input : List ℕ) (requests others : List Request) (rest more : List ℕ)
         → Reads input requests rest → Reads input others more
         → Extends requests others ⊎ Extends others requests }
+{}
+
+/// Where a connection ends as cut short or refused, what is left begins with no whole request that could be answered.
+pub fn what_ends_a_connection_begins_with_no_request()
+    ensures cut { (rest given : List ℕ) → IsCutAfter rest given → HasNoWhole rest }
+    ensures refused { (rest : List ℕ) (status : ℕ) → IsRefused rest status → HasNoWhole rest }
+{}
+
+/// What is left has one end: it is nothing, or cut short after one reply at most, or refused with one status. Two ends may be
+/// told only where no head stands there and none of at most 64 fields can come.
+pub fn what_is_left_has_one_end()
+    ensures nothing_cut { (given : List ℕ) → IsCutAfter [] given → ⊥ }
+    ensures nothing_refused { (status : ℕ) → IsRefused [] status → ⊥ }
+    ensures one_cut { (rest first second : List ℕ) → IsCutAfter rest first → IsCutAfter rest second → first ≡ second }
+    ensures one_status { (rest : List ℕ) (first second : ℕ) → IsRefused rest first → IsRefused rest second
+        → (first ≡ second) ⊎ NeedsManyFields rest }
+    ensures cut_or_refused { (rest given : List ℕ) (status : ℕ) → IsCutAfter rest given → IsRefused rest status
+        → NeedsManyFields rest }
 {}
 
 /// A request names a call by that call's method and path alone, but for a slash at the end and a query.

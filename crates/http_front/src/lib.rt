@@ -1,8 +1,8 @@
 //! HTTP/1.1 as this server speaks it: links, the buffer, request heads, the stream of requests, what a request asks
 //! for, and the bytes of each reply.
 //!
-//! Shown upward: `Link`, `Sink` and their kinds in memory; `next_head`, `order_of`; `reply_bytes`, `bad_bytes`; and
-//! laws.rt. It answers no call itself.
+//! Shown upward: `Link`, `Sink` and their kinds in memory; `next_head`, `order_of`; `reply_bytes`, `interim_bytes`,
+//! `bad_bytes`; and laws.rt. It answers no call itself.
 #![tactic(auto)]
 
 mod buffer;
@@ -32,12 +32,12 @@ mod target_front;
 mod token;
 
 pub use buffer::{Buffer, FillFault};
-pub use head::{Head, Next, next_head, next_plain_head};
+pub use head::{Head, Next, next_head};
 pub use link::{Link, LinkFailed, Sink};
 pub use memory_link::MemoryLink;
 pub use memory_sink::MemorySink;
 pub use method::Method;
 pub use order::{Order, OrderFault, What, order_of};
 pub use outcome::Outcome;
-pub use reply_text::{bad_bytes, reply_bytes};
+pub use reply_text::{bad_bytes, interim_bytes, reply_bytes};
 pub use row::Row;

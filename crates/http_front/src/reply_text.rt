@@ -3,7 +3,7 @@ ghost use Rattle.std.specs.Prelude.{◌≡◌, ◌++◌, [], length, codes, deci
 ghost use Rattle.http_front.specs.EntityTag.{tag_text};
 ghost use Rattle.http_front.specs.IdArray.{array_text};
 ghost use Rattle.http_front.specs.ReplyBody.{collected_body, head_body, version_body};
-ghost use Rattle.http_front.specs.ReplyText.{HasText, bad_body, bad_text, close_line, is_bad_status, json_parts, length_line, line, octet_parts, parts_by, refused_parts, reply_parts, tag_line, text, type_line, written};
+ghost use Rattle.http_front.specs.ReplyText.{HasText, bad_body, bad_text, close_line, interim_text, is_bad_status, json_parts, length_line, line, octet_parts, parts_by, refused_parts, reply_parts, tag_line, text, type_line, written};
 ghost use Rattle.http_front.specs.Rows.{FitRows, rows_text};
 
 use crate::id_array::array_bytes;
@@ -40,6 +40,13 @@ pub fn reply_bytes(alloc: Global, outcome: &Outcome, closes: bool) -> Result<Byt
         }
         Outcome::Refused(refusal) => refused_bytes(alloc, refusal, closes),
     }
+}
+
+/// What goes out before the body is read, where a client waits for it.
+pub fn interim_bytes() -> &'static [u8]
+    ensures value { result.now ≡ interim_text }
+{
+    b"HTTP/1.1 100 Continue\r\n\r\n"
 }
 
 /// The bytes of the reply that ends a connection on which no further request can be read.

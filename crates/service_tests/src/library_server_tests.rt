@@ -1,5 +1,6 @@
 //! Worked connections, commands over libraries in memory, and what fails around them.
 mod commands;
+mod ends;
 mod failing;
 mod rows;
 

@@ -3,7 +3,6 @@ ghost use Rattle.std.specs.Prelude.{◌≤◌};
 
 use http_front::{
     Buffer, FillFault, Head, Link, MemoryLink, MemorySink, Method, Next, Sink, next_head,
-    next_plain_head,
 };
 use ids::{Bytes, Items};
 use std::alloc::{AllocError, Global};
@@ -290,7 +289,6 @@ fn is_told(next: &Next) -> bool {
 #[test]
 fn a_head_tells_what_the_request_asks_for(rt: HostRuntime) -> Result<(), AllocError> {
     assert!(rt; is_told(&next_head(rt.alloc(), PUT)?));
-    assert!(rt; outcome(&next_plain_head(rt.alloc(), PUT)?) == 501);
     Ok(())
 }
 

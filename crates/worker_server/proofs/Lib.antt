@@ -3,4 +3,3 @@ pub mod EachLemmas
 pub mod ReadingLemmas
 pub mod RequestLemmas
 pub mod SessionLemmas
-pub mod StreamLemmas

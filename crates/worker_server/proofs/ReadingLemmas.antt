@@ -1,28 +1,25 @@
 -- From what stands in the buffer to what is left to read, at each end of reading a request.
--- The key lemmas are open_end, bad_end, body_end, StandsAt-from_head and IsPlainEnd-from_end.
-use Rattle.std.proofs.Common.{◌≡◌, ◌≢◌, ℕ, zero, suc, ◌+◌, ◌<◌, ◌≤◌, ◌⊎◌, inl, inr, true, false, List, [], ◌∷◌, ◌++◌, length, take, drop, Option, None, Some, refl, sym, ap, subst, ◌∙◌, arith, append-nil, length-append, nat_le}
+-- The key lemmas are open_end, bad_end, head_stops, interim_stops, body_stops and StandsAt-from_head.
+use Rattle.std.proofs.Common.{◌≡◌, ◌≢◌, ℕ, ◌+◌, ◌<◌, ◌≤◌, false, List, [], ◌∷◌, ◌++◌, length, take, drop, Option, None, Some, refl, sym, ap, subst, ◌∙◌, arith, append_assoc, append-nil, length-append, nat_le}
 use Rattle.std.proofs.lemmas.Bool.{leb-false}
-use Rattle.std.proofs.lemmas.List.Elements.{All-nil}
 use Rattle.std.proofs.lemmas.List.{length-take, length-take-le, length-drop}
-use Rattle.std.specs.Io.KnownBytes.{IsAtEnd}
-use Rattle.std.proofs.lemmas.Str.{IsUtf8-from_ascii}
-use Rattle.std.specs.Str.{IsAscii}
-use Rattle.std.specs.Prelude.{slice_index}
-use Rattle.std.proofs.lemmas.List.Sums.{AllPass-from_list_all}
-use Rattle.httparse.specs.Grammar.{RequestHead, IsRequestHead, ReadsRequest, IsField, print_request, is_token_byte, is_uri_byte, HasNoRequest, crlf}
-use Rattle.httparse.specs.Spans.{RequestOverflows}
+use Rattle.std.specs.Io.KnownBytes.{IsAtEnd, append_known}
+use Rattle.httparse.specs.Grammar.{RequestHead, ReadsRequest, print_request, HasNoRequest}
 use Rattle.httparse.proofs.GrammarLemmas.{ReadsRequest-append}
 use Rattle.http_front.specs.Buffer.{to_read}
 use Rattle.http_front.specs.declared.head.Head.{Head}
-use Rattle.http_front.specs.RequestHead.{is_plain}
+use Rattle.http_front.specs.Link.{GivesFront}
+use Rattle.http_front.specs.ReplyText.{bad_text, interim_due}
 use Rattle.http_front.specs.TargetFront.{MayBecomeHead}
-use Rattle.http_front.specs.RequestStream.{Request, IsHeadAt, IsRequest, IsCutAfter, in_head, in_body, IsRefused, front_of, by_head, by_bytes, by_length}
-use Rattle.http_front.specs.NextHead.{IsHeadOf, IsBad, HasExpecting}
-use Rattle.http_front.proofs.StreamLemmas.{longer_front, head_at, request_at, refused_on, no_plain_open, no_plain_refused, no_plain_short, no_plain_expects}
-use Rattle.worker_server.specs.ServedConnection.{IsUnreadable}
-use Rattle.worker_server.specs.RequestSteps.{StandsAt, IsEnd, IsBodyEnd, IsPlainEnd, plain_end, end_at}
+use Rattle.http_front.specs.RequestStream.{Request, IsHeadAt, IsRequest, in_head, in_body, IsRefused, front_of, interim_of}
+use Rattle.http_front.specs.NextHead.{IsHeadOf, IsBad}
+use Rattle.http_front.proofs.StreamLemmas.{longer_front, head_at, request_at, refused_on}
+use Rattle.worker_server.specs.ServedConnection.{StopsUnasked, not_yet, begun, interim, refusal}
+use Rattle.worker_server.specs.RequestSteps.{StandsAt, IsEnd, IsBodyEnd, RefusesSo, StopsSo, end_at}
 use Rattle.worker_server.specs.declared.reading.End.{End}
 use Rattle.worker_server.specs.declared.reading.End.TheVariants as end
+use Rattle.worker_server.specs.declared.served.Served.{Served}
+use Rattle.worker_server.specs.declared.served.Served.TheVariants as served
 
 -- ---- what is left to read
 
@@ -45,6 +42,26 @@ pub same_grown : (old new piece : List ℕ) → new ≡ old ++ piece → length 
 same_grown old new [] grown size = grown ∙ append-nil old
 same_grown old new (x ∷ piece) grown size = absurd (omega (arith, ap length grown, length-append old (x ∷ piece), size))
 
+-- ---- what is known to be given
+
+pub append_known-more : (given : Option (List ℕ)) (xs ys : List ℕ) → append_known (append_known given xs) ys ≡ append_known given (xs ++ ys)
+append_known-more None xs ys = refl
+append_known-more (Some g) xs ys = ap Some (append_assoc g xs ys)
+
+pub append_known-nil : (given : Option (List ℕ)) → append_known given [] ≡ given
+append_known-nil None = refl
+append_known-nil (Some g) = ap Some (append-nil g)
+
+-- a front of some bytes, after others that were given whole
+pub GivesFront-after : (given now : Option (List ℕ)) (first bytes : List ℕ) → GivesFront (append_known given first) now bytes
+    → GivesFront given now (first ++ bytes)
+GivesFront-after given now first bytes gives = record {
+  front = first ++ gives.front;
+  rest = gives.rest;
+  cut = ap (λ b. first ++ b) gives.cut ∙ sym (append_assoc first gives.front gives.rest);
+  given = gives.given ∙ append_known-more given first gives.front;
+}
+
 -- ---- the ends
 
 -- the input ends where no head stands in the buffer yet
@@ -54,53 +71,96 @@ open_end [] rest same short none may = same
 open_end (x ∷ xs) rest same short none may =
     let lt : length (x ∷ xs) < 16384 = leb-false 16384 (length (x ∷ xs)) short in
     let some : x ∷ xs ≢ [] = λ e. cc in
-    let ends : IsEnd (x ∷ xs) (end_at (x ∷ xs)) = (refl, in_head some lt (record { none = none; may = may })) in
+    let ends : IsEnd (x ∷ xs) (end_at (x ∷ xs)) = (refl, in_head some lt (record { none = none; may = may }) refl) in
     subst (λ z. IsEnd z (end_at (x ∷ xs))) (sym same) ends
-
-HasExpecting-on : (buffer more : List ℕ) → HasExpecting (front_of buffer) → HasExpecting (front_of (buffer ++ more))
-HasExpecting-on buffer more is =
-    let front = longer_front 16384 buffer more in
-    record {
-      request = is.request;
-      rest = is.rest ++ front.0;
-      size = is.size;
-      reads = subst (λ z. ReadsRequest z is.request (is.rest ++ front.0)) (sym front.1)
-          (ReadsRequest-append (front_of buffer) is.request is.rest front.0 is.reads);
-      few = is.few;
-      accepted = is.accepted;
-      expecting = is.expecting;
-    }
 
 -- the front of the buffer is refused
 pub bad_end : (buffer : List ℕ) (left : Option (List ℕ)) (rest : List ℕ) (status : ℕ) → to_read buffer left ≡ Some rest
-    → IsBad (front_of buffer) (nat_le 16384 (length buffer)) status ⊎ ((status ≡ 501) × HasExpecting (front_of buffer))
-    → IsEnd rest (end.Refused status)
-bad_end buffer left rest status e (inl bad) =
+    → IsBad (front_of buffer) (nat_le 16384 (length buffer)) status → IsRefused rest status
+bad_end buffer left rest status e bad =
     let ahead = to_read-some buffer left rest e in
-    inl (subst (λ z. IsRefused z status) (sym ahead.2) (refused_on buffer ahead.0 status bad))
-bad_end buffer left rest status e (inr expecting) =
-    let ahead = to_read-some buffer left rest e in
-    inr (expecting.0, subst (λ z. HasExpecting (front_of z)) (sym ahead.2) (HasExpecting-on buffer ahead.0 expecting.1))
+    subst (λ z. IsRefused z status) (sym ahead.2) (refused_on buffer ahead.0 status bad)
 
--- the body of the head in the buffer isn't read in full
-pub body_end : (buffer : List ℕ) (left : Option (List ℕ)) (rest : List ℕ) (head : Head) (request : RequestHead) (how : End)
-    → to_read buffer left ≡ Some rest → IsHeadOf (front_of buffer) head request
-    → IsBodyEnd (head.used + head.body) rest how → IsEnd rest how
-body_end buffer left rest head request end.Over e is ends = absurd ends
-body_end buffer left rest head request (end.Cut read) e is ends =
+-- the head in the buffer is the head of what is left to read
+head_ahead : (buffer : List ℕ) (left : Option (List ℕ)) (rest : List ℕ) (head : Head) (request : RequestHead)
+    → to_read buffer left ≡ Some rest → IsHeadOf (front_of buffer) head request → (after : List ℕ) × IsHeadAt rest request after
+head_ahead buffer left rest head request e is =
     let ahead = to_read-some buffer left rest e in
     let after = drop (length (print_request request)) buffer ++ ahead.0 in
-    let at : IsHeadAt rest request after =
-    subst (λ z. IsHeadAt z request after) (sym ahead.2) (head_at buffer ahead.0 request _ is.reads is.few) in
+    (after, subst (λ z. IsHeadAt z request after) (sym ahead.2) (head_at buffer ahead.0 request _ is.reads is.few))
+
+body_cut : (rest : List ℕ) (head : Head) (request : RequestHead) (after : List ℕ) → IsHeadAt rest request after
+    → head.used ≡ length (print_request request) → length rest < head.used + head.body → length after < head.body
+body_cut rest head request after at used short =
     let whole : length rest ≡ length (print_request request) + length after =
     ap length at.reads.1 ∙ length-append (print_request request) after in
-    (ends.0, in_body request after head.body at is.body (short_after (length rest) (length (print_request request)) (length after) head.used head.body whole is.used ends.1))
+    short_after (length rest) (length (print_request request)) (length after) head.used head.body whole used short
   where
     short_after : (all text after used body : ℕ) → all ≡ text + after → used ≡ text → all < used + body → after < body
     short_after all text after used body whole same short = omega (arith, whole, same, short)
-body_end buffer left rest head request (end.Refused status) e is ends = absurd ends
-body_end buffer left rest head request end.ReadFault e is ends = tt
-body_end buffer left rest head request end.NoMemory e is ends = tt
+
+-- ---- how the connection stops
+
+refused_stops : (rest : List ℕ) (status : ℕ) (given now : Option (List ℕ)) (how : Served) → IsRefused rest status
+    → RefusesSo status given now how → StopsUnasked how rest given now
+refused_stops rest status given now (served.Refused told) is stops =
+    (subst (IsRefused rest) (sym stops.0) is, stops.1 ∙ ap (λ s. append_known given (bad_text s)) (sym stops.0))
+refused_stops rest status given now served.WriteFault is stops = (bad_text status, refusal status is refl, stops)
+refused_stops rest status given now served.NoMemory is stops = ([], not_yet refl, stops ∙ sym (append_known-nil given))
+refused_stops rest status given now served.Ended is stops = absurd stops
+refused_stops rest status given now served.Limit is stops = absurd stops
+refused_stops rest status given now (served.Cut read) is stops = absurd stops
+refused_stops rest status given now served.ReadFault is stops = absurd stops
+
+-- where no head was read
+pub head_stops : (rest : List ℕ) (end_is : End) (given now : Option (List ℕ)) (how : Served) → IsEnd rest end_is
+    → StopsSo end_is given now how → StopsUnasked how rest given now
+head_stops rest end.Over given now how is stops =
+    subst (λ z. StopsUnasked z rest given now) (sym stops.0) (is, stops.1)
+head_stops rest (end.Cut read) given now how is stops =
+    subst (λ z. StopsUnasked z rest given now) (sym stops.0) (is.0, [], is.1, stops.1 ∙ sym (append_known-nil given))
+head_stops rest (end.Refused status) given now how is stops = refused_stops rest status given now how is stops
+head_stops rest end.ReadFault given now how is stops =
+    subst (λ z. StopsUnasked z rest given now) (sym stops.0) ([], not_yet refl, stops.1 ∙ sym (append_known-nil given))
+head_stops rest end.NoMemory given now how is stops =
+    subst (λ z. StopsUnasked z rest given now) (sym stops.0) ([], not_yet refl, stops.1 ∙ sym (append_known-nil given))
+
+-- the interim reply that was given is the head's
+pub interim_is : (front : List ℕ) (head : Head) (request : RequestHead) → IsHeadOf front head request
+    → interim_due head.expects ≡ interim_of request
+interim_is front head request is = ap interim_due is.expects_is
+
+-- where the interim reply was not given whole
+pub interim_stops : (buffer : List ℕ) (left : Option (List ℕ)) (rest : List ℕ) (head : Head) (request : RequestHead) (given now : Option (List ℕ))
+    → to_read buffer left ≡ Some rest → IsHeadOf (front_of buffer) head request
+    → GivesFront given now (interim_due head.expects) → StopsUnasked served.WriteFault rest given now
+interim_stops buffer left rest head request given now e is gives =
+    let at = head_ahead buffer left rest head request e is in
+    (interim_due head.expects, interim request at.0 head.body at.1 is.body (interim_is (front_of buffer) head request is), gives)
+
+-- where the body was not read in full
+pub body_stops : (buffer : List ℕ) (left : Option (List ℕ)) (rest : List ℕ) (head : Head) (request : RequestHead) (end_is : End)
+    (given before now : Option (List ℕ)) (how : Served) → to_read buffer left ≡ Some rest → IsHeadOf (front_of buffer) head request
+    → IsBodyEnd (head.used + head.body) rest end_is → before ≡ append_known given (interim_due head.expects)
+    → StopsSo end_is before now how → StopsUnasked how rest given now
+body_stops buffer left rest head request end.Over given before now how e is ends gave stops = absurd ends
+body_stops buffer left rest head request (end.Cut read) given before now how e is ends gave stops =
+    let at = head_ahead buffer left rest head request e is in
+    let due = interim_is (front_of buffer) head request is in
+    let short = body_cut rest head request at.0 at.1 is.used ends.1 in
+    subst (λ z. StopsUnasked z rest given now) (sym stops.0)
+    (ends.0, interim_due head.expects, in_body request at.0 head.body at.1 is.body short due, stops.1 ∙ gave)
+body_stops buffer left rest head request (end.Refused status) given before now how e is ends gave stops = absurd ends
+body_stops buffer left rest head request end.ReadFault given before now how e is ends gave stops =
+    let at = head_ahead buffer left rest head request e is in
+    let due = interim_is (front_of buffer) head request is in
+    subst (λ z. StopsUnasked z rest given now) (sym stops.0)
+    (interim_due head.expects, begun request at.0 head.body at.1 is.body due, stops.1 ∙ gave)
+body_stops buffer left rest head request end.NoMemory given before now how e is ends gave stops =
+    let at = head_ahead buffer left rest head request e is in
+    let due = interim_is (front_of buffer) head request is in
+    subst (λ z. StopsUnasked z rest given now) (sym stops.0)
+    (interim_due head.expects, begun request at.0 head.body at.1 is.body due, stops.1 ∙ gave)
 
 -- ---- a whole request
 
@@ -121,11 +181,12 @@ front-grown buffer piece head request is =
           (ReadsRequest-append (front_of buffer) request (drop head.used (front_of buffer)) front.0 is.reads),
     )
 
--- a head and its body stand in the buffer
-pub StandsAt-from_head : (buffer piece : List ℕ) (head : Head) (request : RequestHead) → IsHeadOf (front_of buffer) head request
-    → is_plain request ≡ true → head.used + head.body ≤ length (buffer ++ piece)
-    → (r : Request) × (after : List ℕ) × StandsAt (buffer ++ piece) head r after
-StandsAt-from_head buffer piece head request is plain fits =
+-- a head and its body stand in the buffer, and its interim reply was given
+pub StandsAt-from_head : (buffer piece : List ℕ) (head : Head) (request : RequestHead) (given now : Option (List ℕ))
+    → IsHeadOf (front_of buffer) head request → head.used + head.body ≤ length (buffer ++ piece)
+    → now ≡ append_known given (interim_due head.expects)
+    → (r : Request) × (after : List ℕ) × StandsAt (buffer ++ piece) head r after × (now ≡ append_known given (interim_of r.head))
+StandsAt-from_head buffer piece head request given now is fits gave =
     let bytes = buffer ++ piece in
     let text = print_request request in
     let front = front-grown buffer piece head request is in
@@ -140,7 +201,7 @@ StandsAt-from_head buffer piece head request is plain fits =
       r,
       after,
       record {
-        is = record { is = here; plain = plain };
+        is = here;
         used = is.used;
         body = sym (length-take-le head.body body there);
         closes_is = is.closes_is;
@@ -148,68 +209,5 @@ StandsAt-from_head buffer piece head request is plain fits =
         target = is.target;
         shows = is.token;
       },
+      gave ∙ ap (append_known given) (interim_is (front_of buffer) head request is),
     )
-
--- ---- whole requests alone
-
-some_head : (head : RequestHead) (rest : List ℕ) → ReadsRequest [] head rest → ⊥
-unfolding print_request
-some_head head rest reads = omega (arith, simp length-append at (ap length reads.1))
-
-head_some : (rest : List ℕ) (head : RequestHead) (after : List ℕ) → IsHeadAt rest head after → rest ≢ []
-head_some rest head after at e = some_head head after (subst (λ z. ReadsRequest z head after) e at.reads)
-
--- the shortest kind of head
-abbrev shortest : RequestHead
-shortest = record { blank = []; method = 71 ∷ []; target = 47 ∷ []; minor = 1; line_end = crlf; fields = []; last = crlf }
-
-slash_ascii : IsAscii (47 ∷ [])
-slash_ascii zero = omega arith
-slash_ascii (suc i) = past_end i
-  where
-    past_end : (k : ℕ) → slice_index [] k < 128
-    past_end zero = omega arith
-    past_end (suc k) = omega arith
-
-shortest_is : IsRequestHead shortest
-unfolding is_token_byte
-shortest_is = record {
-  method = (omega arith, AllPass-from_list_all is_token_byte (71 ∷ []) refl);
-  target = (omega arith, AllPass-from_list_all is_uri_byte (47 ∷ []) refl);
-  target_text = IsUtf8-from_ascii (47 ∷ []) slash_ascii;
-  minor = omega arith;
-  fields = All-nil IsField;
-}
-
--- no bytes at all can still become a head
-no_overflow : (n : ℕ) → RequestOverflows 64 (take n []) → ⊥
-no_overflow zero over = absurd (omega (arith, over (print_request shortest) shortest [] (shortest_is, sym (append-nil (print_request shortest)))))
-no_overflow (suc n) over = absurd (omega (arith, over (print_request shortest) shortest [] (shortest_is, sym (append-nil (print_request shortest)))))
-
-refused_some : (rest : List ℕ) (status : ℕ) → IsRefused rest status → rest ≢ []
-refused_some rest status (by_head head after at judged) = head_some rest head after at
-refused_some rest status (by_bytes is over) = λ e. no_overflow 16384 (subst (λ z. RequestOverflows 64 (take 16384 z)) e over)
-refused_some rest status (by_length is long unread) = λ e. long_some rest long (ap length e)
-  where
-    long_some : (xs : List ℕ) → 16384 ≤ length xs → length xs ≡ 0 → ⊥
-    long_some xs long e = omega (arith, long, e)
-
-cut_unreadable : (rest : List ℕ) → IsCutAfter rest → IsUnreadable rest
-cut_unreadable rest (in_head some short unread) = (some, no_plain_open rest unread.none)
-cut_unreadable rest (in_body head after size at judged short) = (head_some rest head after at, no_plain_short rest head after size at judged short)
-
-expecting_at : (rest : List ℕ) (is : HasExpecting (front_of rest)) → (after : List ℕ) × IsHeadAt rest is.request after
-expecting_at rest is =
-    let at = head_at rest [] is.request is.rest is.reads is.few in
-    (_, subst (λ z. IsHeadAt z is.request (drop (length (print_request is.request)) rest ++ [])) (append-nil rest) at)
-
--- no end within the input leaves a whole request
-pub IsPlainEnd-from_end : (rest : List ℕ) (how : End) → IsEnd rest how → IsPlainEnd rest (plain_end how)
-IsPlainEnd-from_end rest end.Over is = is
-IsPlainEnd-from_end rest (end.Cut read) is = (refl, cut_unreadable rest is.1)
-IsPlainEnd-from_end rest (end.Refused status) (inl refused) = (refl, (refused_some rest status refused, no_plain_refused rest status refused))
-IsPlainEnd-from_end rest (end.Refused status) (inr (coded, is)) =
-    let at = expecting_at rest is in
-    (refl, (head_some rest is.request at.0 at.1, no_plain_expects rest is.request at.0 at.1 is.expecting))
-IsPlainEnd-from_end rest end.ReadFault is = tt
-IsPlainEnd-from_end rest end.NoMemory is = tt

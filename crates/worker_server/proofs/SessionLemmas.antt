@@ -1,18 +1,19 @@
 -- The connection so far, and one request more. The key lemmas are SoFar-more, Session-closed, Session-limit and
 -- Session-stopped.
-use Rattle.std.proofs.Common.{◌≡◌, ℕ, ◌+◌, ◌<◌, ◌==◌, Bool, true, false, ◌||◌, inl, inr, List, [], ◌∷◌, ◌++◌, length, Option, None, Some, refl, sym, ap, subst, ◌∙◌, arith, append_assoc, append-nil, length-append, add-zero}
+use Rattle.std.proofs.Common.{◌≡◌, ℕ, ◌+◌, ◌<◌, ◌==◌, Bool, true, false, ◌||◌, inl, inr, List, [], ◌∷◌, ◌++◌, length, Option, Some, refl, sym, ap, subst, ◌∙◌, arith, append_assoc, append-nil, length-append, add-zero}
 use Rattle.std.proofs.lemmas.Bool.{or_parts}
 use Rattle.std.proofs.lemmas.Bool.Decides.{nat_tests}
 use Rattle.std.proofs.lemmas.List.Elements.{All-nil, All-cons, All-head, All-tail, All-append}
 use Rattle.std.specs.Io.KnownBytes.{append_known}
 use Rattle.library_state.specs.declared.call.Call.{Call}
 use Rattle.http_front.specs.RequestHead.{closes}
-use Rattle.http_front.specs.RequestStream.{Request, IsPlain, MayFollow}
-use Rattle.worker_server.specs.ServedConnection.{Exchange, ReadsPlain, requests, texts, text_at, closes_at, AllOpen, LastCloses, Answers, Run, Stops, Ends, Session}
+use Rattle.http_front.specs.RequestStream.{Request, Reads, IsRequest, MayFollow}
+use Rattle.worker_server.specs.ServedConnection.{Exchange, requests, texts, text_at, closes_at, AllOpen, LastCloses, Answers, Run, Stops, Ends, Session}
 use Rattle.worker_server.specs.RequestSteps.{OneMore}
 use Rattle.worker_server.specs.declared.host.Answer.{Answer}
 use Rattle.worker_server.specs.declared.served.Served.{Served}
 use Rattle.worker_server.specs.declared.served.Served.TheVariants as served
+use Rattle.worker_server.proofs.ReadingLemmas.{append_known-more, append_known-nil}
 
 -- ---- one exchange more
 
@@ -26,13 +27,13 @@ module _ {Line : Type 0} where
   follows y [] x open_y = open_y
   follows y (z ∷ zs) x open_y = open_y
 
-  ReadsPlain-more : (input : List ℕ) (xs : List (Exchange Line)) (mid : List ℕ) (x : Exchange Line) (rest : List ℕ)
-      → ReadsPlain input (requests xs) mid → AllOpen xs → IsPlain mid x.request rest
-      → ReadsPlain input (requests (xs ++ x ∷ [])) rest
-  ReadsPlain-more input [] mid x rest e opens plain =
-      (rest, subst (λ z. IsPlain z x.request rest) (sym e) plain, tt, refl)
-  ReadsPlain-more input (y ∷ ys) mid x rest reads opens plain =
-      (reads.0, reads.1, follows y ys x (All-head IsOpenAfter y ys opens), ReadsPlain-more reads.0 ys mid x rest reads.3 (All-tail IsOpenAfter y ys opens) plain)
+  Reads-more : (input : List ℕ) (xs : List (Exchange Line)) (mid : List ℕ) (x : Exchange Line) (rest : List ℕ)
+      → Reads input (requests xs) mid → AllOpen xs → IsRequest mid x.request rest
+      → Reads input (requests (xs ++ x ∷ [])) rest
+  Reads-more input [] mid x rest e opens is =
+      (rest, subst (λ z. IsRequest z x.request rest) (sym e) is, tt, refl)
+  Reads-more input (y ∷ ys) mid x rest reads opens is =
+      (reads.0, reads.1, follows y ys x (All-head IsOpenAfter y ys opens), Reads-more reads.0 ys mid x rest reads.3 (All-tail IsOpenAfter y ys opens) is)
 
   texts-more : (n : ℕ) (xs : List (Exchange Line)) (x : Exchange Line)
       → texts n (xs ++ x ∷ []) ≡ texts n xs ++ text_at (n + length xs) x
@@ -53,14 +54,6 @@ module _ {Line : Type 0} where
 
 length-more : {X : Type 0} (xs : List X) (x : X) → length (xs ++ x ∷ []) ≡ length xs + 1
 length-more xs x = length-append xs (x ∷ [])
-
-append_known-more : (given : Option (List ℕ)) (xs ys : List ℕ) → append_known (append_known given xs) ys ≡ append_known given (xs ++ ys)
-append_known-more None xs ys = refl
-append_known-more (Some g) xs ys = ap Some (append_assoc g xs ys)
-
-append_known-nil : (given : Option (List ℕ)) → append_known given [] ≡ given
-append_known-nil None = refl
-append_known-nil (Some g) = ap Some (append-nil g)
 
 -- a request before the 10,000th closes the connection where it asks to
 stays_open : (r : Request) (n : ℕ) → false ≡ closes_at n r → closes r.head ≡ false
@@ -89,7 +82,7 @@ module _ {V Line : Type 0} (asks : V → List ℕ → Call → Answer → List L
     pub all_open : AllOpen exchanges
     pub rest : List ℕ
     pub ahead_is : ahead ≡ Some rest
-    pub read : ReadsPlain input (requests exchanges) rest
+    pub read : Reads input (requests exchanges) rest
     pub run : Run asks u exchanges v
     pub text : now ≡ append_known given (texts 0 exchanges)
 
@@ -115,8 +108,8 @@ module _ {V Line : Type 0} (asks : V → List ℕ → Call → Answer → List L
     all : List (Exchange Line)
     all = so_far.exchanges ++ more.exchange ∷ []
 
-    all_read : ReadsPlain input (requests (so_far.exchanges ++ more.exchange ∷ [])) more.after
-    all_read = ReadsPlain-more input so_far.exchanges so_far.rest more.exchange more.after so_far.read so_far.all_open more.plain
+    all_read : Reads input (requests (so_far.exchanges ++ more.exchange ∷ [])) more.after
+    all_read = Reads-more input so_far.exchanges so_far.rest more.exchange more.after so_far.read so_far.all_open more.is
 
     all_run : Run asks u (so_far.exchanges ++ more.exchange ∷ []) w
     all_run = Run-more u v w so_far.exchanges more.exchange so_far.run more.answers
@@ -167,8 +160,8 @@ module _ {V Line : Type 0} (asks : V → List ℕ → Call → Answer → List L
   Ends-stopped : (how : Served) (xs : List (Exchange Line)) (rest : List ℕ) (u v : V) (given now : Option (List ℕ))
       → length xs < 10000 → AllOpen xs → Stops asks how (length xs) rest u v given now → Ends asks how xs rest u v given now
   Ends-stopped served.Ended xs rest u v given now few opens stops = (few, inr (opens, stops))
-  Ends-stopped served.Limit xs rest u v given now few opens stops = absurd stops
-  Ends-stopped (served.Cut read) xs rest u v given now few opens stops = absurd stops
+  Ends-stopped served.Limit xs rest u v given now few opens stops = absurd (elim stops [ inl first ↦ first.1 | inr later ↦ later ])
+  Ends-stopped (served.Cut read) xs rest u v given now few opens stops = (few, opens, stops)
   Ends-stopped (served.Refused status) xs rest u v given now few opens stops = (few, opens, stops)
   Ends-stopped served.ReadFault xs rest u v given now few opens stops = (few, opens, stops)
   Ends-stopped served.WriteFault xs rest u v given now few opens stops = (few, opens, stops)

@@ -1,17 +1,16 @@
 -- What the steps of one request do: reading it, stopping in its place, and serving it.
 -- Read OneServed first, at the end.
-use Rattle.std.specs.Prelude.{ℕ, ◌≡◌, ◌<◌, ◌⊎◌, Bool, List, [], ◌∷◌, length, Option, Some, Result, Ok, Err, ⊤}
+use Rattle.std.specs.Prelude.{ℕ, ◌≡◌, ◌<◌, IsTrue, Bool, List, [], ◌∷◌, length, Option, Some, Result, Ok, Err, ⊤}
 use Rattle.std.specs.Io.KnownBytes.{append_known}
 use Rattle.httparse.specs.Grammar.{print_request}
 use Rattle.library_state.specs.declared.call.Call.{Call}
 use Rattle.ids.specs.FaultCount.{Rose}
 use Rattle.http_front.specs.declared.head.Head.{Head}
 use Rattle.http_front.specs.Link.{GivesFront}
-use Rattle.http_front.specs.NextHead.{HasExpecting}
-use Rattle.http_front.specs.ReplyText.{bad_text}
+use Rattle.http_front.specs.ReplyText.{bad_text, is_bad_status}
 use Rattle.http_front.specs.RequestHead.{closes, method_of}
-use Rattle.http_front.specs.RequestStream.{Request, IsCutAfter, IsPlain, IsRefused, front_of}
-use Rattle.worker_server.specs.ServedConnection.{Exchange, IsUnreadable, Shows, Answers, Stops, CountsEnd, closes_at, text_at}
+use Rattle.http_front.specs.RequestStream.{Request, IsCutAfter, IsRefused, IsRequest}
+use Rattle.worker_server.specs.ServedConnection.{Exchange, Shows, Answers, Stops, CountsEnd, closes_at, text_at}
 use Rattle.worker_server.specs.declared.host.Answer.{Answer}
 use Rattle.worker_server.specs.declared.reading.End.{End}
 use Rattle.worker_server.specs.declared.reading.End.TheVariants as end
@@ -20,7 +19,7 @@ use Rattle.worker_server.specs.declared.served.Served.TheVariants as served
 
 -- a whole request stands at the front of these bytes, and this is its head
 pub record StandsAt (bytes : List ℕ) (h : Head) (r : Request) (after : List ℕ) : Type 0 where
-  pub is : IsPlain bytes r after
+  pub is : IsRequest bytes r after
   pub used : h.used ≡ length (print_request r.head)
   pub body : h.body ≡ length r.body
   pub closes_is : h.closes ≡ closes r.head
@@ -33,11 +32,11 @@ abbrev pub end_at : List ℕ → End
 end_at [] = end.Over
 end_at (byte ∷ bytes) = end.Cut (length (byte ∷ bytes))
 
--- why no further request was read, as this was left to read. A head that asks for an interim reply is refused so far
+-- why no head was read, as this was left to read
 abbrev pub IsEnd : List ℕ → End → Type 0
 IsEnd rest end.Over = rest ≡ []
-IsEnd rest (end.Cut read) = (read ≡ length rest) × IsCutAfter rest
-IsEnd rest (end.Refused status) = IsRefused rest status ⊎ ((status ≡ 501) × HasExpecting (front_of rest))
+IsEnd rest (end.Cut read) = (read ≡ length rest) × IsCutAfter rest []
+IsEnd rest (end.Refused status) = IsRefused rest status
 IsEnd rest end.ReadFault = ⊤
 IsEnd rest end.NoMemory = ⊤
 
@@ -48,24 +47,10 @@ IsBodyEnd wanted rest end.ReadFault = ⊤
 IsBodyEnd wanted rest end.NoMemory = ⊤
 IsBodyEnd wanted rest _ = ⊥
 
--- the ends of a connection of whole requests alone: every end within the input is 501
-abbrev pub plain_end : End → End
-plain_end (end.Cut read) = end.Refused 501
-plain_end (end.Refused status) = end.Refused 501
-plain_end how = how
-
--- why no further whole request was read, as this was left to read
-abbrev pub IsPlainEnd : List ℕ → End → Type 0
-IsPlainEnd rest end.Over = rest ≡ []
-IsPlainEnd rest (end.Cut read) = ⊥
-IsPlainEnd rest (end.Refused status) = (status ≡ 501) × IsUnreadable rest
-IsPlainEnd rest end.ReadFault = ⊤
-IsPlainEnd rest end.NoMemory = ⊤
-
--- the status of a refusal is that of whole requests alone
-abbrev pub HasPlainStatus : End → Type 0
-HasPlainStatus (end.Refused status) = status ≡ 501
-HasPlainStatus how = ⊤
+-- the status of a refusal is one of those that end a connection
+abbrev pub HasBadStatus : End → Type 0
+HasBadStatus (end.Refused status) = IsTrue (is_bad_status status)
+HasBadStatus how = ⊤
 
 -- the link's count rose where a take failed, and stayed otherwise
 abbrev pub CountsRead : {T : Type 0} → ℕ → ℕ → Result T End → Type 0
@@ -77,8 +62,8 @@ abbrev pub CountsGive : ℕ → ℕ → Served → Type 0
 CountsGive before now served.WriteFault = Rose before now
 CountsGive before now how = now ≡ before
 
-abbrev pub CountsServed : ℕ → ℕ → Result Bool Served → Type 0
-CountsServed before now (Ok closed) = now ≡ before
+abbrev pub CountsServed : {T : Type 0} → ℕ → ℕ → Result T Served → Type 0
+CountsServed before now (Ok done) = now ≡ before
 CountsServed before now (Err how) = CountsEnd before now how
 
 -- a refusal with this status: its reply is given, unless giving fails or memory is wanted
@@ -88,7 +73,7 @@ RefusesSo status given now served.WriteFault = GivesFront given now (bad_text st
 RefusesSo status given now served.NoMemory = now ≡ given
 RefusesSo status given now how = ⊥
 
--- how a connection stops where no further request was read
+-- how a connection stops where no head was read, or where its body was not
 abbrev pub StopsSo : End → Option (List ℕ) → Option (List ℕ) → Served → Type 0
 StopsSo end.Over given now how = (how ≡ served.Ended) × (now ≡ given)
 StopsSo (end.Cut read) given now how = (how ≡ served.Cut read) × (now ≡ given)
@@ -102,7 +87,7 @@ module _ {V Line : Type 0} (asks : V → List ℕ → Call → Answer → List L
       (n : ℕ) (rest : List ℕ) (left : Option (List ℕ)) (u v : V) (given now : Option (List ℕ)) (closed : Bool) : Type 0 where
     pub exchange : Exchange Line
     pub after : List ℕ
-    pub plain : IsPlain rest exchange.request after
+    pub is : IsRequest rest exchange.request after
     pub ahead : left ≡ Some after
     pub answers : Answers asks u exchange v
     pub text : now ≡ append_known given (text_at n exchange)

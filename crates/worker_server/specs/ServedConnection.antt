@@ -1,7 +1,8 @@
 -- A served connection: the requests that the bytes read spell, their replies in order, and how it ended.
 -- Read Session first, at the end. Requests: http_front, RequestStream. Replies: http_front, ReplyText.
-use Rattle.std.specs.Prelude.{ℕ, ◌≡◌, ◌≢◌, ◌+◌, ◌<◌, ◌==◌, ◌⊎◌, Bool, true, false, ◌||◌, List, [], ◌∷◌, ◌++◌, length, map, All, Option, Result, codes}
+use Rattle.std.specs.Prelude.{ℕ, ◌≡◌, ◌+◌, ◌<◌, ◌==◌, ◌⊎◌, Bool, true, false, ◌||◌, List, [], ◌∷◌, ◌++◌, length, map, All, Option, Result, Ok, codes}
 use Rattle.std.specs.Io.KnownBytes.{append_known}
+use Rattle.httparse.specs.Grammar.{RequestHead}
 use Rattle.ids.specs.FaultCount.{Rose}
 use Rattle.library_state.specs.declared.call.Call.{Call}
 use Rattle.library_state.specs.declared.refusal.Refusal.{Refusal}
@@ -12,8 +13,8 @@ use Rattle.http_front.specs.Link.{GivesFront}
 use Rattle.http_front.specs.NextHead.{IsTokenIn}
 use Rattle.http_front.specs.Order.{IsOrder}
 use Rattle.http_front.specs.ReplyText.{text, bad_text}
-use Rattle.http_front.specs.RequestHead.{closes, fields_of, method_of}
-use Rattle.http_front.specs.RequestStream.{Request, IsPlain, HasNoPlain, MayFollow}
+use Rattle.http_front.specs.RequestHead.{closes, fields_of, judge, method_of}
+use Rattle.http_front.specs.RequestStream.{Request, Reads, IsHeadAt, IsRequest, IsCutAfter, IsRefused, interim_of}
 use Rattle.worker_server.specs.Calls.{Serves}
 use Rattle.worker_server.specs.declared.host.Answer.{Answer}
 use Rattle.worker_server.specs.declared.served.Served.{Served}
@@ -26,15 +27,6 @@ Shows r secret = IsTokenIn (found (values_of (codes "seafile-repo-token") (field
 -- what a request that shows this secret is read as
 abbrev pub IsOrderFor : Request → Option (List ℕ) → Result Order Refusal → Type 0
 IsOrderFor r secret = IsOrder (method_of r.head.method) r.head.target secret r.body
-
--- the input is these whole requests, of which only the last may close, and then the rest
-abbrev pub ReadsPlain : List ℕ → List Request → List ℕ → Type 0
-ReadsPlain input [] rest = input ≡ rest
-ReadsPlain input (r ∷ more) rest = (mid : List ℕ) × IsPlain input r mid × MayFollow r more × ReadsPlain mid more rest
-
--- something is left, and no whole request stands at its front
-abbrev pub IsUnreadable : List ℕ → Type 0
-IsUnreadable rest = (rest ≢ []) × HasNoPlain rest
 
 -- a request that was answered, its outcome, and the lines that its calls left
 pub record Exchange (Line : Type 0) : Type 0 where
@@ -50,11 +42,11 @@ requests xs = map (λ x. x.request) xs
 abbrev pub closes_at : ℕ → Request → Bool
 closes_at n r = closes r.head || n == 9999
 
--- the text of the reply to the request of this number
+-- what is given for the request of this number: the interim reply, where its head waits for one, and then its reply
 abbrev pub text_at : {Line : Type 0} → ℕ → Exchange Line → List ℕ
-text_at n x = text x.outcome (closes_at n x.request)
+text_at n x = interim_of x.request.head ++ text x.outcome (closes_at n x.request)
 
--- the texts of the replies from that number on
+-- the same of the requests from that number on
 abbrev pub texts : {Line : Type 0} → ℕ → List (Exchange Line) → List ℕ
 texts n [] = []
 texts n (x ∷ xs) = text_at n x ++ texts (n + 1) xs
@@ -75,6 +67,31 @@ CountsEnd before now ReadFault = Rose before now
 CountsEnd before now WriteFault = Rose before now
 CountsEnd before now how = now ≡ before
 
+-- what may be given for what is left to read, before a request there is whole: nothing, or the interim reply of its head
+pub data IsBegun (rest given : List ℕ) : Type 0 where
+  not_yet : given ≡ [] → IsBegun rest given
+  begun : (h : RequestHead) (after : List ℕ) (size : ℕ) → IsHeadAt rest h after → judge h ≡ Ok size → given ≡ interim_of h
+      → IsBegun rest given
+
+-- bytes that are due for what is left to read, before a request there was asked: the interim reply of its head, or the
+-- reply to what is refused
+pub data IsDueFirst (rest bytes : List ℕ) : Type 0 where
+  interim : (h : RequestHead) (after : List ℕ) (size : ℕ) → IsHeadAt rest h after → judge h ≡ Ok size → bytes ≡ interim_of h
+      → IsDueFirst rest bytes
+  refusal : (status : ℕ) → IsRefused rest status → bytes ≡ bad_text status → IsDueFirst rest bytes
+
+-- how the connection stops before a further request is asked, as this is left to read. `given` is what the link was
+-- given before, and `now` what it was given at the end
+abbrev pub StopsUnasked : Served → List ℕ → Option (List ℕ) → Option (List ℕ) → Type 0
+StopsUnasked Ended rest given now = (rest ≡ []) × (now ≡ given)
+StopsUnasked Limit rest given now = ⊥
+StopsUnasked (Cut read) rest given now =
+    (read ≡ length rest) × (bytes : List ℕ) × IsCutAfter rest bytes × (now ≡ append_known given bytes)
+StopsUnasked (Refused status) rest given now = IsRefused rest status × (now ≡ append_known given (bad_text status))
+StopsUnasked ReadFault rest given now = (bytes : List ℕ) × IsBegun rest bytes × (now ≡ append_known given bytes)
+StopsUnasked WriteFault rest given now = (bytes : List ℕ) × IsDueFirst rest bytes × GivesFront given now bytes
+StopsUnasked NoMemory rest given now = (bytes : List ℕ) × IsBegun rest bytes × (now ≡ append_known given bytes)
+
 module _ {V Line : Type 0} (asks : V → List ℕ → Call → Answer → List Line → V → Type 0) where
   -- a request and its outcome
   abbrev pub Answers : V → Exchange Line → V → Type 0
@@ -87,24 +104,23 @@ module _ {V Line : Type 0} (asks : V → List ℕ → Call → Answer → List L
   Run u [] v = v ≡ u
   Run u (x ∷ xs) v = (mid : V) × Answers u x mid × Run mid xs v
 
-  -- the bytes that are next to be given, as n replies were given and this is left to read: the reply to the next
-  -- request, which was asked, or the reply to bytes that are no whole request
-  pub data InHand (n : ℕ) (rest : List ℕ) (u v : V) (bytes : List ℕ) : Type 0 where
-    reply : (x : Exchange Line) (after : List ℕ) → IsPlain rest x.request after → Answers u x v → bytes ≡ text_at n x
-        → InHand n rest u v bytes
-    refusal : IsUnreadable rest → v ≡ u → bytes ≡ bad_text 501 → InHand n rest u v bytes
+  -- a request that stands at the front of what is left to read, asked and with its outcome
+  pub record AnswersNext (rest : List ℕ) (u : V) (x : Exchange Line) (v : V) : Type 0 where
+    pub after : List ℕ
+    pub is : IsRequest rest x.request after
+    pub answers : Answers u x v
 
-  -- how the connection stops in place of a next reply, as n replies were given and this is left to read. `given` is
-  -- what the link was given before, and `now` what it was given at the end
+  -- how the connection stops after a further request was asked, of which n were answered before: its reply was given in
+  -- part alone, or there was no memory for it
+  abbrev pub StopsAsked : Served → ℕ → List ℕ → V → V → Option (List ℕ) → Option (List ℕ) → Type 0
+  StopsAsked WriteFault n rest u v given now = (x : Exchange Line) × AnswersNext rest u x v × GivesFront given now (text_at n x)
+  StopsAsked NoMemory n rest u v given now =
+      (x : Exchange Line) × AnswersNext rest u x v × (now ≡ append_known given (interim_of x.request.head))
+  StopsAsked how n rest u v given now = ⊥
+
+  -- how the connection stops in place of a next reply, as n replies were given and this is left to read
   abbrev pub Stops : Served → ℕ → List ℕ → V → V → Option (List ℕ) → Option (List ℕ) → Type 0
-  Stops Ended n rest u v given now = (rest ≡ []) × (v ≡ u) × (now ≡ given)
-  Stops Limit n rest u v given now = ⊥
-  Stops (Cut read) n rest u v given now = ⊥
-  Stops (Refused status) n rest u v given now =
-      (status ≡ 501) × IsUnreadable rest × (v ≡ u) × (now ≡ append_known given (bad_text 501))
-  Stops ReadFault n rest u v given now = (v ≡ u) × (now ≡ given)
-  Stops WriteFault n rest u v given now = (bytes : List ℕ) × InHand n rest u v bytes × GivesFront given now bytes
-  Stops NoMemory n rest u v given now = ((v ≡ u) ⊎ ((bytes : List ℕ) × InHand n rest u v bytes)) × (now ≡ given)
+  Stops how n rest u v given now = ((v ≡ u) × StopsUnasked how rest given now) ⊎ StopsAsked how n rest u v given now
 
   -- how the connection ends after these requests, of which each reply was given whole: they were 10,000, or the last
   -- asked to close, or none did and it stops in place of the next reply
@@ -121,6 +137,6 @@ module _ {V Line : Type 0} (asks : V → List ℕ → Call → Answer → List L
     pub exchanges : List (Exchange Line)
     pub rest : List ℕ
     pub mid : V
-    pub read : ReadsPlain input (requests exchanges) rest
+    pub read : Reads input (requests exchanges) rest
     pub run : Run u exchanges mid
     pub ended : Ends result exchanges rest mid v (append_known given (texts 0 exchanges)) now

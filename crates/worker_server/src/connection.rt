@@ -1,17 +1,16 @@
 //! A connection: one request after another is read, answered and replied to.
-ghost use Rattle.std.specs.Prelude.{◌≡◌, ◌==◌, ◌||◌, ℕ, List, Some, IsTrue};
+ghost use Rattle.std.specs.Prelude.{◌≡◌, ◌==◌, ◌||◌, ℕ, List, Some};
 ghost use Rattle.ids.specs.FaultCount.{Rose};
 ghost use Rattle.http_front.specs.Buffer.{to_read};
-ghost use Rattle.http_front.specs.ReplyText.{is_bad_status};
 ghost use Rattle.worker_server.specs.Calls.{AtAMoment, Told, Ran};
-ghost use Rattle.worker_server.specs.RequestSteps.{CountsGive, CountsServed, HasPlainStatus, OneServed, RefusesSo, StopsSo};
+ghost use Rattle.worker_server.specs.RequestSteps.{CountsServed, OneServed};
 ghost use Rattle.worker_server.specs.ServedConnection.{CountsEnd, Session};
 
 use crate::answering::reply_to;
 use crate::host::Host;
-use crate::reading::{End, next_request};
+use crate::requesting::next_request;
 use crate::served::Served;
-use http_front::{Buffer, Head, Link, bad_bytes};
+use http_front::{Buffer, Head, Link};
 use std::alloc::Global;
 
 /// The most requests that are answered on one connection.
@@ -20,10 +19,10 @@ const MOST_REQUESTS: u64 = 10_000;
 /// Serves one connection: reads requests from the link, asks them of the host through the pass, and gives the replies
 /// in the order of the requests.
 ///
-/// Only whole requests are answered so far: those whose head and body stand in full in what the link gives, and that
-/// ask for no interim reply. Where something else is left, the end is `Refused(501)`. One request, its reply and a piece
-/// of 65,536 bytes are in memory at a time; a reply that packs objects is as long as all that were asked for, each as
-/// often as it was asked. After a write fault a front of the last reply was given, and every other was given whole.
+/// The interim reply of a head that waits for one is given before its reply, also where its body is then cut short. What is
+/// no request is refused with its status: 400, 413, 431 or 501. One request, its reply and a piece of 65,536 bytes are in
+/// memory at a time; a reply that packs objects is as long as all that were asked for, each as often as it was asked.
+/// After a write fault a front of the last reply was given, and every other was given whole.
 pub fn serve_session<H: Host, L: Link>(
     alloc: Global,
     host: &H,
@@ -81,7 +80,7 @@ fn serve_one<H: Host, L: Link>(
 {
     let head = match next_request(alloc, link, buffer) {
         Ok(head) => head,
-        Err(end) => return Err(stop(alloc, link, end)),
+        Err(how) => return Err(how),
     };
     let closes = closes_at(&head, number);
     let front = buffer.front();
@@ -104,35 +103,4 @@ fn closes_at(head: &Head, number: u64) -> bool
     ensures value { result ≡ (head.now.closes || number == 9999) }
 {
     head.closes || number == MOST_REQUESTS - 1
-}
-
-/// Ends the connection where no further request was read.
-fn stop<L: Link>(alloc: Global, link: &mut L, end: End) -> Served
-    requires status { HasPlainStatus end }
-    ensures value { StopsSo end (L.given link.old) (L.given link.new) result }
-    ensures faults { CountsGive (L.faults link.old) (L.faults link.new) result }
-{
-    match end {
-        End::Over => Served::Ended,
-        End::Cut(read) => Served::Cut(read),
-        End::Refused(status) => refuse(alloc, link, status),
-        End::ReadFault => Served::ReadFault,
-        End::NoMemory => Served::NoMemory,
-    }
-}
-
-/// Gives the reply to bytes that are no request.
-fn refuse<L: Link>(alloc: Global, link: &mut L, status: u16) -> Served
-    requires fits { IsTrue (is_bad_status status) }
-    ensures value { RefusesSo status (L.given link.old) (L.given link.new) result }
-    ensures faults { CountsGive (L.faults link.old) (L.faults link.new) result }
-{
-    let text = match bad_bytes(alloc, status) {
-        Ok(text) => text,
-        Err(_) => return Served::NoMemory,
-    };
-    match link.give(text.slice()) {
-        Ok(()) => Served::Refused(status),
-        Err(_) => Served::WriteFault,
-    }
 }

@@ -1,7 +1,7 @@
 //! A served connection: requests are read from a link, asked of a host and answered, in their order.
 //!
 //! Shown upward: `Served`, `Host` with its `Answer`, and `serve_session`.
-//! Definition: specs/ServedConnection.antt. Promise: the clauses of `serve_session`, and `laws`.
+//! Definition: specs/ServedConnection.antt. Promise: the clauses of `serve_session`.
 //! It keeps no library: what answers the calls is the host's.
 #![tactic(auto)]
 
@@ -9,8 +9,8 @@ mod answering;
 mod asking;
 mod connection;
 mod host;
-pub mod laws;
 mod reading;
+mod requesting;
 mod served;
 
 pub use connection::serve_session;

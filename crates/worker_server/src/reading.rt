@@ -1,89 +1,41 @@
-//! Reading the next request: afterwards it stands whole at the front of the buffer.
-ghost use Rattle.std.specs.Prelude.{◌≡◌, ◌+◌, ◌≤◌, ◌++◌, ℕ, List, true, length, IfOk, IfErr, OnOk, Some};
+//! Reading a head, and then its body: afterwards they stand at the front of the buffer.
+ghost use Rattle.std.specs.Prelude.{◌≡◌, ◌+◌, ◌≤◌, ◌++◌, ℕ, List, length, IfOk, IfErr, OnOk, Some};
 ghost use Rattle.std.specs.Io.KnownBytes.{IsAtEnd};
 ghost use Rattle.httparse.specs.Grammar.{RequestHead};
 ghost use Rattle.http_front.specs.Buffer.{to_read};
 ghost use Rattle.http_front.specs.NextHead.{IsHeadOf};
-ghost use Rattle.http_front.specs.RequestHead.{is_plain};
-ghost use Rattle.http_front.specs.RequestStream.{Request, front_of};
-ghost use Rattle.worker_server.specs.RequestSteps.{CountsRead, HasPlainStatus, IsBodyEnd, IsEnd, IsPlainEnd, StandsAt, end_at, plain_end};
+ghost use Rattle.http_front.specs.RequestStream.{front_of};
+ghost use Rattle.worker_server.specs.RequestSteps.{CountsRead, HasBadStatus, IsBodyEnd, IsEnd, end_at};
 
-use http_front::{Buffer, FillFault, Head, Link, Next, next_plain_head};
+use http_front::{Buffer, FillFault, Head, Link, Next, next_head};
 use std::alloc::Global;
 
-/// Why no further request was read.
+/// Why no further head, or its body, was read.
 #[derive(Clone, Copy, Debug, PartialEq, Eq)]
 pub enum End {
     /// The input ended between two requests.
     Over,
     /// The input ended within a request, of which so many bytes were read.
     Cut(u64),
-    /// The next bytes are no request that is served, for the cause that the status tells.
+    /// The next bytes are no request that is served, for the cause that the status tells. A body never ends so.
     Refused(u16),
     /// A take failed.
     ReadFault,
     NoMemory,
 }
 
-/// Reads the next whole request. Its head is told, and it stands at the front of the buffer.
-pub fn next_request<L: Link>(alloc: Global, link: &mut L, buffer: &mut Buffer) -> Result<Head, End>
-    ensures ok { IfOk result (λ head. (r : Request) × (after : List ℕ) × StandsAt buffer.new head r after) }
-    ensures err { IfErr result (λ end. (rest : List ℕ) → to_read buffer.old (L.left link.old) ≡ Some rest
-        → IsPlainEnd rest end) }
-    ensures status { IfErr result HasPlainStatus }
-    ensures to_read { to_read buffer.new (L.left link.new) ≡ to_read buffer.old (L.left link.old) }
-    ensures kept { L.given link.new ≡ L.given link.old }
-    ensures faults { CountsRead (L.faults link.old) (L.faults link.new) result }
-{
-    match read_request(alloc, link, buffer) {
-        Ok(head) => Ok(head),
-        Err(end) => Err(plain_end(end)),
-    }
-}
-
-/// So far whole requests alone are served, and every end within the input is answered with 501.
-fn plain_end(end: End) -> End
-    ensures value { result ≡ plain_end end }
-{
-    match end {
-        End::Cut(_) | End::Refused(_) => End::Refused(501),
-        End::Over => End::Over,
-        End::ReadFault => End::ReadFault,
-        End::NoMemory => End::NoMemory,
-    }
-}
-
-/// Reads the next request: its head, and then its body.
-fn read_request<L: Link>(alloc: Global, link: &mut L, buffer: &mut Buffer) -> Result<Head, End>
-    ensures ok { IfOk result (λ head. (r : Request) × (after : List ℕ) × StandsAt buffer.new head r after) }
-    ensures err { IfErr result (λ end. (rest : List ℕ) → to_read buffer.old (L.left link.old) ≡ Some rest
-        → IsEnd rest end) }
-    ensures to_read { to_read buffer.new (L.left link.new) ≡ to_read buffer.old (L.left link.old) }
-    ensures kept { L.given link.new ≡ L.given link.old }
-    ensures faults { CountsRead (L.faults link.old) (L.faults link.new) result }
-{
-    let head = match read_head(alloc, link, buffer) {
-        Ok(head) => head,
-        Err(end) => return Err(end),
-    };
-    match read_body(link, buffer, head.used as usize, head.body as usize) {
-        Ok(()) => Ok(head),
-        Err(end) => Err(end),
-    }
-}
-
 /// Reads until a head stands at the front of the buffer.
-fn read_head<L: Link>(alloc: Global, link: &mut L, buffer: &mut Buffer) -> Result<Head, End>
-    ensures ok { IfOk result (λ head. (request : RequestHead) × IsHeadOf (front_of buffer.new) head request
-        × (is_plain request ≡ true)) }
+pub fn read_head<L: Link>(alloc: Global, link: &mut L, buffer: &mut Buffer) -> Result<Head, End>
+    ensures ok { IfOk result (λ head. (request : RequestHead) × IsHeadOf (front_of buffer.new) head request) }
     ensures err { IfErr result (λ end. (rest : List ℕ) → to_read buffer.old (L.left link.old) ≡ Some rest
         → IsEnd rest end) }
+    ensures status { IfErr result HasBadStatus }
     ensures to_read { to_read buffer.new (L.left link.new) ≡ to_read buffer.old (L.left link.old) }
     ensures kept { L.given link.new ≡ L.given link.old }
     ensures faults { CountsRead (L.faults link.old) (L.faults link.new) result }
 {
     loop {
-        match next_plain_head(alloc, buffer.front()) {
+        match next_head(alloc, buffer.front()) {
             Ok(Next::Need) => {}
             Ok(Next::Head(head)) => return Ok(head),
             Ok(Next::Bad(status)) => return Err(End::Refused(status)),
@@ -98,7 +50,7 @@ fn read_head<L: Link>(alloc: Global, link: &mut L, buffer: &mut Buffer) -> Resul
 }
 
 /// Reads until a body of this length stands in the buffer, after a head of `used` bytes.
-fn read_body<L: Link>(
+pub fn read_body<L: Link>(
     link: &mut L,
     buffer: &mut Buffer,
     used: usize,
@@ -108,6 +60,7 @@ fn read_body<L: Link>(
     ensures ok { OnOk result (used + body ≤ length buffer.new) }
     ensures err { IfErr result (λ end. (rest : List ℕ) → to_read buffer.old (L.left link.old) ≡ Some rest
         → IsBodyEnd (used + body) rest end) }
+    ensures status { IfErr result HasBadStatus }
     ensures grown { (piece : List ℕ) × (buffer.new ≡ buffer.old ++ piece) }
     ensures to_read { to_read buffer.new (L.left link.new) ≡ to_read buffer.old (L.left link.old) }
     ensures kept { L.given link.new ≡ L.given link.old }
@@ -128,6 +81,7 @@ fn fill<L: Link>(link: &mut L, buffer: &mut Buffer) -> Result<usize, End>
     ensures value { IfOk result (λ n. length buffer.new ≡ length buffer.old + n) }
     ensures end { IfOk result (λ n. n ≡ 0 → IsAtEnd (L.left link.new)) }
     ensures err { IfErr result (λ end. (rest : List ℕ) (wanted : ℕ) → IsEnd rest end × IsBodyEnd wanted rest end) }
+    ensures status { IfErr result HasBadStatus }
     ensures grown { (piece : List ℕ) × (buffer.new ≡ buffer.old ++ piece) }
     ensures to_read { to_read buffer.new (L.left link.new) ≡ to_read buffer.old (L.left link.old) }
     ensures kept { L.given link.new ≡ L.given link.old }
@@ -143,6 +97,7 @@ fn fill<L: Link>(link: &mut L, buffer: &mut Buffer) -> Result<usize, End>
 /// Where the input ends with the buffer so.
 fn end_at(buffer: &Buffer) -> End
     ensures value { result ≡ end_at buffer.now }
+    ensures status { HasBadStatus result }
 {
     if buffer.is_empty() {
         End::Over

@@ -10,7 +10,7 @@ pub enum Served {
     Limit,
     /// The input ended inside a request, of which so many bytes were read.
     Cut(u64),
-    /// The next bytes are no whole request that is served. The reply with this status was given.
+    /// The next bytes are no request that is served. The reply with this status, 400, 413, 431 or 501, was given.
     Refused(u16),
     /// A take failed: the link's count of faults rose.
     ReadFault,

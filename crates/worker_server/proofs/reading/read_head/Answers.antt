@@ -1,16 +1,18 @@
 -- The head at the front of the buffer, or the end that the input makes there.
-use Rattle.std.proofs.Common.{◌≡◌, ℕ, ◌+◌, List, length, subst, sym, ◌∙◌}
+use Rattle.std.proofs.Common.{◌≡◌, ℕ, ◌+◌, List, length, nat_le, subst, sym, ◌∙◌}
 use Rattle.http_front.specs.declared.head.Next.{Next}
 use Rattle.http_front.specs.declared.head.Next.TheVariants as next
-use Rattle.http_front.specs.NextHead.{IsNextPlain}
+use Rattle.http_front.specs.NextHead.{IsNext}
+use Rattle.http_front.specs.RequestStream.{front_of}
+use Rattle.http_front.proofs.StreamLemmas.{bad_status}
 use Rattle.worker_server.specs.declared.reading.End.{End}
 use Rattle.worker_server.specs.RequestSteps.{IsEnd, end_at}
 use Rattle.worker_server.proofs.ReadingLemmas.{bad_end, open_end, same_grown, to_read-at_end}
 use Rattle.worker_server.proofs.reading.read_head.Goals as goal
 
 -- what was read of the front is so of the buffer
-told_of : (front buffer : List ℕ) (told is : Next) → front ≡ buffer → told ≡ is → IsNextPlain front told → IsNextPlain buffer is
-told_of front buffer told is same e h = subst (λ (z : List ℕ). IsNextPlain z is) same (subst (λ (z : Next). IsNextPlain front z) e h)
+told_of : (front buffer : List ℕ) (told is : Next) → front ≡ buffer → told ≡ is → IsNext front told → IsNext buffer is
+told_of front buffer told is same e h = subst (λ (z : List ℕ). IsNext z is) same (subst (λ (z : Next). IsNext front z) e h)
 
 pub returns-in-Ok-Head-clause-ok : goal.returns-in-Ok-Head-clause-ok
 returns-in-Ok-Head-clause-ok g c =
@@ -20,6 +22,11 @@ pub returns-in-Ok-Bad-clause-err : goal.returns-in-Ok-Bad-clause-err
 returns-in-Ok-Bad-clause-err g c = λ rest e.
     let bad = told_of _ _ _ (next.Bad c.in-Ok-Bad.status) c.front.ensures c.in-Ok-Bad.field-0-is c.in-Ok-Bad.ensures.value in
     bad_end c.loop-head.buffer _ rest c.in-Ok-Bad.status (c.loop-head.invariant.same ∙ e) bad
+
+pub returns-in-Ok-Bad-clause-status : goal.returns-in-Ok-Bad-clause-status
+returns-in-Ok-Bad-clause-status g c =
+    let bad = told_of _ _ _ (next.Bad c.in-Ok-Bad.status) c.front.ensures c.in-Ok-Bad.field-0-is c.in-Ok-Bad.ensures.value in
+    bad_status (front_of c.loop-head.buffer) (nat_le 16384 (length c.loop-head.buffer)) c.in-Ok-Bad.status bad
 
 pub returns-in-Ok-eq0-clause-err : goal.returns-in-Ok-eq0-clause-err
 returns-in-Ok-eq0-clause-err g c = λ rest e.

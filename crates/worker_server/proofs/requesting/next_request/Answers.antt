@@ -1,0 +1,43 @@
+-- A head in the buffer, its interim reply, and then its body; or how the connection stops.
+use Rattle.std.proofs.Common.{◌≡◌, subst, sym, ◌∙◌, ap, List, ℕ, ◌+◌, ◌≤◌, length, Option}
+use Rattle.std.specs.Io.KnownBytes.{append_known}
+use Rattle.http_front.specs.Buffer.{to_read}
+use Rattle.http_front.specs.Link.{GivesFront}
+use Rattle.http_front.specs.ReplyText.{interim_due}
+use Rattle.http_front.specs.RequestStream.{Request, interim_of}
+use Rattle.worker_server.specs.RequestSteps.{StandsAt, StopsSo}
+use Rattle.worker_server.proofs.ReadingLemmas.{body_stops, head_fits, head_stops, interim_stops, StandsAt-from_head}
+use Rattle.worker_server.proofs.requesting.next_request.Goals as goal
+
+pub read_body-requires : goal.read_body-requires
+read_body-requires g c = record { fits = let is = c.in-Ok.ensures.ok in head_fits 16384 _ c.in-Ok.head is.0 is.1 }
+
+pub returns-in-Err-clause-err : goal.returns-in-Err-clause-err
+returns-in-Err-clause-err g c = λ rest e.
+    let stopped = subst (λ (z : Option (List ℕ)). StopsSo c.in-Err.end z (g.L.Link.given c.stop.new.link) c.stop.result) c.in-Err.ensures.kept c.stop.ensures.value in
+    head_stops rest c.in-Err.end _ _ c.stop.result (c.in-Err.ensures.err rest e) stopped
+
+pub returns-in-Err-give_interim-clause-err : goal.returns-in-Err-give_interim-clause-err
+returns-in-Err-give_interim-clause-err g c = λ rest e.
+    let is = c.in-Ok.ensures.ok in
+    let gives = subst (λ (z : Option (List ℕ)). GivesFront z (g.L.Link.given c.give_interim.new.link) (interim_due c.in-Ok.head.expects)) c.in-Ok.ensures.kept c.in-Err-give_interim.ensures.given in
+    interim_stops c.read_head.new.buffer _ rest c.in-Ok.head is.0 _ _ (c.in-Ok.ensures.to_read ∙ e) is.1 gives
+
+pub returns-in-Ok-read_body-clause-ok : goal.returns-in-Ok-read_body-clause-ok
+returns-in-Ok-read_body-clause-ok g c =
+    let is = c.in-Ok.ensures.ok in
+    let grown = c.in-Ok-read_body.ensures.grown in
+    let enough = subst (λ (z : List ℕ). c.in-Ok.head.used + c.in-Ok.head.body ≤ length z) grown.1 c.in-Ok-read_body.ensures.ok in
+    let gave : g.L.Link.given c.read_body.new.link ≡ append_known (g.L.Link.given c.args.link.now) (interim_due c.in-Ok.head.expects) =
+    c.in-Ok-read_body.ensures.kept ∙ c.in-Ok-give_interim.ensures.given ∙ ap (λ (z : Option (List ℕ)). append_known z (interim_due c.in-Ok.head.expects)) c.in-Ok.ensures.kept in
+    subst (λ (z : List ℕ). (r : Request) × (after : List ℕ) × StandsAt z c.in-Ok.head r after × (g.L.Link.given c.read_body.new.link ≡ append_known (g.L.Link.given c.args.link.now) (interim_of r.head))) (sym grown.1)
+    (StandsAt-from_head c.read_head.new.buffer grown.0 c.in-Ok.head is.0 _ _ is.1 enough gave)
+
+pub returns-in-Err-read_body-clause-err : goal.returns-in-Err-read_body-clause-err
+returns-in-Err-read_body-clause-err g c = λ rest e.
+    let is = c.in-Ok.ensures.ok in
+    let before = c.in-Ok.ensures.to_read ∙ e in
+    let left = ap (λ (z : Option (List ℕ)). to_read c.read_head.new.buffer z) c.in-Ok-give_interim.ensures.left in
+    let gave : g.L.Link.given c.read_body.new.link ≡ append_known (g.L.Link.given c.args.link.now) (interim_due c.in-Ok.head.expects) =
+    c.in-Err-read_body.ensures.kept ∙ c.in-Ok-give_interim.ensures.given ∙ ap (λ (z : Option (List ℕ)). append_known z (interim_due c.in-Ok.head.expects)) c.in-Ok.ensures.kept in
+    body_stops c.read_head.new.buffer _ rest c.in-Ok.head is.0 c.in-Err-read_body.end _ _ _ _ before is.1 (c.in-Err-read_body.ensures.err rest (left ∙ before)) gave c.stop-in-Err-read_body.ensures.value
