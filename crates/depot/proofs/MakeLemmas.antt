@@ -1,5 +1,6 @@
--- A new library, and a commit that was stored. The key lemmas are commit_stored, commit_found and good_made.
-use Rattle.std.proofs.Common.{◌≡◌, ◌≢◌, ℕ, ◌≤◌, false, cond, if◌then◌else◌, List, [], length, sym, ap, ◌∙◌, subst, Option, None, Some, Ok, Err}
+-- A new library, and a commit that was stored. The key lemmas are commit_stored, commit_found, put_before, make_before and
+-- good_made.
+use Rattle.std.proofs.Common.{◌≡◌, ◌≢◌, ◌⊎◌, inl, inr, ℕ, ◌≤◌, false, true≢false, cond, if◌then◌else◌, List, [], length, sym, ap, ◌∙◌, subst, Option, None, Some, Ok, Err}
 use Rattle.std.specs.FinMap as map
 use Rattle.ids.specs.Key.{Objects}
 use Rattle.ids.specs.declared.key.Key.{Key}
@@ -18,11 +19,18 @@ use Rattle.library_state.specs.declared.state.LibState.{LibState}
 use Rattle.object_graph.specs.Objects.{commit_at, commit_in, commit_key, of_name}
 use Rattle.object_graph.specs.declared.fault.TreeFault.TheVariants.{Unreadable}
 use Rattle.object_graph.proofs.KeyLemmas.{same_key-itself}
-use Rattle.object_store.specs.Shelf.{Contents}
-use Rattle.object_store.specs.Store.{put_refusal}
+use Rattle.object_store.specs.Shelf.{Contents, GivesAlso, GivesNoMore}
+use Rattle.object_store.specs.Store.{GivesOther, IsDamage, IsOther, IsPutFault, has_other_name, put_refusal, same_bytes}
 use Rattle.object_store.specs.StoreView.{StoreView, with_object, objects_of, status_of}
+use Rattle.object_store.specs.declared.error.StoreFault.{StoreFault}
+use Rattle.object_store.specs.declared.error.StoreFault.TheVariants.{Taken, Wrong, Damaged, Shelf, NoMemory}
+use Rattle.object_store.specs.declared.shelf.Slot.{Slot}
+use Rattle.object_store.specs.declared.shelf.Slot.TheVariants.{Object, Status}
+use Rattle.library_rules.specs.declared.entry.Stored.{Stored}
 use Rattle.depot.specs.DepotView.{library, IsGood}
-use Rattle.depot.specs.Make.{IsCreated, first_state}
+use Rattle.depot.specs.Make.{IsCreated, IsMakeFault, first_state}
+use Rattle.depot.specs.declared.error.MakeFault.{MakeFault}
+use Rattle.depot.specs.declared.error.MakeFault.TheVariants as make
 use Rattle.depot.specs.Writing.{ReadsBack, with_stored}
 use Rattle.depot.proofs.GoodLemmas.{none_fresh, sound_told}
 use Rattle.depot.proofs.ToldLemmas.{MappedAt, mapped_at}
@@ -49,6 +57,50 @@ commit_found known new commit bytes reads put objects told =
 
     before : MappedAt (λ (o : Objects). map.insert o key bytes) known objects
     before = mapped_at (λ (o : Objects). map.insert o key bytes) known objects (sym put ∙ told)
+
+-- ---- what a shelf may give after a put, or a read, and before it
+
+-- a put of a commit lays no bytes that it is refused for
+module _ {before now : Slot → Option (List ℕ) → Type 0} (key : Key) (bytes : List ℕ) (also : GivesAlso before now (Object key) (Some bytes)) where
+  other_before : GivesOther now key bytes → GivesOther before key bytes
+  other_before is = record { given = is.given; gives = at (also (Object key) (Some is.given) is.gives); whole = is.whole; other = is.other }
+    where
+      some_bytes : (a b : List ℕ) → ◌≡◌ {A = Option (List ℕ)} (Some a) (Some b) → a ≡ b
+      some_bytes a b e = cc
+
+      at : before (Object key) (Some is.given) ⊎ ((Object key ≡ Object key) × (Some is.given ≡ Some bytes)) → before (Object key) (Some is.given)
+      at (inl gives) = gives
+      at (inr laid) =
+          absurd (true≢false (sym (ap (λ b. same_bytes b bytes) (some_bytes is.given bytes laid.1) ∙ same_id-itself bytes) ∙ is.other))
+
+  damaged_before : has_other_name key bytes ≡ false → (want : List ℕ) (got : Option (List ℕ)) → IsDamage now key want got → IsDamage before key want got
+  damaged_before named want got is = record { given = is.given; gives = at (also (Object key) is.given is.gives); named = is.named; other = is.other }
+    where
+      at : before (Object key) is.given ⊎ ((Object key ≡ Object key) × (is.given ≡ Some bytes)) → before (Object key) is.given
+      at (inl gives) = gives
+      at (inr laid) = absurd (true≢false (sym (subst (λ o. IsOther key o got) laid.1 is.other).0 ∙ named))
+
+  pub put_before : has_other_name key bytes ≡ false → (fault : StoreFault) → IsPutFault now key bytes fault → IsPutFault before key bytes fault
+  put_before named (Taken id) (same, inl zeros) = (same, inl zeros)
+  put_before named (Taken id) (same, inr other) = (same, inr (other_before other))
+  put_before named (Wrong id) is = is
+  put_before named (Damaged want got) is = damaged_before named want got is
+  put_before named Shelf is = tt
+  put_before named NoMemory is = tt
+
+module _ {before now : Slot → Option (List ℕ) → Type 0} (gives : GivesNoMore before now) where
+  pub put_read_before : (key : Key) (bytes : List ℕ) (fault : StoreFault) → IsPutFault now key bytes fault → IsPutFault before key bytes fault
+  put_read_before key bytes (Taken id) (same, inl zeros) = (same, inl zeros)
+  put_read_before key bytes (Taken id) (same, inr is) =
+      (same, inr (record { given = is.given; gives = gives (Object key) (Some is.given) is.gives; whole = is.whole; other = is.other }))
+  put_read_before key bytes (Wrong id) is = is
+  put_read_before key bytes (Damaged want got) is = record { given = is.given; gives = gives (Object key) is.given is.gives; named = is.named; other = is.other }
+  put_read_before key bytes Shelf is = tt
+  put_read_before key bytes NoMemory is = tt
+
+  pub make_before : (x : Stored) (fault : MakeFault) → IsMakeFault now x fault → IsMakeFault before x fault
+  make_before x make.HasState is = (is.0, gives Status (Some is.0) is.1)
+  make_before x (make.Store fault) is = put_read_before x.key x.bytes fault is
 
 module _ {S : Type 0} (contents : S → Option Contents) (faults : S → ℕ) where
   pub good_made : (given store : StoreView S) (lib name user secret : List ℕ) (moment : ℕ) (state : LibState)

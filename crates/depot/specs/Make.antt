@@ -41,7 +41,8 @@ abbrev pub is_make_counted : MakeFault → Bool
 is_make_counted make.HasState = false
 is_make_counted (make.Store fault) = is_of_shelf fault
 
--- the cause of each fault, over any shelf: it may give a text, or the opening commit can't be put
+-- the cause of each fault, over any shelf, in what it may give as it is handed in: a text, or what the opening commit can't
+-- be put over
 abbrev pub IsMakeFault : (Slot → Option (List ℕ) → Type 0) → Stored → MakeFault → Type 0
 IsMakeFault may_give x make.HasState = (text : List ℕ) × may_give Status (Some text)
 IsMakeFault may_give x (make.Store fault) = IsPutFault may_give x.key x.bytes fault

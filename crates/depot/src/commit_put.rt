@@ -26,7 +26,7 @@ pub(crate) fn put_commit<S: Shelf>(
     ensures kept { status_of S.contents store.new ≡ status_of S.contents store.old }
     ensures refused { (objects : Objects) → objects_of S.contents store.old ≡ Some objects
         → RefusesAs is_free result (put_refusal objects (opening_object commit.now).key (opening_object commit.now).bytes) }
-    ensures cause { IfErr result (IsPutFault (S.may_give store.new.shelf) (opening_object commit.now).key (opening_object commit.now).bytes) }
+    ensures cause { IfErr result (IsPutFault (S.may_give store.old.shelf) (opening_object commit.now).key (opening_object commit.now).bytes) }
     ensures lying { StraysBy is_of_shelf S.contents store.old store.new result }
     ensures faults { CountsShelf (S.faults store.old.shelf) (S.faults store.new.shelf) result }
 {

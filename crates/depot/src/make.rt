@@ -7,7 +7,7 @@ ghost use Rattle.ids.specs.Outcome.{RefusesAs};
 ghost use Rattle.library_rules.specs.Creation.{created, opening_commit, opening_object};
 ghost use Rattle.object_graph.specs.Objects.{commit_at};
 ghost use Rattle.object_store.specs.Store.{CountsShelf, IsPutFault, is_free, is_of_shelf, put_refusal};
-ghost use Rattle.object_store.specs.StoreView.{AddsNoStray, Keeps, StraysBy, objects_of, status_of};
+ghost use Rattle.object_store.specs.StoreView.{AddsNoStray, Keeps, ReadsShelf, StraysBy, objects_of, status_of};
 ghost use Rattle.depot.specs.DepotView.{IsGood, state_of};
 ghost use Rattle.depot.specs.Make.{IsCreated, IsMade, IsMakeFault, IsSlotFault, LeftUnmade, LeftUnmadeBy, RefusesWith, StoresFirst, first_state, is_make_counted, is_make_free, make_refusal};
 ghost use Rattle.depot.specs.Writing.{HasProperParents};
@@ -49,11 +49,12 @@ impl<S: Shelf> Depot<S> {
         ensures err { IfErr result (λ refused. LeftUnmadeBy S.contents store (opening_object (opening_commit lib user.now moment))
             (first_state lib name.now user.now secret (opening_commit lib user.now moment).id moment) refused.0 refused.1) }
 
-        // HasState is looked for before the opening commit is put. Over a shelf that tells nothing each fault has its cause.
+        // HasState is looked for before the opening commit is put. Over a shelf that tells nothing each fault has its cause,
+        // in what the shelf may give as it is handed in.
         ensures refused { (objects : Objects) → (status : Option (List ℕ)) → objects_of S.contents store ≡ Some objects → status_of S.contents store ≡ Some status
             → RefusesWith is_make_free result (make_refusal status (put_refusal objects (opening_object (opening_commit lib user.now moment)).key
             (opening_object (opening_commit lib user.now moment)).bytes)) }
-        ensures cause { IfErr result (λ refused. IsMakeFault (S.may_give refused.0.shelf) (opening_object (opening_commit lib user.now moment)) refused.1) }
+        ensures cause { IfErr result (λ refused. IsMakeFault (S.may_give store.shelf) (opening_object (opening_commit lib user.now moment)) refused.1) }
         ensures faults { IfErr result (λ refused. FailsBy {T = ⊤} is_make_counted (S.faults store.shelf) (S.faults refused.0.shelf) (Err refused.1)) }
     {
         let mut store = store;
@@ -88,7 +89,7 @@ fn create<S: Shelf>(
     ensures refused { (objects : Objects) → (status : Option (List ℕ)) → objects_of S.contents store.old ≡ Some objects → status_of S.contents store.old ≡ Some status
         → RefusesAs is_make_free result (make_refusal status (put_refusal objects (opening_object (opening_commit lib user.now moment)).key
         (opening_object (opening_commit lib user.now moment)).bytes)) }
-    ensures cause { IfErr result (IsMakeFault (S.may_give store.new.shelf) (opening_object (opening_commit lib user.now moment))) }
+    ensures cause { IfErr result (IsMakeFault (S.may_give store.old.shelf) (opening_object (opening_commit lib user.now moment))) }
     ensures lying { StraysBy is_make_counted S.contents store.old store.new result }
     ensures faults { FailsBy is_make_counted (S.faults store.old.shelf) (S.faults store.new.shelf) result }
 {
@@ -110,7 +111,8 @@ fn create<S: Shelf>(
 fn check_empty<S: Shelf>(store: &mut Store<S>) -> Result<(), MakeFault>
     ensures kept { Keeps S.contents store.old store.new }
     ensures refused { (status : Option (List ℕ)) → status_of S.contents store.old ≡ Some status → RefusesAs is_make_free result (make_refusal status None) }
-    ensures cause { IfErr result (IsSlotFault (S.may_give store.new.shelf)) }
+    ensures reads { ReadsShelf S.may_give S.texts store.old.shelf store.new.shelf }
+    ensures cause { IfErr result (IsSlotFault (S.may_give store.old.shelf)) }
     ensures faults { FailsBy is_make_counted (S.faults store.old.shelf) (S.faults store.new.shelf) result }
 {
     match store.noted() {
@@ -200,7 +202,7 @@ fn store_first<S: Shelf>(
     ensures unwritten { IfErr result (λ fault. is_of_shelf fault ≡ false → status_of S.contents store.new ≡ status_of S.contents store.old) }
     ensures refused { (objects : Objects) → objects_of S.contents store.old ≡ Some objects
         → RefusesAs is_free result (put_refusal objects (opening_object commit.now).key (opening_object commit.now).bytes) }
-    ensures cause { IfErr result (IsPutFault (S.may_give store.new.shelf) (opening_object commit.now).key (opening_object commit.now).bytes) }
+    ensures cause { IfErr result (IsPutFault (S.may_give store.old.shelf) (opening_object commit.now).key (opening_object commit.now).bytes) }
     ensures lying { StraysBy is_of_shelf S.contents store.old store.new result }
     ensures faults { CountsShelf (S.faults store.old.shelf) (S.faults store.new.shelf) result }
 {
