@@ -1,14 +1,16 @@
 -- Paths are told apart by what they end in, and digits by their bytes. The key lemmas are encode_lower-injective, slots-one,
 -- named-read and read-named.
-use Rattle.std.proofs.Common.{◌≡◌, ℕ, zero, suc, ◌<◌, ◌≤◌, false, true, ◌+◌, ◌%◌, ◌/◌, List, [], ◌∷◌, ◌++◌, codes, drop, take, length, get_or, slice_index, Option, None, Some, Result, Ok, refl, sym, ap, subst, ◌∙◌, arith, All}
+use Rattle.std.proofs.Common.{◌≡◌, ℕ, zero, suc, ◌<◌, ◌≤◌, ◌==◌, Bool, cond, false, true, ◌+◌, ◌%◌, ◌/◌, List, [], ◌∷◌, ◌++◌, codes, drop, take, length, get_or, slice_index, Option, None, Some, Result, Ok, refl, sym, ap, subst, ◌∙◌, arith, All}
 use Rattle.std.specs.Result.{result_ok}
 use Rattle.std.specs.List.{AllPass}
 use Rattle.std.proofs.lemmas.Bool.Decides.{nat_tests}
 use Rattle.std.proofs.lemmas.List.{append_assoc, append_cancel_left, take_more}
-use Rattle.std.proofs.lemmas.List.Elements.{All-head, All-tail, All-nil, All-cons, All-get_or}
+use Rattle.std.proofs.lemmas.List.Elements.{All-head, All-tail, All-nil, All-cons, All-from_get_or, All-get_or}
 use Rattle.hex.specs.Hex.{decode_of, encode_lower, encode_with, lower_digits}
 use Rattle.hex.proofs.HexLemmas.{decode_of-encode_lower}
+use Rattle.uuid.specs.Text.{hyphenated_text, is_hyphen_place, lower}
 use Rattle.ids.specs.Digits.{digits_form, is_lower_digit}
+use Rattle.ids.specs.LibraryId.{library_form}
 use Rattle.ids.specs.Form.{IsOf}
 use Rattle.ids.specs.declared.key.Key.{Key}
 use Rattle.ids.specs.declared.key.Kind.{Kind}
@@ -16,7 +18,7 @@ use Rattle.ids.specs.declared.key.Kind.TheVariants.{Commit, Fs, Block}
 use Rattle.ids.proofs.DigitsLemmas.{IsBytes-from_All, IsOf-encode_lower, bytes_of, bytes_of-bytes, decode_of-digits, AllPass-encode_lower, length-bytes_of, AllPass-digits}
 use Rattle.object_store.specs.declared.shelf.Slot.{Slot}
 use Rattle.object_store.specs.declared.shelf.Slot.TheVariants.{Object, Status}
-use Rattle.folder_storage.specs.Paths.{HasId, IsId, IsNamed, IsReadAs, kind_folder, listed_text, other_digits, slot_text, under}
+use Rattle.folder_storage.specs.Paths.{HasId, IsId, IsNamed, IsReadAs, kind_folder, library_text, listed_text, other_digits, slot_text, under}
 
 -- ---- digits
 
@@ -182,6 +184,15 @@ rest-ascii (a ∷ b ∷ text) all = All-tail (λ (x : ℕ). x < 128) b text (All
 pub others-ascii : (id : List ℕ) → All (λ byte. byte < 256) id → IsAsciiText (other_digits id)
 others-ascii id small = rest-ascii (encode_lower id) (encode_lower-ascii id small)
 
+-- the text of a library's id is ASCII: digits, and hyphens between them
+library_char : (b : Bool) (c : ℕ) → cond b (c == 45) (is_lower_digit c) ≡ true → c < 128
+library_char true c is = grind (arith, nat_tests)
+library_char false c is = digit-ascii c is
+
+pub library-ascii : (text : List ℕ) → IsOf library_form text → IsAsciiText text
+library-ascii text form =
+    All-from_get_or (λ (x : ℕ). x < 128) text 0 (λ k below. library_char (is_hyphen_place k) (get_or text k 0) (form.each k (subst (λ n. k < n) form.whole below)))
+
 -- the digits of a byte, by its halves
 pub byte-digits : (b x y : ℕ) → x ≡ b / 16 → y ≡ b % 16 → slice_index lower_digits x ∷ slice_index lower_digits y ∷ [] ≡ encode_lower (b ∷ [])
 unfolding encode_with
@@ -222,6 +233,12 @@ pub written-folder : (library folder slashed whole digits : List ℕ) (kind : Ki
 written-folder library folder slashed whole digits kind first small is slash same appends =
     let done = appends (subst (λ d. IsAsciiText d) (sym same) (byte-ascii first small)) in
     joined folder slashed whole digits slash done ∙ ap (λ n. under folder n) same ∙ ap (λ f. under f (encode_lower (first ∷ []))) is
+
+-- the path of a library's folder, as it is written
+pub written-library : (folder slashed whole digits lib : List ℕ) → IsOf library_form digits → digits ≡ hyphenated_text lower lib → slashed ≡ folder ++ codes "/"
+    → (IsAsciiText digits → whole ≡ slashed ++ digits) → whole ≡ library_text folder lib
+written-library folder slashed whole digits lib form same slash appends =
+    joined folder slashed whole digits slash (appends (library-ascii digits form)) ∙ ap (λ n. under folder n) same
 
 -- the path of an object's file, as it is written
 pub written-object : (library folder slashed whole digits rest : List ℕ) (key : Key) (first : ℕ) → IsOf digits_form digits → digits ≡ encode_lower key.id

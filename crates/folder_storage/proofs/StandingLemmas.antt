@@ -1,13 +1,18 @@
 -- How the libraries of a list stand, and what one changed entry changes. The key lemmas are
--- taken-found, taken-changes, taken-stays, added-changes and laid-takes_back, at the end.
-use Rattle.std.proofs.Common.{◌≡◌, ◌≢◌, ℕ, zero, suc, ◌<◌, Bool, true, false, cond, List, [], ◌∷◌, ◌++◌, length, get_or, Option, None, Some, refl, sym, ◌∙◌, ap, arith}
+-- taken-found, taken-changes, taken-stays, added-changes and laid-takes_back, and of what libraries may give taken-handed,
+-- added-handed, gives-out, gives-stays and laid-gives_back, at the end.
+use Rattle.std.proofs.Common.{◌≡◌, ◌≢◌, ◌⊎◌, inl, inr, subst, ℕ, zero, suc, ◌<◌, Bool, true, false, true≢false, cond, List, [], ◌∷◌, ◌++◌, length, get_or, Option, None, Some, refl, sym, ◌∙◌, ap, arith}
+use Rattle.std.specs.FinMap as map
+use Rattle.ids.specs.Key.{key_cmp}
+use Rattle.object_store.specs.declared.shelf.Slot.TheVariants.{Object, Status}
 use Rattle.std.proofs.lemmas.Bool.{and_parts, and_from, false_from_ne_true}
 use Rattle.std.proofs.lemmas.Slice.Eq.{bytes_eq-Decides}
 use Rattle.std.specs.Prelude.{slice_set}
 use Rattle.std.specs.Str.{bytes_eq}
-use Rattle.object_store.specs.Shelf.{Contents}
-use Rattle.folder_storage.specs.Ground.{ChangesStanding, Standing, Absent, Kept, HandedOut, StandAsBefore, TakesBack}
-use Rattle.folder_storage.specs.MemoryGround.{IsPlaceOf, entry_out, is_at, returned, standing_in, standing_of, standings}
+use Rattle.object_store.specs.Shelf.{Contents, GivesNoMore, Tells}
+use Rattle.object_store.specs.declared.shelf.Slot.{Slot}
+use Rattle.folder_storage.specs.Ground.{AllGiveNoMore, GivesBack, GivesStanding, no_contents, ChangesStanding, Standing, Absent, Kept, HandedOut, StandAsBefore, TakesBack}
+use Rattle.folder_storage.specs.MemoryGround.{IsPlaceOf, entry_out, gives_in, is_at, returned, standing_in, standing_of, standings}
 use Rattle.folder_storage.specs.SteadyShelf.{SteadyShelfState}
 use Rattle.folder_storage.specs.declared.memory_ground.KeptLibrary.{KeptLibrary}
 
@@ -162,3 +167,69 @@ placed-there xs f l i is standing same absent =
 -- a standing that is told is the one that the list has
 pub told_out : (xs : List KeptLibrary) (f l : List ℕ) (standing : Standing) → standings xs f l ≡ Some standing → standing_in xs f l ≡ HandedOut → standing ≡ HandedOut
 told_out xs f l standing told out = sym (some_standing (standing_in xs f l) standing told) ∙ out
+
+-- ---- what libraries may give
+
+gives_same : (before now : Standing) → now ≡ before → GivesNoMore (GivesStanding before) (GivesStanding now)
+gives_same before now same slot given gives = subst (λ s. GivesStanding s slot given) same gives
+
+-- the shelf that is taken gives what the library has
+pub taken-handed : (xs : List KeptLibrary) (f l : List ℕ) (i : ℕ) (shelf : SteadyShelfState) → IsPlaceOf xs f l i → ((d : KeptLibrary) → Some shelf ≡ (get_or xs i d).shelf)
+    → GivesNoMore (gives_in xs f l) (Tells shelf.contents)
+taken-handed xs f l i shelf is value =
+    gives_same (standing_in xs f l) (Kept shelf.contents) (ap standing_of (value blank) ∙ sym (standing-place xs f l i blank is))
+
+-- and a new one gives nothing
+empty_gives : (slot : Slot) (given : Option (List ℕ)) → Tells no_contents slot given → given ≡ None
+empty_gives (Object key) given gives = gives ∙ map.get-empty key_cmp key
+empty_gives Status given gives = gives
+
+pub added-handed : (xs : List KeptLibrary) (f l : List ℕ) (held : Contents) → standing_in xs f l ≡ Absent → held ≡ no_contents
+    → GivesNoMore (gives_in xs f l) (Tells held)
+added-handed xs f l held absent empty slot given gives =
+    subst (λ s. GivesStanding s slot given) (sym absent) (empty_gives slot given (subst (λ h. Tells h slot given) empty gives))
+
+-- a library that is handed out gives nothing more to others, and the others give what they gave
+pub gives-stays : (xs ys : List KeptLibrary) → StandAsBefore (standings xs) (standings ys) → AllGiveNoMore (gives_in xs) (gives_in ys)
+gives-stays xs ys stays f l = gives_same (standing_in xs f l) (standing_in ys f l) (some_standing (standing_in ys f l) (standing_in xs f l) (stays f l))
+
+pub gives-out : (xs ys : List KeptLibrary) (f l : List ℕ) → ChangesStanding (standings xs) (standings ys) f l HandedOut → AllGiveNoMore (gives_in xs) (gives_in ys)
+gives-out xs ys f l changes g m slot given = by (is_at (entry_out f l) g m) refl
+  where
+    by : (b : Bool) → is_at (entry_out f l) g m ≡ b → gives_in ys g m slot given → gives_in xs g m slot given
+    by true here gives =
+        let same = is_at-same (entry_out f l) f l g m (entry_out-here f l) here in
+        let out : standing_in ys g m ≡ HandedOut = ap (λ a. standing_in ys a m) same.0 ∙ ap (standing_in ys f) same.1 ∙ some_standing (standing_in ys f l) HandedOut changes.here in
+        absurd (subst (λ s. GivesStanding s slot given) out gives)
+    by false apart gives =
+        let other : (g ≡ f) × (m ≡ l) → ⊥ = λ same. true≢false (sym (ap (λ a. is_at (entry_out f l) a m) same.0 ∙ ap (is_at (entry_out f l) f) same.1 ∙ entry_out-here f l) ∙ apart) in
+        gives_same (standing_in xs g m) (standing_in ys g m) (some_standing (standing_in ys g m) (standing_in xs g m) (changes.others g m other)) slot given gives
+
+returned-gives : (o : Option SteadyShelfState) (shelf : SteadyShelfState) (slot : Slot) (given : Option (List ℕ)) → GivesStanding (standing_of (returned o shelf)) slot given
+    → Tells shelf.contents slot given ⊎ GivesStanding (standing_of o) slot given
+returned-gives None shelf slot given gives = inl gives
+returned-gives (Some before) shelf slot given gives = inr gives
+
+-- a shelf goes back to its library, which then gives what the shelf does
+pub laid-gives_back : (xs ys : List KeptLibrary) (f l : List ℕ) (i : ℕ) (shelf : SteadyShelfState) → IsPlaceOf xs f l i
+    → ((d : KeptLibrary) → ys ≡ slice_set xs i (record (get_or xs i d) { shelf = returned (get_or xs i d).shelf shelf }))
+    → GivesBack (gives_in xs) (gives_in ys) f l (Tells shelf.contents)
+laid-gives_back xs ys f l i shelf is sets =
+    let o = (get_or xs i blank).shelf in
+    let now : standing_in ys f l ≡ standing_of (returned o shelf) = rw (sets blank) (standing-set xs f l i blank (returned o shelf) is) in
+    let was : standing_of o ≡ standing_in xs f l = sym (standing-place xs f l i blank is) in
+    record {
+      here = λ slot given gives.
+          elim (returned-gives o shelf slot given (subst (λ s. GivesStanding s slot given) now gives)) [
+            | inl laid ↦ inl laid
+            | inr before ↦ inr (subst (λ s. GivesStanding s slot given) was before)
+          ];
+      others = λ g m other. gives_same (standing_in xs g m) (standing_in ys g m) (rw (sets blank) (standing-set_other xs f l g m i blank (returned o shelf) is other));
+    }
+
+-- no library is there to take it
+pub gives_back-none : (xs : List KeptLibrary) (f l : List ℕ) (gives : Slot → Option (List ℕ) → Type 0) → GivesBack (gives_in xs) (gives_in xs) f l gives
+gives_back-none xs f l gives = record {
+  here = λ slot given before. inr before;
+  others = λ g m other slot given before. before;
+}

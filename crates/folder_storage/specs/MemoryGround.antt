@@ -1,7 +1,9 @@
 -- The libraries of a ground in memory, as a list. Our own. Read standing_in first.
-use Rattle.std.specs.Prelude.{◌≡◌, ℕ, ◌<◌, ◌&&◌, Bool, true, false, List, [], ◌∷◌, length, slice_index_or, if◌then◌else◌, Option, None, Some}
+use Rattle.std.specs.Prelude.{◌≡◌, ℕ, ◌<◌, ◌&&◌, Bool, true, false, List, [], ◌∷◌, length, slice_index_or, if◌then◌else◌, Option, None, Some, unwrap_or}
+use Rattle.std.proofs.Common.{subst, ap}
 use Rattle.std.specs.Str.{bytes_eq}
-use Rattle.folder_storage.specs.Ground.{Standing, Standings, Absent, Kept, HandedOut}
+use Rattle.object_store.specs.declared.shelf.Slot.{Slot}
+use Rattle.folder_storage.specs.Ground.{GivesStanding, MayGive, Standing, Standings, Absent, Kept, HandedOut}
 use Rattle.folder_storage.specs.SteadyShelf.{SteadyShelfState}
 use Rattle.folder_storage.specs.declared.memory_ground.KeptLibrary.{KeptLibrary}
 
@@ -36,3 +38,14 @@ returned (Some before) shelf = Some before
 -- the entry of a library whose shelf was handed out
 abbrev pub entry_out : List ℕ → List ℕ → KeptLibrary
 entry_out folder lib = record { folder = folder; lib = lib; shelf = None }
+
+-- what each library may give: what it has
+abbrev pub gives_in : List KeptLibrary → MayGive
+gives_in libraries folder lib = GivesStanding (standing_in libraries folder lib)
+
+told_standing : {a b : Standing} → Some a ≡ Some b → a ≡ b
+told_standing {a} e = ap (λ o. unwrap_or o a) e
+
+pub gives_told : (libraries : List KeptLibrary) (folder lib : List ℕ) (standing : Standing) (slot : Slot) (given : Option (List ℕ))
+    → standings libraries folder lib ≡ Some standing → gives_in libraries folder lib slot given → GivesStanding standing slot given
+gives_told libraries folder lib standing slot given told gives = subst (λ s. GivesStanding s slot given) (told_standing told) gives

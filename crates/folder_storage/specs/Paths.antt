@@ -1,6 +1,7 @@
 -- The paths of a library's folder and the names in it. Our own. Read slot_text first, then IsNamed.
 use Rattle.std.specs.Prelude.{◌≡◌, ℕ, ◌<◌, ◌++◌, All, List, [], ◌∷◌, codes, drop, length, slice_index, Option, None, Some, ⊤}
 use Rattle.hex.specs.Hex.{encode_lower}
+use Rattle.uuid.specs.Text.{hyphenated_text, lower}
 use Rattle.ids.specs.declared.key.Kind.{Kind}
 use Rattle.ids.specs.declared.key.Kind.TheVariants.{Commit, Fs, Block}
 use Rattle.object_store.specs.declared.shelf.Slot.{Slot}
@@ -9,6 +10,10 @@ use Rattle.object_store.specs.declared.shelf.Slot.TheVariants.{Object, Status}
 -- the path of what has a name in a folder
 abbrev pub under : List ℕ → List ℕ → List ℕ
 under folder name = folder ++ (codes "/" ++ name)
+
+-- the path of a library's folder, by its id's text
+abbrev pub library_text : List ℕ → List ℕ → List ℕ
+library_text folder lib = under folder (hyphenated_text lower lib)
 
 -- the folder of a kind, as Seafile's server names it
 abbrev pub kind_folder : Kind → List ℕ

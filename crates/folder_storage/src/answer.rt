@@ -1,5 +1,5 @@
 //! What a call on files answers, and what its failure counts for.
-ghost use Rattle.std.specs.Prelude.{⊤, Err};
+ghost use Rattle.std.specs.Prelude.{◌≡◌, ⊤, Err, IfOk, Ok};
 ghost use Rattle.object_store.specs.Shelf.{CountsFaults};
 
 use object_store::ShelfFailed;
@@ -9,6 +9,7 @@ use std::io::ErrorKind;
 /// The answer of a call that changes nothing where it fails. Want of memory is told as such, and every other failure
 /// counts as a fault.
 pub(crate) fn answer<T>(faults: &mut u64, outcome: io::Result<T>) -> Result<T, ShelfFailed>
+    ensures value { IfOk result (λ value. outcome ≡ Ok value) }
     ensures faults { CountsFaults faults.old faults.new result }
 {
     match outcome {

@@ -1,5 +1,9 @@
 //! Libraries in folders of the file system.
-ghost use Rattle.std.specs.Prelude.{◌≡◌};
+ghost use Rattle.std.specs.Prelude.{◌≡◌, ⊤, IfOk, IfSome, IsSomeAnd, OnErr};
+ghost use Rattle.std.specs.String.{string_bytes};
+ghost use Rattle.object_store.specs.Shelf.{CountsFaults};
+ghost use Rattle.folder_storage.specs.Ground.{HasNoFaults};
+ghost use Rattle.folder_storage.specs.Paths.{library_text};
 
 use crate::answer::answer;
 use crate::file_system::FileSystem;
@@ -10,7 +14,9 @@ use crate::system_files::SystemFiles;
 use ids::LibId;
 use object_store::{Shelf, ShelfFailed};
 
-/// Libraries in folders of a file system, each in a folder of its own, named by its id. It tells nothing of them.
+/// Libraries in folders of a file system, each in a folder of its own, named by its id. It tells nothing of them, and what
+/// the system gives of one may be anything; the shelf that is handed out stands over the folder of the library that was
+/// named.
 ///
 /// It has a library once its first state text is durable. One that was made and goes back before is not there, and what
 /// was put is taken away when it is made anew.
@@ -45,15 +51,21 @@ impl<F> FolderGround<F> {
 }
 
 impl<F: FileSystem + Drop> Ground for FolderGround<F> {
-    ghost use Rattle.std.specs.Prelude.{None};
+    ghost use Rattle.std.specs.Prelude.{None, ⊤};
 
     type S = FolderShelf<F>;
 
     ghost stands = { λ _ _ _. None };
 
+    ghost may_give = { λ _ _ _ _ _. ⊤ };
+
     ghost faults = { λ ground. ground.faults };
 
-    fn find(&mut self, folder: &str, lib: LibId) -> Result<Option<FolderShelf<F>>, ShelfFailed> {
+    fn find(&mut self, folder: &str, lib: LibId) -> Result<Option<FolderShelf<F>>, ShelfFailed>
+        ensures place { IfOk result (λ found. IfSome found (λ shelf. string_bytes shelf.folder.path ≡ library_text folder.now lib)) }
+        ensures faults { CountsFaults self.old.faults self.new.faults result }
+        ensures fresh { IfOk result (HasNoFaults (λ shelf. shelf.faults)) }
+    {
         let found = find_library(&self.files, folder, &lib);
         match answer(&mut self.faults, found)? {
             Some(library) => Ok(Some(FolderShelf::new(library))),
@@ -61,7 +73,11 @@ impl<F: FileSystem + Drop> Ground for FolderGround<F> {
         }
     }
 
-    fn make(&mut self, folder: &str, lib: LibId) -> Result<Option<FolderShelf<F>>, ShelfFailed> {
+    fn make(&mut self, folder: &str, lib: LibId) -> Result<Option<FolderShelf<F>>, ShelfFailed>
+        ensures place { IfOk result (λ made. IfSome made (λ shelf. IsSomeAnd shelf.folder.home (λ home. string_bytes home ≡ library_text folder.now lib))) }
+        ensures faults { CountsFaults self.old.faults self.new.faults result }
+        ensures fresh { IfOk result (HasNoFaults (λ shelf. shelf.faults)) }
+    {
         let made = make_library(&self.files, folder, &lib);
         match answer(&mut self.faults, made)? {
             Some(library) => Ok(Some(FolderShelf::new(library))),
@@ -78,4 +94,6 @@ impl<F: FileSystem + Drop> Ground for FolderGround<F> {
     fn faults(&self) -> u64 {
         self.faults
     }
+
+    ghost told = { λ ground folder lib standing slot given known. Prim.cc };
 }

@@ -1,4 +1,5 @@
 //! The folder of one library, held by this process.
+ghost use Rattle.std.specs.Prelude.{◌≡◌};
 ghost use Rattle.folder_storage.specs.Listing.{IsForgotten, IsForgottenAt};
 
 use crate::durability::first_byte;
@@ -54,7 +55,9 @@ pub(crate) struct LibraryFolder<F> {
 
 impl<F: FileSystem + Drop> LibraryFolder<F> {
     /// The folder at this path, which this process has taken, in the folder above.
-    pub(crate) fn new(files: F, path: String, above: String, earlier: Earlier) -> LibraryFolder<F> {
+    pub(crate) fn new(files: F, path: String, above: String, earlier: Earlier) -> LibraryFolder<F>
+        ensures place { result.path ≡ path }
+    {
         let alloc = files.alloc();
         LibraryFolder {
             files,

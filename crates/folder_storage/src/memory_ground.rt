@@ -1,8 +1,9 @@
 //! Libraries in memory.
 ghost use Rattle.std.specs.Prelude.{◌≡◌, ◌≢◌, ◌<◌, ℕ, List, [], ◌∷◌, ◌++◌, vec_len, slice_index_or, slice_set, IfErr, IfNone, IfOk, IfSome, OnErr, OnOk, None, Some};
 ghost use Rattle.object_store.specs.Shelf.{CountsFaults};
-ghost use Rattle.folder_storage.specs.Ground.{Absent, FindsLibrary, HandedOut, HandsOut, HasNoFaults, MakesLibrary, StandAsBefore, Standing, no_contents};
-ghost use Rattle.folder_storage.specs.MemoryGround.{IsPlaceOf, entry_out, is_at, returned, standing_in, standings};
+ghost use Rattle.object_store.specs.Shelf.{Tells};
+ghost use Rattle.folder_storage.specs.Ground.{Absent, AllGiveNoMore, FindsLibrary, GivesOfLibrary, HandedOut, HandsOut, HasNoFaults, MakesLibrary, StandAsBefore, Standing, no_contents};
+ghost use Rattle.folder_storage.specs.MemoryGround.{IsPlaceOf, entry_out, gives_in, is_at, returned, standing_in, standings};
 
 use crate::ground::Ground;
 use crate::steady_shelf::SteadyShelf;
@@ -43,11 +44,13 @@ impl MemoryGround {
 }
 
 impl Ground for MemoryGround {
-    ghost use Rattle.folder_storage.specs.MemoryGround.{standings};
+    ghost use Rattle.folder_storage.specs.MemoryGround.{gives_in, gives_told, standings};
 
     type S = SteadyShelf;
 
     ghost stands = { λ ground. standings ground.libraries.items };
+
+    ghost may_give = { λ ground. gives_in ground.libraries.items };
 
     ghost faults = { λ ground. ground.faults };
 
@@ -61,6 +64,8 @@ impl Ground for MemoryGround {
             → IfErr result (λ failed. failed ≡ ShelfFailed.NoMemory) }
         ensures faults { CountsFaults self.old.faults self.new.faults result }
         ensures fresh { IfOk result (HasNoFaults (λ shelf. 0)) }
+        ensures handed { IfOk result (GivesOfLibrary (λ shelf. Tells shelf.contents) (gives_in self.old.libraries.items folder.now lib)) }
+        ensures gives { AllGiveNoMore (gives_in self.old.libraries.items) (gives_in self.new.libraries.items) }
     {
         let place = match place_of(&self.libraries, folder, &lib) {
             Some(place) => place,
@@ -85,6 +90,8 @@ impl Ground for MemoryGround {
             → IfErr result (λ failed. failed ≡ ShelfFailed.NoMemory) }
         ensures faults { CountsFaults self.old.faults self.new.faults result }
         ensures fresh { IfOk result (HasNoFaults (λ shelf. 0)) }
+        ensures handed { IfOk result (GivesOfLibrary (λ shelf. Tells shelf.contents) (gives_in self.old.libraries.items folder.now lib)) }
+        ensures gives { AllGiveNoMore (gives_in self.old.libraries.items) (gives_in self.new.libraries.items) }
     {
         match place_of(&self.libraries, folder, &lib) {
             Some(_) => Ok(None),
@@ -105,6 +112,8 @@ impl Ground for MemoryGround {
     fn faults(&self) -> u64 {
         self.faults
     }
+
+    ghost told = { λ ground. gives_told ground.libraries.items };
 }
 
 /// Whether it is this library.

@@ -1,4 +1,8 @@
 //! How a library's folder is found, made and opened.
+ghost use Rattle.std.specs.Prelude.{◌≡◌, IfOk, IfSome, IsSomeAnd};
+ghost use Rattle.std.specs.String.{string_bytes};
+ghost use Rattle.folder_storage.specs.Paths.{library_text};
+
 use crate::earlier::{Earlier, earlier_objects};
 use crate::file_system::{FileKind, FileSystem};
 use crate::library_folder::LibraryFolder;
@@ -15,7 +19,9 @@ pub(crate) fn find_library<F: FileSystem + Drop>(
     files: &F,
     folder: &str,
     lib: &LibId,
-) -> io::Result<Option<LibraryFolder<F>>> {
+) -> io::Result<Option<LibraryFolder<F>>>
+    ensures place { IfOk result (λ found. IfSome found (λ library. string_bytes library.path ≡ library_text folder.now lib.now)) }
+{
     let mut files = files.another()?;
     let path = library_path(files.alloc(), folder, lib)?;
     if !is_there(&mut files, folder, path.as_str())? {
@@ -40,7 +46,9 @@ pub(crate) fn make_library<F: FileSystem + Drop>(
     files: &F,
     folder: &str,
     lib: &LibId,
-) -> io::Result<Option<LibraryFolder<F>>> {
+) -> io::Result<Option<LibraryFolder<F>>>
+    ensures place { IfOk result (λ made. IfSome made (λ library. IsSomeAnd library.home (λ home. string_bytes home ≡ library_text folder.now lib.now))) }
+{
     let mut files = files.another()?;
     let path = library_path(files.alloc(), folder, lib)?;
     if is_there(&mut files, folder, path.as_str())? {

@@ -3,7 +3,7 @@ ghost use Rattle.std.specs.Prelude.{◌≡◌, ◌++◌, ◌<◌, ◌∷◌, [],
 ghost use Rattle.std.specs.String.{string_bytes};
 ghost use Rattle.hex.specs.Hex.{encode_lower};
 ghost use Rattle.object_store.specs.declared.shelf.Slot.TheVariants.{Object};
-ghost use Rattle.folder_storage.specs.Paths.{kind_folder, listed_text, slot_text, under};
+ghost use Rattle.folder_storage.specs.Paths.{kind_folder, library_text, listed_text, slot_text, under};
 
 use crate::durability::first_byte;
 use ids::{Key, Kind, LibId};
@@ -17,7 +17,9 @@ const DIGITS: &[u8; 16] = b"0123456789abcdef";
 const FOLDER_DIGITS: usize = 2;
 
 /// The path of a library's folder.
-pub(crate) fn library_path(alloc: Global, folder: &str, lib: &LibId) -> Result<String, AllocError> {
+pub(crate) fn library_path(alloc: Global, folder: &str, lib: &LibId) -> Result<String, AllocError>
+    ensures value { IfOk result (λ path. string_bytes path ≡ library_text folder.now lib.now) }
+{
     let mut path = below(alloc, folder)?;
     push_ascii(&mut path, &lib.digits())?;
     Ok(path)
