@@ -1,10 +1,14 @@
 -- The library that a shelf's text is of, and the refusal that is due. The key lemmas are started_due, faulted,
--- no_other and opened_state.
+-- no_other, opened_state, absent_given and absent_cause.
 use Rattle.std.proofs.Common.{◌≡◌, ◌≢◌, ℕ, Bool, true, false, cond, not, inl, inr, List, Option, None, Some, option_map, Result, Ok, Err, refl, sym, ap, subst, ◌∙◌, ◌==◌}
+use Rattle.std.specs.Prelude.{IfErr, IfOk}
 use Rattle.std.specs.Str.{bytes_eq}
 use Rattle.std.proofs.lemmas.Bool.{false_from_ne_true}
 use Rattle.std.proofs.lemmas.Slice.Eq.{bytes_eq-Decides}
 use Rattle.ids.specs.Key.{Objects}
+use Rattle.depot.specs.DepotView.{DepotView}
+use Rattle.depot.proofs.MakeLemmas.{make_before}
+use Rattle.library_rules.specs.Creation.{opening_commit, opening_object}
 use Rattle.depot.specs.Start.{IsDueOr, IsGiven, IsNextOf, IsOpened, IsTextFault, first_incomplete, next_opening, start_refusal, text_refusal}
 use Rattle.depot.proofs.StartLemmas.{fault_before}
 use Rattle.depot.specs.declared.error.StartFault.{StartFault}
@@ -19,7 +23,13 @@ use Rattle.object_store.specs.StoreView.{StoreView, status_of}
 use Rattle.object_store.specs.declared.shelf.Slot.{Slot}
 use Rattle.object_store.specs.declared.shelf.Slot.TheVariants.{Status}
 use Rattle.server_words.specs.declared.command.Place.{Place}
-use Rattle.library_server.specs.LibraryOpening.{GivesOther, IsDueOpening, IsNotStarted, IsOpenedState, IsTextOf, of_text, opening_refusal, read_refusal}
+use Rattle.library_server.specs.LibraryOpening.{GivesOther, IsDueOpening, IsNotOpened, IsNotStarted, IsOpenedState, IsTextOf, memory_library, of_new, of_text, opening_refusal, read_refusal}
+use Rattle.library_server.specs.Making.{IsNotMade}
+use Rattle.library_server.specs.declared.making.NewLibrary.{NewLibrary}
+use Rattle.library_server.specs.declared.not_done.NotMade.{NotMade}
+use Rattle.library_server.specs.declared.not_done.NotMade.TheVariants as unmade
+use Rattle.library_server.specs.declared.not_done.NotOpened.{NotOpened}
+use Rattle.library_server.specs.declared.not_done.NotOpened.TheVariants as unopened
 use Rattle.library_server.specs.declared.not_done.NotStarted.{NotStarted}
 use Rattle.library_server.specs.declared.not_done.NotStarted.TheVariants as unstarted
 use Rattle.ids.proofs.BasicLemmas.{apart_from_bytes_eq}
@@ -43,11 +53,6 @@ pub started_none : (lib : List ℕ) (objects : Objects) (status : Option (List �
     → opening_refusal lib objects status ≡ None
 started_none lib objects status is due = started_due lib objects status is ∙ ap (option_map unstarted.Fault) due
 
--- the state that was opened is that of a text of the library that was named
-pub opened_state : {S : Type 0} (may_give : S → Slot → Option (List ℕ) → Type 0) (place : Place) (lib : List ℕ) (shows : ℕ → Type 0) (state : LibState) (shelf : S)
-    → IsNextOf (may_give shelf) state → state.lib ≡ lib → IsOpenedState may_give place lib shows state
-opened_state may_give place lib shows state shelf given named = of_text shelf given named
-
 -- ---- what a shelf may give after it was read it might give before
 
 pub given_before : {before now : Slot → Option (List ℕ) → Type 0} (state : LibState) → GivesNoMore before now → IsGiven now state → IsGiven before state
@@ -59,6 +64,39 @@ next_before state gives is = record { found = is.found; given = given_before is.
 pub unstarted_before : {before now : Slot → Option (List ℕ) → Type 0} (lib : List ℕ) (why : NotStarted) → GivesNoMore before now → IsNotStarted now lib why → IsNotStarted before lib why
 unstarted_before lib (unstarted.Fault fault) gives is = fault_before fault gives is
 unstarted_before lib unstarted.Other gives is = record { state = is.state; given = given_before is.state gives is.given; other = is.other }
+
+-- the state that was opened is that of a text of the library that was named
+pub opened_state : {before now : Slot → Option (List ℕ) → Type 0} (place : Place) (lib : List ℕ) (shows : ℕ → Type 0) (state : LibState)
+    → GivesNoMore before now → IsNextOf now state → state.lib ≡ lib → IsOpenedState before place lib shows state
+opened_state place lib shows state gives given named = of_text (next_before state gives given) named
+
+opened_before : {before now : Slot → Option (List ℕ) → Type 0} (place : Place) (lib : List ℕ) (shows : ℕ → Type 0) (state : LibState)
+    → GivesNoMore before now → IsOpenedState now place lib shows state → IsOpenedState before place lib shows state
+opened_before place lib shows state gives (of_text given named) = of_text (next_before state gives given) named
+opened_before place lib shows state gives (of_new is moment shown same) = of_new is moment shown same
+
+unmade_before : {before now : Slot → Option (List ℕ) → Type 0} (new : NewLibrary) (moment : ℕ) (why : NotMade) → GivesNoMore before now → IsNotMade now new moment why → IsNotMade before new moment why
+unmade_before new moment (unmade.Storage failed) gives is = tt
+unmade_before new moment unmade.Exists gives is = tt
+unmade_before new moment (unmade.Refused fault) gives is = make_before gives (opening_object (opening_commit new.lib new.user moment)) fault is
+
+unopened_before : {before now : Slot → Option (List ℕ) → Type 0} (place : Place) (lib : List ℕ) (shows : ℕ → Type 0) (why : NotOpened)
+    → GivesNoMore before now → IsNotOpened now place lib shows why → IsNotOpened before place lib shows why
+unopened_before place lib shows (unopened.Storage failed) gives is = tt
+unopened_before place lib shows unopened.Absent gives is = is
+unopened_before place lib shows (unopened.Refused why) gives is = unstarted_before lib why gives is
+unopened_before place lib shows (unopened.Unmade why) gives is = (is.0, is.1, is.2, unmade_before (memory_library lib) is.1 why gives is.3)
+
+-- the same where it was looked for first, and is not there
+pub absent_given : {S : Type 0} {before now : Slot → Option (List ℕ) → Type 0} (place : Place) (lib : List ℕ) (shows : ℕ → Type 0) (result : Result (DepotView S) NotOpened)
+    → GivesNoMore before now → IfOk result (λ depot. IsOpenedState now place lib shows depot.state) → IfOk result (λ depot. IsOpenedState before place lib shows depot.state)
+absent_given place lib shows (Ok depot) gives is = opened_before place lib shows depot.state gives is
+absent_given place lib shows (Err why) gives is = tt
+
+pub absent_cause : {S : Type 0} {before now : Slot → Option (List ℕ) → Type 0} (place : Place) (lib : List ℕ) (shows : ℕ → Type 0) (result : Result (DepotView S) NotOpened)
+    → GivesNoMore before now → IfErr result (IsNotOpened now place lib shows) → IfErr result (IsNotOpened before place lib shows)
+absent_cause place lib shows (Ok depot) gives is = tt
+absent_cause place lib shows (Err why) gives is = unopened_before place lib shows why gives is
 
 ok_same : (a b : LibState) → ◌≡◌ {A = Result LibState StateKey} (Ok a) (Ok b) → a ≡ b
 ok_same a b e = cc

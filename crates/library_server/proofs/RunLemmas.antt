@@ -2,6 +2,7 @@
 use Rattle.std.proofs.Common.{◌≡◌, ℕ, List, Option, Some, Result, Ok, Err, refl, sym, ap, subst, ◌∙◌, arith}
 use Rattle.std.specs.Prelude.{IfErr, IfOk, ⊤}
 use Rattle.std.specs.Io.KnownBytes.{append_known}
+use Rattle.folder_storage.specs.Ground.{MayGive}
 use Rattle.library_rules.specs.Creation.{opening_commit}
 use Rattle.object_store.specs.declared.shelf.Slot.{Slot}
 use Rattle.object_store.specs.Shelf.{Contents}
@@ -87,14 +88,14 @@ usage_alone Version printed e two = absurd (zero_two (sym (ap (λ z. z.status) (
     zero_two e = omega arith
 usage_alone Usage printed e two = (refl, ap (λ z. z.text) (unwrapped (line_printed line.Usage) printed e))
 
-module _ {S : Type 0} (contents : S → Option Contents) (may_give : S → Slot → Option (List ℕ) → Type 0) (texts faults : S → ℕ) (shows : ℕ → Type 0) where
+module _ {S : Type 0} (contents : S → Option Contents) (may_give : S → Slot → Option (List ℕ) → Type 0) (texts faults : S → ℕ) (gives : MayGive) (shows : ℕ → Type 0) where
   no_service : (depot after : DepotView S) (before now : LinkView) (status : ℕ)
       → ServesOpened contents may_give texts faults shows depot after before now status → status ≡ 2 → ⊥
   no_service depot after before now status service two = no_end service.how (sym service.status_is ∙ two)
 
   -- the status 2 comes with the usage line alone
   pub runs_usage : (command : Command) (old new : GroundView) (before now : LinkView) (out_before out_now : SinkView) (status : ℕ)
-      → RunsSo contents may_give texts faults shows command old new before now out_before out_now status → status ≡ 2
+      → RunsSo contents may_give texts faults gives shows command old new before now out_before out_now status → status ≡ 2
       → (command ≡ Usage) × (out_now.given ≡ append_known out_before.given (line_text line.Usage))
   runs_usage command old new before now out_before out_now status (creates place lib name user secret is made left) two =
       absurd (no_print (line_printed (created_line lib made.created)) out_before out_now status made.prints (no_creation lib made.created) two)
@@ -112,16 +113,16 @@ module _ {S : Type 0} (contents : S → Option Contents) (may_give : S → Slot 
 
 -- ---- what was printed tells what was done
 
-module _ {S : Type 0} (may_give : S → Slot → Option (List ℕ) → Type 0) where
+module _ (gives : Slot → Option (List ℕ) → Type 0) where
   pub created_so : (new : NewLibrary) (moment before now : ℕ) (created : Result (List ℕ) NotMade)
-      → IfOk created (λ head. head ≡ (opening_commit new.lib new.user moment).id) → IfErr created (IsNotMade may_give new moment)
-      → IfErr created (λ why. RoseWhere (is_unmade_counted why) before now) → IsCreated may_give new moment before now created
+      → IfOk created (λ head. head ≡ (opening_commit new.lib new.user moment).id) → IfErr created (IsNotMade gives new moment)
+      → IfErr created (λ why. RoseWhere (is_unmade_counted why) before now) → IsCreated gives new moment before now created
   created_so new moment before now (Ok head) is cause count = is
   created_so new moment before now (Err why) is cause count = (cause, count)
 
   pub added_so : (place : Place) (lib : List ℕ) (shows : ℕ → Type 0) (new : NewToken) (before now : ℕ) (added : Result ⊤ NotAdded)
-      → IfOk added (λ done. IsAddedTo may_give place lib shows new) → IfErr added (IsNotAdded may_give place lib shows new) → IfErr added (λ why. RoseWhere (is_unadded_counted why) before now)
-      → IsAdded may_give place lib shows new before now added
+      → IfOk added (λ done. IsAddedTo gives place lib shows new) → IfErr added (IsNotAdded gives place lib shows new) → IfErr added (λ why. RoseWhere (is_unadded_counted why) before now)
+      → IsAdded gives place lib shows new before now added
   added_so place lib shows new before now (Ok done) given cause count = given
   added_so place lib shows new before now (Err why) given cause count = (cause, count)
 

@@ -53,13 +53,13 @@ IsTokenRefused state new token.Full = (is_taken state.tokens new.secret ≡ fals
 IsTokenRefused state new (token.Store why) = IsTrue (is_free why)
 
 -- over any ground, what a token was added to: the library that was opened, which doesn't refuse it
-abbrev pub IsAddedTo : {S : Type 0} → (S → Slot → Option (List ℕ) → Type 0) → Place → List ℕ → (ℕ → Type 0) → NewToken → Type 0
-IsAddedTo may_give place lib shows new = (state : LibState) × IsOpenedState may_give place lib shows state × (token_refusal state.tokens new.secret ≡ None)
+abbrev pub IsAddedTo : (Slot → Option (List ℕ) → Type 0) → Place → List ℕ → (ℕ → Type 0) → NewToken → Type 0
+IsAddedTo gives place lib shows new = (state : LibState) × IsOpenedState gives place lib shows state × (token_refusal state.tokens new.secret ≡ None)
 
--- the cause of each refusal, over any ground
-abbrev pub IsNotAdded : {S : Type 0} → (S → Slot → Option (List ℕ) → Type 0) → Place → List ℕ → (ℕ → Type 0) → NewToken → NotAdded → Type 0
-IsNotAdded may_give place lib shows new (unadded.Unopened why) = IsNotOpened may_give place lib shows why
-IsNotAdded may_give place lib shows new (unadded.Refused why) = (state : LibState) × IsOpenedState may_give place lib shows state × IsTokenRefused state new why
+-- the cause of each refusal, over any ground, in what the named library may give as it is handed out
+abbrev pub IsNotAdded : (Slot → Option (List ℕ) → Type 0) → Place → List ℕ → (ℕ → Type 0) → NewToken → NotAdded → Type 0
+IsNotAdded gives place lib shows new (unadded.Unopened why) = IsNotOpened gives place lib shows why
+IsNotAdded gives place lib shows new (unadded.Refused why) = (state : LibState) × IsOpenedState gives place lib shows state × IsTokenRefused state new why
 
 -- the failure that the storage counts
 abbrev pub is_unadded_counted : NotAdded → Bool

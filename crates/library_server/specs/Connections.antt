@@ -1,7 +1,7 @@
 -- The command that serves one connection, and its status. Our own. Read ServesPlace first, at the end.
 use Rattle.std.specs.Prelude.{◌≡◌, ℕ, List, Option, Some, ⊤}
 use Rattle.depot.specs.DepotView.{DepotView, IsGood, state_of}
-use Rattle.folder_storage.specs.Ground.{Standing}
+use Rattle.folder_storage.specs.Ground.{MayGive, Standing}
 use Rattle.library_rules.specs.LibraryState.{State}
 use Rattle.object_store.specs.Shelf.{Contents}
 use Rattle.object_store.specs.declared.shelf.Slot.{Slot}
@@ -45,23 +45,24 @@ pub record ServesOpened {S : Type 0} (contents : S → Option Contents) (may_giv
   pub count : CountsEnd before.faults now.faults how
   pub status_is : status ≡ status_of how
 
--- why no library was opened: the refusal, its cause, and that the storage's count rose where it failed
-pub record IsUnopened {S : Type 0} (contents : S → Option Contents) (may_give : S → Slot → Option (List ℕ) → Type 0)
+-- why no library was opened: the refusal, its cause in what the named library may give, and that the storage's count rose
+-- where it failed
+pub record IsUnopened {S : Type 0} (contents : S → Option Contents) (gives : Slot → Option (List ℕ) → Type 0)
     (place : Place) (lib : List ℕ) (shows : ℕ → Type 0) (old new : GroundView) (why : NotOpened) : Type 0 where
   pub told : (standing : Standing) → old.stands (place_text place) lib ≡ Some standing → RefusesOpening place lib shows standing why (new.stands (place_text place) lib)
-  pub cause : IsNotOpened may_give place lib shows why
+  pub cause : IsNotOpened gives place lib shows why
   pub count : RoseWhere (is_unopened_counted why) old.faults new.faults
   pub back : Returned contents old.stands new.stands (place_text place) lib
 
 -- one connection with the library that a command names, and with no other: it was opened, served and is back, with what its
 -- shelf then holds; or it was not opened, which gives the status, and the link is left alone
-pub data ServesPlace {S : Type 0} (contents : S → Option Contents) (may_give : S → Slot → Option (List ℕ) → Type 0) (texts faults : S → ℕ)
+pub data ServesPlace {S : Type 0} (contents : S → Option Contents) (may_give : S → Slot → Option (List ℕ) → Type 0) (texts faults : S → ℕ) (gives : MayGive)
     (place : Place) (lib : List ℕ) (shows : ℕ → Type 0) (old new : GroundView) (before now : LinkView) (status : ℕ) : Type 0 where
-  opened : (depot after : DepotView S) → IsOpenedState may_give place lib shows depot.state
+  opened : (depot after : DepotView S) → IsOpenedState (gives (place_text place) lib) place lib shows depot.state
       → ((standing : Standing) → old.stands (place_text place) lib ≡ Some standing → (s : State) × (state_of contents faults depot ≡ Some s) × OpensTo place lib shows standing s)
       → ServesOpened contents may_give texts faults shows depot after before now status
       → IsGood contents faults after → ComesBack old.stands new.stands (place_text place) lib (contents after.store.shelf)
-      → ServesPlace contents may_give texts faults place lib shows old new before now status
-  unopened : (why : NotOpened) → IsUnopened contents may_give place lib shows old new why
+      → ServesPlace contents may_give texts faults gives place lib shows old new before now status
+  unopened : (why : NotOpened) → IsUnopened contents (gives (place_text place) lib) place lib shows old new why
       → status ≡ fault_status (fault_of_not_opened why) → now ≡ before
-      → ServesPlace contents may_give texts faults place lib shows old new before now status
+      → ServesPlace contents may_give texts faults gives place lib shows old new before now status

@@ -63,12 +63,12 @@ pub data OpensTo (place : Place) (lib : List ℕ) (shows : ℕ → Type 0) (stan
   made : IsMemory place → standing ≡ Absent → (moment count : ℕ) → shows moment → s ≡ library_of (memory_library lib) moment count
       → OpensTo place lib shows standing s
 
--- the same of the state alone, over any ground: that of a text of the named library which a shelf may give, with the next
--- opening number; or, in memory, that of the new library
-pub data IsOpenedState {S : Type 0} (may_give : S → Slot → Option (List ℕ) → Type 0) (place : Place) (lib : List ℕ) (shows : ℕ → Type 0) (state : LibState)
+-- the same of the state alone, over any ground: that of a text of the named library, which this library may give as it is
+-- handed out, with the next opening number; or, in memory, that of the new library
+pub data IsOpenedState (gives : Slot → Option (List ℕ) → Type 0) (place : Place) (lib : List ℕ) (shows : ℕ → Type 0) (state : LibState)
     : Type 0 where
-  of_text : (shelf : S) → IsNextOf (may_give shelf) state → state.lib ≡ lib → IsOpenedState may_give place lib shows state
-  of_new : IsMemory place → (moment : ℕ) → shows moment → state ≡ first_of (memory_library lib) moment → IsOpenedState may_give place lib shows state
+  of_text : IsNextOf gives state → state.lib ≡ lib → IsOpenedState gives place lib shows state
+  of_new : IsMemory place → (moment : ℕ) → shows moment → state ≡ first_of (memory_library lib) moment → IsOpenedState gives place lib shows state
 
 -- ---- why no library is opened
 
@@ -163,12 +163,12 @@ abbrev pub OpensSo : {S : Type 0} → (S → Option Contents) → (S → ℕ) �
 OpensSo contents faults place lib shows standing (Ok depot) after = (s : State) × (state_of contents faults depot ≡ Some s) × OpensTo place lib shows standing s
 OpensSo contents faults place lib shows standing (Err why) after = RefusesOpening place lib shows standing why after
 
--- the cause of each refusal, over any ground
-abbrev pub IsNotOpened : {S : Type 0} → (S → Slot → Option (List ℕ) → Type 0) → Place → List ℕ → (ℕ → Type 0) → NotOpened → Type 0
-IsNotOpened may_give place lib shows (unopened.Storage failed) = ⊤
-IsNotOpened may_give place lib shows unopened.Absent = IsFolder place
-IsNotOpened {S} may_give place lib shows (unopened.Refused why) = (shelf : S) × IsNotStarted (may_give shelf) lib why
-IsNotOpened may_give place lib shows (unopened.Unmade why) = IsMemory place × (moment : ℕ) × shows moment × IsNotMade may_give (memory_library lib) moment why
+-- the cause of each refusal, over any ground, in what the named library may give as it is handed out
+abbrev pub IsNotOpened : (Slot → Option (List ℕ) → Type 0) → Place → List ℕ → (ℕ → Type 0) → NotOpened → Type 0
+IsNotOpened gives place lib shows (unopened.Storage failed) = ⊤
+IsNotOpened gives place lib shows unopened.Absent = IsFolder place
+IsNotOpened gives place lib shows (unopened.Refused why) = IsNotStarted gives lib why
+IsNotOpened gives place lib shows (unopened.Unmade why) = IsMemory place × (moment : ℕ) × shows moment × IsNotMade gives (memory_library lib) moment why
 
 -- the failure that the storage counts
 abbrev pub is_unopened_counted : NotOpened → Bool

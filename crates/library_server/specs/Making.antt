@@ -65,11 +65,11 @@ IsNew new moment depot =
     (depot.state ≡ first_of new moment)
     × (depot.unsettled ≡ false)
 
--- and the cause of each refusal
-abbrev pub IsNotMade : {S : Type 0} → (S → Slot → Option (List ℕ) → Type 0) → NewLibrary → ℕ → NotMade → Type 0
-IsNotMade may_give new moment (Storage failed) = ⊤
-IsNotMade may_give new moment Exists = ⊤
-IsNotMade {S} may_give new moment (Refused why) = (shelf : S) × IsMakeFault (may_give shelf) (opening_object (opening_commit new.lib new.user moment)) why
+-- and the cause of each refusal, in what the library may give as it is handed out
+abbrev pub IsNotMade : (Slot → Option (List ℕ) → Type 0) → NewLibrary → ℕ → NotMade → Type 0
+IsNotMade gives new moment (Storage failed) = ⊤
+IsNotMade gives new moment Exists = ⊤
+IsNotMade gives new moment (Refused why) = IsMakeFault gives (opening_object (opening_commit new.lib new.user moment)) why
 
 -- the failure that the storage counts
 abbrev pub is_unmade_counted : NotMade → Bool

@@ -2,7 +2,7 @@
 use Rattle.std.specs.Prelude.{◌≡◌, ℕ, List, Option, None, Some, Result, Ok, Err, ⊤}
 use Rattle.std.specs.Io.KnownBytes.{append_known}
 use Rattle.ids.specs.FaultCount.{Rose}
-use Rattle.folder_storage.specs.Ground.{Standing}
+use Rattle.folder_storage.specs.Ground.{MayGive, Standing}
 use Rattle.http_front.specs.Link.{GivesFront}
 use Rattle.library_rules.specs.Creation.{opening_commit}
 use Rattle.object_store.specs.Shelf.{Contents}
@@ -74,54 +74,55 @@ added_line (Ok done) = line.TokenAdded
 added_line (Err why) = line.Fault (fault_of_not_added why)
 
 -- a line that tells of a new library names its opening commit; one that tells of a token comes where a library of the name
--- asked for was opened; and one that tells a refusal has its cause
-abbrev pub IsCreated : {S : Type 0} → (S → Slot → Option (List ℕ) → Type 0) → NewLibrary → ℕ → ℕ → ℕ → Result (List ℕ) NotMade → Type 0
-IsCreated may_give new moment before now (Ok head) = head ≡ (opening_commit new.lib new.user moment).id
-IsCreated may_give new moment before now (Err why) = IsNotMade may_give new moment why × RoseWhere (is_unmade_counted why) before now
+-- asked for was opened; and one that tells a refusal has its cause in what that library may give
+abbrev pub IsCreated : (Slot → Option (List ℕ) → Type 0) → NewLibrary → ℕ → ℕ → ℕ → Result (List ℕ) NotMade → Type 0
+IsCreated gives new moment before now (Ok head) = head ≡ (opening_commit new.lib new.user moment).id
+IsCreated gives new moment before now (Err why) = IsNotMade gives new moment why × RoseWhere (is_unmade_counted why) before now
 
-abbrev pub IsAdded : {S : Type 0} → (S → Slot → Option (List ℕ) → Type 0) → Place → List ℕ → (ℕ → Type 0) → NewToken → ℕ → ℕ → Result ⊤ NotAdded → Type 0
-IsAdded may_give place lib shows new before now (Ok done) = IsAddedTo may_give place lib shows new
-IsAdded may_give place lib shows new before now (Err why) = IsNotAdded may_give place lib shows new why × RoseWhere (is_unadded_counted why) before now
+abbrev pub IsAdded : (Slot → Option (List ℕ) → Type 0) → Place → List ℕ → (ℕ → Type 0) → NewToken → ℕ → ℕ → Result ⊤ NotAdded → Type 0
+IsAdded gives place lib shows new before now (Ok done) = IsAddedTo gives place lib shows new
+IsAdded gives place lib shows new before now (Err why) = IsNotAdded gives place lib shows new why × RoseWhere (is_unadded_counted why) before now
 
 -- a library was made at a moment of the clock, or not, and the line tells it
-pub record CreatesLibrary {S : Type 0} (contents : S → Option Contents) (may_give : S → Slot → Option (List ℕ) → Type 0) (shows : ℕ → Type 0)
+pub record CreatesLibrary {S : Type 0} (contents : S → Option Contents) (gives : MayGive) (shows : ℕ → Type 0)
     (place : Place) (new : NewLibrary) (old now : GroundView) (before after : SinkView) (status : ℕ) : Type 0 where
   pub created : Result (List ℕ) NotMade
   pub moment : ℕ
   pub shown : shows moment
   pub told : (standing : Standing) → old.stands (place_text place) new.lib ≡ Some standing
       → CreatesSo new moment standing created (now.stands (place_text place) new.lib)
-  pub is : IsCreated may_give new moment old.faults now.faults created
+  pub is : IsCreated (gives (place_text place) new.lib) new moment old.faults now.faults created
   pub back : Returned contents old.stands now.stands (place_text place) new.lib
   pub prints : PrintsSo (line_printed (created_line new.lib created)) before after status
 
 -- a token was added, or not, and the line tells it
-pub record AddsToken {S : Type 0} (contents : S → Option Contents) (may_give : S → Slot → Option (List ℕ) → Type 0) (shows : ℕ → Type 0)
+pub record AddsToken {S : Type 0} (contents : S → Option Contents) (gives : MayGive) (shows : ℕ → Type 0)
     (place : Place) (lib : List ℕ) (new : NewToken) (old now : GroundView) (before after : SinkView) (status : ℕ) : Type 0 where
   pub added : Result ⊤ NotAdded
   pub told : (standing : Standing) → old.stands (place_text place) lib ≡ Some standing
       → AddsSo place lib shows new standing added (now.stands (place_text place) lib)
-  pub is : IsAdded may_give place lib shows new old.faults now.faults added
+  pub is : IsAdded (gives (place_text place) lib) place lib shows new old.faults now.faults added
   pub back : Returned contents old.stands now.stands (place_text place) lib
   pub prints : PrintsSo (line_printed (added_line added)) before after status
 
 -- ---- all of it
 
 -- a command makes a library, adds a token, or serves a connection and prints nothing; or it prints its text and leaves the
--- libraries and the link alone; or there was no memory for the words, and nothing was done
-pub data RunsSo {S : Type 0} (contents : S → Option Contents) (may_give : S → Slot → Option (List ℕ) → Type 0) (texts faults : S → ℕ)
+-- libraries and the link alone; or there was no memory for the words, and nothing was done. What the libraries may give is
+-- that before the command
+pub data RunsSo {S : Type 0} (contents : S → Option Contents) (may_give : S → Slot → Option (List ℕ) → Type 0) (texts faults : S → ℕ) (gives : MayGive)
     (shows : ℕ → Type 0) (command : Command) (old new : GroundView) (before now : LinkView) (out_before out_now : SinkView) (status : ℕ)
     : Type 0 where
   creates : (place : Place) (lib name user secret : List ℕ) → command ≡ Create place lib name user secret
-      → CreatesLibrary contents may_give shows place (record { lib = lib; name = name; user = user; secret = secret }) old new out_before out_now status
-      → now ≡ before → RunsSo contents may_give texts faults shows command old new before now out_before out_now status
+      → CreatesLibrary contents gives shows place (record { lib = lib; name = name; user = user; secret = secret }) old new out_before out_now status
+      → now ≡ before → RunsSo contents may_give texts faults gives shows command old new before now out_before out_now status
   adds : (place : Place) (lib : List ℕ) (token : NewToken) → command ≡ Token place lib token.user token.secret token.right
-      → AddsToken contents may_give shows place lib token old new out_before out_now status
-      → now ≡ before → RunsSo contents may_give texts faults shows command old new before now out_before out_now status
+      → AddsToken contents gives shows place lib token old new out_before out_now status
+      → now ≡ before → RunsSo contents may_give texts faults gives shows command old new before now out_before out_now status
   serves : (place : Place) (lib : List ℕ) → command ≡ Inetd place lib
-      → ServesPlace contents may_give texts faults place lib shows old new before now status
-      → out_now ≡ out_before → RunsSo contents may_give texts faults shows command old new before now out_before out_now status
+      → ServesPlace contents may_give texts faults gives place lib shows old new before now status
+      → out_now ≡ out_before → RunsSo contents may_give texts faults gives shows command old new before now out_before out_now status
   prints : (printed : Printed) → printed_of command ≡ Some printed → PrintsSo printed out_before out_now status
-      → new ≡ old → now ≡ before → RunsSo contents may_give texts faults shows command old new before now out_before out_now status
+      → new ≡ old → now ≡ before → RunsSo contents may_give texts faults gives shows command old new before now out_before out_now status
   unread : status ≡ 3 → new ≡ old → now ≡ before → out_now ≡ out_before
-      → RunsSo contents may_give texts faults shows command old new before now out_before out_now status
+      → RunsSo contents may_give texts faults gives shows command old new before now out_before out_now status

@@ -2,8 +2,8 @@
 -- Read before: NeverFails and NamesIn of Answering, Standing of folder_storage.
 use Rattle.std.specs.Prelude.{◌≡◌, ℕ, false, List, [], Option, Some, Result, Ok, Err, ⊤}
 use Rattle.depot.specs.DepotView.{DepotView}
-use Rattle.folder_storage.specs.Ground.{Absent, HandedOut, Kept, Standing, Standings}
-use Rattle.folder_storage.specs.MemoryGround.{standings}
+use Rattle.folder_storage.specs.Ground.{Absent, HandedOut, Kept, MayGive, Standing, Standings}
+use Rattle.folder_storage.specs.MemoryGround.{gives_in, standings}
 use Rattle.object_store.specs.Shelf.{Contents, lies_in}
 use Rattle.object_store.specs.Store.{HasNames}
 use Rattle.object_store.specs.declared.shelf.Slot.{Slot}
@@ -41,3 +41,7 @@ holds_in shelf slot given = given ≡ lies_in shelf slot
 -- a place in memory without libraries
 abbrev pub empty_ground : GroundView
 empty_ground = record { stands = standings []; faults = 0 }
+
+-- no library of it may give anything
+abbrev pub empty_gives : MayGive
+empty_gives = gives_in []

@@ -1,6 +1,7 @@
 -- What a command tells over storage that never fails. Our own. Read RunsWhole first, at the end.
 use Rattle.std.specs.Prelude.{◌≡◌, ℕ, Bool, false, List, Option, ⊤}
 use Rattle.std.specs.List.{AllByRecursion}
+use Rattle.folder_storage.specs.Ground.{MayGive}
 use Rattle.object_store.specs.Shelf.{Contents}
 use Rattle.object_store.specs.declared.shelf.Slot.{Slot}
 use Rattle.server_words.specs.declared.command.Command.{Command}
@@ -24,17 +25,17 @@ abbrev pub NoneOfStorage : List (Told ⊤) → Type 0
 NoneOfStorage calls = AllByRecursion (λ t. is_storage_reply t.answer.reply ≡ false) calls
 
 -- of one connection: no reply was a refusal by the storage; or no library was opened, for another cause
-abbrev pub ServesWhole : {S : Type 0} {contents : S → Option Contents} {may_give : S → Slot → Option (List ℕ) → Type 0} {texts faults : S → ℕ}
+abbrev pub ServesWhole : {S : Type 0} {contents : S → Option Contents} {may_give : S → Slot → Option (List ℕ) → Type 0} {texts faults : S → ℕ} {gives : MayGive}
     {place : Place} {lib : List ℕ} {shows : ℕ → Type 0} {old new : GroundView} {before now : LinkView} {status : ℕ}
-    → ServesPlace contents may_give texts faults place lib shows old new before now status → Type 0
+    → ServesPlace contents may_give texts faults gives place lib shows old new before now status → Type 0
 ServesWhole (opened depot after state opens service good back) = NoneOfStorage service.ran.0
 ServesWhole (unopened why refused code left) = is_storage_fault (fault_of_not_opened why) ≡ false
 
 -- of what a command did: the line that it put tells no fault of the storage, or it served so; a text and a status alone tell
 -- none
-abbrev pub RunsWhole : {S : Type 0} {contents : S → Option Contents} {may_give : S → Slot → Option (List ℕ) → Type 0} {texts faults : S → ℕ}
+abbrev pub RunsWhole : {S : Type 0} {contents : S → Option Contents} {may_give : S → Slot → Option (List ℕ) → Type 0} {texts faults : S → ℕ} {gives : MayGive}
     {shows : ℕ → Type 0} {command : Command} {old new : GroundView} {before now : LinkView} {out_before out_now : SinkView} {status : ℕ}
-    → RunsSo contents may_give texts faults shows command old new before now out_before out_now status → Type 0
+    → RunsSo contents may_give texts faults gives shows command old new before now out_before out_now status → Type 0
 RunsWhole (creates place lib name user secret is made left) = is_storage_line (created_line lib made.created) ≡ false
 RunsWhole (adds place lib token is added left) = is_storage_line (added_line added.added) ≡ false
 RunsWhole (serves place lib is service out) = ServesWhole service

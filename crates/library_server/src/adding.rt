@@ -39,8 +39,8 @@ pub(crate) fn add_token<G: Ground, C: Clock>(
     ensures shown { (standing : Standing) → G.stands libraries.old (place_text place.now) lib ≡ Some standing
         → AddsSo place.now lib (C.shows clock.now) token.now standing result (G.stands libraries.new (place_text place.now) lib) }
     ensures back { Returned G.S.contents (G.stands libraries.old) (G.stands libraries.new) (place_text place.now) lib }
-    ensures given { IfOk result (λ done. IsAddedTo G.S.may_give place.now lib (C.shows clock.now) token.now) }
-    ensures cause { IfErr result (IsNotAdded G.S.may_give place.now lib (C.shows clock.now) token.now) }
+    ensures given { IfOk result (λ done. IsAddedTo (G.may_give libraries.old (place_text place.now) lib) place.now lib (C.shows clock.now) token.now) }
+    ensures cause { IfErr result (IsNotAdded (G.may_give libraries.old (place_text place.now) lib) place.now lib (C.shows clock.now) token.now) }
     ensures faults { IfErr result (λ why. RoseWhere (is_unadded_counted why) (G.faults libraries.old) (G.faults libraries.new)) }
     ensures whole { NeverFails G.S.faults → (standing : Standing) → G.stands libraries.old (place_text place.now) lib ≡ Some standing → IsWhole standing
         → NotOfStorage fault_of_not_added result }

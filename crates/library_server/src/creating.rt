@@ -31,7 +31,7 @@ pub(crate) fn create<G: Ground>(
         → CreatesSo new.now moment standing result (G.stands libraries.new folder.now new.now.lib) }
     ensures value { IfOk result (λ head. head ≡ (opening_commit new.now.lib new.now.user moment).id) }
     ensures back { Returned G.S.contents (G.stands libraries.old) (G.stands libraries.new) folder.now new.now.lib }
-    ensures cause { IfErr result (IsNotMade G.S.may_give new.now moment) }
+    ensures cause { IfErr result (IsNotMade (G.may_give libraries.old folder.now new.now.lib) new.now moment) }
     ensures faults { IfErr result (λ why. RoseWhere (is_unmade_counted why) (G.faults libraries.old) (G.faults libraries.new)) }
     ensures whole { NeverFails G.S.faults → (standing : Standing) → G.stands libraries.old folder.now new.now.lib ≡ Some standing → IsWhole standing
         → NotOfStorage fault_of_not_made result }

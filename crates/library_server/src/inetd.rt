@@ -29,7 +29,7 @@ pub(crate) fn inetd<G: Ground, L: Link, C: Clock>(
     link: &mut L,
     clock: &C,
 ) -> u8
-    ensures serves { (service : ServesPlace G.S.contents G.S.may_give G.S.texts G.S.faults place.now lib (C.shows clock.now)
+    ensures serves { (service : ServesPlace G.S.contents G.S.may_give G.S.texts G.S.faults (G.may_give libraries.old) place.now lib (C.shows clock.now)
         (record { stands = G.stands libraries.old; faults = G.faults libraries.old })
         (record { stands = G.stands libraries.new; faults = G.faults libraries.new })
         (record { left = L.left link.old; given = L.given link.old; faults = L.faults link.old })

@@ -48,7 +48,7 @@ pub(crate) fn make_library<G: Ground>(
     ensures shown { (standing : Standing) → G.stands libraries.old folder.now new.now.lib ≡ Some standing
         → MakesSo G.S.contents G.S.faults new.now moment standing result (G.stands libraries.new folder.now new.now.lib) }
     ensures back { HandsOutOr G.S.contents (G.stands libraries.old) (G.stands libraries.new) folder.now new.now.lib result }
-    ensures cause { IfErr result (IsNotMade G.S.may_give new.now moment) }
+    ensures cause { IfErr result (IsNotMade (G.may_give libraries.old folder.now new.now.lib) new.now moment) }
     ensures faults { IfErr result (λ why. RoseWhere (is_unmade_counted why) (G.faults libraries.old) (G.faults libraries.new)) }
     ensures whole { NeverFails G.S.faults → (standing : Standing) → G.stands libraries.old folder.now new.now.lib ≡ Some standing → IsWhole standing
         → OutWhole fault_of_not_made G.S.contents result }
@@ -85,7 +85,7 @@ fn make_on<S: Shelf>(
     ensures refused { (held : Contents) → S.contents shelf ≡ Some held → RefusesWith is_make_free result (make_refusal held.status
         (put_refusal held.objects (opening_object (opening_commit new.now.lib new.now.user moment)).key (opening_object (opening_commit new.now.lib new.now.user moment)).bytes)) }
     ensures left { (held : Contents) → S.contents shelf ≡ Some held → IfErr result (λ refused. LeavesText new.now moment refused.1 held (S.contents refused.0)) }
-    ensures cause { IfErr result (λ refused. IsMakeFault (S.may_give refused.0) (opening_object (opening_commit new.now.lib new.now.user moment)) refused.1) }
+    ensures cause { IfErr result (λ refused. IsMakeFault (S.may_give shelf) (opening_object (opening_commit new.now.lib new.now.user moment)) refused.1) }
     ensures faults { IfErr result (λ refused. FailsBy {T = ⊤} is_make_counted (S.faults shelf) (S.faults refused.0) (Err refused.1)) }
 {
     let store = match Store::start(alloc, shelf) {

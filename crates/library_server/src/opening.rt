@@ -46,12 +46,12 @@ pub(crate) fn open_library<G: Ground, C: Clock>(
     lib: LibId,
     clock: &C,
 ) -> Result<Depot<G::S>, NotOpened>
-    ensures given { IfOk result (λ depot. IsOpenedState G.S.may_give place.now lib (C.shows clock.now) depot.state) }
+    ensures given { IfOk result (λ depot. IsOpenedState (G.may_give libraries.old (place_text place.now) lib) place.now lib (C.shows clock.now) depot.state) }
     ensures settled { IfOk result (λ depot. depot.unsettled ≡ false) }
     ensures shown { (standing : Standing) → G.stands libraries.old (place_text place.now) lib ≡ Some standing
         → OpensSo G.S.contents G.S.faults place.now lib (C.shows clock.now) standing result (G.stands libraries.new (place_text place.now) lib) }
     ensures back { HandsOutOr G.S.contents (G.stands libraries.old) (G.stands libraries.new) (place_text place.now) lib result }
-    ensures cause { IfErr result (IsNotOpened G.S.may_give place.now lib (C.shows clock.now)) }
+    ensures cause { IfErr result (IsNotOpened (G.may_give libraries.old (place_text place.now) lib) place.now lib (C.shows clock.now)) }
     ensures faults { IfErr result (λ why. RoseWhere (is_unopened_counted why) (G.faults libraries.old) (G.faults libraries.new)) }
     ensures whole { NeverFails G.S.faults → (standing : Standing) → G.stands libraries.old (place_text place.now) lib ≡ Some standing → IsWhole standing
         → OutWhole fault_of_not_opened G.S.contents result }
@@ -90,12 +90,12 @@ fn open_absent<G: Ground, C: Clock>(
     lib: LibId,
     clock: &C,
 ) -> Result<Depot<G::S>, NotOpened>
-    ensures given { IfOk result (λ depot. IsOpenedState G.S.may_give place.now lib (C.shows clock.now) depot.state) }
+    ensures given { IfOk result (λ depot. IsOpenedState (G.may_give libraries.old (place_text place.now) lib) place.now lib (C.shows clock.now) depot.state) }
     ensures settled { IfOk result (λ depot. depot.unsettled ≡ false) }
     ensures shown { G.stands libraries.old (place_text place.now) lib ≡ Some Absent
         → OpensSo G.S.contents G.S.faults place.now lib (C.shows clock.now) Absent result (G.stands libraries.new (place_text place.now) lib) }
     ensures back { HandsOutOr G.S.contents (G.stands libraries.old) (G.stands libraries.new) (place_text place.now) lib result }
-    ensures cause { IfErr result (IsNotOpened G.S.may_give place.now lib (C.shows clock.now)) }
+    ensures cause { IfErr result (IsNotOpened (G.may_give libraries.old (place_text place.now) lib) place.now lib (C.shows clock.now)) }
     ensures faults { IfErr result (λ why. RoseWhere (is_unopened_counted why) (G.faults libraries.old) (G.faults libraries.new)) }
     ensures whole { NeverFails G.S.faults → G.stands libraries.old (place_text place.now) lib ≡ Some Absent → OutWhole fault_of_not_opened G.S.contents result }
     ensures good { IfOk result (IsGood G.S.contents G.S.faults) }
@@ -114,12 +114,12 @@ fn make_in_memory<G: Ground, C: Clock>(
     lib: LibId,
     clock: &C,
 ) -> Result<Depot<G::S>, NotOpened>
-    ensures given { IfOk result (λ depot. IsOpenedState G.S.may_give Place.Memory lib (C.shows clock.now) depot.state) }
+    ensures given { IfOk result (λ depot. IsOpenedState (G.may_give libraries.old (codes ":memory:") lib) Place.Memory lib (C.shows clock.now) depot.state) }
     ensures settled { IfOk result (λ depot. depot.unsettled ≡ false) }
     ensures shown { G.stands libraries.old (codes ":memory:") lib ≡ Some Absent
         → OpensSo G.S.contents G.S.faults Place.Memory lib (C.shows clock.now) Absent result (G.stands libraries.new (codes ":memory:") lib) }
     ensures back { HandsOutOr G.S.contents (G.stands libraries.old) (G.stands libraries.new) (codes ":memory:") lib result }
-    ensures cause { IfErr result (IsNotOpened G.S.may_give Place.Memory lib (C.shows clock.now)) }
+    ensures cause { IfErr result (IsNotOpened (G.may_give libraries.old (codes ":memory:") lib) Place.Memory lib (C.shows clock.now)) }
     ensures faults { IfErr result (λ why. RoseWhere (is_unopened_counted why) (G.faults libraries.old) (G.faults libraries.new)) }
     ensures whole { NeverFails G.S.faults → G.stands libraries.old (codes ":memory:") lib ≡ Some Absent → OutWhole fault_of_not_opened G.S.contents result }
     ensures good { IfOk result (IsGood G.S.contents G.S.faults) }

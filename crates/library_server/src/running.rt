@@ -12,7 +12,7 @@ ghost use Rattle.library_server.specs.Answering.{NeverFails};
 ghost use Rattle.library_server.specs.Connections.{LinkView};
 ghost use Rattle.library_server.specs.Runs.{AddsToken, CreatesLibrary, PrintsSo, RunsSo, SinkView, added_line, created_line, help_printed, line_printed, version_printed};
 ghost use Rattle.library_server.specs.Standing.{GroundView};
-ghost use Rattle.library_server.specs.Whole.{AreWhole, IsWhole, empty_ground, holds_in};
+ghost use Rattle.library_server.specs.Whole.{AreWhole, IsWhole, empty_gives, empty_ground, holds_in};
 ghost use Rattle.library_server.specs.WholeRuns.{RunsWhole, is_storage_line};
 
 use crate::adding::{NewToken, add_token};
@@ -48,7 +48,7 @@ pub fn run<G: Ground, L: Link, C: Clock, O: Sink, R>(
     clock: &C,
     out: &mut O,
 ) -> u8
-    ensures runs { RunsSo G.S.contents G.S.may_give G.S.texts G.S.faults (C.shows clock.now) (command_of words.now)
+    ensures runs { RunsSo G.S.contents G.S.may_give G.S.texts G.S.faults (G.may_give libraries.old) (C.shows clock.now) (command_of words.now)
         (record { stands = G.stands libraries.old; faults = G.faults libraries.old })
         (record { stands = G.stands libraries.new; faults = G.faults libraries.new })
         (record { left = L.left link.old; given = L.given link.old; faults = L.faults link.old })
@@ -57,7 +57,7 @@ pub fn run<G: Ground, L: Link, C: Clock, O: Sink, R>(
         (record { given = O.given out.new; faults = O.faults out.new }) result }
 
     // Over storage that never fails, in which each object lies under its own name, no line and no reply is a fault of it.
-    ensures whole { NeverFails G.S.faults → AreWhole (G.stands libraries.old) → (done : RunsSo G.S.contents G.S.may_give G.S.texts G.S.faults (C.shows clock.now) (command_of words.now)
+    ensures whole { NeverFails G.S.faults → AreWhole (G.stands libraries.old) → (done : RunsSo G.S.contents G.S.may_give G.S.texts G.S.faults (G.may_give libraries.old) (C.shows clock.now) (command_of words.now)
         (record { stands = G.stands libraries.old; faults = G.faults libraries.old })
         (record { stands = G.stands libraries.new; faults = G.faults libraries.new })
         (record { left = L.left link.old; given = L.given link.old; faults = L.faults link.old })
@@ -86,12 +86,12 @@ pub fn run_in_memory<L: Link, C: Clock, O: Sink, R>(
     clock: &C,
     out: &mut O,
 ) -> u8
-    ensures runs { (after : GroundView) × RunsSo {S = SteadyShelfState} (λ shelf. Some shelf.contents) (λ shelf. holds_in shelf.contents) (λ shelf. shelf.texts) (λ shelf. 0) (C.shows clock.now) (command_of words.now) empty_ground after
+    ensures runs { (after : GroundView) × RunsSo {S = SteadyShelfState} (λ shelf. Some shelf.contents) (λ shelf. holds_in shelf.contents) (λ shelf. shelf.texts) (λ shelf. 0) empty_gives (C.shows clock.now) (command_of words.now) empty_ground after
         (record { left = L.left link.old; given = L.given link.old; faults = L.faults link.old })
         (record { left = L.left link.new; given = L.given link.new; faults = L.faults link.new })
         (record { given = O.given out.old; faults = O.faults out.old })
         (record { given = O.given out.new; faults = O.faults out.new }) result }
-    ensures whole { (after : GroundView) × (done : RunsSo {S = SteadyShelfState} (λ shelf. Some shelf.contents) (λ shelf. holds_in shelf.contents) (λ shelf. shelf.texts) (λ shelf. 0) (C.shows clock.now) (command_of words.now) empty_ground after
+    ensures whole { (after : GroundView) × (done : RunsSo {S = SteadyShelfState} (λ shelf. Some shelf.contents) (λ shelf. holds_in shelf.contents) (λ shelf. shelf.texts) (λ shelf. 0) empty_gives (C.shows clock.now) (command_of words.now) empty_ground after
         (record { left = L.left link.old; given = L.given link.old; faults = L.faults link.old })
         (record { left = L.left link.new; given = L.given link.new; faults = L.faults link.new })
         (record { given = O.given out.old; faults = O.faults out.old })
@@ -111,14 +111,14 @@ fn perform<G: Ground, L: Link, C: Clock, O: Sink>(
     out: &mut O,
 ) -> u8
     requires fits { NamesFit command }
-    ensures runs { RunsSo G.S.contents G.S.may_give G.S.texts G.S.faults (C.shows clock.now) command
+    ensures runs { RunsSo G.S.contents G.S.may_give G.S.texts G.S.faults (G.may_give libraries.old) (C.shows clock.now) command
         (record { stands = G.stands libraries.old; faults = G.faults libraries.old })
         (record { stands = G.stands libraries.new; faults = G.faults libraries.new })
         (record { left = L.left link.old; given = L.given link.old; faults = L.faults link.old })
         (record { left = L.left link.new; given = L.given link.new; faults = L.faults link.new })
         (record { given = O.given out.old; faults = O.faults out.old })
         (record { given = O.given out.new; faults = O.faults out.new }) result }
-    ensures whole { NeverFails G.S.faults → AreWhole (G.stands libraries.old) → (done : RunsSo G.S.contents G.S.may_give G.S.texts G.S.faults (C.shows clock.now) command
+    ensures whole { NeverFails G.S.faults → AreWhole (G.stands libraries.old) → (done : RunsSo G.S.contents G.S.may_give G.S.texts G.S.faults (G.may_give libraries.old) (C.shows clock.now) command
         (record { stands = G.stands libraries.old; faults = G.faults libraries.old })
         (record { stands = G.stands libraries.new; faults = G.faults libraries.new })
         (record { left = L.left link.old; given = L.given link.old; faults = L.faults link.old })
@@ -174,7 +174,7 @@ fn create_printed<G: Ground, C: Clock, O: Sink>(
 ) -> u8
     requires fits { length new.now.name ≤ MAX_STATE_NAME }
     requires ready { (1 ≤ length new.now.user) × (length new.now.user ≤ MAX_STATE_NAME) }
-    ensures value { (done : CreatesLibrary G.S.contents G.S.may_give (C.shows clock.now) place.now new.now
+    ensures value { (done : CreatesLibrary G.S.contents (G.may_give libraries.old) (C.shows clock.now) place.now new.now
         (record { stands = G.stands libraries.old; faults = G.faults libraries.old })
         (record { stands = G.stands libraries.new; faults = G.faults libraries.new })
         (record { given = O.given out.old; faults = O.faults out.old })
@@ -207,7 +207,7 @@ fn add_printed<G: Ground, C: Clock, O: Sink>(
     out: &mut O,
 ) -> u8
     requires ready { (1 ≤ length new.now.user) × (length new.now.user ≤ MAX_STATE_NAME) }
-    ensures value { (done : AddsToken G.S.contents G.S.may_give (C.shows clock.now) place.now lib new.now
+    ensures value { (done : AddsToken G.S.contents (G.may_give libraries.old) (C.shows clock.now) place.now lib new.now
         (record { stands = G.stands libraries.old; faults = G.faults libraries.old })
         (record { stands = G.stands libraries.new; faults = G.faults libraries.new })
         (record { given = O.given out.old; faults = O.faults out.old })

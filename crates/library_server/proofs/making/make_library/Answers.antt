@@ -6,6 +6,7 @@ use Rattle.library_server.proofs.StandingLemmas.{comes_back}
 use Rattle.std.proofs.Common.{Err, refl}
 use Rattle.std.specs.Prelude.{⊤}
 use Rattle.depot.specs.Make.{is_make_counted}
+use Rattle.depot.proofs.MakeLemmas.{make_before}
 use Rattle.library_rules.specs.Creation.{opening_commit}
 use Rattle.library_server.proofs.WholeLemmas.{made_whole, names_of, new_names, steady_count, want_whole}
 use Rattle.library_server.proofs.making.make_library.Goals as goal
@@ -51,3 +52,7 @@ returns-in-Err-make_on-clause-whole g c = λ steady standing there whole.
     made_whole (opening_commit c.args.new.now.lib c.args.new.now.user c.args.moment).id _ c.in-Err-make_on.fault
     (steady_count {T = ⊤} is_make_counted _ _ (Err c.in-Err-make_on.fault) (steady _) (steady _) c.in-Err-make_on.ensures.faults)
     (c.in-Err-make_on.ensures.refused no_contents made.1)
+
+pub returns-in-Err-make_on-clause-cause : goal.returns-in-Err-make_on-clause-cause
+returns-in-Err-make_on-clause-cause g c =
+    make_before (rw c.in-Ok-Some.field-0-is at c.in-Ok-Some.ensures.handed) _ c.in-Err-make_on.fault c.in-Err-make_on.ensures.cause

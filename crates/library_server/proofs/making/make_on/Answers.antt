@@ -2,6 +2,7 @@
 use Rattle.std.proofs.Common.{◌∙◌, ap, inl, option_map, refl}
 use Rattle.library_rules.specs.Creation.{opening_commit, opening_object}
 use Rattle.object_store.specs.Shelf.{Contents}
+use Rattle.depot.proofs.MakeLemmas.{make_before}
 use Rattle.library_server.proofs.LeftLemmas.{left_unmade}
 use Rattle.library_server.proofs.making.make_on.Goals as goal
 
@@ -13,3 +14,6 @@ returns-in-Err-make-clause-left g c = λ held there.
     rw c.end.ensures.value (left_unmade g.S.Shelf.contents c.args.new.now c.args.moment c.in-Ok.store c.in-Err-make.store
     (opening_object (opening_commit c.args.new.now.lib c.args.new.now.user c.args.moment)) held c.in-Err-make.fault c.in-Err-make.ensures.err
     (ap (option_map (λ (h : Contents). h.status)) (c.in-Ok.ensures.ok.shelf ∙ there)))
+
+pub returns-in-Err-make-clause-cause : goal.returns-in-Err-make-clause-cause
+returns-in-Err-make-clause-cause g c = make_before c.in-Ok.ensures.shelf.gives _ c.in-Err-make.fault c.in-Err-make.ensures.cause

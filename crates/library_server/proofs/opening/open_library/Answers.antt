@@ -3,7 +3,7 @@ use Rattle.std.proofs.Common.{◌∙◌}
 use Rattle.library_server.specs.LibraryOpening.{reopened}
 use Rattle.library_server.specs.Standing.{came_back}
 use Rattle.library_server.proofs.LeftLemmas.{left_kept}
-use Rattle.library_server.proofs.OpeningLemmas.{opened_state}
+use Rattle.library_server.proofs.OpeningLemmas.{absent_cause, absent_given, opened_state, unstarted_before}
 use Rattle.library_server.proofs.StandingLemmas.{comes_back, hands_after}
 use Rattle.std.proofs.Common.{Err, Some, ap, subst}
 use Rattle.std.specs.Prelude.{⊤}
@@ -42,7 +42,18 @@ pub returns-in-Err-clause-shown : goal.returns-in-Err-clause-shown
 returns-in-Err-clause-shown g c = λ standing there. c.in-Err.ensures.err _ _ ∙ there
 
 pub returns-in-Ok-clause-given : goal.returns-in-Ok-clause-given
-returns-in-Ok-clause-given g c = opened_state g.G.S.Shelf.may_give _ _ _ _ _ c.in-Ok.ensures.given c.in-Ok.ensures.named
+returns-in-Ok-clause-given g c =
+    opened_state c.args.place.now c.args.lib _ _ (rw c.in-Ok-Some.field-0-is at (rw c.folder_word-folder.ensures.value at c.in-Ok-Some.ensures.handed)) c.in-Ok.ensures.given c.in-Ok.ensures.named
+
+pub returns-in-Err-open_on-clause-cause : goal.returns-in-Err-open_on-clause-cause
+returns-in-Err-open_on-clause-cause g c =
+    unstarted_before c.args.lib c.in-Err-open_on.why (rw c.in-Ok-Some.field-0-is at (rw c.folder_word-folder.ensures.value at c.in-Ok-Some.ensures.handed)) c.in-Err-open_on.ensures.cause
+
+pub returns-in-Ok-None-clause-given : goal.returns-in-Ok-None-clause-given
+returns-in-Ok-None-clause-given g c = absent_given c.args.place.now c.args.lib _ c.open_absent.result (c.in-Ok-None.ensures.gives _ _) c.open_absent.ensures.given
+
+pub returns-in-Ok-None-clause-cause : goal.returns-in-Ok-None-clause-cause
+returns-in-Ok-None-clause-cause g c = absent_cause c.args.place.now c.args.lib _ c.open_absent.result (c.in-Ok-None.ensures.gives _ _) c.open_absent.ensures.cause
 
 pub returns-in-Ok-None-clause-whole : goal.returns-in-Ok-None-clause-whole
 returns-in-Ok-None-clause-whole g c = λ steady standing there whole.

@@ -9,7 +9,7 @@ returns-in-Ok-clause-runs g c = rw c.in-Ok.ensures.value at c.perform.ensures.ru
 
 pub returns-in-Ok-clause-usage : goal.returns-in-Ok-clause-usage
 returns-in-Ok-clause-usage g c =
-    runs_usage g.G.S.Shelf.contents g.G.S.Shelf.may_give g.G.S.Shelf.texts g.G.S.Shelf.faults (g.C.Clock.shows c.args.clock.now) _ _ _ _ _ _ _ _
+    runs_usage g.G.S.Shelf.contents g.G.S.Shelf.may_give g.G.S.Shelf.texts g.G.S.Shelf.faults _ (g.C.Clock.shows c.args.clock.now) _ _ _ _ _ _ _ _
     (rw c.in-Ok.ensures.value at c.perform.ensures.runs)
 
 pub returns-in-Ok-clause-whole : goal.returns-in-Ok-clause-whole
