@@ -1,74 +1,32 @@
-//! Libraries on shelves in memory: each public call once with ample memory, and what a failing shelf leaves.
-mod answer_tests;
-mod update_tests;
-
-use depot::*;
-use ids::{Bytes, Items, LibId, ObjId, Text};
-use library_state::{Act, Call, Reply, Right, Secret};
+//! A library on a shelf in memory: what no request of a connection shows, and what a failing shelf leaves.
+use crate::library::{LIB, Made, empty, library_on, made};
+use depot::{Depot, MakeFault, StartFault, TokenFault};
+use ids::{Bytes, Text};
+use library_state::{Act, Call, Refusal, Reply, Right, Secret};
 use object_store::{MemoryShelf, Store, StoreFault};
 use std::alloc::Global;
 use std::test::Fail;
 
-const LIB: &str = "11111111-2222-4333-8444-555555555555";
+/// When the library is made.
+const MOMENT: u64 = 7;
 
-/// The opening commit of that library by `me` at moment 7, as another program names it.
+/// Its opening commit, as another program names it.
 const OPENING: &str = "55cc6bc1017dda39888c7020ca41ea1b19f52ec4";
 
-/// The state text of that library, named `docs`.
+/// Its state text.
 const STATE: &str =
     "{\"collection\":0,\"days\":-1,\"kept\":[{\"at\":7,\"head\":\"55cc6bc1017dda39888c7020ca41ea1b19f52ec4\",\"pushed\":\"55cc6bc1017dda39888c7020ca41ea1b19f52ec4\"}],\"lib\":\"11111111-2222-4333-8444-555555555555\",\"name\":\"docs\",\"opening\":1,\"tokens\":[{\"last\":0,\"right\":\"own\",\"secret\":\"aaaaaaaaaaaaaaaaaaaaaaaaaaaaaaaaaaaaaaaa\",\"user\":\"me\"}],\"version\":1}";
 
-/// An empty store over a shelf whose calls of these numbers fail. Opening the store takes the calls 0 to 2.
-fn empty(alloc: Global, fails: &[u64]) -> Result<Store<MemoryShelf>, Fail> {
-    let shelf = MemoryShelf::new(alloc, Items::copy(alloc, fails)?);
-    match Store::start(alloc, shelf) {
-        Ok(store) => Ok(store),
-        Err(_) => Err(Fail::from("no store")),
-    }
-}
-
-/// The library of the tests on that store. Making it takes the calls 3 to 5.
-fn made(
-    alloc: Global,
-    store: Store<MemoryShelf>,
-) -> Result<Result<Depot<MemoryShelf>, (Store<MemoryShelf>, MakeFault)>, Fail> {
-    let lib = LibId::read(LIB).ok().ok_or("no id")?;
-    let name = Text::copy(alloc, "docs")?;
-    let user = Text::copy(alloc, "me")?;
-    let secret = Secret::from_bytes([170; 20]);
-    Ok(Depot::make(alloc, store, lib, &name, &user, secret, 7))
-}
-
-/// The library of the tests, over a shelf whose calls of these numbers fail.
-fn library_on(alloc: Global, fails: &[u64]) -> Result<Depot<MemoryShelf>, Fail> {
-    match made(alloc, empty(alloc, fails)?)? {
-        Ok(depot) => Ok(depot),
-        Err(_) => Err(Fail::from("refused")),
-    }
-}
-
-/// What its owner is answered at moment 9.
-fn asked(depot: &mut Depot<MemoryShelf>, act: Act) -> Reply {
-    let secret = Some(Secret::from_bytes([170; 20]));
-    depot.answer(&Call { secret, act }, 9)
-}
-
-fn id(digits: &str) -> Result<ObjId, Fail> {
-    match ObjId::read(digits) {
-        Ok(id) => Ok(id),
-        Err(_) => Err(Fail::from("no id")),
-    }
-}
-
 fn has_one_token(depot: &Depot<MemoryShelf>) -> bool {
-    depot.token_at(0) == Some((Secret::from_bytes([170; 20]), Right::Owner))
+    depot.token_at(0) == Some((Secret::from_bytes([0xaa; 20]), Right::Owner))
         && depot.token_at(1).is_none()
 }
 
+/// Whether a library is a new one.
 fn is_new(depot: &Depot<MemoryShelf>) -> bool {
-    depot.opening() == 1
+    depot.head().digits().as_slice() == OPENING.as_bytes()
+        && depot.opening() == 1
         && depot.lib().digits().as_slice() == LIB.as_bytes()
-        && has_one_token(depot)
 }
 
 /// Whether a store has this text.
@@ -80,18 +38,20 @@ fn is_noted(told: &Result<Option<Bytes>, StoreFault>, text: &str) -> bool {
     }
 }
 
+/// Whether a store has the state text of the new library, and its opening commit alone.
+fn is_stored(store: &mut Store<MemoryShelf>) -> bool {
+    store.count() == 1 && is_noted(&store.noted(), STATE)
+}
+
 #[test]
 fn a_new_library_stands_at_its_opening_commit(rt: HostRuntime) -> Result<(), Fail> {
-    let depot = library_on(rt.alloc(), &[])?;
-    assert!(rt; depot.head() == id(OPENING)?);
-    assert!(rt; is_new(&depot));
-    let mut store = depot.close();
-    assert!(rt; store.count() == 1);
-    assert!(rt; is_noted(&store.noted(), STATE));
+    let depot = library_on(rt.alloc(), &[], MOMENT)?;
+    assert!(rt; is_new(&depot) && has_one_token(&depot));
+    assert!(rt; is_stored(&mut depot.close()));
     Ok(())
 }
 
-fn has_state(made: &Result<Depot<MemoryShelf>, (Store<MemoryShelf>, MakeFault)>) -> bool {
+fn has_state(made: &Made) -> bool {
     match made {
         Ok(_) => false,
         Err(refused) => refused.1 == MakeFault::HasState,
@@ -100,46 +60,71 @@ fn has_state(made: &Result<Depot<MemoryShelf>, (Store<MemoryShelf>, MakeFault)>)
 
 #[test]
 fn a_library_is_made_once(rt: HostRuntime) -> Result<(), Fail> {
-    let depot = library_on(rt.alloc(), &[])?;
-    assert!(rt; has_state(&made(rt.alloc(), depot.close())?));
+    let depot = library_on(rt.alloc(), &[], MOMENT)?;
+    assert!(rt; has_state(&made(rt.alloc(), depot.close(), MOMENT)?));
     Ok(())
 }
 
-fn is_refused(told: Result<(), TokenFault>, wanted: TokenFault) -> bool {
-    match told {
-        Ok(()) => false,
-        Err(fault) => fault == wanted,
+/// Adds a token of bob@x.org, with a secret of its own.
+fn add_token(alloc: Global, depot: &mut Depot<MemoryShelf>) -> Result<(), TokenFault> {
+    match Text::copy(alloc, "bob@x.org") {
+        Ok(user) => depot.add_token(&user, Secret::from_bytes([0xbb; 20]), Right::Write),
+        Err(_) => Err(TokenFault::Store(StoreFault::NoMemory)),
     }
 }
 
-fn has_second(depot: &Depot<MemoryShelf>, secret: Secret, right: Right) -> bool {
-    depot.token_at(1) == Some((secret, right))
-}
-
-#[test]
-fn a_secret_is_given_once(rt: HostRuntime) -> Result<(), Fail> {
-    let mut depot = library_on(rt.alloc(), &[])?;
-    let user = Text::copy(rt.alloc(), "bob@x.org")?;
-    let secret = Secret::from_bytes([187; 20]);
-    assert!(rt; depot.add_token(&user, secret, Right::Write).is_ok());
-    assert!(rt; has_second(&depot, secret, Right::Write));
-    assert!(rt;
-        is_refused(
-            depot.add_token(&user, secret, Right::Read),
-            TokenFault::SecretTaken
-        )
-    );
-    Ok(())
+fn is_store_fault(told: &Result<(), TokenFault>) -> bool {
+    match told {
+        Ok(()) => false,
+        Err(fault) => *fault == TokenFault::Store(StoreFault::Shelf),
+    }
 }
 
 #[test]
 fn a_token_that_was_not_written_is_added_again(rt: HostRuntime) -> Result<(), Fail> {
-    let mut depot = library_on(rt.alloc(), &[6])?;
-    let user = Text::copy(rt.alloc(), "bob@x.org")?;
-    let secret = Secret::from_bytes([187; 20]);
-    let fault = TokenFault::Store(StoreFault::Shelf);
-    assert!(rt; is_refused(depot.add_token(&user, secret, Right::Write), fault));
-    assert!(rt; depot.token_at(1).is_none());
-    assert!(rt; depot.add_token(&user, secret, Right::Write).is_ok());
+    let mut depot = library_on(rt.alloc(), &[6], MOMENT)?;
+    assert!(rt; is_store_fault(&add_token(rt.alloc(), &mut depot)));
+    assert!(rt; has_one_token(&depot));
+    assert!(rt; add_token(rt.alloc(), &mut depot).is_ok());
+    Ok(())
+}
+
+type Started = Result<Depot<MemoryShelf>, (Store<MemoryShelf>, StartFault)>;
+
+fn has_no_state(started: &Started) -> bool {
+    match started {
+        Ok(_) => false,
+        Err(refused) => refused.1 == StartFault::NoState,
+    }
+}
+
+#[test]
+fn an_empty_shelf_holds_no_library(rt: HostRuntime) -> Result<(), Fail> {
+    let store = empty(rt.alloc(), &[])?;
+    assert!(rt; has_no_state(&Depot::start(rt.alloc(), store)));
+    Ok(())
+}
+
+/// What its owner is answered who sets the days of its history.
+fn limited(depot: &mut Depot<MemoryShelf>, days: i64) -> Reply {
+    let call = Call {
+        secret: Some(Secret::from_bytes([0xaa; 20])),
+        act: Act::Limit(days),
+    };
+    depot.answer(&call, 9)
+}
+
+fn is_no_days(reply: &Reply, days: i64) -> bool {
+    match reply {
+        Reply::Refused(why) => *why == Refusal::BadDays(days),
+        _ => false,
+    }
+}
+
+#[test]
+fn days_are_set_within_the_limit(rt: HostRuntime) -> Result<(), Fail> {
+    let mut depot = library_on(rt.alloc(), &[], MOMENT)?;
+    assert!(rt; matches!(limited(&mut depot, 30), Reply::Limited));
+    assert!(rt; is_no_days(&limited(&mut depot, 36_501), 36_501));
     Ok(())
 }

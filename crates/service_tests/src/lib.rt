@@ -1,10 +1,13 @@
-//! Tests of the turnstile, of the depot and of what the server does, over their public calls alone.
+//! Tests of the turnstile, of the depot and of what the server does, over their public calls alone: what no scenario over the
+//! built program can show.
 //!
 //! They stand apart, since a crate with tests is proved twice. It has no code but its tests.
 #![tactic(auto)]
 
 #[cfg(test)]
 mod depot_tests;
+#[cfg(test)]
+mod library;
 #[cfg(test)]
 mod library_server_tests;
 #[cfg(test)]

@@ -1,8 +1,9 @@
 //! How connections end, with the numbers and the statuses that no program shows.
-use super::{clock, library_on};
+ghost use Rattle.std.specs.Prelude.{◌≤◌};
+
+use super::{MOMENT, link_of, served};
+use crate::library::library_on;
 use http_front::MemoryLink;
-use ids::{Bytes, Items};
-use library_server::serve_link;
 use std::alloc::{AllocError, Global};
 use std::test::Fail;
 use worker_server::Served;
@@ -74,19 +75,6 @@ const PUT: &[u8] =
 
 const STORED: &[u8] = b"HTTP/1.1 200 OK\r\nContent-Length: 0\r\n\r\n";
 
-/// A connection in pieces of this size.
-fn link_of(alloc: Global, asked: &[u8], piece: usize, room: usize) -> Result<MemoryLink, AllocError>
-    requires { 1 ≤ piece }
-{
-    MemoryLink::new(
-        alloc,
-        Bytes::copy(alloc, asked)?,
-        piece,
-        room,
-        Items::new(alloc),
-    )
-}
-
 /// A block is put, and this is left of the input.
 fn put_and(alloc: Global, left: &[u8]) -> Result<Vec<u8>, AllocError> {
     let mut asked = Vec::from_slice(alloc, PUT)?;
@@ -96,9 +84,8 @@ fn put_and(alloc: Global, left: &[u8]) -> Result<Vec<u8>, AllocError> {
 
 /// How a connection with a new library ends.
 fn end_of(alloc: Global, link: &mut MemoryLink) -> Result<Served, Fail> {
-    let mut depot = library_on(alloc, &[])?;
-    let clock = clock(alloc)?;
-    Ok(serve_link(alloc, &mut depot, link, &clock))
+    let mut depot = library_on(alloc, &[], MOMENT)?;
+    Ok(served(alloc, &mut depot, link)?)
 }
 
 /// Whether this was given after the block's reply.
@@ -114,7 +101,7 @@ fn ends_so(alloc: Global, ending: &Ending, piece: usize) -> Result<bool, Fail>
     requires { 1 ≤ piece }
 {
     let asked = put_and(alloc, ending.left)?;
-    let mut link = link_of(alloc, asked.as_slice(), piece, 1_000)?;
+    let mut link = link_of(alloc, asked.as_slice(), piece, &[])?;
     let how = end_of(alloc, &mut link)?;
     Ok(how == ending.how && is_given(&link, ending.given))
 }
@@ -122,13 +109,16 @@ fn ends_so(alloc: Global, ending: &Ending, piece: usize) -> Result<bool, Fail>
 #[test]
 fn each_end_has_its_number_and_its_status(rt: HostRuntime) -> Result<(), Fail> {
     for ending in ENDINGS {
-        for piece in [1, 1_000] {
-            assert!(rt;
-                ends_so(rt.alloc(), ending, piece)?,
-                "{:?} in pieces of {piece}",
-                ending.how
-            );
-        }
+        assert!(rt;
+            ends_so(rt.alloc(), ending, 1)?,
+            "{:?} in pieces of 1",
+            ending.how
+        );
+        assert!(rt;
+            ends_so(rt.alloc(), ending, 1_000)?,
+            "{:?} in pieces of 1,000",
+            ending.how
+        );
     }
     Ok(())
 }
@@ -148,19 +138,20 @@ fn many(alloc: Global) -> Result<Vec<u8>, AllocError> {
     Ok(asked)
 }
 
+/// The bytes of 9,999 replies of 84 bytes, which lack a field of 19, and of the last one.
+const SIZE: usize = 840_019;
+
 /// Whether each was replied to, and the last as the last one.
-fn are_replied(link: &MemoryLink) -> bool {
-    let given = link.given();
-    given.ends_with(LAST)
-        && given.len() == 10_000 * LAST.len() - 9_999 * b"Connection: close\r\n".len()
+fn are_replied(given: &[u8]) -> bool {
+    given.len() == SIZE && given.ends_with(LAST)
 }
 
 #[test]
 fn ten_thousand_requests_and_a_byte_more_meet_the_limit(rt: HostRuntime) -> Result<(), Fail> {
     let asked = many(rt.alloc())?;
-    let mut link = link_of(rt.alloc(), asked.as_slice(), 65_536, 1_000_000)?;
+    let mut link = link_of(rt.alloc(), asked.as_slice(), 65_536, &[])?;
     let how = end_of(rt.alloc(), &mut link)?;
     assert!(rt; how == Served::Limit);
-    assert!(rt; are_replied(&link));
+    assert!(rt; are_replied(link.given()));
     Ok(())
 }
