@@ -1,5 +1,5 @@
 //! Libraries in folders of the file system.
-ghost use Rattle.std.specs.Prelude.{◌≡◌, ⊤, IfOk, IfSome, IsSomeAnd, OnErr};
+ghost use Rattle.std.specs.Prelude.{◌≡◌, IfOk, IfSome, IsSomeAnd};
 ghost use Rattle.std.specs.String.{string_bytes};
 ghost use Rattle.object_store.specs.Shelf.{CountsFaults};
 ghost use Rattle.folder_storage.specs.Ground.{HasNoFaults};
