@@ -1,9 +1,10 @@
-//! Replies byte for byte, as docs/FORMATS.md has them.
-use http_front::{Outcome, Row, bad_bytes, reply_bytes};
-use ids::{Bytes, IdList, Items, Key, Kind, LibId, ObjId};
-use library_state::{Refusal, Reply, Tag};
+//! Replies byte for byte, as docs/FORMATS.md has them: what was done.
+mod refusal_tests;
+
+use http_front::{Outcome, Row, reply_bytes};
+use ids::{Bytes, IdList, Items, ObjId};
+use library_state::{Reply, Tag};
 use std::alloc::{AllocError, Global};
-use tree_model::{Name, NameFault, Path};
 
 const TAG: Tag = Tag {
     opening: 1,
@@ -36,13 +37,6 @@ fn a_block_is_given_back_in_100_bytes_where_the_connection_ends(
     Ok(())
 }
 
-/// A path of two names.
-fn path(alloc: Global) -> Result<Path, NameFault> {
-    let name = Name::read(alloc, "a\"b")?;
-    let above = Path::root(alloc).child(alloc, &name)?;
-    Ok(above.child(alloc, &Name::read(alloc, "c")?)?)
-}
-
 /// The text of a reply with a body.
 fn wanted(alloc: Global, status: &str, kind: &str, body: &str) -> Result<String, AllocError> {
     let size = body.len();
@@ -54,20 +48,6 @@ fn is_reply(alloc: Global, outcome: &Outcome, text: &str) -> Result<bool, AllocE
     Ok(reply_bytes(alloc, outcome, false)?.slice() == text.as_bytes())
 }
 
-fn is_refused(
-    alloc: Global,
-    refusal: Refusal,
-    status: &str,
-    body: &str,
-) -> Result<bool, AllocError> {
-    let text = wanted(alloc, status, JSON, body)?;
-    is_reply(
-        alloc,
-        &Outcome::Plain(Reply::Refused(refusal), TAG),
-        text.as_str(),
-    )
-}
-
 fn is_done(alloc: Global, outcome: Outcome, kind: &str, body: &str) -> Result<bool, AllocError> {
     let text = wanted(alloc, "200 OK", kind, body)?;
     is_reply(alloc, &outcome, text.as_str())
@@ -76,272 +56,6 @@ fn is_done(alloc: Global, outcome: Outcome, kind: &str, body: &str) -> Result<bo
 const JSON: &str = "Content-Type: application/json\r\n";
 
 const OCTETS: &str = "Content-Type: application/octet-stream\r\n";
-
-#[test]
-fn a_request_refused_before_any_library_has_its_status_and_body(
-    rt: HostRuntime,
-) -> Result<(), AllocError> {
-    assert!(rt;
-        is_refused(
-            rt.alloc(),
-            Refusal::NoLibrary,
-            "404 Not Found",
-            "{\"reason\":\"no-library\"}"
-        )?
-    );
-    assert!(rt;
-        is_refused(
-            rt.alloc(),
-            Refusal::NoCall,
-            "404 Not Found",
-            "{\"reason\":\"no-call\"}"
-        )?
-    );
-    assert!(rt;
-        is_refused(
-            rt.alloc(),
-            Refusal::BadMethod,
-            "501 Not Implemented",
-            "{\"reason\":\"method\"}"
-        )?
-    );
-    assert!(rt;
-        is_refused(
-            rt.alloc(),
-            Refusal::BadQuery,
-            "400 Bad Request",
-            "{\"reason\":\"bad-query\"}"
-        )?
-    );
-    assert!(rt;
-        is_refused(
-            rt.alloc(),
-            Refusal::BadBody(132),
-            "400 Bad Request",
-            "{\"at\":132,\"reason\":\"bad-body\"}"
-        )?
-    );
-    assert!(rt;
-        is_refused(
-            rt.alloc(),
-            Refusal::Denied,
-            "403 Forbidden",
-            "{\"reason\":\"denied\"}"
-        )?
-    );
-    Ok(())
-}
-
-#[test]
-fn an_object_refused_has_its_status_and_body(rt: HostRuntime) -> Result<(), AllocError> {
-    let id = ObjId::of(b"abc");
-    let other = ObjId::of(b"hello world");
-    let block = Key {
-        kind: Kind::Block,
-        id,
-    };
-    let lib = LibId::from_bytes([
-        17, 17, 17, 17, 34, 34, 67, 51, 132, 68, 85, 85, 85, 85, 85, 85,
-    ]);
-    assert!(rt;
-        is_refused(
-            rt.alloc(),
-            Refusal::NoObject(block),
-            "404 Not Found",
-            "{\"id\":\"a9993e364706816aba3e25717850c26c9cd0d89d\",\"kind\":\"block\",\"reason\":\"no-object\"}"
-        )?
-    );
-    assert!(rt;
-        is_refused(
-            rt.alloc(),
-            Refusal::Wrong(other),
-            "400 Bad Request",
-            "{\"got\":\"2aae6c35c94fcfb415dbe95f408b9ce91ee846ed\",\"reason\":\"wrong\"}"
-        )?
-    );
-    assert!(rt;
-        is_refused(
-            rt.alloc(),
-            Refusal::BadFs(2),
-            "400 Bad Request",
-            "{\"code\":2,\"reason\":\"bad-fs\"}"
-        )?
-    );
-    assert!(rt;
-        is_refused(
-            rt.alloc(),
-            Refusal::BadCommit(4),
-            "400 Bad Request",
-            "{\"code\":4,\"reason\":\"bad-commit\"}"
-        )?
-    );
-    assert!(rt;
-        is_refused(
-            rt.alloc(),
-            Refusal::OtherLibrary(lib),
-            "400 Bad Request",
-            "{\"lib\":\"11111111-2222-4333-8444-555555555555\",\"reason\":\"other-library\"}"
-        )?
-    );
-    assert!(rt;
-        is_refused(
-            rt.alloc(),
-            Refusal::Taken(id),
-            "409 Conflict",
-            "{\"id\":\"a9993e364706816aba3e25717850c26c9cd0d89d\",\"reason\":\"taken\"}"
-        )?
-    );
-    Ok(())
-}
-
-#[test]
-fn an_update_refused_has_its_status_and_body(rt: HostRuntime) -> Result<(), AllocError> {
-    let id = ObjId::of(b"abc");
-    let fs = Key { kind: Kind::Fs, id };
-    let commit = Key {
-        kind: Kind::Commit,
-        id,
-    };
-    assert!(rt;
-        is_refused(
-            rt.alloc(),
-            Refusal::Stale { last: 0, now: 1 },
-            "409 Conflict",
-            "{\"last\":0,\"now\":1,\"reason\":\"stale\"}"
-        )?
-    );
-    assert!(rt;
-        is_refused(
-            rt.alloc(),
-            Refusal::Incomplete(fs),
-            "446 Incomplete",
-            "{\"id\":\"a9993e364706816aba3e25717850c26c9cd0d89d\",\"kind\":\"fs\",\"reason\":\"incomplete\"}"
-        )?
-    );
-    assert!(rt;
-        is_refused(
-            rt.alloc(),
-            Refusal::Unrelated(128),
-            "400 Bad Request",
-            "{\"count\":128,\"reason\":\"unrelated\"}"
-        )?
-    );
-    assert!(rt;
-        is_refused(
-            rt.alloc(),
-            Refusal::Unreadable(commit),
-            "400 Bad Request",
-            "{\"id\":\"a9993e364706816aba3e25717850c26c9cd0d89d\",\"kind\":\"commit\",\"reason\":\"unreadable\"}"
-        )?
-    );
-    assert!(rt;
-        is_refused(
-            rt.alloc(),
-            Refusal::WrongKind(id),
-            "400 Bad Request",
-            "{\"id\":\"a9993e364706816aba3e25717850c26c9cd0d89d\",\"reason\":\"wrong-kind\"}"
-        )?
-    );
-    assert!(rt;
-        is_refused(
-            rt.alloc(),
-            Refusal::WrongSize(id),
-            "400 Bad Request",
-            "{\"id\":\"a9993e364706816aba3e25717850c26c9cd0d89d\",\"reason\":\"wrong-size\"}"
-        )?
-    );
-    Ok(())
-}
-
-#[test]
-fn a_tree_refused_has_its_status_and_body(rt: HostRuntime) -> Result<(), NameFault> {
-    assert!(rt;
-        is_refused(
-            rt.alloc(),
-            Refusal::TooDeep(path(rt.alloc())?),
-            "442 Too Large",
-            "{\"path\":\"a\\\"b/c\",\"reason\":\"too-deep\"}"
-        )?
-    );
-    assert!(rt;
-        is_refused(
-            rt.alloc(),
-            Refusal::TooMany(1_000_001),
-            "442 Too Large",
-            "{\"count\":1000001,\"reason\":\"too-many\"}"
-        )?
-    );
-    assert!(rt;
-        is_refused(
-            rt.alloc(),
-            Refusal::TooLong(path(rt.alloc())?, 335),
-            "442 Too Large",
-            "{\"length\":335,\"path\":\"a\\\"b/c\",\"reason\":\"too-long\"}"
-        )?
-    );
-    assert!(rt;
-        is_refused(
-            rt.alloc(),
-            Refusal::BadDays(-2),
-            "400 Bad Request",
-            "{\"days\":-2,\"reason\":\"bad-days\"}"
-        )?
-    );
-    Ok(())
-}
-
-#[test]
-fn what_fails_has_its_status_and_body(rt: HostRuntime) -> Result<(), AllocError> {
-    let id = ObjId::of(b"abc");
-    let other = ObjId::of(b"hello world");
-    assert!(rt;
-        is_refused(
-            rt.alloc(),
-            Refusal::Damaged {
-                want: id,
-                got: Some(other),
-            },
-            "445 Damaged",
-            "{\"got\":\"2aae6c35c94fcfb415dbe95f408b9ce91ee846ed\",\"reason\":\"damaged\",\"want\":\"a9993e364706816aba3e25717850c26c9cd0d89d\"}"
-        )?
-    );
-    assert!(rt;
-        is_refused(
-            rt.alloc(),
-            Refusal::Damaged {
-                want: id,
-                got: None,
-            },
-            "445 Damaged",
-            "{\"got\":null,\"reason\":\"damaged\",\"want\":\"a9993e364706816aba3e25717850c26c9cd0d89d\"}"
-        )?
-    );
-    assert!(rt;
-        is_refused(
-            rt.alloc(),
-            Refusal::Store,
-            "500 Internal Server Error",
-            "{\"reason\":\"store\"}"
-        )?
-    );
-    assert!(rt;
-        is_refused(
-            rt.alloc(),
-            Refusal::Spent,
-            "449 Spent",
-            "{\"reason\":\"spent\"}"
-        )?
-    );
-    assert!(rt;
-        is_refused(
-            rt.alloc(),
-            Refusal::NoMemory,
-            "503 Service Unavailable",
-            "{\"reason\":\"no-memory\"}"
-        )?
-    );
-    Ok(())
-}
 
 #[test]
 fn what_was_done_has_its_body(rt: HostRuntime) -> Result<(), AllocError> {
@@ -427,29 +141,6 @@ const ROW: &str = "a9993e364706816aba3e25717850c26c9cd0d89d\0\0\0\u{3}abc";
 fn objects_are_packed_as_rows(rt: HostRuntime) -> Result<(), AllocError> {
     let packed = packed(rt.alloc())?;
     assert!(rt; is_done(rt.alloc(), Outcome::Packed(packed), OCTETS, ROW)?);
-    Ok(())
-}
-
-const MALFORMED: &[u8] =
-    b"HTTP/1.1 400 Bad Request\r\nContent-Type: application/json\r\nContent-Length: 22\r\nConnection: close\r\n\r\n{\"reason\":\"malformed\"}";
-
-const TOO_LARGE: &[u8] =
-    b"HTTP/1.1 413 Content Too Large\r\nContent-Type: application/json\r\nContent-Length: 27\r\nConnection: close\r\n\r\n{\"reason\":\"body-too-large\"}";
-
-const LONG_HEAD: &[u8] =
-    b"HTTP/1.1 431 Request Header Fields Too Large\r\nContent-Type: application/json\r\nContent-Length: 27\r\nConnection: close\r\n\r\n{\"reason\":\"head-too-large\"}";
-
-const CODING: &[u8] =
-    b"HTTP/1.1 501 Not Implemented\r\nContent-Type: application/json\r\nContent-Length: 19\r\nConnection: close\r\n\r\n{\"reason\":\"coding\"}";
-
-#[test]
-fn what_is_no_request_is_answered_and_the_connection_closed(
-    rt: HostRuntime,
-) -> Result<(), AllocError> {
-    assert!(rt; bad_bytes(rt.alloc(), 400)?.slice() == MALFORMED);
-    assert!(rt; bad_bytes(rt.alloc(), 413)?.slice() == TOO_LARGE);
-    assert!(rt; bad_bytes(rt.alloc(), 431)?.slice() == LONG_HEAD);
-    assert!(rt; bad_bytes(rt.alloc(), 501)?.slice() == CODING);
     Ok(())
 }
 
