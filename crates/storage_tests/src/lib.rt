@@ -11,6 +11,8 @@ mod earlier_rows;
 #[cfg(test)]
 mod folder_rows;
 #[cfg(test)]
+mod gate_rows;
+#[cfg(test)]
 mod ground_rows;
 #[cfg(test)]
 mod library;

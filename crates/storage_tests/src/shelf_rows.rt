@@ -8,7 +8,7 @@ use std::alloc::{AllocError, Global};
 use std::test::Fail;
 
 /// An empty shelf whose calls of these numbers fail.
-fn memory(alloc: Global, fails: &[u64]) -> Result<MemoryShelf, AllocError> {
+pub(crate) fn memory(alloc: Global, fails: &[u64]) -> Result<MemoryShelf, AllocError> {
     Ok(MemoryShelf::new(alloc, Items::copy(alloc, fails)?))
 }
 
