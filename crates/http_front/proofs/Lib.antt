@@ -18,4 +18,5 @@ pub mod TagLemmas
 pub mod TargetFrontLemmas
 pub mod TargetLemmas
 pub mod TokenLemmas
+pub mod UnfinishedLemmas
 pub mod NamedIdLemmas

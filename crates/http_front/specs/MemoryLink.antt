@@ -1,7 +1,8 @@
 -- A link and a sink in memory, as contracts see them: what was moved, what is left to move, and
 -- which calls are to fail. Read first: Link.
-use Rattle.std.specs.Prelude.{ℕ, ◌+◌, ◌-◌, ◌^◌, Bool, ◌||◌, ◌==◌, nat_lt, min, List, ◌++◌, length, take, drop, if◌then◌else◌}
+use Rattle.std.specs.Prelude.{ℕ, ◌+◌, ◌-◌, ◌^◌, Bool, ◌||◌, ◌==◌, nat_lt, min, List, [], ◌∷◌, ◌++◌, length, take, drop, if◌then◌else◌}
 use Rattle.std.specs.List.{list_any}
+use Rattle.http_front.specs.Link.{Asked}
 
 -- `calls` counts the takes and gives so far, up to 2 ^ 64 - 1
 pub record MemoryLinkState : Type 0 where
@@ -13,6 +14,7 @@ pub record MemoryLinkState : Type 0 where
   pub fails : List ℕ
   pub calls : ℕ
   pub faults : ℕ
+  pub asked : List Asked
 
 pub record MemorySinkState : Type 0 where
   pub given : List ℕ
@@ -42,14 +44,19 @@ abbrev pub give_fails : ℕ → List ℕ → ℕ → List ℕ → List ℕ → B
 give_fails room fails number given piece =
     is_due fails number || nat_lt (room - length given) (length piece)
 
+-- what it was asked, and once more
+abbrev pub asked_more : MemoryLinkState → List Asked
+asked_more link = link.asked ++ (length link.taken, length link.given) ∷ []
+
 -- the link after a take of n bytes
 abbrev pub after_take : MemoryLinkState → ℕ → MemoryLinkState
 after_take link n = record link {
   left = drop n link.left;
   taken = link.taken ++ take n link.left;
   calls = counted link.calls;
+  asked = asked_more link;
 }
 
 -- the link after a take that failed
 abbrev pub after_failed_take : MemoryLinkState → MemoryLinkState
-after_failed_take link = record link { calls = counted link.calls; faults = counted link.faults }
+after_failed_take link = record link { calls = counted link.calls; faults = counted link.faults; asked = asked_more link }

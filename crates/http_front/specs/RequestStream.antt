@@ -1,6 +1,6 @@
 -- The requests that a stream of bytes spells, one after the other, and where they end. The head is read
 -- from the first 16,384 bytes of what is left, and has at most 64 fields. Read first: RequestHead.
-use Rattle.std.specs.Prelude.{ℕ, ◌≡◌, ◌≢◌, ◌<◌, ◌≤◌, false, Ok, Err, List, [], ◌∷◌, ◌++◌, length, take, ⊤}
+use Rattle.std.specs.Prelude.{ℕ, ◌≡◌, ◌≢◌, ◌<◌, ◌≤◌, ◌*◌, false, Ok, Err, List, [], ◌∷◌, ◌++◌, length, take, drop, All, ⊤}
 use Rattle.httparse.specs.Grammar.{RequestHead, ReadsRequest, print_request, HasNoRequest}
 use Rattle.httparse.specs.Spans.{RequestOverflows}
 use Rattle.http_front.specs.TargetFront.{MayBecomeHead}
@@ -57,6 +57,19 @@ pub data IsCutAfter (rest given : List ℕ) : Type 0 where
   in_head : rest ≢ [] → length rest < 16384 → IsOpen rest → given ≡ [] → IsCutAfter rest given
   in_body : (head : RequestHead) (after : List ℕ) (length_due : ℕ) → IsHeadAt rest head after
       → judge head ≡ Ok length_due → length after < length_due → given ≡ interim_of head → IsCutAfter rest given
+
+-- so many bytes were looked at for a head that is not there yet: at least half of what is there, and all up to the last line
+-- feed. They may become a head, so what begins none is refused by then
+pub record IsLookedAt (seen : ℕ) (unread : List ℕ) : Type 0 where
+  pub half : length unread ≤ 2 * seen
+  pub lines : All (λ byte. byte ≢ 10) (drop seen unread)
+  pub may : MayBecomeHead (take seen unread)
+
+-- less than a request, for which these bytes were given: the interim reply of its head, if that is there and waits for one
+pub data IsUnfinished (unread given : List ℕ) : Type 0 where
+  head_open : (seen : ℕ) → length unread < 16384 → HasNoRequest unread → IsLookedAt seen unread → given ≡ [] → IsUnfinished unread given
+  body_open : (head : RequestHead) (after : List ℕ) (length_due : ℕ) → IsHeadAt unread head after
+      → judge head ≡ Ok length_due → length after < length_due → given ≡ interim_of head → IsUnfinished unread given
 
 -- what is left begins with no request, for the cause that the status tells
 pub data IsRefused (rest : List ℕ) (status : ℕ) : Type 0 where

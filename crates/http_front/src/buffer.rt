@@ -1,7 +1,8 @@
 //! The bytes that were taken from a link and not yet used.
-ghost use Rattle.std.specs.Prelude.{◌≡◌, ◌≢◌, ◌+◌, ◌≤◌, ◌↔◌, IsTrue, ℕ, List, [], ◌++◌, length, drop, IfOk, IfErr, OnErr};
-ghost use Rattle.std.specs.Io.KnownBytes.{IsAtEnd, append_known};
-ghost use Rattle.http_front.specs.Buffer.{to_read};
+ghost use Rattle.std.specs.Prelude.{◌≡◌, ◌≢◌, ◌+◌, ◌≤◌, ◌↔◌, IsTrue, [], length, drop, IfOk, IfErr, OnErr};
+ghost use Rattle.std.specs.Io.KnownBytes.{IsAtEnd};
+ghost use Rattle.http_front.specs.Buffer.{Fills, to_read};
+ghost use Rattle.http_front.specs.Link.{told_by};
 ghost use Rattle.ids.specs.FaultCount.{Rose};
 
 use crate::link::Link;
@@ -92,8 +93,8 @@ impl Buffer {
         ensures end { IfOk result (λ n. n ≡ 0 → IsAtEnd (L.left link.new)) }
         ensures err { OnErr result (self.new ≡ self.old) }
         ensures to_read { to_read self.new (L.left link.new) ≡ to_read self.old (L.left link.old) }
-        ensures taken { (piece : List ℕ) × (self.new ≡ self.old ++ piece) × (L.taken link.new ≡ append_known (L.taken link.old) piece) }
         ensures kept { L.given link.new ≡ L.given link.old }
+        ensures fills { Fills self.old self.new (told_by L.taken L.given L.asked link.old) (told_by L.taken L.given L.asked link.new) }
         ensures link { result ≡ Err FillFault.Link → Rose (L.faults link.old) (L.faults link.new) }
         ensures faults { result ≢ Err FillFault.Link → L.faults link.new ≡ L.faults link.old }
     {

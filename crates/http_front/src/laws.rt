@@ -1,11 +1,11 @@
 //! Theorems about the stream of requests and the table of calls.
-ghost use Rattle.std.specs.Prelude.{◌≡◌, ◌⊎◌, ℕ, List, [], Option, Result, Ok, Some};
+ghost use Rattle.std.specs.Prelude.{◌≡◌, ◌<◌, ◌⊎◌, ℕ, List, [], length, Option, Result, Ok, Some};
 ghost use Rattle.library_state.specs.declared.call.Op.{Op};
 ghost use Rattle.library_state.specs.declared.refusal.Refusal.{Refusal};
 ghost use Rattle.http_front.specs.CallQuery.{IsClient, IsObjectId, check_query, ids_query, update_query};
 ghost use Rattle.http_front.specs.Order.{IsOrder, asked_of};
 ghost use Rattle.http_front.specs.Query.{query_of};
-ghost use Rattle.http_front.specs.RequestStream.{Extends, HasNoWhole, IsCutAfter, IsRefused, NeedsManyFields, Reads, Request};
+ghost use Rattle.http_front.specs.RequestStream.{Extends, HasNoWhole, IsCutAfter, IsRefused, IsUnfinished, NeedsManyFields, Reads, Request};
 ghost use Rattle.http_front.specs.Route.{IsCall, IsLibrary, method_in, path_in, route_of};
 ghost use Rattle.http_front.specs.Target.{path_of};
 ghost use Rattle.http_front.specs.declared.method.Method.{Method};
@@ -36,6 +36,12 @@ pub fn what_is_left_has_one_end()
         → (first ≡ second) ⊎ NeedsManyFields rest }
     ensures cut_or_refused { (rest given : List ℕ) (status : ℕ) → IsCutAfter rest given → IsRefused rest status
         → NeedsManyFields rest }
+{}
+
+/// What is less than a request is no whole one, and has less than 67,125,248 bytes: those of a head and of the longest body.
+pub fn what_is_unfinished_is_short()
+    ensures none { (unread given : List ℕ) → IsUnfinished unread given → HasNoWhole unread }
+    ensures bound { (unread given : List ℕ) → IsUnfinished unread given → length unread < 67125248 }
 {}
 
 /// A request names a call by that call's method and path alone, but for a slash at the end and a query.

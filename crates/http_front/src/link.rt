@@ -1,7 +1,7 @@
 //! Links and sinks: the two ends of a connection, and where lines are printed.
 ghost use Rattle.std.specs.Prelude.{◌≡◌, ◌<◌, ◌≤◌, ℕ, List, length, take, IfOk, OnErr};
 ghost use Rattle.std.specs.Io.KnownBytes.{IsAtEnd, append_known, prepend_known};
-ghost use Rattle.http_front.specs.Link.{CountsFaults, Gives};
+ghost use Rattle.http_front.specs.Link.{CountsFaults, Gives, asked_once_more};
 
 /// A take, a give or a put that failed.
 #[derive(Clone, Copy, Debug, PartialEq, Eq)]
@@ -14,6 +14,7 @@ pub struct LinkFailed;
 /// that fails and in no other, up to 2^64 - 1.
 pub trait Link {
     ghost use Rattle.std.specs.Prelude.{Option};
+    ghost use Rattle.http_front.specs.Link.{Asked};
 
     // The bytes that takes will give from here on.
     ghost left: { Self → Option (List ℕ) };
@@ -23,6 +24,9 @@ pub trait Link {
 
     // The bytes that were given to it so far.
     ghost given: { Self → Option (List ℕ) };
+
+    // For each take so far, how many bytes had been taken and given as it began.
+    ghost asked: { Self → Option (List Asked) };
 
     ghost faults: { Self → ℕ };
 
@@ -37,6 +41,7 @@ pub trait Link {
         ensures err_left { OnErr result (left self.new ≡ left self.old) }
         ensures err_taken { OnErr result (taken self.new ≡ taken self.old) }
         ensures kept { given self.new ≡ given self.old }
+        ensures asked { asked self.new ≡ asked_once_more (asked self.old) (taken self.old) (given self.old) }
         ensures faults { CountsFaults (faults self.old) (faults self.new) result };
 
     /// Gives the piece. After a give that fails a front of the piece was given.
@@ -44,6 +49,7 @@ pub trait Link {
         ensures given { Gives (given self.old) (given self.new) piece.now result }
         ensures kept_left { left self.new ≡ left self.old }
         ensures kept_taken { taken self.new ≡ taken self.old }
+        ensures kept_asked { asked self.new ≡ asked self.old }
         ensures faults { CountsFaults (faults self.old) (faults self.new) result };
 }
 

@@ -1,10 +1,11 @@
 //! A link in memory: its input, its room and the calls that are to fail.
 ghost use Rattle.std.specs.Prelude.{◌≡◌, ◌+◌, ◌-◌, ◌<◌, ◌≤◌, ◌↔◌, IsTrue, if◌then◌else◌, is_err, List, [], ◌++◌, length, take, drop, min, IfOk, OnErr, IsErr, vec_len, vec_capacity};
 ghost use Rattle.std.specs.Io.KnownBytes.{IsAtEnd, append_known, prepend_known};
-ghost use Rattle.http_front.specs.Link.{CountsFaults, Gives};
+ghost use Rattle.http_front.specs.Link.{CountsFaults, Gives, asked_once_more};
 ghost use Rattle.http_front.specs.MemoryLink.{after_failed_take, after_take, counted, fitting, give_fails, given_count, is_due};
 
 use crate::link::{Link, LinkFailed};
+use http_server::Log;
 use ids::{Bytes, Items};
 use std::alloc::{AllocError, Global};
 use std::marker::Model;
@@ -20,6 +21,8 @@ pub struct MemoryLink {
     fails: Items<u64>,
     calls: u64,
     faults: u64,
+    // What it was asked, for proofs alone.
+    asked: Log<usize, usize>,
 }
 
 impl Model for MemoryLink {
@@ -37,6 +40,7 @@ impl Model for MemoryLink {
       fails = a.fails;
       calls = a.calls;
       faults = a.faults;
+      asked = a.asked.items;
     } };
 
     ghost invariant = { λ a. record { place : a.place ≤ length a.input; piece : 0 < a.piece; room : a.room ≤ vec_capacity a.out } };
@@ -64,6 +68,7 @@ impl MemoryLink {
           fails = fails;
           calls = 0;
           faults = 0;
+          asked = [];
         }) }
     {
         let out = Vec::with_capacity(alloc, room)?;
@@ -76,6 +81,7 @@ impl MemoryLink {
             fails,
             calls: 0,
             faults: 0,
+            asked: Log::new(),
         })
     }
 
@@ -96,6 +102,8 @@ impl Link for MemoryLink {
 
     ghost given = { λ link. Some link.given };
 
+    ghost asked = { λ link. Some link.asked };
+
     ghost faults = { λ link. link.faults };
 
     fn take(&mut self, into: &mut [u8]) -> Result<usize, LinkFailed>
@@ -107,6 +115,7 @@ impl Link for MemoryLink {
         ensures err_left { OnErr result (Some self.new.left ≡ Some self.old.left) }
         ensures err_taken { OnErr result (Some self.new.taken ≡ Some self.old.taken) }
         ensures kept { Some self.new.given ≡ Some self.old.given }
+        ensures asked { Some self.new.asked ≡ asked_once_more (Some self.old.asked) (Some self.old.taken) (Some self.old.given) }
         ensures faults { CountsFaults self.old.faults self.new.faults result }
 
         // A take fails exactly where it is to fail, and else gives as many bytes as it may.
@@ -117,6 +126,7 @@ impl Link for MemoryLink {
     {
         let due = is_due_at(self.fails.slice(), self.calls);
         self.calls = self.calls.saturating_add(1);
+        self.asked = self.asked.and(&self.place, &self.out.as_slice().len());
         if due {
             self.faults = self.faults.saturating_add(1);
             return Err(LinkFailed);
@@ -132,6 +142,7 @@ impl Link for MemoryLink {
         ensures given { Gives (Some self.old.given) (Some self.new.given) piece.now result }
         ensures kept_left { Some self.new.left ≡ Some self.old.left }
         ensures kept_taken { Some self.new.taken ≡ Some self.old.taken }
+        ensures kept_asked { Some self.new.asked ≡ Some self.old.asked }
         ensures faults { CountsFaults self.old.faults self.new.faults result }
 
         // A give fails exactly where it is to fail or the piece finds no room in full, and then

@@ -2,6 +2,7 @@
 use Rattle.std.specs.Prelude.{◌≡◌, ℕ, List, Option, Some, ⊤}
 use Rattle.depot.specs.DepotView.{DepotView, IsGood, state_of}
 use Rattle.folder_storage.specs.Ground.{MayGive, Standing}
+use Rattle.http_front.specs.Link.{LinkTells}
 use Rattle.library_rules.specs.LibraryState.{State}
 use Rattle.object_store.specs.Shelf.{Contents}
 use Rattle.object_store.specs.declared.shelf.Slot.{Slot}
@@ -9,7 +10,7 @@ use Rattle.server_words.specs.Lines.{fault_status}
 use Rattle.server_words.specs.Spelling.{place_text}
 use Rattle.server_words.specs.declared.command.Place.{Place}
 use Rattle.worker_server.specs.Calls.{AtAMoment, Told, Ran}
-use Rattle.worker_server.specs.ServedConnection.{CountsEnd, Session}
+use Rattle.worker_server.specs.ServedConnection.{CountsEnd, SessionInTime}
 use Rattle.worker_server.specs.declared.served.Served.{Served}
 use Rattle.worker_server.specs.declared.served.Served.TheVariants.{Ended, Limit, Cut, Refused, ReadFault, WriteFault, NoMemory}
 use Rattle.library_server.specs.Answering.{AnswersOn}
@@ -19,10 +20,10 @@ use Rattle.library_server.specs.Making.{RoseWhere}
 use Rattle.library_server.specs.Standing.{ComesBack, GroundView, Returned}
 use Rattle.library_server.specs.declared.not_done.NotOpened.{NotOpened}
 
--- what is seen of a link: the bytes that it has left and was given, and its count of faults
+-- what is seen of a link: the bytes that it has left, what it tells of those that it moved, and its count of faults
 pub record LinkView : Type 0 where
   pub left : Option (List ℕ)
-  pub given : Option (List ℕ)
+  pub tells : LinkTells
   pub faults : ℕ
 
 -- 0 where all that was asked was replied, 1 after a fault, 3 for want of memory
@@ -40,7 +41,7 @@ pub record ServesOpened {S : Type 0} (contents : S → Option Contents) (may_giv
     (shows : ℕ → Type 0) (depot after : DepotView S) (before now : LinkView) (status : ℕ) : Type 0 where
   pub how : Served
   pub session : (input : List ℕ) → before.left ≡ Some input
-      → Session (AtAMoment shows (AnswersOn contents may_give texts faults)) input before.given now.given depot after how
+      → SessionInTime (AtAMoment shows (AnswersOn contents may_give texts faults)) input before.tells now.tells depot after how
   pub ran : (calls : List (Told ⊤)) × Ran (AtAMoment shows (AnswersOn contents may_give texts faults)) depot calls after
   pub count : CountsEnd before.faults now.faults how
   pub status_is : status ≡ status_of how

@@ -1,6 +1,7 @@
 //! The command that serves one connection.
 ghost use Rattle.std.specs.Prelude.{◌≡◌, Some};
 ghost use Rattle.folder_storage.specs.Ground.{Standing};
+ghost use Rattle.http_front.specs.Link.{told_by};
 ghost use Rattle.server_words.specs.Spelling.{place_text};
 ghost use Rattle.library_server.specs.Answering.{NeverFails};
 ghost use Rattle.library_server.specs.Connections.{LinkView, ServesOpened, ServesPlace, status_of};
@@ -32,8 +33,8 @@ pub(crate) fn inetd<G: Ground, L: Link, C: Clock>(
     ensures serves { (service : ServesPlace G.S.contents G.S.may_give G.S.texts G.S.faults (G.may_give libraries.old) place.now lib (C.shows clock.now)
         (record { stands = G.stands libraries.old; faults = G.faults libraries.old })
         (record { stands = G.stands libraries.new; faults = G.faults libraries.new })
-        (record { left = L.left link.old; given = L.given link.old; faults = L.faults link.old })
-        (record { left = L.left link.new; given = L.given link.new; faults = L.faults link.new }) result)
+        (record { left = L.left link.old; tells = told_by L.taken L.given L.asked link.old; faults = L.faults link.old })
+        (record { left = L.left link.new; tells = told_by L.taken L.given L.asked link.new; faults = L.faults link.new }) result)
         × (NeverFails G.S.faults → (standing : Standing) → G.stands libraries.old (place_text place.now) lib ≡ Some standing → IsWhole standing
         → ServesWhole service) }
 {
@@ -54,8 +55,8 @@ fn serve_opened<S: Shelf, L: Link, C: Clock>(
     clock: &C,
 ) -> u8
     ensures serves { ServesOpened S.contents S.may_give S.texts S.faults (C.shows clock.now) depot.old depot.new
-        (record { left = L.left link.old; given = L.given link.old; faults = L.faults link.old })
-        (record { left = L.left link.new; given = L.given link.new; faults = L.faults link.new }) result }
+        (record { left = L.left link.old; tells = told_by L.taken L.given L.asked link.old; faults = L.faults link.old })
+        (record { left = L.left link.new; tells = told_by L.taken L.given L.asked link.new; faults = L.faults link.new }) result }
 {
     status_of(serve_link(alloc, depot, link, clock))
 }

@@ -7,6 +7,7 @@ ghost use Rattle.server_words.specs.Lines.{line_text};
 ghost use Rattle.server_words.specs.declared.line.Line.TheVariants as lines;
 ghost use Rattle.folder_storage.specs.Ground.{Standing};
 ghost use Rattle.folder_storage.specs.SteadyShelf.{SteadyShelfState};
+ghost use Rattle.http_front.specs.Link.{told_by};
 ghost use Rattle.server_words.specs.Spelling.{place_text};
 ghost use Rattle.library_server.specs.Answering.{NeverFails};
 ghost use Rattle.library_server.specs.Connections.{LinkView};
@@ -51,8 +52,8 @@ pub fn run<G: Ground, L: Link, C: Clock, O: Sink, R>(
     ensures runs { RunsSo G.S.contents G.S.may_give G.S.texts G.S.faults (G.may_give libraries.old) (C.shows clock.now) (command_of words.now)
         (record { stands = G.stands libraries.old; faults = G.faults libraries.old })
         (record { stands = G.stands libraries.new; faults = G.faults libraries.new })
-        (record { left = L.left link.old; given = L.given link.old; faults = L.faults link.old })
-        (record { left = L.left link.new; given = L.given link.new; faults = L.faults link.new })
+        (record { left = L.left link.old; tells = told_by L.taken L.given L.asked link.old; faults = L.faults link.old })
+        (record { left = L.left link.new; tells = told_by L.taken L.given L.asked link.new; faults = L.faults link.new })
         (record { given = O.given out.old; faults = O.faults out.old })
         (record { given = O.given out.new; faults = O.faults out.new }) result }
 
@@ -60,8 +61,8 @@ pub fn run<G: Ground, L: Link, C: Clock, O: Sink, R>(
     ensures whole { NeverFails G.S.faults → AreWhole (G.stands libraries.old) → (done : RunsSo G.S.contents G.S.may_give G.S.texts G.S.faults (G.may_give libraries.old) (C.shows clock.now) (command_of words.now)
         (record { stands = G.stands libraries.old; faults = G.faults libraries.old })
         (record { stands = G.stands libraries.new; faults = G.faults libraries.new })
-        (record { left = L.left link.old; given = L.given link.old; faults = L.faults link.old })
-        (record { left = L.left link.new; given = L.given link.new; faults = L.faults link.new })
+        (record { left = L.left link.old; tells = told_by L.taken L.given L.asked link.old; faults = L.faults link.old })
+        (record { left = L.left link.new; tells = told_by L.taken L.given L.asked link.new; faults = L.faults link.new })
         (record { given = O.given out.old; faults = O.faults out.old })
         (record { given = O.given out.new; faults = O.faults out.new }) result) × RunsWhole done }
 
@@ -87,13 +88,13 @@ pub fn run_in_memory<L: Link, C: Clock, O: Sink, R>(
     out: &mut O,
 ) -> u8
     ensures runs { (after : GroundView) × RunsSo {S = SteadyShelfState} (λ shelf. Some shelf.contents) (λ shelf. holds_in shelf.contents) (λ shelf. shelf.texts) (λ shelf. 0) empty_gives (C.shows clock.now) (command_of words.now) empty_ground after
-        (record { left = L.left link.old; given = L.given link.old; faults = L.faults link.old })
-        (record { left = L.left link.new; given = L.given link.new; faults = L.faults link.new })
+        (record { left = L.left link.old; tells = told_by L.taken L.given L.asked link.old; faults = L.faults link.old })
+        (record { left = L.left link.new; tells = told_by L.taken L.given L.asked link.new; faults = L.faults link.new })
         (record { given = O.given out.old; faults = O.faults out.old })
         (record { given = O.given out.new; faults = O.faults out.new }) result }
     ensures whole { (after : GroundView) × (done : RunsSo {S = SteadyShelfState} (λ shelf. Some shelf.contents) (λ shelf. holds_in shelf.contents) (λ shelf. shelf.texts) (λ shelf. 0) empty_gives (C.shows clock.now) (command_of words.now) empty_ground after
-        (record { left = L.left link.old; given = L.given link.old; faults = L.faults link.old })
-        (record { left = L.left link.new; given = L.given link.new; faults = L.faults link.new })
+        (record { left = L.left link.old; tells = told_by L.taken L.given L.asked link.old; faults = L.faults link.old })
+        (record { left = L.left link.new; tells = told_by L.taken L.given L.asked link.new; faults = L.faults link.new })
         (record { given = O.given out.old; faults = O.faults out.old })
         (record { given = O.given out.new; faults = O.faults out.new }) result) × RunsWhole done }
 {
@@ -114,15 +115,15 @@ fn perform<G: Ground, L: Link, C: Clock, O: Sink>(
     ensures runs { RunsSo G.S.contents G.S.may_give G.S.texts G.S.faults (G.may_give libraries.old) (C.shows clock.now) command
         (record { stands = G.stands libraries.old; faults = G.faults libraries.old })
         (record { stands = G.stands libraries.new; faults = G.faults libraries.new })
-        (record { left = L.left link.old; given = L.given link.old; faults = L.faults link.old })
-        (record { left = L.left link.new; given = L.given link.new; faults = L.faults link.new })
+        (record { left = L.left link.old; tells = told_by L.taken L.given L.asked link.old; faults = L.faults link.old })
+        (record { left = L.left link.new; tells = told_by L.taken L.given L.asked link.new; faults = L.faults link.new })
         (record { given = O.given out.old; faults = O.faults out.old })
         (record { given = O.given out.new; faults = O.faults out.new }) result }
     ensures whole { NeverFails G.S.faults → AreWhole (G.stands libraries.old) → (done : RunsSo G.S.contents G.S.may_give G.S.texts G.S.faults (G.may_give libraries.old) (C.shows clock.now) command
         (record { stands = G.stands libraries.old; faults = G.faults libraries.old })
         (record { stands = G.stands libraries.new; faults = G.faults libraries.new })
-        (record { left = L.left link.old; given = L.given link.old; faults = L.faults link.old })
-        (record { left = L.left link.new; given = L.given link.new; faults = L.faults link.new })
+        (record { left = L.left link.old; tells = told_by L.taken L.given L.asked link.old; faults = L.faults link.old })
+        (record { left = L.left link.new; tells = told_by L.taken L.given L.asked link.new; faults = L.faults link.new })
         (record { given = O.given out.old; faults = O.faults out.old })
         (record { given = O.given out.new; faults = O.faults out.new }) result) × RunsWhole done }
 {

@@ -2,7 +2,8 @@
 ghost use Rattle.std.specs.Prelude.{◌≡◌, ◌≢◌, ℕ, List, Some, ⊤, false};
 ghost use Rattle.ids.specs.FaultCount.{Rose};
 ghost use Rattle.worker_server.specs.Calls.{AtAMoment, Told, Ran};
-ghost use Rattle.worker_server.specs.ServedConnection.{CountsEnd, Session};
+ghost use Rattle.http_front.specs.Link.{told_by};
+ghost use Rattle.worker_server.specs.ServedConnection.{CountsEnd, SessionInTime};
 ghost use Rattle.library_server.specs.Answering.{AnswersOn, IsAnswered, NamesIn, NeverFails, is_storage_reply};
 
 use depot::Depot;
@@ -75,9 +76,10 @@ pub fn serve_link<S: Shelf, L: Link, C: Clock>(
     clock: &C,
 ) -> Served
     // Where the link tells what it has left: the bytes given are the texts of the library's replies to the requests
-    // that those bytes spell.
+    // that those bytes spell. Where it tells what it was asked besides: no reply waited for more input.
     ensures session { (input : List ℕ) → L.left link.old ≡ Some input
-        → Session (AtAMoment (C.shows clock.now) (AnswersOn S.contents S.may_give S.texts S.faults)) input (L.given link.old) (L.given link.new) depot.old depot.new result }
+        → SessionInTime (AtAMoment (C.shows clock.now) (AnswersOn S.contents S.may_give S.texts S.faults)) input
+        (told_by L.taken L.given L.asked link.old) (told_by L.taken L.given L.asked link.new) depot.old depot.new result }
 
     // Of every link: the calls that were asked.
     ensures ran { (calls : List (Told ⊤)) × Ran (AtAMoment (C.shows clock.now) (AnswersOn S.contents S.may_give S.texts S.faults)) depot.old calls depot.new }

@@ -3,3 +3,4 @@ pub mod EachLemmas
 pub mod ReadingLemmas
 pub mod RequestLemmas
 pub mod SessionLemmas
+pub mod TimingLemmas

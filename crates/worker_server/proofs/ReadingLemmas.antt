@@ -89,7 +89,7 @@ head_ahead buffer left rest head request e is =
     let after = drop (length (print_request request)) buffer ++ ahead.0 in
     (after, subst (λ z. IsHeadAt z request after) (sym ahead.2) (head_at buffer ahead.0 request _ is.reads is.few))
 
-body_cut : (rest : List ℕ) (head : Head) (request : RequestHead) (after : List ℕ) → IsHeadAt rest request after
+pub body_cut : (rest : List ℕ) (head : Head) (request : RequestHead) (after : List ℕ) → IsHeadAt rest request after
     → head.used ≡ length (print_request request) → length rest < head.used + head.body → length after < head.body
 body_cut rest head request after at used short =
     let whole : length rest ≡ length (print_request request) + length after =
@@ -163,6 +163,16 @@ body_stops buffer left rest head request end.NoMemory given before now how e is 
     (interim_due head.expects, begun request at.0 head.body at.1 is.body due, stops.1 ∙ gave)
 
 -- ---- a whole request
+
+-- a request of some bytes is one of those bytes and more
+pub IsRequest-append : (bytes more : List ℕ) (r : Request) (after : List ℕ) → IsRequest bytes r after → IsRequest (bytes ++ more) r (after ++ more)
+IsRequest-append bytes more r after is =
+    let at = is.head in
+    let reads = ReadsRequest-append bytes r.head (r.body ++ after) more at.reads in
+    record {
+      head = record { reads = (reads.0, reads.1 ∙ ap (λ l. print_request r.head ++ l) (append_assoc r.body after more)); few = at.few; short = at.short };
+      accepted = is.accepted;
+    }
 
 -- a head in the buffer has its bytes there
 pub head_fits : (n : ℕ) (buffer : List ℕ) (head : Head) (request : RequestHead) → IsHeadOf (take n buffer) head request

@@ -5,21 +5,21 @@ use Rattle.std.proofs.lemmas.List.{drop_at, take_at}
 use Rattle.std.specs.List.{slice_range}
 use Rattle.std.specs.Io.KnownBytes.{append_known}
 use Rattle.httparse.specs.Grammar.{print_request}
-use Rattle.httparse.proofs.GrammarLemmas.{ReadsRequest-append}
 use Rattle.library_state.specs.declared.call.Call.{Call}
 use Rattle.http_front.specs.Buffer.{to_read}
 use Rattle.http_front.specs.declared.head.Head.{Head}
 use Rattle.http_front.specs.declared.outcome.Outcome.{Outcome}
-use Rattle.http_front.specs.Link.{GivesFront}
+use Rattle.http_front.specs.Link.{GivesFront, LinkTells}
 use Rattle.http_front.specs.Order.{IsOrder}
 use Rattle.http_front.specs.ReplyText.{text}
 use Rattle.http_front.specs.RequestStream.{Request, IsRequest, interim_of}
 use Rattle.worker_server.specs.Calls.{Serves}
 use Rattle.worker_server.specs.ServedConnection.{Exchange, Answers, AnswersNext, StopsAsked, closes_at}
-use Rattle.worker_server.specs.RequestSteps.{StandsAt, OneMore}
+use Rattle.worker_server.specs.RequestSteps.{AsksUnfinished, StandsAt, OneMore}
 use Rattle.worker_server.specs.declared.host.Answer.{Answer}
 use Rattle.worker_server.specs.declared.served.Served.TheVariants as served
-use Rattle.worker_server.proofs.ReadingLemmas.{to_read-some, append_known-more, GivesFront-after}
+use Rattle.worker_server.proofs.ReadingLemmas.{to_read-some, append_known-more, GivesFront-after, IsRequest-append}
+use Rattle.worker_server.proofs.TimingLemmas.{Unfinished-later}
 
 -- ---- lists
 
@@ -37,15 +37,6 @@ after_at text body after =
     ∙ drop_at (text ++ body) after (length text + length body) (length-append text body)
 
 -- ---- a request in the buffer is one of the input
-
-pub IsRequest-append : (bytes more : List ℕ) (r : Request) (after : List ℕ) → IsRequest bytes r after → IsRequest (bytes ++ more) r (after ++ more)
-IsRequest-append bytes more r after is =
-    let at = is.head in
-    let reads = ReadsRequest-append bytes r.head (r.body ++ after) more at.reads in
-    record {
-      head = record { reads = (reads.0, reads.1 ∙ ap (λ l. print_request r.head ++ l) (append_assoc r.body after more)); few = at.few; short = at.short };
-      accepted = is.accepted;
-    }
 
 body_is : (bytes : List ℕ) (h : Head) (r : Request) (after : List ℕ) → StandsAt bytes h r after
     → slice_range bytes h.used (h.used + h.body) ≡ r.body
@@ -107,34 +98,33 @@ module _ {V Line : Type 0} (asks : V → List ℕ → Call → Answer → List L
       let whole = GivesFront-after given now (interim_of x.request.head) (text x.outcome closed) (subst (λ z. GivesFront z now (text x.outcome closed)) began gives) in
       (x, next, subst (λ b. GivesFront given now (interim_of x.request.head ++ text x.outcome b)) is whole)
 
-  -- the request of a reply that was given whole
-  pub OneMore-from_reply : (n : ℕ) (bytes : List ℕ) (left : Option (List ℕ)) (rest : List ℕ) (h : Head) (r : Request) (after : List ℕ)
-      → StandsAt bytes h r after → to_read bytes left ≡ Some rest
+  -- the request of a reply that was given whole, and the buffer after it
+  pub OneMore-from_reply : (n : ℕ) (buffer bytes skipped : List ℕ) (left still : Option (List ℕ)) (rest : List ℕ) (h : Head) (r : Request) (after : List ℕ)
+      → StandsAt bytes h r after → to_read bytes left ≡ Some rest → skipped ≡ drop (h.used + h.body) bytes → still ≡ left
       → (u v : V) (o : Outcome) (lines : List Line)
       → Serves asks u (IsOrder h.method h.target h.token (slice_range bytes h.used (h.used + h.body))) o lines v
       → (closed : Bool) → closed ≡ (h.closes || n == 9999)
-      → (given before now : Option (List ℕ)) → before ≡ append_known given (interim_of r.head) → now ≡ append_known before (text o closed)
-      → OneMore asks n rest (to_read (drop (h.used + h.body) bytes) left) u v given now closed
+      → (old mid new : LinkTells) → mid.given ≡ append_known old.given (interim_of r.head) → new.given ≡ append_known mid.given (text o closed)
+      → new.taken ≡ mid.taken → new.asked ≡ mid.asked → AsksUnfinished buffer bytes old mid
+      → OneMore asks n rest buffer skipped (to_read skipped still) u v old new closed
   unfolding AnswersNext-from_reply
-  OneMore-from_reply n bytes left rest h r after s e u v o lines served closed is given before now began gave =
+  OneMore-from_reply n buffer bytes skipped left still rest h r after s e skip kept u v o lines served closed is old mid new began gave same_taken same_asked reading =
       let ahead = to_read-some bytes left rest e in
       let x : Exchange Line = record { request = r; outcome = o; lines = lines } in
       let same = closes_as n bytes h r after s closed is in
       let next = AnswersNext-from_reply bytes left rest h r after s e u v o lines served in
+      let held : skipped ≡ after = skip ∙ after_is bytes h r after s in
+      let whole : (print_request r.head ++ r.body) ++ skipped ≡ bytes =
+      ap (λ z. (print_request r.head ++ r.body) ++ z) held ∙ append_assoc (print_request r.head) r.body after ∙ sym s.is.head.reads.1 in
+      let later = Unfinished-later buffer bytes old mid new same_taken same_asked reading in
       record {
         exchange = x;
         after = after ++ ahead.0;
         is = next.is;
-        ahead = ap (λ z. to_read (drop (h.used + h.body) bytes) z) ahead.1 ∙ ap (λ z. to_read z (Some ahead.0)) (after_is bytes h r after s);
+        ahead = ap (to_read skipped) (kept ∙ ahead.1) ∙ ap (λ z. to_read z (Some ahead.0)) held;
         answers = next.answers;
-        text = gave ∙ ap (λ z. append_known z (text o closed)) began ∙ append_known-more given (interim_of r.head) (text o closed)
-            ∙ ap (λ b. append_known given (interim_of r.head ++ text o b)) same;
+        text = gave ∙ ap (λ z. append_known z (text o closed)) began ∙ append_known-more old.given (interim_of r.head) (text o closed)
+            ∙ ap (λ b. append_known old.given (interim_of r.head ++ text o b)) same;
         closes_is = same;
+        reading = subst (λ z. AsksUnfinished buffer z old new) (sym whole) later;
       }
-
-  -- the buffer after the request
-  pub OneMore-skipped : (n : ℕ) (rest bytes skipped : List ℕ) (left still : Option (List ℕ)) (u v : V) (given now : Option (List ℕ)) (closed : Bool)
-      → skipped ≡ bytes → still ≡ left → OneMore asks n rest (to_read bytes left) u v given now closed
-      → OneMore asks n rest (to_read skipped still) u v given now closed
-  OneMore-skipped n rest bytes skipped left still u v given now closed same kept more =
-      subst (λ z. OneMore asks n rest z u v given now closed) (ap (λ z. to_read z left) (sym same) ∙ ap (to_read skipped) (sym kept)) more

@@ -1,19 +1,24 @@
 -- The connection so far, and one request more. The key lemmas are SoFar-more, Session-closed, Session-limit and
 -- Session-stopped.
-use Rattle.std.proofs.Common.{◌≡◌, ℕ, ◌+◌, ◌<◌, ◌==◌, Bool, true, false, ◌||◌, inl, inr, List, [], ◌∷◌, ◌++◌, length, Option, Some, refl, sym, ap, subst, ◌∙◌, arith, append_assoc, append-nil, length-append, add-zero}
+use Rattle.std.proofs.Common.{◌≡◌, ℕ, ◌+◌, ◌<◌, ◌==◌, Bool, true, false, ◌||◌, inl, inr, List, [], ◌∷◌, ◌++◌, length, drop, Option, Some, refl, sym, ap, subst, ◌∙◌, arith, append_assoc, append-nil, length-append, add-zero}
 use Rattle.std.proofs.lemmas.Bool.{or_parts}
+use Rattle.std.proofs.lemmas.List.{drop_at}
 use Rattle.std.proofs.lemmas.Bool.Decides.{nat_tests}
 use Rattle.std.proofs.lemmas.List.Elements.{All-nil, All-cons, All-head, All-tail, All-append}
 use Rattle.std.specs.Io.KnownBytes.{append_known}
 use Rattle.library_state.specs.declared.call.Call.{Call}
+use Rattle.httparse.specs.Grammar.{print_request}
+use Rattle.http_front.specs.Buffer.{to_read}
+use Rattle.http_front.specs.Link.{LinkTells}
 use Rattle.http_front.specs.RequestHead.{closes}
-use Rattle.http_front.specs.RequestStream.{Request, Reads, IsRequest, MayFollow}
-use Rattle.worker_server.specs.ServedConnection.{Exchange, requests, texts, text_at, closes_at, AllOpen, LastCloses, Answers, Run, Stops, Ends, Session}
-use Rattle.worker_server.specs.RequestSteps.{OneMore}
+use Rattle.http_front.specs.RequestStream.{Request, Reads, IsRequest, IsUnfinished, MayFollow}
+use Rattle.worker_server.specs.ServedConnection.{Exchange, requests, texts, text_at, closes_at, AllOpen, LastCloses, Answers, Run, Stops, Ends, NeverWaits, SessionInTime, not_yet}
+use Rattle.worker_server.specs.RequestSteps.{AsksFor, OneMore, OneStop}
 use Rattle.worker_server.specs.declared.host.Answer.{Answer}
 use Rattle.worker_server.specs.declared.served.Served.{Served}
 use Rattle.worker_server.specs.declared.served.Served.TheVariants as served
-use Rattle.worker_server.proofs.ReadingLemmas.{append_known-more, append_known-nil}
+use Rattle.worker_server.proofs.ReadingLemmas.{append_known-more, append_known-nil, to_read-some}
+use Rattle.worker_server.proofs.TimingLemmas.{AsksFor-none, AsksFor-turn, InTimeFor, NeverWaits-from_asks, Reads-append}
 
 -- ---- one exchange more
 
@@ -69,14 +74,41 @@ asks_to_close r n before e = or_left (closes r.head) (n == 9999) e (before_last 
     or_left true b e none = refl
     or_left false b e none = sym (e ∙ none)
 
+-- what follows a front of a list
+left_of : (front left piece more : List ℕ) → front ++ left ≡ front ++ (piece ++ more) → left ≡ piece ++ more
+left_of front left piece more same =
+    sym (drop_at front left (length front) refl) ∙ ap (drop (length front)) same ∙ drop_at front (piece ++ more) (length front) refl
+
+-- a request of a longer input is one of the bytes that it has
+request_of : (bytes rest : List ℕ) (r : Request) (after input : List ℕ) → IsRequest input r after
+    → bytes ≡ (print_request r.head ++ r.body) ++ rest → IsRequest bytes r rest
+request_of bytes rest r after input is same = record {
+  head = record {
+    reads = (is.head.reads.0, same ∙ append_assoc (print_request r.head) r.body rest);
+    few = is.head.few;
+    short = is.head.short;
+  };
+  accepted = is.accepted;
+}
+
 module _ {V Line : Type 0} (asks : V → List ℕ → Call → Answer → List Line → V → Type 0) where
   Run-more : (u v w : V) (xs : List (Exchange Line)) (x : Exchange Line) → Run asks u xs v → Answers asks v x w
       → Run asks u (xs ++ x ∷ []) w
   Run-more u v w [] x e answers = (w, subst (λ z. Answers asks z x w) e answers, refl)
   Run-more u v w (y ∷ ys) x run answers = (run.0, run.1, Run-more run.0 v w ys x run.2 answers)
 
+  -- what was taken so far: the requests that were answered, and then what the buffer holds; and it was asked for in time
+  pub record TakenSoFar (input rest buffer : List ℕ) (old now : LinkTells) (xs : List (Exchange Line)) : Type 0 where
+    pub taken : List ℕ
+    pub taken_is : now.taken ≡ append_known old.taken taken
+    pub holds : Reads taken (requests xs) buffer
+    pub left : List ℕ
+    pub left_is : rest ≡ buffer ++ left
+    pub whole : input ≡ taken ++ left
+    pub asked : AsksFor (InTimeFor input xs) old now taken
+
   -- after n requests, none of which closed: `ahead` is what is left to read
-  pub record SoFar (n : ℕ) (input : List ℕ) (given now ahead : Option (List ℕ)) (u v : V) : Type 0 where
+  pub record SoFar (n : ℕ) (input buffer : List ℕ) (old now : LinkTells) (ahead : Option (List ℕ)) (u v : V) : Type 0 where
     pub exchanges : List (Exchange Line)
     pub count : length exchanges ≡ n
     pub all_open : AllOpen exchanges
@@ -84,10 +116,11 @@ module _ {V Line : Type 0} (asks : V → List ℕ → Call → Answer → List L
     pub ahead_is : ahead ≡ Some rest
     pub read : Reads input (requests exchanges) rest
     pub run : Run asks u exchanges v
-    pub text : now ≡ append_known given (texts 0 exchanges)
+    pub text : now.given ≡ append_known old.given (texts 0 exchanges)
+    pub so_taken : TakenSoFar input rest buffer old now exchanges
 
-  pub SoFar-begin : (input : List ℕ) (given ahead : Option (List ℕ)) (u : V) → ahead ≡ Some input → SoFar 0 input given given ahead u u
-  SoFar-begin input given ahead u is = record {
+  unfoldable pub SoFar-begin : (input : List ℕ) (old : LinkTells) (ahead : Option (List ℕ)) (u : V) → ahead ≡ Some input → SoFar 0 input [] old old ahead u u
+  SoFar-begin input old ahead u is = record {
     exchanges = [];
     count = refl;
     all_open = All-nil (λ x. closes x.request.head ≡ false);
@@ -95,19 +128,26 @@ module _ {V Line : Type 0} (asks : V → List ℕ → Call → Answer → List L
     ahead_is = is;
     read = refl;
     run = refl;
-    text = sym (append_known-nil given);
+    text = sym (append_known-nil old.given);
+    so_taken = record {
+      taken = [];
+      taken_is = sym (append_known-nil old.taken);
+      holds = refl;
+      left = input;
+      left_is = refl;
+      whole = refl;
+      asked = AsksFor-none (InTimeFor input []) old old refl;
+    };
   }
 
-  pub SoFar-counted : (n k : ℕ) (input : List ℕ) (given now ahead : Option (List ℕ)) (u v : V) → n ≡ k
-      → SoFar n input given now ahead u v → SoFar k input given now ahead u v
-  SoFar-counted n k input given now ahead u v same so_far = subst (λ z. SoFar z input given now ahead u v) same so_far
+  pub SoFar-counted : (n k : ℕ) (input buffer : List ℕ) (old now : LinkTells) (ahead : Option (List ℕ)) (u v : V) → n ≡ k
+      → SoFar n input buffer old now ahead u v → SoFar k input buffer old now ahead u v
+  SoFar-counted n k input buffer old now ahead u v same so_far = subst (λ z. SoFar z input buffer old now ahead u v) same so_far
 
   -- the exchanges with one more
-  module _ (n : ℕ) (input : List ℕ) (given now ahead : Option (List ℕ)) (u v : V) (so_far : SoFar n input given now ahead u v)
-      (later left : Option (List ℕ)) (w : V) (closed : Bool) (more : OneMore asks n so_far.rest left v w now later closed) where
-    all : List (Exchange Line)
-    all = so_far.exchanges ++ more.exchange ∷ []
-
+  module _ (n : ℕ) (input buffer : List ℕ) (old now : LinkTells) (ahead : Option (List ℕ)) (u v : V) (so_far : SoFar n input buffer old now ahead u v)
+      (held : List ℕ) (later : LinkTells) (left : Option (List ℕ)) (w : V) (closed : Bool)
+      (more : OneMore asks n so_far.rest buffer held (to_read held left) v w now later closed) (few : n < 10000) where
     all_read : Reads input (requests (so_far.exchanges ++ more.exchange ∷ [])) more.after
     all_read = Reads-more input so_far.exchanges so_far.rest more.exchange more.after so_far.read so_far.all_open more.is
 
@@ -117,15 +157,48 @@ module _ {V Line : Type 0} (asks : V → List ℕ → Call → Answer → List L
     all_count : length (so_far.exchanges ++ more.exchange ∷ []) ≡ n + 1
     all_count = length-more so_far.exchanges more.exchange ∙ ap (λ k. k + 1) so_far.count
 
-    all_text : later ≡ append_known given (texts 0 (so_far.exchanges ++ more.exchange ∷ []))
+    all_text : later.given ≡ append_known old.given (texts 0 (so_far.exchanges ++ more.exchange ∷ []))
     all_text =
         let place : n ≡ 0 + length so_far.exchanges = omega (arith, so_far.count) in
         more.text ∙ ap (λ z. append_known z (text_at n more.exchange)) so_far.text
-        ∙ append_known-more given (texts 0 so_far.exchanges) (text_at n more.exchange)
-        ∙ ap (λ k. append_known given (texts 0 so_far.exchanges ++ text_at k more.exchange)) place
-        ∙ ap (append_known given) (sym (texts-more 0 so_far.exchanges more.exchange))
+        ∙ append_known-more old.given (texts 0 so_far.exchanges) (text_at n more.exchange)
+        ∙ ap (λ k. append_known old.given (texts 0 so_far.exchanges ++ text_at k more.exchange)) place
+        ∙ ap (append_known old.given) (sym (texts-more 0 so_far.exchanges more.exchange))
 
-    pub SoFar-more : closed ≡ false → SoFar (n + 1) input given later left u w
+    -- what the buffer holds of what is left
+    left_after : (ahead_left : List ℕ) × (left ≡ Some ahead_left) × (more.after ≡ held ++ ahead_left)
+    left_after = to_read-some held left more.after more.ahead
+
+    all_taken : TakenSoFar input more.after held old later (so_far.exchanges ++ more.exchange ∷ [])
+    all_taken =
+        let t = so_far.so_taken in
+        let r = more.reading in
+        let text = print_request more.exchange.request.head ++ more.exchange.request.body in
+        let front : text ++ held ≡ buffer ++ r.piece = r.grown in
+        -- what was left is the piece and what is left now
+        let split : t.left ≡ r.piece ++ left_after.0 = left_of buffer t.left r.piece left_after.0 (
+        sym t.left_is ∙ more.is.head.reads.1
+        ∙ sym (append_assoc (print_request more.exchange.request.head) more.exchange.request.body more.after)
+        ∙ ap (λ b. text ++ b) left_after.2 ∙ sym (append_assoc text held left_after.0) ∙ ap (λ b. b ++ left_after.0) front ∙ append_assoc buffer r.piece left_after.0
+        ) in
+        let fits : length so_far.exchanges < 10000 = omega (arith, so_far.count, few) in
+        let one : IsRequest (buffer ++ r.piece) more.exchange.request held = request_of (buffer ++ r.piece) held more.exchange.request more.after so_far.rest more.is (sym front) in
+        record {
+          taken = t.taken ++ r.piece;
+          taken_is = r.taken ∙ ap (λ (z : Option (List ℕ)). append_known z r.piece) t.taken_is ∙ append_known-more old.taken t.taken r.piece;
+          holds = Reads-more (t.taken ++ r.piece) so_far.exchanges (buffer ++ r.piece) more.exchange held
+              (Reads-append t.taken r.piece (requests so_far.exchanges) buffer t.holds) so_far.all_open one;
+          left = left_after.0;
+          left_is = left_after.2;
+          whole = t.whole ∙ ap (λ l. t.taken ++ l) split ∙ sym (append_assoc t.taken r.piece left_after.0);
+          asked = AsksFor-turn input t.taken buffer (text ++ held) left_after.0 so_far.exchanges (more.exchange ∷ []) old now later t.taken_is so_far.text fits so_far.all_open
+              t.holds t.asked r (t.whole ∙ ap (λ l. t.taken ++ l) split);
+        }
+
+    never_waits : NeverWaits input (so_far.exchanges ++ more.exchange ∷ []) old later
+    never_waits = NeverWaits-from_asks input (so_far.exchanges ++ more.exchange ∷ []) old later all_taken.taken all_taken.taken_is all_taken.asked
+
+    pub SoFar-more : closed ≡ false → SoFar (n + 1) input held old later (to_read held left) u w
     SoFar-more is = record {
       exchanges = so_far.exchanges ++ more.exchange ∷ [];
       count = all_count;
@@ -135,27 +208,34 @@ module _ {V Line : Type 0} (asks : V → List ℕ → Call → Answer → List L
       read = all_read;
       run = all_run;
       text = all_text;
+      so_taken = all_taken;
     }
 
-    pub Session-closed : closed ≡ true → n < 9999 → Session asks input given later u w served.Ended
-    Session-closed is before = record {
-      exchanges = so_far.exchanges ++ more.exchange ∷ [];
-      rest = more.after;
-      mid = w;
-      read = all_read;
-      run = all_run;
-      ended = (omega (arith, all_count, before), inl (LastCloses-more so_far.exchanges more.exchange (asks_to_close more.exchange.request n before (sym is ∙ more.closes_is)), refl, all_text));
-    }
+    pub Session-closed : closed ≡ true → n < 9999 → SessionInTime asks input old later u w served.Ended
+    Session-closed is before = (
+      record {
+        exchanges = so_far.exchanges ++ more.exchange ∷ [];
+        rest = more.after;
+        mid = w;
+        read = all_read;
+        run = all_run;
+        ended = (omega (arith, all_count, before), inl (LastCloses-more so_far.exchanges more.exchange (asks_to_close more.exchange.request n before (sym is ∙ more.closes_is)), refl, all_text));
+      },
+      never_waits,
+    )
 
-    pub Session-limit : n ≡ 9999 → Session asks input given later u w served.Limit
-    Session-limit last = record {
-      exchanges = so_far.exchanges ++ more.exchange ∷ [];
-      rest = more.after;
-      mid = w;
-      read = all_read;
-      run = all_run;
-      ended = (all_count ∙ ap (λ k. k + 1) last, refl, all_text);
-    }
+    pub Session-limit : n ≡ 9999 → SessionInTime asks input old later u w served.Limit
+    Session-limit last = (
+      record {
+        exchanges = so_far.exchanges ++ more.exchange ∷ [];
+        rest = more.after;
+        mid = w;
+        read = all_read;
+        run = all_run;
+        ended = (all_count ∙ ap (λ k. k + 1) last, refl, all_text);
+      },
+      never_waits,
+    )
 
   Ends-stopped : (how : Served) (xs : List (Exchange Line)) (rest : List ℕ) (u v : V) (given now : Option (List ℕ))
       → length xs < 10000 → AllOpen xs → Stops asks how (length xs) rest u v given now → Ends asks how xs rest u v given now
@@ -168,20 +248,51 @@ module _ {V Line : Type 0} (asks : V → List ℕ → Call → Answer → List L
   Ends-stopped served.NoMemory xs rest u v given now few opens stops = (few, opens, stops)
 
   -- the connection stops in place of a next reply
-  pub Session-stopped : (how : Served) (n : ℕ) (input : List ℕ) (given now ahead : Option (List ℕ)) (u v : V)
-      → (so_far : SoFar n input given now ahead u v) → n < 10000 → (later : Option (List ℕ)) (w : V)
-      → Stops asks how n so_far.rest v w now later → Session asks input given later u w how
-  Session-stopped how n input given now ahead u v so_far few later w stops =
-      let counted : Stops asks how (length so_far.exchanges) so_far.rest v w now later =
-      subst (λ k. Stops asks how k so_far.rest v w now later) (sym so_far.count) stops in
-      let placed : Stops asks how (length so_far.exchanges) so_far.rest v w (append_known given (texts 0 so_far.exchanges)) later =
-      subst (λ z. Stops asks how (length so_far.exchanges) so_far.rest v w z later) so_far.text counted in
+  pub Session-stopped : (how : Served) (n : ℕ) (input buffer : List ℕ) (old now : LinkTells) (ahead : Option (List ℕ)) (u v : V)
+      → (so_far : SoFar n input buffer old now ahead u v) → n < 10000 → (held : List ℕ) (later : LinkTells) (left : Option (List ℕ)) (w : V)
+      → to_read held left ≡ Some so_far.rest → OneStop asks n so_far.rest buffer held v w now later how → SessionInTime asks input old later u w how
+  Session-stopped how n input buffer old now ahead u v so_far few held later left w still stop =
+      let counted : Stops asks how (length so_far.exchanges) so_far.rest v w now.given later.given =
+      subst (λ k. Stops asks how k so_far.rest v w now.given later.given) (sym so_far.count) stop.stops in
+      let placed : Stops asks how (length so_far.exchanges) so_far.rest v w (append_known old.given (texts 0 so_far.exchanges)) later.given =
+      subst (λ z. Stops asks how (length so_far.exchanges) so_far.rest v w z later.given) so_far.text counted in
       let fits : length so_far.exchanges < 10000 = omega (arith, so_far.count, few) in
-      record {
-        exchanges = so_far.exchanges;
-        rest = so_far.rest;
-        mid = v;
-        read = so_far.read;
-        run = so_far.run;
-        ended = Ends-stopped how so_far.exchanges so_far.rest v w (append_known given (texts 0 so_far.exchanges)) later fits so_far.all_open placed;
-      }
+      let t = so_far.so_taken in
+      let r = stop.reading in
+      let ahead_now = to_read-some held left so_far.rest still in
+      let split : t.left ≡ r.piece ++ ahead_now.0 = left_of buffer t.left r.piece ahead_now.0 (
+      sym t.left_is ∙ ahead_now.2 ∙ ap (λ b. b ++ ahead_now.0) r.grown ∙ append_assoc buffer r.piece ahead_now.0
+      ) in
+      let taken_is : later.taken ≡ append_known old.taken (t.taken ++ r.piece) =
+      r.taken ∙ ap (λ (z : Option (List ℕ)). append_known z r.piece) t.taken_is ∙ append_known-more old.taken t.taken r.piece in
+      let in_time = AsksFor-turn input t.taken buffer held ahead_now.0 so_far.exchanges [] old now later t.taken_is so_far.text fits so_far.all_open
+      t.holds t.asked r (t.whole ∙ ap (λ l. t.taken ++ l) split) in
+      let never : NeverWaits input so_far.exchanges old later = NeverWaits-from_asks input so_far.exchanges old later (t.taken ++ r.piece) taken_is
+      (subst (λ (ys : List (Exchange Line)). AsksFor (InTimeFor input ys) old later (t.taken ++ r.piece)) (append-nil so_far.exchanges) in_time) in (
+        record {
+          exchanges = so_far.exchanges;
+          rest = so_far.rest;
+          mid = v;
+          read = so_far.read;
+          run = so_far.run;
+          ended = Ends-stopped how so_far.exchanges so_far.rest v w (append_known old.given (texts 0 so_far.exchanges)) later.given fits so_far.all_open placed;
+        },
+        never,
+      )
+
+  -- there was no memory for a buffer
+  pub Session-unbegun : (input : List ℕ) (old : LinkTells) (left : Option (List ℕ)) (u : V) → left ≡ Some input
+      → SessionInTime asks input old old u u served.NoMemory
+  unfolding SoFar-begin
+  Session-unbegun input old left u is =
+      let ahead : to_read [] left ≡ Some input = ap (to_read []) is in
+      let stop : OneStop asks 0 input [] [] u u old old served.NoMemory = record {
+        stops = inl (refl, ([], not_yet refl, sym (append_known-nil old.given)));
+        reading = record {
+          piece = [];
+          grown = refl;
+          taken = sym (append_known-nil old.taken);
+          asks = AsksFor-none (λ come gave. IsUnfinished ([] ++ come) gave) old old refl;
+        };
+      } in
+      Session-stopped served.NoMemory 0 input [] old old (to_read [] left) u u (SoFar-begin input old (to_read [] left) u ahead) (omega arith) [] old left u ahead stop

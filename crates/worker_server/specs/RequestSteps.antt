@@ -1,16 +1,17 @@
 -- What the steps of one request do: reading it, stopping in its place, and serving it.
 -- Read OneServed first, at the end.
-use Rattle.std.specs.Prelude.{ℕ, ◌≡◌, ◌<◌, IsTrue, Bool, List, [], ◌∷◌, length, Option, Some, Result, Ok, Err, ⊤}
+use Rattle.std.specs.Prelude.{ℕ, ◌≡◌, ◌+◌, ◌<◌, IsTrue, Bool, List, [], ◌∷◌, ◌++◌, length, All, Option, Some, Result, Ok, Err, ⊤}
 use Rattle.std.specs.Io.KnownBytes.{append_known}
-use Rattle.httparse.specs.Grammar.{print_request}
+use Rattle.httparse.specs.Grammar.{HasNoRequest, print_request}
 use Rattle.library_state.specs.declared.call.Call.{Call}
 use Rattle.ids.specs.FaultCount.{Rose}
 use Rattle.http_front.specs.declared.head.Head.{Head}
-use Rattle.http_front.specs.Link.{GivesFront}
+use Rattle.http_front.specs.Link.{Asked, GivesFront, LinkTells}
 use Rattle.http_front.specs.ReplyText.{bad_text, is_bad_status}
 use Rattle.http_front.specs.RequestHead.{closes, method_of}
-use Rattle.http_front.specs.RequestStream.{Request, IsCutAfter, IsRefused, IsRequest}
-use Rattle.worker_server.specs.ServedConnection.{Exchange, Shows, Answers, Stops, CountsEnd, closes_at, text_at}
+use Rattle.http_front.specs.TargetFront.{MayBecomeHead}
+use Rattle.http_front.specs.RequestStream.{Request, IsCutAfter, IsRefused, IsRequest, IsUnfinished}
+use Rattle.worker_server.specs.ServedConnection.{Exchange, Shows, Answers, ComesInPieces, Stops, CountsEnd, closes_at, text_at}
 use Rattle.worker_server.specs.declared.host.Answer.{Answer}
 use Rattle.worker_server.specs.declared.reading.End.{End}
 use Rattle.worker_server.specs.declared.reading.End.TheVariants as end
@@ -73,6 +74,49 @@ RefusesSo status given now served.WriteFault = GivesFront given now (bad_text st
 RefusesSo status given now served.NoMemory = now ≡ given
 RefusesSo status given now how = ⊥
 
+-- as the link was asked, these bytes of the piece had come and these had been given, and that was due
+abbrev pub WasDue : (List ℕ → List ℕ → Type 0) → List ℕ → List ℕ → List ℕ → Asked → Type 0
+WasDue IsDue taken given piece a =
+    (come : List ℕ) × (others : List ℕ) × (gave : List ℕ) × (piece ≡ come ++ others)
+    × (a.0 ≡ length taken + length come) × (a.1 ≡ length given + length gave) × IsDue come gave
+
+-- nothing was given, and what the buffer held was due
+abbrev pub HeldBefore : (List ℕ → Type 0) → List ℕ → List ℕ → List ℕ → Type 0
+HeldBefore IsDue buffer come gave = (gave ≡ []) × IsDue (buffer ++ come)
+
+-- a link was asked for more, and in all this piece came. Each time some bytes of it had come and some had been given, and
+-- that was due
+abbrev pub AsksFor : (List ℕ → List ℕ → Type 0) → LinkTells → LinkTells → List ℕ → Type 0
+AsksFor IsDue old new piece =
+    (taken given : List ℕ) (before : List Asked) → old.taken ≡ Some taken → old.given ≡ Some given → old.asked ≡ Some before
+    → (asked : List Asked) × (new.asked ≡ Some (before ++ asked)) × All (WasDue IsDue taken given piece) asked
+    × ComesInPieces (length taken) asked (length taken + length piece)
+
+-- bytes came into the buffer; each time that the link was asked for more, what the buffer held was due
+pub record ReadsOn (IsDue : List ℕ → Type 0) (buffer now : List ℕ) (old new : LinkTells) : Type 0 where
+  pub piece : List ℕ
+  pub grown : now ≡ buffer ++ piece
+  pub taken : new.taken ≡ append_known old.taken piece
+  pub given : new.given ≡ old.given
+  pub asks : AsksFor (HeldBefore IsDue buffer) old new piece
+
+-- the same over a head and its body, where some bytes may be given between them: each time less than a request is there
+pub record AsksUnfinished (buffer now : List ℕ) (old new : LinkTells) : Type 0 where
+  pub piece : List ℕ
+  pub grown : now ≡ buffer ++ piece
+  pub taken : new.taken ≡ append_known old.taken piece
+  pub asks : AsksFor (λ come given. IsUnfinished (buffer ++ come) given) old new piece
+
+-- no head stands there yet, and they may become one that ends within the bytes of which it is read
+pub record WantsHead (buffer : List ℕ) : Type 0 where
+  pub short : length buffer < 16384
+  pub none : HasNoRequest buffer
+  pub may : MayBecomeHead buffer
+
+-- so many bytes are wanted, and fewer are there
+abbrev pub WantsBytes : ℕ → List ℕ → Type 0
+WantsBytes wanted buffer = length buffer < wanted
+
 -- how a connection stops where no head was read, or where its body was not
 abbrev pub StopsSo : End → Option (List ℕ) → Option (List ℕ) → Served → Type 0
 StopsSo end.Over given now how = (how ≡ served.Ended) × (now ≡ given)
@@ -82,19 +126,24 @@ StopsSo end.ReadFault given now how = (how ≡ served.ReadFault) × (now ≡ giv
 StopsSo end.NoMemory given now how = (how ≡ served.NoMemory) × (now ≡ given)
 
 module _ {V Line : Type 0} (asks : V → List ℕ → Call → Answer → List Line → V → Type 0) where
-  -- the request of this number was read from `rest` and answered, and its reply was given whole
-  pub record OneMore
-      (n : ℕ) (rest : List ℕ) (left : Option (List ℕ)) (u v : V) (given now : Option (List ℕ)) (closed : Bool) : Type 0 where
+  -- the request of this number was read from `rest` and answered, and its reply was given whole. `buffer` and `held` are
+  -- what had been taken and not yet used, before and after
+  pub record OneMore (n : ℕ) (rest buffer held : List ℕ) (left : Option (List ℕ)) (u v : V) (old new : LinkTells) (closed : Bool) : Type 0 where
     pub exchange : Exchange Line
     pub after : List ℕ
     pub is : IsRequest rest exchange.request after
     pub ahead : left ≡ Some after
     pub answers : Answers asks u exchange v
-    pub text : now ≡ append_known given (text_at n exchange)
+    pub text : new.given ≡ append_known old.given (text_at n exchange)
     pub closes_is : closed ≡ closes_at n exchange.request
+    pub reading : AsksUnfinished buffer ((print_request exchange.request.head ++ exchange.request.body) ++ held) old new
+
+  -- the connection stops here. What it read until then it asked for in time
+  pub record OneStop (n : ℕ) (rest buffer held : List ℕ) (u v : V) (old new : LinkTells) (how : Served) : Type 0 where
+    pub stops : Stops asks how n rest u v old.given new.given
+    pub reading : AsksUnfinished buffer held old new
 
   -- one turn of the connection: a request more, or its stop
-  abbrev pub OneServed :
-      ℕ → List ℕ → Option (List ℕ) → V → V → Option (List ℕ) → Option (List ℕ) → Result Bool Served → Type 0
-  OneServed n rest left u v given now (Ok closed) = OneMore n rest left u v given now closed
-  OneServed n rest left u v given now (Err how) = Stops asks how n rest u v given now
+  abbrev pub OneServed : ℕ → List ℕ → List ℕ → List ℕ → Option (List ℕ) → V → V → LinkTells → LinkTells → Result Bool Served → Type 0
+  OneServed n rest buffer held left u v old new (Ok closed) = OneMore n rest buffer held left u v old new closed
+  OneServed n rest buffer held left u v old new (Err how) = OneStop n rest buffer held u v old new how

@@ -1,6 +1,6 @@
 -- A served connection: the requests that the bytes read spell, their replies in order, and how it ended.
 -- Read Session first, at the end. Requests: http_front, RequestStream. Replies: http_front, ReplyText.
-use Rattle.std.specs.Prelude.{ℕ, ◌≡◌, ◌+◌, ◌<◌, ◌==◌, ◌⊎◌, Bool, true, false, ◌||◌, List, [], ◌∷◌, ◌++◌, length, map, All, Option, Result, Ok, codes}
+use Rattle.std.specs.Prelude.{ℕ, ◌≡◌, ◌+◌, ◌<◌, ◌≤◌, ◌==◌, ◌⊎◌, Bool, true, false, ◌||◌, List, [], ◌∷◌, ◌++◌, length, map, take, All, Option, Some, Result, Ok, codes}
 use Rattle.std.specs.Io.KnownBytes.{append_known}
 use Rattle.httparse.specs.Grammar.{RequestHead}
 use Rattle.ids.specs.FaultCount.{Rose}
@@ -9,12 +9,12 @@ use Rattle.library_state.specs.declared.refusal.Refusal.{Refusal}
 use Rattle.http_front.specs.declared.order.Order.{Order}
 use Rattle.http_front.specs.declared.outcome.Outcome.{Outcome}
 use Rattle.http_front.specs.Fields.{found, values_of}
-use Rattle.http_front.specs.Link.{GivesFront}
+use Rattle.http_front.specs.Link.{Asked, GivesFront, LinkTells}
 use Rattle.http_front.specs.NextHead.{IsTokenIn}
 use Rattle.http_front.specs.Order.{IsOrder}
 use Rattle.http_front.specs.ReplyText.{text, bad_text}
 use Rattle.http_front.specs.RequestHead.{closes, fields_of, judge, method_of}
-use Rattle.http_front.specs.RequestStream.{Request, Reads, IsHeadAt, IsRequest, IsCutAfter, IsRefused, interim_of}
+use Rattle.http_front.specs.RequestStream.{Request, Reads, IsHeadAt, IsRequest, IsCutAfter, IsRefused, IsUnfinished, interim_of}
 use Rattle.worker_server.specs.Calls.{Serves}
 use Rattle.worker_server.specs.declared.host.Answer.{Answer}
 use Rattle.worker_server.specs.declared.served.Served.{Served}
@@ -140,3 +140,48 @@ module _ {V Line : Type 0} (asks : V → List ℕ → Call → Answer → List L
     pub read : Reads input (requests exchanges) rest
     pub run : Run u exchanges mid
     pub ended : Ends result exchanges rest mid v (append_known given (texts 0 exchanges)) now
+
+-- ---- a reply never waits for more input
+
+module _ {Line : Type 0} where
+  -- the link was asked for more as so many bytes of the input had been taken, and so many given. What was taken is less than
+  -- 10,000 requests, none of which closes, and then less than a request. To each of them its reply was given, and to what follows the
+  -- interim reply that it waits for; nothing is held back, and nothing comes early
+  pub record IsInTime (input : List ℕ) (xs : List (Exchange Line)) (taken given : ℕ) : Type 0 where
+    pub answered : List (Exchange Line)
+    pub later : List (Exchange Line)
+    pub split : xs ≡ answered ++ later
+    pub few : length answered < 10000
+    pub none_closes : AllOpen answered
+    pub unread : List ℕ
+    pub first : List ℕ
+    pub read : Reads (take taken input) (requests answered) unread
+    pub unfinished : IsUnfinished unread first
+    pub replied : given ≡ length (texts 0 answered ++ first)
+
+  -- the same, where the connection began as these counts stood
+  pub record IsAskedInTime (input : List ℕ) (xs : List (Exchange Line)) (taken given : ℕ) (asked : Asked) : Type 0 where
+    pub more_taken : ℕ
+    pub more_given : ℕ
+    pub taken_is : asked.0 ≡ taken + more_taken
+    pub given_is : asked.1 ≡ given + more_given
+    pub in_time : IsInTime input xs more_taken more_given
+
+-- as so many bytes had been taken, the link was asked these times; each time one piece came, and then no more
+abbrev pub ComesInPieces : ℕ → List Asked → ℕ → Type 0
+ComesInPieces taken [] now = now ≡ taken
+ComesInPieces taken (asked ∷ more) now = (asked.0 ≡ taken) × (size : ℕ) × (size ≤ 65536) × ComesInPieces (taken + size) more now
+
+-- where the link tells what it was asked: a connection with these exchanges asked for more only as it had no whole request
+-- unanswered, and then for one piece
+abbrev pub NeverWaits : {Line : Type 0} → List ℕ → List (Exchange Line) → LinkTells → LinkTells → Type 0
+NeverWaits input xs old new =
+    (taken given : List ℕ) (before : List Asked) → old.taken ≡ Some taken → old.given ≡ Some given → old.asked ≡ Some before
+    → (asked : List Asked) × (now : List ℕ) × (new.asked ≡ Some (before ++ asked)) × (new.taken ≡ Some now)
+    × All (IsAskedInTime input xs (length taken) (length given)) asked × ComesInPieces (length taken) asked (length now)
+
+-- a connection whose replies never wait: the clause of a call on a link that had the input left
+abbrev pub SessionInTime : {V Line : Type 0} → (V → List ℕ → Call → Answer → List Line → V → Type 0) → List ℕ → LinkTells → LinkTells
+    → V → V → Served → Type 0
+SessionInTime asks input old new u v result =
+    (done : Session asks input old.given new.given u v result) × NeverWaits input done.exchanges old new

@@ -1,10 +1,11 @@
 //! A connection: one request after another is read, answered and replied to.
-ghost use Rattle.std.specs.Prelude.{◌≡◌, ◌==◌, ◌||◌, ℕ, List, Some};
+ghost use Rattle.std.specs.Prelude.{◌≡◌, ◌==◌, ◌||◌, ℕ, List, Some, OnErr};
 ghost use Rattle.ids.specs.FaultCount.{Rose};
 ghost use Rattle.http_front.specs.Buffer.{to_read};
+ghost use Rattle.http_front.specs.Link.{told_by};
 ghost use Rattle.worker_server.specs.Calls.{AtAMoment, Told, Ran};
 ghost use Rattle.worker_server.specs.RequestSteps.{CountsServed, OneServed};
-ghost use Rattle.worker_server.specs.ServedConnection.{CountsEnd, Session};
+ghost use Rattle.worker_server.specs.ServedConnection.{CountsEnd, SessionInTime};
 
 use crate::answering::reply_to;
 use crate::host::Host;
@@ -20,9 +21,9 @@ const MOST_REQUESTS: u64 = 10_000;
 /// in the order of the requests.
 ///
 /// The interim reply of a head that waits for one is given before its reply, also where its body is then cut short. What is
-/// no request is refused with its status: 400, 413, 431 or 501. One request, its reply and a piece of 65,536 bytes are in
-/// memory at a time; a reply that packs objects is as long as all that were asked for, each as often as it was asked.
-/// After a write fault a front of the last reply was given, and every other was given whole.
+/// no request is refused with its status: 400, 413, 431 or 501. No reply waits for more input. One request, its reply and a
+/// piece of 65,536 bytes are in memory at a time; a reply that packs objects is as long as all that were asked for, each as
+/// often as it was asked. After a write fault a front of the last reply was given, and every other was given whole.
 pub fn serve_session<H: Host, L: Link>(
     alloc: Global,
     host: &H,
@@ -33,9 +34,10 @@ pub fn serve_session<H: Host, L: Link>(
     ensures ready { H.ready host.now pass.new }
 
     // Where the link tells what it has left: the bytes given are the texts of the outcomes of the requests that those
-    // bytes spell.
+    // bytes spell. Where it tells what it was asked besides: no reply waited for more input.
     ensures session { (input : List ℕ) → L.left link.old ≡ Some input
-        → Session (AtAMoment (H.shows host.now) H.asks) input (L.given link.old) (L.given link.new) (H.view pass.old) (H.view pass.new) result }
+        → SessionInTime (AtAMoment (H.shows host.now) H.asks) input (told_by L.taken L.given L.asked link.old)
+        (told_by L.taken L.given L.asked link.new) (H.view pass.old) (H.view pass.new) result }
 
     // Of every link: the calls that were asked.
     ensures ran { (calls : List (Told H.Line)) × Ran (AtAMoment (H.shows host.now) H.asks) (H.view pass.old) calls (H.view pass.new) }
@@ -74,7 +76,9 @@ fn serve_one<H: Host, L: Link>(
     requires ready { H.ready host.now pass.old }
     ensures ready { H.ready host.now pass.new }
     ensures one { (rest : List ℕ) → to_read buffer.old (L.left link.old) ≡ Some rest
-        → OneServed (AtAMoment (H.shows host.now) H.asks) number rest (to_read buffer.new (L.left link.new)) (H.view pass.old) (H.view pass.new) (L.given link.old) (L.given link.new) result }
+        → OneServed (AtAMoment (H.shows host.now) H.asks) number rest buffer.old buffer.new (to_read buffer.new (L.left link.new))
+        (H.view pass.old) (H.view pass.new) (told_by L.taken L.given L.asked link.old) (told_by L.taken L.given L.asked link.new) result }
+    ensures still { OnErr result (to_read buffer.new (L.left link.new) ≡ to_read buffer.old (L.left link.old)) }
     ensures ran { (calls : List (Told H.Line)) × Ran (AtAMoment (H.shows host.now) H.asks) (H.view pass.old) calls (H.view pass.new) }
     ensures faults { CountsServed (L.faults link.old) (L.faults link.new) result }
 {

@@ -1,11 +1,12 @@
 //! Reading a head, and then its body: afterwards they stand at the front of the buffer.
-ghost use Rattle.std.specs.Prelude.{◌≡◌, ◌+◌, ◌≤◌, ◌++◌, ℕ, List, length, IfOk, IfErr, OnOk, Some};
+ghost use Rattle.std.specs.Prelude.{◌≡◌, ◌+◌, ◌≤◌, ℕ, List, length, IfOk, IfErr, OnOk, Some};
 ghost use Rattle.std.specs.Io.KnownBytes.{IsAtEnd};
 ghost use Rattle.httparse.specs.Grammar.{RequestHead};
-ghost use Rattle.http_front.specs.Buffer.{to_read};
+ghost use Rattle.http_front.specs.Buffer.{Fills, to_read};
+ghost use Rattle.http_front.specs.Link.{told_by};
 ghost use Rattle.http_front.specs.NextHead.{IsHeadOf};
 ghost use Rattle.http_front.specs.RequestStream.{front_of};
-ghost use Rattle.worker_server.specs.RequestSteps.{CountsRead, HasBadStatus, IsBodyEnd, IsEnd, end_at};
+ghost use Rattle.worker_server.specs.RequestSteps.{CountsRead, HasBadStatus, IsBodyEnd, IsEnd, ReadsOn, WantsBytes, WantsHead, end_at};
 
 use http_front::{Buffer, FillFault, Head, Link, Next, next_head};
 use std::alloc::Global;
@@ -31,7 +32,7 @@ pub fn read_head<L: Link>(alloc: Global, link: &mut L, buffer: &mut Buffer) -> R
         → IsEnd rest end) }
     ensures status { IfErr result HasBadStatus }
     ensures to_read { to_read buffer.new (L.left link.new) ≡ to_read buffer.old (L.left link.old) }
-    ensures kept { L.given link.new ≡ L.given link.old }
+    ensures reads { ReadsOn WantsHead buffer.old buffer.new (told_by L.taken L.given L.asked link.old) (told_by L.taken L.given L.asked link.new) }
     ensures faults { CountsRead (L.faults link.old) (L.faults link.new) result }
 {
     loop {
@@ -61,9 +62,8 @@ pub fn read_body<L: Link>(
     ensures err { IfErr result (λ end. (rest : List ℕ) → to_read buffer.old (L.left link.old) ≡ Some rest
         → IsBodyEnd (used + body) rest end) }
     ensures status { IfErr result HasBadStatus }
-    ensures grown { (piece : List ℕ) × (buffer.new ≡ buffer.old ++ piece) }
     ensures to_read { to_read buffer.new (L.left link.new) ≡ to_read buffer.old (L.left link.old) }
-    ensures kept { L.given link.new ≡ L.given link.old }
+    ensures reads { ReadsOn (WantsBytes (used + body)) buffer.old buffer.new (told_by L.taken L.given L.asked link.old) (told_by L.taken L.given L.asked link.new) }
     ensures faults { CountsRead (L.faults link.old) (L.faults link.new) result }
 {
     while buffer.len() - used < body {
@@ -82,9 +82,8 @@ fn fill<L: Link>(link: &mut L, buffer: &mut Buffer) -> Result<usize, End>
     ensures end { IfOk result (λ n. n ≡ 0 → IsAtEnd (L.left link.new)) }
     ensures err { IfErr result (λ end. (rest : List ℕ) (wanted : ℕ) → IsEnd rest end × IsBodyEnd wanted rest end) }
     ensures status { IfErr result HasBadStatus }
-    ensures grown { (piece : List ℕ) × (buffer.new ≡ buffer.old ++ piece) }
+    ensures fills { Fills buffer.old buffer.new (told_by L.taken L.given L.asked link.old) (told_by L.taken L.given L.asked link.new) }
     ensures to_read { to_read buffer.new (L.left link.new) ≡ to_read buffer.old (L.left link.old) }
-    ensures kept { L.given link.new ≡ L.given link.old }
     ensures faults { CountsRead (L.faults link.old) (L.faults link.new) result }
 {
     match buffer.fill(link) {

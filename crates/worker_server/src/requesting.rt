@@ -2,10 +2,10 @@
 ghost use Rattle.std.specs.Prelude.{◌≡◌, ℕ, List, IsTrue, IfOk, IfErr, Some};
 ghost use Rattle.std.specs.Io.KnownBytes.{append_known};
 ghost use Rattle.http_front.specs.Buffer.{to_read};
-ghost use Rattle.http_front.specs.Link.{CountsFaults, Gives};
+ghost use Rattle.http_front.specs.Link.{CountsFaults, Gives, told_by};
 ghost use Rattle.http_front.specs.ReplyText.{interim_due, is_bad_status};
 ghost use Rattle.http_front.specs.RequestStream.{Request, interim_of};
-ghost use Rattle.worker_server.specs.RequestSteps.{CountsGive, CountsServed, HasBadStatus, RefusesSo, StandsAt, StopsSo};
+ghost use Rattle.worker_server.specs.RequestSteps.{AsksUnfinished, CountsGive, CountsServed, HasBadStatus, RefusesSo, StandsAt, StopsSo};
 ghost use Rattle.worker_server.specs.ServedConnection.{StopsUnasked};
 
 use crate::reading::{End, read_body, read_head};
@@ -25,6 +25,7 @@ pub fn next_request<L: Link>(
         × (L.given link.new ≡ append_known (L.given link.old) (interim_of r.head))) }
     ensures err { IfErr result (λ how. (rest : List ℕ) → to_read buffer.old (L.left link.old) ≡ Some rest
         → StopsUnasked how rest (L.given link.old) (L.given link.new)) }
+    ensures reading { AsksUnfinished buffer.old buffer.new (told_by L.taken L.given L.asked link.old) (told_by L.taken L.given L.asked link.new) }
     ensures to_read { to_read buffer.new (L.left link.new) ≡ to_read buffer.old (L.left link.old) }
     ensures faults { CountsServed (L.faults link.old) (L.faults link.new) result }
 {
@@ -46,6 +47,8 @@ pub fn next_request<L: Link>(
 fn give_interim<L: Link>(link: &mut L, waits: bool) -> Result<(), LinkFailed>
     ensures given { Gives (L.given link.old) (L.given link.new) (interim_due waits) result }
     ensures left { L.left link.new ≡ L.left link.old }
+    ensures taken { L.taken link.new ≡ L.taken link.old }
+    ensures asked { L.asked link.new ≡ L.asked link.old }
     ensures faults { CountsFaults (L.faults link.old) (L.faults link.new) result }
 {
     if !waits {
@@ -59,6 +62,8 @@ fn stop<L: Link>(alloc: Global, link: &mut L, end: End) -> Served
     requires status { HasBadStatus end }
     ensures value { StopsSo end (L.given link.old) (L.given link.new) result }
     ensures left { L.left link.new ≡ L.left link.old }
+    ensures taken { L.taken link.new ≡ L.taken link.old }
+    ensures asked { L.asked link.new ≡ L.asked link.old }
     ensures faults { CountsGive (L.faults link.old) (L.faults link.new) result }
 {
     match end {
@@ -75,6 +80,8 @@ fn refuse<L: Link>(alloc: Global, link: &mut L, status: u16) -> Served
     requires fits { IsTrue (is_bad_status status) }
     ensures value { RefusesSo status (L.given link.old) (L.given link.new) result }
     ensures left { L.left link.new ≡ L.left link.old }
+    ensures taken { L.taken link.new ≡ L.taken link.old }
+    ensures asked { L.asked link.new ≡ L.asked link.old }
     ensures faults { CountsGive (L.faults link.old) (L.faults link.new) result }
 {
     let text = match bad_bytes(alloc, status) {

@@ -31,6 +31,8 @@ impl<I: Read, O: Write> Link for StandardLink<I, O> {
 
     ghost given = { λ _. None };
 
+    ghost asked = { λ _. None };
+
     ghost faults = { λ s. s.faults };
 
     fn take(&mut self, into: &mut [u8]) -> Result<usize, LinkFailed> {

@@ -4,12 +4,13 @@ use Rattle.std.specs.Io.KnownBytes.{append_known}
 use Rattle.http_front.specs.Link.{GivesFront}
 use Rattle.http_front.specs.ReplyText.{text}
 use Rattle.worker_server.proofs.CallLemmas.{Serves-ran}
-use Rattle.worker_server.proofs.RequestLemmas.{AnswersNext-from_reply, OneMore-from_reply, OneMore-skipped, Serves-at, StopsAsked-from_front, closes_as}
+use Rattle.worker_server.proofs.RequestLemmas.{AnswersNext-from_reply, OneMore-from_reply, Serves-at, StopsAsked-from_front, closes_as}
+use Rattle.worker_server.proofs.TimingLemmas.{Unfinished-later}
 use Rattle.worker_server.specs.Calls.{AtAMoment}
 use Rattle.worker_server.proofs.connection.serve_one.Goals as goal
 
 pub returns-in-Err-clause-one : goal.returns-in-Err-clause-one
-returns-in-Err-clause-one g c = λ rest e. inl (refl, c.in-Err.ensures.err rest e)
+returns-in-Err-clause-one g c = λ rest e. record { stops = inl (refl, c.in-Err.ensures.err rest e); reading = c.in-Err.ensures.reading }
 
 pub returns-in-None-clause-one : goal.returns-in-None-clause-one
 returns-in-None-clause-one g c = λ rest e.
@@ -19,7 +20,7 @@ returns-in-None-clause-one g c = λ rest e.
     let here = Serves-at asks _ _ c.in-Ok.head _ _ _ _ c.front-front.ensures served.2 in
     let next = AnswersNext-from_reply asks c.next_request.new.buffer (g.L.Link.left c.next_request.new.link) rest c.in-Ok.head stands.0 stands.1 stands.2 (c.in-Ok.ensures.to_read ∙ e)
     _ _ served.0 served.1 here in
-    inr (record { request = stands.0; outcome = served.0; lines = served.1 }, next, stands.3)
+    record { stops = inr (record { request = stands.0; outcome = served.0; lines = served.1 }, next, stands.3); reading = c.in-Ok.ensures.reading }
 
 pub returns-in-None-clause-ran : goal.returns-in-None-clause-ran
 returns-in-None-clause-ran g c = Serves-ran _ _ _ _ _ _ c.in-None.ensures.serves.2
@@ -34,7 +35,10 @@ returns-in-Err-give-clause-one g c = λ rest e.
     _ _ served.0 served.1 here in
     let closes = closes_as c.args.number c.next_request.new.buffer c.in-Ok.head stands.0 stands.1 stands.2 c.closes_at-closes.result c.closes_at-closes.ensures.value in
     let gave = subst (λ (z : List ℕ). GivesFront (g.L.Link.given c.next_request.new.link) (g.L.Link.given c.give.new.self) z) (c.slice.ensures.value ∙ served.3) c.in-Err-give.ensures.given in
-    inr (StopsAsked-from_front asks c.args.number rest _ _ _ next c.closes_at-closes.result closes _ _ _ stands.3 gave)
+    record {
+      stops = inr (StopsAsked-from_front asks c.args.number rest _ _ _ next c.closes_at-closes.result closes _ _ _ stands.3 gave);
+      reading = Unfinished-later _ _ _ _ _ c.in-Err-give.ensures.kept_taken c.in-Err-give.ensures.kept_asked c.in-Ok.ensures.reading;
+    }
 
 pub returns-in-Err-give-clause-ran : goal.returns-in-Err-give-clause-ran
 returns-in-Err-give-clause-ran g c = Serves-ran _ _ _ _ _ _ c.in-Some.ensures.serves.2
@@ -47,9 +51,9 @@ returns-clause-one g c = λ rest e.
     let here = Serves-at asks _ _ c.in-Ok.head _ _ _ _ c.front-front.ensures served.2 in
     let gave : g.L.Link.given c.give.new.self ≡ append_known (g.L.Link.given c.next_request.new.link) (text served.0 c.closes_at-closes.result) =
     c.in-Ok-give.ensures.given ∙ ap (λ (z : List ℕ). append_known (g.L.Link.given c.next_request.new.link) z) (c.slice.ensures.value ∙ served.3) in
-    let turn = OneMore-from_reply asks c.args.number c.next_request.new.buffer (g.L.Link.left c.next_request.new.link) rest c.in-Ok.head stands.0 stands.1 stands.2 (c.in-Ok.ensures.to_read ∙ e)
-    _ _ served.0 served.1 here c.closes_at-closes.result c.closes_at-closes.ensures.value (g.L.Link.given c.args.link.now) _ (g.L.Link.given c.give.new.self) stands.3 gave in
-    OneMore-skipped asks c.args.number rest _ _ _ _ _ _ _ _ _ c.skip.ensures c.in-Ok-give.ensures.kept_left turn
+    let give = c.in-Ok-give.ensures in
+    OneMore-from_reply asks c.args.number _ c.next_request.new.buffer _ (g.L.Link.left c.next_request.new.link) _ rest c.in-Ok.head stands.0 stands.1 stands.2 (c.in-Ok.ensures.to_read ∙ e) c.skip.ensures give.kept_left
+    _ _ served.0 served.1 here c.closes_at-closes.result c.closes_at-closes.ensures.value _ _ _ stands.3 gave give.kept_taken give.kept_asked c.in-Ok.ensures.reading
 
 pub returns-clause-ran : goal.returns-clause-ran
 returns-clause-ran g c = Serves-ran _ _ _ _ _ _ c.in-Some.ensures.serves.2

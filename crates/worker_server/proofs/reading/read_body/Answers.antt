@@ -1,6 +1,32 @@
--- A fill that failed ends the body as it ends the head.
-use Rattle.std.proofs.Common.{◌+◌}
+-- A fill that failed ends the body as it ends the head, and each fill comes where bytes of the body are wanted.
+use Rattle.std.proofs.Common.{ℕ, ◌+◌, ◌-◌, ◌<◌, ◌≤◌, length, subst, ◌∙◌, arith}
+use Rattle.worker_server.specs.RequestSteps.{WantsBytes}
+use Rattle.worker_server.proofs.TimingLemmas.{ReadsOn-more, wants_bytes}
 use Rattle.worker_server.proofs.reading.read_body.Goals as goal
 
 pub returns-in-Err-clause-err : goal.returns-in-Err-clause-err
 returns-in-Err-clause-err g c = λ rest e. (c.in-Err.ensures.err rest (c.args.used + c.args.body)).1
+
+pub returns-in-Ok-eq0-clause-reads : goal.returns-in-Ok-eq0-clause-reads
+returns-in-Ok-eq0-clause-reads g c =
+    let s = c.loop-link.invariant in
+    let short : length c.loop-link.buffer - c.args.used < c.args.body = subst (λ (n : ℕ). n - c.args.used < c.args.body) c.len.ensures c.loop-link-test.true in
+    ReadsOn-more (WantsBytes (c.args.used + c.args.body)) _ _ _ _ _ _ s.reads (wants_bytes c.loop-link.buffer c.args.used c.args.body s.fits short) c.in-Ok-eq0.ensures.fills
+
+pub returns-in-Err-clause-reads : goal.returns-in-Err-clause-reads
+returns-in-Err-clause-reads g c =
+    let s = c.loop-link.invariant in
+    let short : length c.loop-link.buffer - c.args.used < c.args.body = subst (λ (n : ℕ). n - c.args.used < c.args.body) c.len.ensures c.loop-link-test.true in
+    ReadsOn-more (WantsBytes (c.args.used + c.args.body)) _ _ _ _ _ _ s.reads (wants_bytes c.loop-link.buffer c.args.used c.args.body s.fits short) c.in-Err.ensures.fills
+
+pub loop-link-preserved : goal.loop-link-preserved
+loop-link-preserved g c =
+    let s = c.loop-link.invariant in
+    let short : length c.loop-link.buffer - c.args.used < c.args.body = subst (λ (n : ℕ). n - c.args.used < c.args.body) c.len.ensures c.loop-link-test.true in
+    let grown : c.args.used ≤ length c.fill.new.buffer = omega (arith, s.fits, c.in-Ok.ensures.value) in
+    record {
+      fits = grown;
+      same = c.in-Ok.ensures.to_read ∙ s.same;
+      reads = ReadsOn-more (WantsBytes (c.args.used + c.args.body)) _ _ _ _ _ _ s.reads (wants_bytes c.loop-link.buffer c.args.used c.args.body s.fits short) c.in-Ok.ensures.fills;
+      faults = c.in-Ok.ensures.faults ∙ s.faults;
+    }

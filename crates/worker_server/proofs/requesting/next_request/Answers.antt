@@ -1,12 +1,13 @@
 -- A head in the buffer, its interim reply, and then its body; or how the connection stops.
-use Rattle.std.proofs.Common.{◌≡◌, subst, sym, ◌∙◌, ap, List, ℕ, ◌+◌, ◌≤◌, length, Option}
+use Rattle.std.proofs.Common.{◌≡◌, refl, subst, sym, ◌∙◌, ap, List, ℕ, ◌+◌, ◌≤◌, length, Option}
 use Rattle.std.specs.Io.KnownBytes.{append_known}
 use Rattle.http_front.specs.Buffer.{to_read}
 use Rattle.http_front.specs.Link.{GivesFront}
 use Rattle.http_front.specs.ReplyText.{interim_due}
 use Rattle.http_front.specs.RequestStream.{Request, interim_of}
 use Rattle.worker_server.specs.RequestSteps.{StandsAt, StopsSo}
-use Rattle.worker_server.proofs.ReadingLemmas.{body_stops, head_fits, head_stops, interim_stops, StandsAt-from_head}
+use Rattle.worker_server.proofs.ReadingLemmas.{body_stops, head_fits, head_stops, interim_is, interim_stops, StandsAt-from_head}
+use Rattle.worker_server.proofs.TimingLemmas.{Unfinished-from_body, Unfinished-from_head}
 use Rattle.worker_server.proofs.requesting.next_request.Goals as goal
 
 pub read_body-requires : goal.read_body-requires
@@ -14,24 +15,24 @@ read_body-requires g c = record { fits = let is = c.in-Ok.ensures.ok in head_fit
 
 pub returns-in-Err-clause-err : goal.returns-in-Err-clause-err
 returns-in-Err-clause-err g c = λ rest e.
-    let stopped = subst (λ (z : Option (List ℕ)). StopsSo c.in-Err.end z (g.L.Link.given c.stop.new.link) c.stop.result) c.in-Err.ensures.kept c.stop.ensures.value in
+    let stopped = subst (λ (z : Option (List ℕ)). StopsSo c.in-Err.end z (g.L.Link.given c.stop.new.link) c.stop.result) c.in-Err.ensures.reads.given c.stop.ensures.value in
     head_stops rest c.in-Err.end _ _ c.stop.result (c.in-Err.ensures.err rest e) stopped
 
 pub returns-in-Err-give_interim-clause-err : goal.returns-in-Err-give_interim-clause-err
 returns-in-Err-give_interim-clause-err g c = λ rest e.
     let is = c.in-Ok.ensures.ok in
-    let gives = subst (λ (z : Option (List ℕ)). GivesFront z (g.L.Link.given c.give_interim.new.link) (interim_due c.in-Ok.head.expects)) c.in-Ok.ensures.kept c.in-Err-give_interim.ensures.given in
+    let gives = subst (λ (z : Option (List ℕ)). GivesFront z (g.L.Link.given c.give_interim.new.link) (interim_due c.in-Ok.head.expects)) c.in-Ok.ensures.reads.given c.in-Err-give_interim.ensures.given in
     interim_stops c.read_head.new.buffer _ rest c.in-Ok.head is.0 _ _ (c.in-Ok.ensures.to_read ∙ e) is.1 gives
 
 pub returns-in-Ok-read_body-clause-ok : goal.returns-in-Ok-read_body-clause-ok
 returns-in-Ok-read_body-clause-ok g c =
     let is = c.in-Ok.ensures.ok in
-    let grown = c.in-Ok-read_body.ensures.grown in
-    let enough = subst (λ (z : List ℕ). c.in-Ok.head.used + c.in-Ok.head.body ≤ length z) grown.1 c.in-Ok-read_body.ensures.ok in
+    let reads = c.in-Ok-read_body.ensures.reads in
+    let enough = subst (λ (z : List ℕ). c.in-Ok.head.used + c.in-Ok.head.body ≤ length z) reads.grown c.in-Ok-read_body.ensures.ok in
     let gave : g.L.Link.given c.read_body.new.link ≡ append_known (g.L.Link.given c.args.link.now) (interim_due c.in-Ok.head.expects) =
-    c.in-Ok-read_body.ensures.kept ∙ c.in-Ok-give_interim.ensures.given ∙ ap (λ (z : Option (List ℕ)). append_known z (interim_due c.in-Ok.head.expects)) c.in-Ok.ensures.kept in
-    subst (λ (z : List ℕ). (r : Request) × (after : List ℕ) × StandsAt z c.in-Ok.head r after × (g.L.Link.given c.read_body.new.link ≡ append_known (g.L.Link.given c.args.link.now) (interim_of r.head))) (sym grown.1)
-    (StandsAt-from_head c.read_head.new.buffer grown.0 c.in-Ok.head is.0 _ _ is.1 enough gave)
+    c.in-Ok-read_body.ensures.reads.given ∙ c.in-Ok-give_interim.ensures.given ∙ ap (λ (z : Option (List ℕ)). append_known z (interim_due c.in-Ok.head.expects)) c.in-Ok.ensures.reads.given in
+    subst (λ (z : List ℕ). (r : Request) × (after : List ℕ) × StandsAt z c.in-Ok.head r after × (g.L.Link.given c.read_body.new.link ≡ append_known (g.L.Link.given c.args.link.now) (interim_of r.head))) (sym reads.grown)
+    (StandsAt-from_head c.read_head.new.buffer reads.piece c.in-Ok.head is.0 _ _ is.1 enough gave)
 
 pub returns-in-Err-read_body-clause-err : goal.returns-in-Err-read_body-clause-err
 returns-in-Err-read_body-clause-err g c = λ rest e.
@@ -39,5 +40,28 @@ returns-in-Err-read_body-clause-err g c = λ rest e.
     let before = c.in-Ok.ensures.to_read ∙ e in
     let left = ap (λ (z : Option (List ℕ)). to_read c.read_head.new.buffer z) c.in-Ok-give_interim.ensures.left in
     let gave : g.L.Link.given c.read_body.new.link ≡ append_known (g.L.Link.given c.args.link.now) (interim_due c.in-Ok.head.expects) =
-    c.in-Err-read_body.ensures.kept ∙ c.in-Ok-give_interim.ensures.given ∙ ap (λ (z : Option (List ℕ)). append_known z (interim_due c.in-Ok.head.expects)) c.in-Ok.ensures.kept in
+    c.in-Err-read_body.ensures.reads.given ∙ c.in-Ok-give_interim.ensures.given ∙ ap (λ (z : Option (List ℕ)). append_known z (interim_due c.in-Ok.head.expects)) c.in-Ok.ensures.reads.given in
     body_stops c.read_head.new.buffer _ rest c.in-Ok.head is.0 c.in-Err-read_body.end _ _ _ _ before is.1 (c.in-Err-read_body.ensures.err rest (left ∙ before)) gave c.stop-in-Err-read_body.ensures.value
+
+-- ---- what was asked for
+
+pub returns-in-Err-clause-reading : goal.returns-in-Err-clause-reading
+returns-in-Err-clause-reading g c = Unfinished-from_head _ _ _ _ _ c.in-Err.ensures.reads c.stop.ensures.taken c.stop.ensures.asked
+
+pub returns-in-Err-give_interim-clause-reading : goal.returns-in-Err-give_interim-clause-reading
+returns-in-Err-give_interim-clause-reading g c =
+    Unfinished-from_head _ _ _ _ _ c.in-Ok.ensures.reads c.in-Err-give_interim.ensures.taken c.in-Err-give_interim.ensures.asked
+
+pub returns-in-Ok-read_body-clause-reading : goal.returns-in-Ok-read_body-clause-reading
+returns-in-Ok-read_body-clause-reading g c =
+    let is = c.in-Ok.ensures.ok in
+    let interim = c.in-Ok-give_interim.ensures in
+    let gave = interim.given ∙ ap (append_known (g.L.Link.given c.read_head.new.link)) (interim_is _ c.in-Ok.head is.0 is.1) in
+    Unfinished-from_body _ _ _ c.in-Ok.head is.0 _ _ _ _ _ c.in-Ok.ensures.reads is.1 interim.taken interim.asked gave c.in-Ok-read_body.ensures.reads refl refl
+
+pub returns-in-Err-read_body-clause-reading : goal.returns-in-Err-read_body-clause-reading
+returns-in-Err-read_body-clause-reading g c =
+    let is = c.in-Ok.ensures.ok in
+    let interim = c.in-Ok-give_interim.ensures in
+    let gave = interim.given ∙ ap (append_known (g.L.Link.given c.read_head.new.link)) (interim_is _ c.in-Ok.head is.0 is.1) in
+    Unfinished-from_body _ _ _ c.in-Ok.head is.0 _ _ _ _ _ c.in-Ok.ensures.reads is.1 interim.taken interim.asked gave c.in-Err-read_body.ensures.reads c.stop-in-Err-read_body.ensures.taken c.stop-in-Err-read_body.ensures.asked
