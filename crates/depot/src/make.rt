@@ -46,6 +46,7 @@ impl<S: Shelf> Depot<S> {
             → IfOk result (λ depot. state_of S.contents S.faults depot ≡ Some (created lib name.now user.now secret moment objects (S.faults store.shelf))) }
         ensures stands { IfOk result (IsGood S.contents S.faults) }
         ensures lying { IfOk result (λ depot. AddsNoStray S.contents store depot.store) }
+        ensures err_lying { IfErr result (λ refused. is_make_counted refused.1 ≡ false → AddsNoStray S.contents store refused.0) }
         ensures err { IfErr result (λ refused. LeftUnmadeBy S.contents store (opening_object (opening_commit lib user.now moment))
             (first_state lib name.now user.now secret (opening_commit lib user.now moment).id moment) refused.0 refused.1) }
 

@@ -27,6 +27,7 @@ impl<S: Shelf> Depot<S> {
         ensures shown { (objects : Objects) → objects_of S.contents store ≡ Some objects → IfOk result (OpensTold S.contents S.faults store objects) }
         ensures stands { IfOk result (IsGood S.contents S.faults) }
         ensures lying { IfOk result (λ depot. AddsNoStray S.contents store depot.store) }
+        ensures err_lying { IfErr result (λ refused. AddsNoStray S.contents store refused.0) }
         ensures settled { IfOk result (λ depot. depot.unsettled ≡ false) }
         ensures given { IfOk result (λ depot. IsNextOf (S.may_give store.shelf) depot.state) }
         ensures idle { IfOk result (λ depot. depot.running ≡ None) }
