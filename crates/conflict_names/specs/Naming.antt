@@ -1,8 +1,10 @@
--- The name of a conflict copy. Our own form. Read ext_at, then naming.
+-- The name of a conflict copy, and the merge with these names. Our own form. Read ext_at, then naming.
 use Rattle.std.specs.Prelude.{ℕ, zero, suc, ◌+◌, ◌/◌, ◌==◌, ◌++◌, nat_lt, Bool, List, [], ◌∷◌, if◌then◌else◌, length, take, drop, map, codes}
 use Rattle.std.specs.List.{before_last}
 use Rattle.tree_model.specs.ConflictCopies.{Naming}
+use Rattle.tree_model.specs.DirectorySurvival.{Sides}
 use Rattle.tree_model.specs.Name.{is_separator}
+use Rattle.tree_model.specs.ThreeWayMerge.{Merge, merge}
 use Rattle.conflict_names.specs.CivilTime.{digit, moment_of, stamp}
 
 abbrev pub is_dot : ℕ → Bool
@@ -34,3 +36,7 @@ abbrev pub naming : Naming
 naming name modifier mtime k =
     take (ext_at name) name ++ codes " (SFConflict " ++ map shown modifier ++ 32 ∷ []
     ++ stamp (moment_of mtime) ++ number_text k ++ 41 ∷ [] ++ drop (ext_at name) name
+
+-- the merge of three trees, with the names that conflict copies get here
+abbrev pub merge_of : Sides → Merge
+merge_of sides = merge naming sides.base sides.head sides.pushed

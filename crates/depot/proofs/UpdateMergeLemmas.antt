@@ -15,11 +15,11 @@ use Rattle.commit_objects.specs.Commit.{commit_of}
 use Rattle.commit_objects.specs.Proper.{IsProper}
 use Rattle.commit_objects.specs.Spelling.{text_of}
 use Rattle.commit_objects.specs.declared.commit.Commit.{Commit}
-use Rattle.conflict_names.specs.Naming.{naming}
+use Rattle.conflict_names.specs.Naming.{merge_of, naming}
 use Rattle.library_rules.specs.Calls.{other_bytes}
 use Rattle.library_rules.specs.Changes.{keys_added, with_added}
 use Rattle.library_rules.specs.LibraryState.{State, head_of, is_stored}
-use Rattle.library_rules.specs.MergeCommit.{Clash, Clashes, ClashesAt, IsCommitObject, IsDirectoryObject, IsMade, IsMergedDirectory, IsNilWhereNoPath, IsTreeAt, Makes, OfTrees, RootTree, has_conflict, merge_of, zeros, stored, another, IsMadeOf}
+use Rattle.library_rules.specs.MergeCommit.{Clash, Clashes, ClashesAt, IsCommitObject, IsDirectoryObject, IsMade, IsMergedDirectory, IsTreeAt, Makes, OfTrees, RootTree, has_conflict, zeros, stored, another, IsMadeOf}
 use Rattle.library_rules.specs.declared.entry.Stored.{Stored}
 use Rattle.library_rules.proofs.HistoryLemmas.{commit_visited}
 use Rattle.library_rules.proofs.KeepingLemmas.{grown}
@@ -28,7 +28,7 @@ use Rattle.library_rules.proofs.ProperTextLemmas.{complete_not_zeros}
 use Rattle.library_state.specs.declared.refusal.Refusal.{Refusal}
 use Rattle.library_state.specs.declared.refusal.Refusal.TheVariants as refusal
 use Rattle.library_state.specs.declared.state.LibState.{LibState}
-use Rattle.object_graph.specs.Objects.{IsTreeOf, commit_at, commit_key, fs_key, is_nil}
+use Rattle.object_graph.specs.Objects.{IsTreeOf, commit_at, commit_key, fs_key, is_nil, IsNilWhereNoPath}
 use Rattle.object_graph.specs.Traversal.{IsComplete, IsCompleteRoot, is_in, needs, start, walk_root}
 use Rattle.object_graph.specs.Unchanged.{Keeps}
 use Rattle.object_graph.specs.declared.fault.TreeFault.{TreeFault}

@@ -5,7 +5,7 @@ use Rattle.std.specs.List.{AllByRecursion}
 use Rattle.ids.specs.declared.key.Key.{Key}
 use Rattle.library_rules.specs.Calls.{Due, Denies, Says, Stores, Installs, Merges}
 use Rattle.library_rules.specs.LibraryState.{State, head_of, is_kept}
-use Rattle.library_rules.specs.MergeCommit.{Clashes, Makes, OfTrees, merge_of}
+use Rattle.library_rules.specs.MergeCommit.{Clashes, Makes, OfTrees}
 use Rattle.library_rules.specs.declared.entry.Stored.{Stored}
 use Rattle.library_state.specs.declared.call.Act.TheVariants as act
 use Rattle.library_state.specs.declared.call.Call.{Call}
@@ -22,6 +22,7 @@ use Rattle.tree_model.specs.ThreeWayMerge as merged
 use Rattle.depot.specs.Answering.{MayAnswer, decided, update_decided}
 use Rattle.depot.specs.ObjectCalls.{IsToldRefusal}
 use Rattle.depot.specs.declared.update_plan.Plan.{Plan}
+use Rattle.conflict_names.specs.Naming.{merge_of}
 
 -- the objects of a table, in the order of their keys
 abbrev pub listed : List (Key × List ℕ) → List Stored

@@ -30,45 +30,35 @@ use Rattle.json_tokens.proofs.ConvertedLemmas.{converted-array}
 
 -- ---- what emptying leaves as it is
 
+-- what the readers of a field look at in what was found
+abbrev Looks : Type 0
+Looks = Option ⊤ × Option Bool × Option Num × Option (List ℕ) × Bool
+
+abbrev looks : Data → Looks
+looks d = (as_null d, as_bool d, as_number d, as_str d, is_some (as_array d))
+
+looks-emptied : (d : Data) → looks (emptied d) ≡ looks d
+looks-emptied null = refl
+looks-emptied (boolean b) = refl
+looks-emptied (number n) = refl
+looks-emptied (string text) = refl
+looks-emptied (array ds) = refl
+looks-emptied (object ms) = refl
+
 pub as_null-emptied : (d : Data) → as_null (emptied d) ≡ as_null d
-as_null-emptied null = refl
-as_null-emptied (boolean b) = refl
-as_null-emptied (number n) = refl
-as_null-emptied (string text) = refl
-as_null-emptied (array ds) = refl
-as_null-emptied (object ms) = refl
+as_null-emptied d = ap (λ (l : Looks). l.0) (looks-emptied d)
 
 pub as_bool-emptied : (d : Data) → as_bool (emptied d) ≡ as_bool d
-as_bool-emptied null = refl
-as_bool-emptied (boolean b) = refl
-as_bool-emptied (number n) = refl
-as_bool-emptied (string text) = refl
-as_bool-emptied (array ds) = refl
-as_bool-emptied (object ms) = refl
+as_bool-emptied d = ap (λ (l : Looks). l.1) (looks-emptied d)
 
 pub as_number-emptied : (d : Data) → as_number (emptied d) ≡ as_number d
-as_number-emptied null = refl
-as_number-emptied (boolean b) = refl
-as_number-emptied (number n) = refl
-as_number-emptied (string text) = refl
-as_number-emptied (array ds) = refl
-as_number-emptied (object ms) = refl
+as_number-emptied d = ap (λ (l : Looks). l.2) (looks-emptied d)
 
 pub as_str-emptied : (d : Data) → as_str (emptied d) ≡ as_str d
-as_str-emptied null = refl
-as_str-emptied (boolean b) = refl
-as_str-emptied (number n) = refl
-as_str-emptied (string text) = refl
-as_str-emptied (array ds) = refl
-as_str-emptied (object ms) = refl
+as_str-emptied d = ap (λ (l : Looks). l.3) (looks-emptied d)
 
 pub is_array-emptied : (d : Data) → is_some (as_array (emptied d)) ≡ is_some (as_array d)
-is_array-emptied null = refl
-is_array-emptied (boolean b) = refl
-is_array-emptied (number n) = refl
-is_array-emptied (string text) = refl
-is_array-emptied (array ds) = refl
-is_array-emptied (object ms) = refl
+is_array-emptied d = ap (λ (l : Looks). l.4) (looks-emptied d)
 
 pub is_object-kept : (known : List (List ℕ)) (d : Data) → is_object (kept known d) ≡ is_object d
 is_object-kept known null = refl

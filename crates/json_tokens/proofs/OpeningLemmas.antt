@@ -19,32 +19,26 @@ abbrev pick : {A : Type 0} → A → Option A → A
 pick d None = d
 pick d (Some a) = a
 
-abbrev is_array : Data → Bool
-is_array d = is_some (as_array d)
+-- What the first token tells of a value: whether it is an array, whether it is an object, and its text.
+abbrev Seen : Type 0
+Seen = Bool × Bool × Option (List ℕ)
 
-abbrev is_json_array : json.Json → Bool
-is_json_array json.null = false
-is_json_array (json.boolean b) = false
-is_json_array (json.number s) = false
-is_json_array (json.string s) = false
-is_json_array (json.array js) = true
-is_json_array (json.object ms) = false
+abbrev seen : Data → Seen
+seen d = (is_some (as_array d), is_object d, as_str d)
 
-abbrev is_json_object : json.Json → Bool
-is_json_object json.null = false
-is_json_object (json.boolean b) = false
-is_json_object (json.number s) = false
-is_json_object (json.string s) = false
-is_json_object (json.array js) = false
-is_json_object (json.object ms) = true
+abbrev seen_token : Token → Seen
+seen_token t = (is_begin_array t, is_begin_object t, text_in t)
 
-abbrev json_text : json.Json → Option (List ℕ)
-json_text json.null = None
-json_text (json.boolean b) = None
-json_text (json.number s) = None
-json_text (json.string s) = Some s
-json_text (json.array js) = None
-json_text (json.object ms) = None
+abbrev plain : Seen
+plain = (false, false, None)
+
+abbrev seen_json : json.Json → Seen
+seen_json json.null = plain
+seen_json (json.boolean b) = plain
+seen_json (json.number s) = plain
+seen_json (json.string s) = (false, false, Some s)
+seen_json (json.array js) = (true, false, None)
+seen_json (json.object ms) = (false, true, None)
 
 -- what every value of a form passes, the value that was made has
 made : {A B C : Type 0} (f : A → B) (test : B → C) (b : C) (o : Option A) (d : B) → ((a : A) → test (f a) ≡ b) → option_map f o ≡ Some d → test d ≡ b
@@ -67,99 +61,49 @@ parsed f test b (Some p) j r each e = sym (ap test (first (f p.0, p.1) (j, r) e)
 parsed_one : {C : Type 0} (test : json.Json → C) (p q : json.Json × List Token) → Some p ≡ Some q → test q.0 ≡ test p.0
 parsed_one test p q e = sym (ap test (first p q e))
 
-of_json-array : (j : json.Json) (d : Data) → of_json j ≡ Some d → is_array d ≡ is_json_array j
-of_json-array json.null d e = one is_array null d e
-of_json-array (json.boolean b) d e = one is_array (boolean b) d e
-of_json-array (json.number s) d e = made number is_array false (number_of s) d (λ n. refl) e
-of_json-array (json.string s) d e = one is_array (string s) d e
-of_json-array (json.array js) d e = made array is_array true (of_items js) d (λ ds. refl) e
-of_json-array (json.object ms) d e = made object is_array false (of_members ms no_members) d (λ found. refl) e
-
-of_json-object : (j : json.Json) (d : Data) → of_json j ≡ Some d → is_object d ≡ is_json_object j
-of_json-object json.null d e = one is_object null d e
-of_json-object (json.boolean b) d e = one is_object (boolean b) d e
-of_json-object (json.number s) d e = made number is_object false (number_of s) d (λ n. refl) e
-of_json-object (json.string s) d e = one is_object (string s) d e
-of_json-object (json.array js) d e = made array is_object false (of_items js) d (λ ds. refl) e
-of_json-object (json.object ms) d e = made object is_object true (of_members ms no_members) d (λ found. refl) e
-
-of_json-text : (j : json.Json) (d : Data) → of_json j ≡ Some d → as_str d ≡ json_text j
-of_json-text json.null d e = one as_str null d e
-of_json-text (json.boolean b) d e = one as_str (boolean b) d e
-of_json-text (json.number s) d e = made number as_str None (number_of s) d (λ n. refl) e
-of_json-text (json.string s) d e = one as_str (string s) d e
-of_json-text (json.array js) d e = made array as_str None (of_items js) d (λ ds. refl) e
-of_json-text (json.object ms) d e = made object as_str None (of_members ms no_members) d (λ found. refl) e
+of_json-seen : (j : json.Json) (d : Data) → of_json j ≡ Some d → seen d ≡ seen_json j
+of_json-seen json.null d e = one seen null d e
+of_json-seen (json.boolean b) d e = one seen (boolean b) d e
+of_json-seen (json.number s) d e = made number seen plain (number_of s) d (λ n. refl) e
+of_json-seen (json.string s) d e = one seen (string s) d e
+of_json-seen (json.array js) d e = made array seen (true, false, None) (of_items js) d (λ ds. refl) e
+of_json-seen (json.object ms) d e = made object seen (false, true, None) (of_members ms no_members) d (λ found. refl) e
 
 module _ (a : Parse json.Items) (o : Parse json.Members) (j : json.Json) (r : List Token) where
-  token-array : (t : Token) (ts : List Token) → value_with a o (t ∷ ts) ≡ Some (j, r) → is_json_array j ≡ is_begin_array t
-  token-array Token.begin_object ts e = parsed json.object is_json_array false (o ts) j r (λ ms. refl) e
-  token-array Token.end_object ts e = absurd (cc)
-  token-array Token.begin_array ts e = parsed json.array is_json_array true (a ts) j r (λ js. refl) e
-  token-array Token.end_array ts e = absurd (cc)
-  token-array (Token.key s) ts e = absurd (cc)
-  token-array (Token.string s) ts e = parsed_one is_json_array ((json.string s), ts) (j, r) e
-  token-array (Token.number s) ts e = parsed_one is_json_array ((json.number s), ts) (j, r) e
-  token-array (Token.boolean b) ts e = parsed_one is_json_array ((json.boolean b), ts) (j, r) e
-  token-array Token.null ts e = parsed_one is_json_array (json.null, ts) (j, r) e
-  token-array Token.bad ts e = absurd (cc)
+  token-seen : (t : Token) (ts : List Token) → value_with a o (t ∷ ts) ≡ Some (j, r) → seen_json j ≡ seen_token t
+  token-seen Token.begin_object ts e = parsed json.object seen_json (false, true, None) (o ts) j r (λ ms. refl) e
+  token-seen Token.end_object ts e = absurd (cc)
+  token-seen Token.begin_array ts e = parsed json.array seen_json (true, false, None) (a ts) j r (λ js. refl) e
+  token-seen Token.end_array ts e = absurd (cc)
+  token-seen (Token.key s) ts e = absurd (cc)
+  token-seen (Token.string s) ts e = parsed_one seen_json ((json.string s), ts) (j, r) e
+  token-seen (Token.number s) ts e = parsed_one seen_json ((json.number s), ts) (j, r) e
+  token-seen (Token.boolean b) ts e = parsed_one seen_json ((json.boolean b), ts) (j, r) e
+  token-seen Token.null ts e = parsed_one seen_json (json.null, ts) (j, r) e
+  token-seen Token.bad ts e = absurd (cc)
 
-  token-object : (t : Token) (ts : List Token) → value_with a o (t ∷ ts) ≡ Some (j, r) → is_json_object j ≡ is_begin_object t
-  token-object Token.begin_object ts e = parsed json.object is_json_object true (o ts) j r (λ ms. refl) e
-  token-object Token.end_object ts e = absurd (cc)
-  token-object Token.begin_array ts e = parsed json.array is_json_object false (a ts) j r (λ js. refl) e
-  token-object Token.end_array ts e = absurd (cc)
-  token-object (Token.key s) ts e = absurd (cc)
-  token-object (Token.string s) ts e = parsed_one is_json_object ((json.string s), ts) (j, r) e
-  token-object (Token.number s) ts e = parsed_one is_json_object ((json.number s), ts) (j, r) e
-  token-object (Token.boolean b) ts e = parsed_one is_json_object ((json.boolean b), ts) (j, r) e
-  token-object Token.null ts e = parsed_one is_json_object (json.null, ts) (j, r) e
-  token-object Token.bad ts e = absurd (cc)
-
-  token-text : (t : Token) (ts : List Token) → value_with a o (t ∷ ts) ≡ Some (j, r) → json_text j ≡ text_in t
-  token-text Token.begin_object ts e = parsed json.object json_text None (o ts) j r (λ ms. refl) e
-  token-text Token.end_object ts e = absurd (cc)
-  token-text Token.begin_array ts e = parsed json.array json_text None (a ts) j r (λ js. refl) e
-  token-text Token.end_array ts e = absurd (cc)
-  token-text (Token.key s) ts e = absurd (cc)
-  token-text (Token.string s) ts e = parsed_one json_text ((json.string s), ts) (j, r) e
-  token-text (Token.number s) ts e = parsed_one json_text ((json.number s), ts) (j, r) e
-  token-text (Token.boolean b) ts e = parsed_one json_text ((json.boolean b), ts) (j, r) e
-  token-text Token.null ts e = parsed_one json_text (json.null, ts) (j, r) e
-  token-text Token.bad ts e = absurd (cc)
-
-value-array : (depth : ℕ) (j : json.Json) (r : List Token) (t : Token) (ts : List Token) → value depth (t ∷ ts) ≡ Some (j, r) → is_json_array j ≡ is_begin_array t
+value-seen : (depth : ℕ) (j : json.Json) (r : List Token) (t : Token) (ts : List Token) → value depth (t ∷ ts) ≡ Some (j, r) → seen_json j ≡ seen_token t
 unfolding value
-value-array zero j r t ts e = token-array (λ s. None) (λ s. None) j r t ts e
-value-array (suc depth) j r t ts e = token-array (λ s. items (value depth) (length s) s) (λ s. members (value depth) (length s) s) j r t ts e
+value-seen zero j r t ts e = token-seen (λ s. None) (λ s. None) j r t ts e
+value-seen (suc depth) j r t ts e = token-seen (λ s. items (value depth) (length s) s) (λ s. members (value depth) (length s) s) j r t ts e
 
-value-object : (depth : ℕ) (j : json.Json) (r : List Token) (t : Token) (ts : List Token) → value depth (t ∷ ts) ≡ Some (j, r) → is_json_object j ≡ is_begin_object t
-unfolding value
-value-object zero j r t ts e = token-object (λ s. None) (λ s. None) j r t ts e
-value-object (suc depth) j r t ts e = token-object (λ s. items (value depth) (length s) s) (λ s. members (value depth) (length s) s) j r t ts e
-
-value-text : (depth : ℕ) (j : json.Json) (r : List Token) (t : Token) (ts : List Token) → value depth (t ∷ ts) ≡ Some (j, r) → json_text j ≡ text_in t
-unfolding value
-value-text zero j r t ts e = token-text (λ s. None) (λ s. None) j r t ts e
-value-text (suc depth) j r t ts e = token-text (λ s. items (value depth) (length s) s) (λ s. members (value depth) (length s) s) j r t ts e
+-- a value shows what its first token does
+pub front-seen : (depth : ℕ) (t : Token) (ts r : List Token) (d : Data) → FrontIs depth (t ∷ ts) d r → seen d ≡ seen_token t
+front-seen depth t ts r d e =
+    let j = converted_some of_json (value depth (t ∷ ts)) d r e in
+    of_json-seen j.0 d j.2 ∙ value-seen depth j.0 r t ts j.1
 
 -- an array begins with its bracket, and nothing else does
 pub front-array : (depth : ℕ) (t : Token) (ts r : List Token) (d : Data) → FrontIs depth (t ∷ ts) d r → is_some (as_array d) ≡ is_begin_array t
-front-array depth t ts r d e =
-    let j = converted_some of_json (value depth (t ∷ ts)) d r e in
-    of_json-array j.0 d j.2 ∙ value-array depth j.0 r t ts j.1
+front-array depth t ts r d e = ap (λ (shown : Seen). shown.0) (front-seen depth t ts r d e)
 
 -- an object begins with its brace, and nothing else does
 pub front-object : (depth : ℕ) (t : Token) (ts r : List Token) (d : Data) → FrontIs depth (t ∷ ts) d r → is_object d ≡ is_begin_object t
-front-object depth t ts r d e =
-    let j = converted_some of_json (value depth (t ∷ ts)) d r e in
-    of_json-object j.0 d j.2 ∙ value-object depth j.0 r t ts j.1
+front-object depth t ts r d e = ap (λ (shown : Seen). shown.1) (front-seen depth t ts r d e)
 
 -- a text is its token, and no other token is one
 pub front-text : (depth : ℕ) (t : Token) (ts r : List Token) (d : Data) → FrontIs depth (t ∷ ts) d r → as_str d ≡ text_in t
-front-text depth t ts r d e =
-    let j = converted_some of_json (value depth (t ∷ ts)) d r e in
-    of_json-text j.0 d j.2 ∙ value-text depth j.0 r t ts j.1
+front-text depth t ts r d e = ap (λ (shown : Seen). shown.2) (front-seen depth t ts r d e)
 
 -- a value that begins with another token than a bracket is no array
 pub no_array : (depth : ℕ) (t : Token) (ts r : List Token) (d : Data) → is_begin_array t ≡ false → FrontIs depth (t ∷ ts) d r → as_array d ≡ None

@@ -2,7 +2,7 @@
 use Rattle.std.proofs.Common.{◌≡◌, ◌≢◌, inl, inr, ℕ, true, List, [], ◌∷◌, Result, Ok, Err, refl, sym, ap, subst, ◌∙◌}
 use Rattle.ids.specs.Key.{Objects}
 use Rattle.commit_objects.specs.declared.commit.Commit.{Commit}
-use Rattle.conflict_names.specs.Naming.{naming}
+use Rattle.conflict_names.specs.Naming.{merge_of, naming}
 use Rattle.library_state.specs.declared.history.Install.{Install}
 use Rattle.object_graph.specs.Objects.{same_id, commit_at, IsTreeOf}
 use Rattle.object_graph.specs.Traversal.{IsComplete}
@@ -16,7 +16,7 @@ use Rattle.tree_model.proofs.UnmovedLemmas.{merge_unmoved_head}
 use Rattle.library_rules.specs.Changes.{apply, with_added, without}
 use Rattle.library_rules.specs.Heads.{TakesIn, HasBase, IsMergedHead, IsExact}
 use Rattle.library_rules.specs.LibraryState.{State, is_kept, head_of}
-use Rattle.library_rules.specs.MergeCommit.{RootTree, IsTreeAt, OfTrees, merge_of, merge_commit, Makes}
+use Rattle.library_rules.specs.MergeCommit.{RootTree, IsTreeAt, OfTrees, merge_commit, Makes}
 use Rattle.library_rules.specs.declared.entry.Entry.{Entry}
 use Rattle.library_rules.proofs.HeadsLemmas.{taken_in, base_kept, head_after}
 use Rattle.library_rules.proofs.MemberLemmas.{same_id-true, same_id-itself}

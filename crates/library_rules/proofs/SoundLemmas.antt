@@ -3,12 +3,11 @@ use Rattle.std.proofs.Common.{◌≡◌, ◌⊎◌, inl, inr, ℕ, suc, ◌+◌,
 use Rattle.std.specs.FinMap as map
 use Rattle.std.specs.FinSet as set
 use Rattle.std.specs.List.{AllByRecursion, IsDistinct}
-use Rattle.std.specs.Prelude.{⊤}
+use Rattle.std.specs.Prelude.{⊤, map as map_list}
 use Rattle.std.specs.Str.{bytes_eq}
 use Rattle.ids.specs.Key.{Objects, key_cmp}
 use Rattle.ids.specs.declared.key.Key.{Key}
 use Rattle.library_state.specs.Retention.{kept_for}
-use Rattle.library_state.specs.Tokens.{secrets_of}
 use Rattle.library_state.specs.declared.call.Act.{Act}
 use Rattle.library_state.specs.declared.call.Act.TheVariants as act
 use Rattle.library_state.specs.declared.call.Op.TheVariants as op
@@ -19,12 +18,13 @@ use Rattle.object_graph.specs.Traversal.{IsComplete, is_in}
 use Rattle.object_graph.proofs.KeyLemmas.{same_key, same_key-true}
 use Rattle.library_rules.specs.Calls.{keys_of}
 use Rattle.library_rules.specs.Changes.{with_added, without, keys_added, fresher, moved, with_last, seen_by, told_by, stored_keys, head_in, with_install, act_changes, begun, turn_counted, swept, ended, counted}
-use Rattle.library_rules.specs.LibraryState.{State, Running, is_kept, is_stored, is_needed, is_fresh, AreKept, AreTokens, AreNumbers, IsSound, users_of, last_number, is_day_count}
+use Rattle.library_rules.specs.LibraryState.{State, Running, is_kept, is_stored, is_needed, is_fresh, AreKept, AreTokens, AreNumbers, IsSound, last_number, is_day_count}
 use Rattle.library_rules.specs.declared.entry.Stored.{Stored}
 use Rattle.library_rules.proofs.KeepingLemmas.{added_stored, still_stored, agrees_moved, still_complete}
 use Rattle.library_rules.proofs.KeptHistoryLemmas.{cut_kept, cut_some, installed_cases}
 use Rattle.library_rules.proofs.MemberLemmas.{apart, in_all}
 use Rattle.std.proofs.lemmas.Bool.{or_cases, false_from_ne_true}
+use Rattle.std.proofs.lemmas.List.{length-map}
 use Rattle.ids.proofs.BasicLemmas.{pushed_is_some}
 
 -- ---- kept commits and fresh keys
@@ -96,32 +96,18 @@ module _ (A : Objects) (kept : List Install) (running : Option Running) (are : A
 -- ---- tokens
 
 module _ (secret : List ℕ) (n : ℕ) where
-  secrets_last : (tokens : List Token) → secrets_of (with_last secret n tokens) ≡ secrets_of tokens
-  secrets_last [] = refl
-  secrets_last (t ∷ tokens) = by (bytes_eq secret t.secret) (secrets_last tokens)
+  -- what doesn't look at the collection that a token saw last
+  map_last : {A : Type 0} (f : Token → A) → ((t : Token) → f (record t { last = n }) ≡ f t) → (tokens : List Token) → map_list f (with_last secret n tokens) ≡ map_list f tokens
+  map_last f same [] = refl
+  map_last f same (t ∷ tokens) = by (bytes_eq secret t.secret) (map_last f same tokens)
     where
-      by : (b : Bool) → secrets_of (with_last secret n tokens) ≡ secrets_of tokens
-          → secrets_of (if b then record t { last = n } ∷ tokens else t ∷ with_last secret n tokens) ≡ t.secret ∷ secrets_of tokens
-      by true rest = refl
-      by false rest = ap (λ secrets. t.secret ∷ secrets) rest
-
-  users_last : (tokens : List Token) → users_of (with_last secret n tokens) ≡ users_of tokens
-  users_last [] = refl
-  users_last (t ∷ tokens) = by (bytes_eq secret t.secret) (users_last tokens)
-    where
-      by : (b : Bool) → users_of (with_last secret n tokens) ≡ users_of tokens
-          → users_of (if b then record t { last = n } ∷ tokens else t ∷ with_last secret n tokens) ≡ t.user ∷ users_of tokens
-      by true rest = refl
-      by false rest = ap (λ users. t.user ∷ users) rest
+      by : (b : Bool) → map_list f (with_last secret n tokens) ≡ map_list f tokens
+          → map_list f (if b then record t { last = n } ∷ tokens else t ∷ with_last secret n tokens) ≡ f t ∷ map_list f tokens
+      by true rest = ap (λ told. told ∷ map_list f tokens) (same t)
+      by false rest = ap (λ all. f t ∷ all) rest
 
   length_last : (tokens : List Token) → length (with_last secret n tokens) ≡ length tokens
-  length_last [] = refl
-  length_last (t ∷ tokens) = by (bytes_eq secret t.secret) (length_last tokens)
-    where
-      by : (b : Bool) → length (with_last secret n tokens) ≡ length tokens
-          → length (if b then record t { last = n } ∷ tokens else t ∷ with_last secret n tokens) ≡ length (t ∷ tokens)
-      by true rest = refl
-      by false rest = ap (λ k. suc k) rest
+  length_last tokens = sym (length-map (with_last secret n tokens) (λ token. token.user)) ∙ ap length (map_last (λ token. token.user) (λ t. refl) tokens) ∙ length-map tokens (λ token. token.user)
 
   lasts_last : (tokens : List Token) → AllByRecursion (λ (t : Token). t.last ≤ n) tokens → AllByRecursion (λ (t : Token). t.last ≤ n) (with_last secret n tokens)
   lasts_last [] all = tt
@@ -135,10 +121,10 @@ module _ (secret : List ℕ) (n : ℕ) where
 pub tokens_seen : (secret : Option (List ℕ)) (n : ℕ) (tokens : List Token) → AreTokens tokens n → AreTokens (seen_by secret n tokens) n
 tokens_seen None n tokens are = are
 tokens_seen (Some secret) n tokens are = record {
-  secrets = subst (IsDistinct bytes_eq) (sym (secrets_last secret n tokens)) are.secrets;
+  secrets = subst (IsDistinct bytes_eq) (sym (map_last secret n (λ token. token.secret) (λ t. refl) tokens)) are.secrets;
   few = subst (λ k. k ≤ 1000) (sym (length_last secret n tokens)) are.few;
   lasts = lasts_last secret n tokens are.lasts;
-  users = subst (AllByRecursion (λ user. (1 ≤ length user) × (length user ≤ 255))) (sym (users_last secret n tokens)) are.users;
+  users = subst (AllByRecursion (λ user. (1 ≤ length user) × (length user ≤ 255))) (sym (map_last secret n (λ token. token.user) (λ t. refl) tokens)) are.users;
 }
 
 lasts_more : (n : ℕ) (tokens : List Token) → AllByRecursion (λ (t : Token). t.last ≤ n) tokens → AllByRecursion (λ (t : Token). t.last ≤ n + 1) tokens

@@ -9,9 +9,10 @@ use Rattle.tree_model.specs.Tree.{Tree, IsAlike}
 use Rattle.library_rules.specs.History.{Permits}
 use Rattle.library_rules.specs.LibraryState.{State, IsSound, is_kept, head_of}
 use Rattle.library_rules.specs.MergeBase.{Base, base_of}
-use Rattle.library_rules.specs.MergeCommit.{OfTrees, IsTreeAt, merge_of}
+use Rattle.library_rules.specs.MergeCommit.{OfTrees, IsTreeAt}
 use Rattle.library_rules.specs.declared.entry.Entry.{Entry}
 use Rattle.library_rules.specs.declared.entry.Step.TheVariants as step
+use Rattle.conflict_names.specs.Naming.{merge_of}
 
 -- in a sound state, a permitted update that was answered with this head, of a commit that wasn't kept
 pub record TakesIn (s : State) (e : Entry) (pushed new : List ℕ) : Type 0 where

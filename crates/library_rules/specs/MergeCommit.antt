@@ -1,26 +1,25 @@
 -- What an update makes that merges a pushed commit into the head. Our own. Read OfTrees, then Makes and Clashes.
-use Rattle.std.specs.Prelude.{◌≡◌, ◌≢◌, ◌⊎◌, ◌↔◌, ℕ, Bool, true, false, List, [], ◌∷◌, ◌++◌, codes, Some, None, option_map, Result, Ok, Err}
+use Rattle.std.specs.Prelude.{◌≡◌, ◌≢◌, ◌⊎◌, ℕ, Bool, true, false, List, [], ◌∷◌, ◌++◌, codes, Some, None, option_map, Result, Ok, Err}
 use Rattle.std.specs.FinMap as map
 use Rattle.std.specs.List.{AllByRecursion, Contains, IsDistinct}
 use Rattle.std.specs.Ordering.{eq_by_cmp}
 use Rattle.sha1.specs.Sha1.{sha1}
 use Rattle.ids.specs.Key.{Objects, key_cmp}
-use Rattle.ids.specs.ObjectId.{nil}
 use Rattle.commit_objects.specs.Made.{made}
 use Rattle.commit_objects.specs.Spelling.{text_of}
 use Rattle.commit_objects.specs.declared.commit.Commit.{Commit}
-use Rattle.conflict_names.specs.Naming.{naming}
+use Rattle.conflict_names.specs.Naming.{merge_of, naming}
 use Rattle.fs_objects.specs.FsObject.{fs_of}
 use Rattle.fs_objects.specs.Mode.{is_directory_mode}
 use Rattle.fs_objects.specs.declared.dirent.Dirent.{Dirent}
 use Rattle.fs_objects.specs.declared.fs_object.FsObject.TheVariants as fs
-use Rattle.object_graph.specs.Objects.{commit_at, commit_key, fs_key, is_nil, entry_named, entry_of, node_of, IsTreeOf}
+use Rattle.object_graph.specs.Objects.{commit_at, commit_key, fs_key, is_nil, entry_named, entry_of, node_of, IsNilWhereNone, IsNilWhereNoPath, IsTreeOf}
 use Rattle.object_graph.specs.Traversal.{IsComplete, is_in, needs}
 use Rattle.object_graph.specs.declared.fault.TreeFault.{TreeFault}
 use Rattle.tree_model.specs.ConflictCopies.{conflicts}
 use Rattle.tree_model.specs.DirectorySurvival.{Sides}
 use Rattle.tree_model.specs.Path.{PathV}
-use Rattle.tree_model.specs.ThreeWayMerge.{Merge, MergedTree, merge}
+use Rattle.tree_model.specs.ThreeWayMerge.{MergedTree}
 use Rattle.tree_model.specs.Tree.{Tree, has_dir}
 use Rattle.library_rules.specs.Calls.{other_bytes}
 use Rattle.library_rules.specs.Changes.{with_added, keys_added}
@@ -35,10 +34,6 @@ RootTree objects (Err fault) tree = ⊥
 -- the tree of a commit: that of its root
 abbrev pub IsTreeAt : Objects → List ℕ → Tree → Type 0
 IsTreeAt objects id tree = RootTree objects (commit_at objects id) tree
-
--- the merge of three trees, with the names that conflict copies get here
-abbrev pub merge_of : Sides → Merge
-merge_of sides = merge naming sides.base sides.head sides.pushed
 
 -- whether a list has an item
 abbrev pub some_in : {A : Type 0} → List A → Bool
@@ -74,14 +69,6 @@ pub record IsCommitObject (s : State) (moment : ℕ) (user pushed root : List �
 -- an object that a merge may make: a directory, or its commit
 abbrev pub IsMade : State → ℕ → (user pushed root : List ℕ) → Bool → Stored → Type 0
 IsMade s moment user pushed root conflict x = IsDirectoryObject x ⊎ IsCommitObject s moment user pushed root conflict x
-
--- a root is forty zeros exactly where its tree has no path
-abbrev pub IsNilWhereNoPath : Tree → List ℕ → Type 0
-IsNilWhereNoPath tree root = (root ≡ nil) ↔ ((path : PathV) → map.get tree path ≡ None)
-
--- a directory's id is forty zeros exactly where the tree has nothing in it
-abbrev pub IsNilWhereNone : Tree → PathV → List ℕ → Type 0
-IsNilWhereNone tree dir id = (id ≡ nil) ↔ ((name : List ℕ) → map.get tree (dir ++ name ∷ []) ≡ None)
 
 -- a directory of a tree lists these entries: the tree has, under each name below some path, what the entry of that
 -- name stands for

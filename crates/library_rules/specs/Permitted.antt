@@ -7,8 +7,9 @@ use Rattle.tree_model.specs.ThreeWayMerge as merged
 use Rattle.library_rules.specs.Answered.{Plain, IsFault, Fails, OrFails}
 use Rattle.library_rules.specs.Calls.{Due, Denies, Says, Stores, Installs, Merges}
 use Rattle.library_rules.specs.LibraryState.{State}
-use Rattle.library_rules.specs.MergeCommit.{OfTrees, merge_of, Makes, Partly, Clashes}
+use Rattle.library_rules.specs.MergeCommit.{OfTrees, Makes, Partly, Clashes}
 use Rattle.library_rules.specs.declared.entry.Entry.{Entry}
+use Rattle.conflict_names.specs.Naming.{merge_of}
 
 -- the pushed commit was merged into the head
 pub record IsMerged (s : State) (e : Entry) (user base pushed : List ℕ) : Type 0 where

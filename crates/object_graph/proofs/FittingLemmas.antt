@@ -23,7 +23,7 @@ use Rattle.object_graph.specs.Listing.{listed}
 use Rattle.object_graph.proofs.BelowLemmas.{Ran, reaches}
 use Rattle.object_graph.proofs.CountingLemmas.{counts_below}
 use Rattle.object_graph.proofs.EntryLemmas.{In, named_member, named_name}
-use Rattle.object_graph.proofs.GoodNameLemmas.{good_names}
+use Rattle.object_graph.proofs.EntryReadingLemmas.{good_names}
 use Rattle.object_graph.proofs.LimitLemmas.{root_bounded}
 use Rattle.object_graph.proofs.ListingLemmas.{found_listed, tree_of, get-tree_of, len-tree_of}
 use Rattle.object_graph.proofs.SameBelowLemmas.{ran_root}

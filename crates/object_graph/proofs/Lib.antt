@@ -1,6 +1,6 @@
 pub mod AlikeLemmas
 pub mod FittingLemmas
-pub mod GoodNameLemmas
+pub mod EntryReadingLemmas
 pub mod KeyLemmas
 pub mod SchemeLemmas
 pub mod BelowLemmas

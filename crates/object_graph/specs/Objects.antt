@@ -1,7 +1,7 @@
 -- What stored objects stand for: the contents of files and the trees of directories. Our own.
 -- Forty zeros name the empty file and the empty directory, and no object is stored for them.
 -- Read fs_at and commit_at, then contents_of, entry_below and IsTreeOf.
-use Rattle.std.specs.Prelude.{◌≡◌, ℕ, Bool, nat_eq, if◌then◌else◌, List, [], ◌∷◌, ◌++◌, Option, None, Some, option_map, option_and_then, unwrap_or, Result, Ok, Err}
+use Rattle.std.specs.Prelude.{◌≡◌, ◌↔◌, ℕ, Bool, nat_eq, if◌then◌else◌, List, [], ◌∷◌, ◌++◌, Option, None, Some, option_map, option_and_then, unwrap_or, Result, Ok, Err}
 use Rattle.std.specs.Cmp.Lexicographic.{pointwise, slice_cmp}
 use Rattle.std.specs.FinMap as map
 use Rattle.std.specs.Ordering.{nat_cmp, eq_by_cmp}
@@ -164,3 +164,13 @@ module _ (objects : Objects) where
   -- the tree of a root: what stands at each path below it
   abbrev pub IsTreeOf : List ℕ → Tree → Type 0
   IsTreeOf root tree = (path : PathV) → map.get tree path ≡ node_below path root
+
+-- ---- where a directory has no object
+
+-- a root is forty zeros exactly where its tree has no path
+abbrev pub IsNilWhereNoPath : Tree → List ℕ → Type 0
+IsNilWhereNoPath tree root = (root ≡ nil) ↔ ((path : PathV) → map.get tree path ≡ None)
+
+-- a directory's id is forty zeros exactly where the tree has nothing in it
+abbrev pub IsNilWhereNone : Tree → PathV → List ℕ → Type 0
+IsNilWhereNone tree dir id = (id ≡ nil) ↔ ((name : List ℕ) → map.get tree (dir ++ name ∷ []) ≡ None)

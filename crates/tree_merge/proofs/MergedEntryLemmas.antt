@@ -10,7 +10,7 @@ use Rattle.tree_model.specs.ThreeWayMerge.{merge_by, merged, MergedTree as merge
 use Rattle.tree_model.proofs.MergedAtLemmas.{from_side}
 use Rattle.tree_model.proofs.ResultTreeLemmas.{merged_is_tree}
 use Rattle.fs_objects.specs.Mode.{is_file_mode}
-use Rattle.conflict_names.specs.Naming.{naming}
+use Rattle.conflict_names.specs.Naming.{merge_of, naming}
 use Rattle.conflict_names.proofs.GoodNameLemmas.{naming-naming}
 use Rattle.object_graph.specs.Objects.{IsTreeOf, entry_below, node_of}
 use Rattle.object_graph.specs.Unchanged.{Keeps}
@@ -18,7 +18,7 @@ use Rattle.object_graph.specs.declared.entry.Entry.{Entry}
 use Rattle.object_graph.specs.declared.entry.Entry.TheVariants.{Dir, File}
 use Rattle.tree_merge.specs.ConflictNaming.{IsNamedTree}
 use Rattle.tree_merge.specs.FileEntry.{as_entry, version_of}
-use Rattle.tree_merge.specs.Merging.{AreComplete, merge_of}
+use Rattle.tree_merge.specs.Merging.{AreComplete}
 use Rattle.tree_merge.specs.Sides.{AreTrees}
 use Rattle.tree_merge.specs.TreeBuilding.{IsSound}
 use Rattle.tree_merge.specs.declared.conflict_copies.Named.{Named}

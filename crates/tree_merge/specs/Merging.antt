@@ -10,14 +10,14 @@ use Rattle.tree_model.specs.Path.{PathV, path_cmp}
 use Rattle.tree_model.specs.Tree.{Tree, has_dir}
 use Rattle.tree_model.specs.DirectorySurvival.{Sides}
 use Rattle.tree_model.specs.ConflictCopies.{conflicts, first_long, places_of}
-use Rattle.tree_model.specs.ThreeWayMerge.{Merge, merge, MergedTree as merged_tree, TooLong as too_long, TooMany as too_many}
+use Rattle.tree_model.specs.ThreeWayMerge.{MergedTree as merged_tree, TooLong as too_long, TooMany as too_many}
 use Rattle.fs_objects.specs.FsObject.{fs_of}
 use Rattle.fs_objects.specs.Mode.{is_directory_mode}
 use Rattle.fs_objects.specs.declared.dirent.Dirent.{Dirent}
 use Rattle.fs_objects.specs.declared.fs_object.FsObject.TheVariants as fs
-use Rattle.conflict_names.specs.Naming.{naming}
+use Rattle.conflict_names.specs.Naming.{merge_of, naming}
 use Rattle.object_store.specs.declared.error.StoreFault.TheVariants.{NoMemory}
-use Rattle.object_graph.specs.Objects.{AreEntriesOf, IsTreeOf, entry_named, entry_of, fs_key, node_of}
+use Rattle.object_graph.specs.Objects.{AreEntriesOf, IsNilWhereNone, IsNilWhereNoPath, IsTreeOf, entry_named, entry_of, fs_key, node_of}
 use Rattle.object_graph.specs.Traversal.{IsCompleteRoot, is_in, start, walk_root}
 use Rattle.object_graph.specs.Unchanged.{Keeps}
 use Rattle.tree_walk.specs.Reading.{IsDue}
@@ -33,14 +33,6 @@ use Rattle.tree_merge.specs.declared.tree_builder.BuildFault.TheVariants as buil
 use Rattle.tree_merge.specs.declared.merging.MergeFault.{MergeFault}
 use Rattle.tree_merge.specs.declared.merging.MergeFault.TheVariants.{TooLong, TooMany, Taken, Walk}
 use Rattle.tree_merge.specs.declared.merging.Merged.{Merged}
-
--- the merge of the three trees, with the names that conflict copies get here
-abbrev pub merge_of : Sides → Merge
-merge_of s = merge naming s.base s.head s.pushed
-
--- a directory's id is forty zeros exactly where the tree has nothing in it
-abbrev pub IsNilWhereNone : Tree → PathV → List ℕ → Type 0
-IsNilWhereNone tree dir id = (id ≡ nil) ↔ ((name : List ℕ) → map.get tree (dir ++ name ∷ []) ≡ None)
 
 -- the bytes are those of a directory of the tree that isn't empty: the tree has, under each name below some path, what the
 -- entry of that name stands for
@@ -61,7 +53,7 @@ pub record IsMerged (objects : Objects) (s : Sides) (merged : Merged) : Type 0 w
   pub is : merge_of s ≡ merged_tree tree
   pub root : (more : Objects) → Keeps objects more → Keeps merged.made more → IsTreeOf more merged.root tree
   pub complete : (more : Objects) → Keeps objects more → Keeps merged.made more → IsCompleteRoot more merged.root
-  pub zeros : (merged.root ≡ nil) ↔ ((path : PathV) → map.get tree path ≡ None)
+  pub zeros : IsNilWhereNoPath tree merged.root
   pub conflicts : merged.conflicts ≡ places_of (conflicts naming s)
   pub new : (key : Key) → IsSome (map.get merged.made key) → map.get objects key ≡ None
   pub needed : (key : Key) → IsSome (map.get merged.made key) → (more : Objects) → Keeps objects more → Keeps merged.made more
