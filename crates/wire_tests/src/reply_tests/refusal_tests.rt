@@ -55,6 +55,13 @@ fn a_request_refused_before_any_library_has_its_status_and_body(
             "{\"reason\":\"method\"}"
         )?
     );
+    Ok(())
+}
+
+#[test]
+fn a_request_refused_for_its_text_or_its_secret_has_its_status_and_body(
+    rt: HostRuntime,
+) -> Result<(), AllocError> {
     assert!(rt;
         is_refused(
             rt.alloc(),
@@ -90,9 +97,6 @@ fn an_object_refused_has_its_status_and_body(rt: HostRuntime) -> Result<(), Allo
         kind: Kind::Block,
         id,
     };
-    let lib = LibId::from_bytes([
-        17, 17, 17, 17, 34, 34, 67, 51, 132, 68, 85, 85, 85, 85, 85, 85,
-    ]);
     assert!(rt;
         is_refused(
             rt.alloc(),
@@ -125,6 +129,17 @@ fn an_object_refused_has_its_status_and_body(rt: HostRuntime) -> Result<(), Allo
             "{\"code\":4,\"reason\":\"bad-commit\"}"
         )?
     );
+    Ok(())
+}
+
+#[test]
+fn a_commit_or_an_object_refused_for_what_is_there_has_its_status_and_body(
+    rt: HostRuntime,
+) -> Result<(), AllocError> {
+    let id = ObjId::of(b"abc");
+    let lib = LibId::from_bytes([
+        17, 17, 17, 17, 34, 34, 67, 51, 132, 68, 85, 85, 85, 85, 85, 85,
+    ]);
     assert!(rt;
         is_refused(
             rt.alloc(),
@@ -148,10 +163,6 @@ fn an_object_refused_has_its_status_and_body(rt: HostRuntime) -> Result<(), Allo
 fn an_update_refused_has_its_status_and_body(rt: HostRuntime) -> Result<(), AllocError> {
     let id = ObjId::of(b"abc");
     let fs = Key { kind: Kind::Fs, id };
-    let commit = Key {
-        kind: Kind::Commit,
-        id,
-    };
     assert!(rt;
         is_refused(
             rt.alloc(),
@@ -176,6 +187,18 @@ fn an_update_refused_has_its_status_and_body(rt: HostRuntime) -> Result<(), Allo
             "{\"count\":128,\"reason\":\"unrelated\"}"
         )?
     );
+    Ok(())
+}
+
+#[test]
+fn an_update_refused_for_what_it_reads_has_its_status_and_body(
+    rt: HostRuntime,
+) -> Result<(), AllocError> {
+    let id = ObjId::of(b"abc");
+    let commit = Key {
+        kind: Kind::Commit,
+        id,
+    };
     assert!(rt;
         is_refused(
             rt.alloc(),
@@ -266,6 +289,11 @@ fn what_fails_has_its_status_and_body(rt: HostRuntime) -> Result<(), AllocError>
             "{\"got\":null,\"reason\":\"damaged\",\"want\":\"a9993e364706816aba3e25717850c26c9cd0d89d\"}"
         )?
     );
+    Ok(())
+}
+
+#[test]
+fn what_can_not_be_done_now_has_its_status_and_body(rt: HostRuntime) -> Result<(), AllocError> {
     assert!(rt;
         is_refused(
             rt.alloc(),
