@@ -46,7 +46,7 @@ impl<S: Shelf> Parts<S> {
         ensures value { (d : Token) → OnOk result (self.new.state ≡ record self.old.state { tokens = marked place self.old.state.collection self.old.state.tokens d }) }
         ensures text { (d : Token) → TextSo self.old.unsettled self.old.state (record self.old.state { tokens = marked place self.old.state.collection self.old.state.tokens d })
             (status_of S.contents self.old.store) self.new.unsettled (status_of S.contents self.new.store) result (S.texts self.old.store.shelf) (S.texts self.new.store.shelf) }
-        ensures kept { objects_of S.contents self.new.store ≡ objects_of S.contents self.old.store }
+        ensures stays { objects_of S.contents self.new.store ≡ objects_of S.contents self.old.store }
         ensures lying { AddsNoStray S.contents self.old.store self.new.store }
         ensures faults { CountsShelf (S.faults self.old.store.shelf) (S.faults self.new.store.shelf) result }
     {

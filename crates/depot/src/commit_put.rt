@@ -23,7 +23,7 @@ pub(crate) fn put_commit<S: Shelf>(
     ensures found { OnOk result ((objects : Objects) → objects_of S.contents store.new ≡ Some objects → HasProperParents commit.now
         → commit_at objects commit.now.id ≡ Ok commit.now) }
     ensures err { OnErr result (objects_of S.contents store.new ≡ objects_of S.contents store.old) }
-    ensures kept { status_of S.contents store.new ≡ status_of S.contents store.old }
+    ensures stays { status_of S.contents store.new ≡ status_of S.contents store.old }
     ensures refused { (objects : Objects) → objects_of S.contents store.old ≡ Some objects
         → RefusesAs is_free result (put_refusal objects (opening_object commit.now).key (opening_object commit.now).bytes) }
     ensures cause { IfErr result (IsPutFault (S.may_give store.old.shelf) (opening_object commit.now).key (opening_object commit.now).bytes) }

@@ -35,7 +35,7 @@ pub(crate) fn check_pushed<S: Shelf>(
 ) -> Result<(), WalkFault>
     ensures value { (objects : Objects) → objects_of S.contents store.old ≡ Some objects
         → Answers objects (walk_commit objects commit).fault (λ done. ⊤) result }
-    ensures kept { Reads S.contents S.may_give S.texts S.faults store.old store.new result }
+    ensures stays { Reads S.contents S.may_give S.texts S.faults store.old store.new result }
 {
     let mut known = Known::new(alloc);
     check(alloc, store, &mut known, commit)
@@ -51,7 +51,7 @@ pub(crate) fn check_complete<S: Shelf>(
     requires known { (objects : Objects) → objects_of S.contents store.old ≡ Some objects → Fits objects known.old }
     ensures known { (objects : Objects) → objects_of S.contents store.old ≡ Some objects → Fits objects known.new }
     ensures value { (objects : Objects) → objects_of S.contents store.old ≡ Some objects → ChecksSo objects (walk_commit objects commit).fault result }
-    ensures kept { Keeps S.contents store.old store.new }
+    ensures stays { Keeps S.contents store.old store.new }
     ensures reads { ReadsShelf S.may_give S.texts store.old.shelf store.new.shelf }
     ensures cause { IfErr result (IsCheckFault (S.may_give store.old.shelf)) }
     ensures faults { FailsBy is_check_counted (S.faults store.old.shelf) (S.faults store.new.shelf) result }
@@ -86,7 +86,7 @@ pub(crate) fn check_kept<S: Shelf>(
 ) -> Result<(), CheckFault>
     ensures value { (objects : Objects) → objects_of S.contents store.old ≡ Some objects
         → ChecksSo objects (first_incomplete objects (kept_commits kept.now)) result }
-    ensures kept { Keeps S.contents store.old store.new }
+    ensures stays { Keeps S.contents store.old store.new }
     ensures reads { ReadsShelf S.may_give S.texts store.old.shelf store.new.shelf }
     ensures cause { IfErr result (IsCheckFault (S.may_give store.old.shelf)) }
     ensures faults { FailsBy is_check_counted (S.faults store.old.shelf) (S.faults store.new.shelf) result }
@@ -105,7 +105,7 @@ fn check_installs<S: Shelf>(
     requires known { (objects : Objects) → objects_of S.contents store.old ≡ Some objects → Fits objects known.old }
     ensures value { (objects : Objects) → objects_of S.contents store.old ≡ Some objects
         → ChecksSo objects (first_incomplete objects (kept_commits kept.now)) result }
-    ensures kept { Keeps S.contents store.old store.new }
+    ensures stays { Keeps S.contents store.old store.new }
     ensures reads { ReadsShelf S.may_give S.texts store.old.shelf store.new.shelf }
     ensures cause { IfErr result (IsCheckFault (S.may_give store.old.shelf)) }
     ensures faults { FailsBy is_check_counted (S.faults store.old.shelf) (S.faults store.new.shelf) result }
@@ -130,7 +130,7 @@ fn check_install<S: Shelf>(
     ensures known { (objects : Objects) → objects_of S.contents store.old ≡ Some objects → Fits objects known.new }
     ensures value { (objects : Objects) → objects_of S.contents store.old ≡ Some objects
         → ChecksSo objects (first_due (walk_commit objects install.now.head).fault (walk_commit objects install.now.pushed).fault) result }
-    ensures kept { Keeps S.contents store.old store.new }
+    ensures stays { Keeps S.contents store.old store.new }
     ensures reads { ReadsShelf S.may_give S.texts store.old.shelf store.new.shelf }
     ensures cause { IfErr result (IsCheckFault (S.may_give store.old.shelf)) }
     ensures faults { FailsBy is_check_counted (S.faults store.old.shelf) (S.faults store.new.shelf) result }

@@ -70,7 +70,7 @@ impl<S: Shelf> Depot<S> {
     /// The store, with the shelf.
     pub fn close(self) -> Store<S>
         ensures value { result ≡ self.store }
-        ensures kept { IsGood S.contents S.faults self }
+        ensures stays { IsGood S.contents S.faults self }
     {
         self.parts.store
     }

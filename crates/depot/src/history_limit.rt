@@ -39,7 +39,7 @@ impl<S: Shelf> Parts<S> {
         ensures err { OnErr result (self.new.state ≡ self.old.state) }
         ensures text { TextSo self.old.unsettled self.old.state (record self.old.state { days = days })
             (status_of S.contents self.old.store) self.new.unsettled (status_of S.contents self.new.store) result (S.texts self.old.store.shelf) (S.texts self.new.store.shelf) }
-        ensures kept { objects_of S.contents self.new.store ≡ objects_of S.contents self.old.store }
+        ensures stays { objects_of S.contents self.new.store ≡ objects_of S.contents self.old.store }
         ensures lying { AddsNoStray S.contents self.old.store self.new.store }
         ensures faults { CountsShelf (S.faults self.old.store.shelf) (S.faults self.new.store.shelf) result }
     {

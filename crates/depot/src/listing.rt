@@ -42,7 +42,7 @@ fn list_ids<S: Shelf>(
     client: &Option<ObjId>,
 ) -> Reply
     ensures value { (s : State) → objects_of S.contents store.old ≡ Some s.objects → s.state.kept ≡ kept.now → IsSound s → SaysOr s.objects (said_by (ids_decided s.state.kept server.now) (listed s server.now client.now)) result }
-    ensures kept { Keeps S.contents store.old store.new }
+    ensures stays { Keeps S.contents store.old store.new }
     ensures cause { MayAnswer store.new.index (S.may_give store.new.shelf) (act.Ids server.now client.now) (ids_decided kept.now server.now) result }
     ensures damaged { (objects : Objects) → objects_of S.contents store.old ≡ Some objects → IsToldDamage objects result }
     ensures written { S.texts store.new.shelf ≡ S.texts store.old.shelf }

@@ -110,7 +110,7 @@ fn create<S: Shelf>(
 
 /// Refuses a store whose status slot holds a text.
 fn check_empty<S: Shelf>(store: &mut Store<S>) -> Result<(), MakeFault>
-    ensures kept { Keeps S.contents store.old store.new }
+    ensures stays { Keeps S.contents store.old store.new }
     ensures refused { (status : Option (List ℕ)) → status_of S.contents store.old ≡ Some status → RefusesAs is_make_free result (make_refusal status None) }
     ensures reads { ReadsShelf S.may_give S.texts store.old.shelf store.new.shelf }
     ensures cause { IfErr result (IsSlotFault (S.may_give store.old.shelf)) }

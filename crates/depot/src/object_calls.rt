@@ -46,7 +46,7 @@ impl<S: Shelf> Depot<S> {
 /// What is stored under the key.
 fn get_object<S: Shelf>(store: &mut Store<S>, key: &Key) -> Reply
     ensures value { (objects : Objects) → objects_of S.contents store.old ≡ Some objects → SaysOr objects (got key.now (map.get objects key.now)) result }
-    ensures kept { Keeps S.contents store.old store.new }
+    ensures stays { Keeps S.contents store.old store.new }
     ensures cause { MayGet store.old.index (S.may_give store.new.shelf) key.now result }
     ensures damaged { (objects : Objects) → objects_of S.contents store.old ≡ Some objects → IsToldDamage objects result }
     ensures written { S.texts store.new.shelf ≡ S.texts store.old.shelf }
@@ -69,7 +69,7 @@ fn put_object<S: Shelf>(
 ) -> Reply
     ensures value { (s : State) → objects_of S.contents store.old ≡ Some s.objects → s.state.lib ≡ lib.now
         → DoneSo s.objects (put_due s key.now bytes.now) result (objects_of S.contents store.new) }
-    ensures kept { status_of S.contents store.new ≡ status_of S.contents store.old }
+    ensures stays { status_of S.contents store.new ≡ status_of S.contents store.old }
     ensures stored { (objects_of S.contents store.new ≡ objects_of S.contents store.old)
         ⊎ (objects_of S.contents store.new ≡ with_stored (record { key = key.now; bytes = bytes.now }) (objects_of S.contents store.old)) }
     ensures cause { MayAnswer store.old.index (S.may_give store.new.shelf) (act.Put key.now bytes.now) (put_decided lib.now key.now bytes.now) result }
@@ -89,7 +89,7 @@ fn put_object<S: Shelf>(
 fn store_object<S: Shelf>(store: &mut Store<S>, key: &Key, bytes: &[u8]) -> Reply
     ensures value { (s : State) → objects_of S.contents store.old ≡ Some s.objects
         → DoneSo s.objects (store_due s key.now bytes.now) result (objects_of S.contents store.new) }
-    ensures kept { status_of S.contents store.new ≡ status_of S.contents store.old }
+    ensures stays { status_of S.contents store.new ≡ status_of S.contents store.old }
     ensures stored { (objects_of S.contents store.new ≡ objects_of S.contents store.old)
         ⊎ (objects_of S.contents store.new ≡ with_stored (record { key = key.now; bytes = bytes.now }) (objects_of S.contents store.old)) }
     ensures cause { MayAnswer store.old.index (S.may_give store.new.shelf) (act.Put key.now bytes.now) (store_decided key.now bytes.now) result }
@@ -110,7 +110,7 @@ fn put_fs<S: Shelf>(alloc: Global, store: &mut Store<S>, key: &Key, bytes: &[u8]
     requires ready { key.now.kind ≡ kinds.Fs }
     ensures value { (s : State) → objects_of S.contents store.old ≡ Some s.objects
         → DoneSo s.objects (put_due s key.now bytes.now) result (objects_of S.contents store.new) }
-    ensures kept { status_of S.contents store.new ≡ status_of S.contents store.old }
+    ensures stays { status_of S.contents store.new ≡ status_of S.contents store.old }
     ensures stored { (objects_of S.contents store.new ≡ objects_of S.contents store.old)
         ⊎ (objects_of S.contents store.new ≡ with_stored (record { key = key.now; bytes = bytes.now }) (objects_of S.contents store.old)) }
     ensures cause { (lib : List ℕ) → MayAnswer store.old.index (S.may_give store.new.shelf) (act.Put key.now bytes.now) (put_decided lib key.now bytes.now) result }
@@ -149,7 +149,7 @@ fn put_commit_text<S: Shelf>(
     requires ready { key.now.kind ≡ kinds.Commit }
     ensures value { (s : State) → objects_of S.contents store.old ≡ Some s.objects → s.state.lib ≡ lib.now
         → DoneSo s.objects (put_due s key.now bytes.now) result (objects_of S.contents store.new) }
-    ensures kept { status_of S.contents store.new ≡ status_of S.contents store.old }
+    ensures stays { status_of S.contents store.new ≡ status_of S.contents store.old }
     ensures stored { (objects_of S.contents store.new ≡ objects_of S.contents store.old)
         ⊎ (objects_of S.contents store.new ≡ with_stored (record { key = key.now; bytes = bytes.now }) (objects_of S.contents store.old)) }
     ensures cause { MayAnswer store.old.index (S.may_give store.new.shelf) (act.Put key.now bytes.now) (put_decided lib.now key.now bytes.now) result }

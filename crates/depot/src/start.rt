@@ -32,7 +32,7 @@ impl<S: Shelf> Depot<S> {
         ensures given { IfOk result (λ depot. IsNextOf (S.may_give store.shelf) depot.state) }
         ensures idle { IfOk result (λ depot. depot.running ≡ None) }
         ensures err { IfErr result (λ refused. LeftUnopenedBy S.contents store refused.0 refused.1) }
-        ensures kept { IfErr result (λ refused. objects_of S.contents refused.0 ≡ objects_of S.contents store) }
+        ensures stays { IfErr result (λ refused. objects_of S.contents refused.0 ≡ objects_of S.contents store) }
 
         // The refusals, in the order in which they are looked for. Over any shelf each has its cause in what the one that was
         // handed in may give.
@@ -64,7 +64,7 @@ fn open<S: Shelf>(alloc: Global, store: &mut Store<S>) -> Result<LibState, Start
     ensures given { IfOk result (IsNextOf (S.may_give store.old.shelf)) }
     ensures err { IfErr result (LeftUnopenedBy S.contents store.old store.new) }
     ensures lying { AddsNoStray S.contents store.old store.new }
-    ensures kept { objects_of S.contents store.new ≡ objects_of S.contents store.old }
+    ensures stays { objects_of S.contents store.new ≡ objects_of S.contents store.old }
     ensures refused { (objects : Objects) → (status : Option (List ℕ)) → objects_of S.contents store.old ≡ Some objects → status_of S.contents store.old ≡ Some status
         → StartsAs objects (start_refusal objects status) result }
     ensures cause { IfErr result (IsStartFault (S.may_give store.old.shelf)) }
@@ -93,7 +93,7 @@ pub fn read_state<S: Shelf>(alloc: Global, store: &mut Store<S>) -> Result<LibSt
     ensures proper { IfOk result IsProper }
     ensures given { IfOk result (IsGiven (S.may_give store.old.shelf)) }
     ensures reads { ReadsShelf S.may_give S.texts store.old.shelf store.new.shelf }
-    ensures kept { Keeps S.contents store.old store.new }
+    ensures stays { Keeps S.contents store.old store.new }
     ensures refused { (objects : Objects) → (status : Option (List ℕ)) → status_of S.contents store.old ≡ Some status
         → IfErr result (IsDueOr objects (start_refusal objects status)) }
     ensures cause { IfErr result (IsStartFault (S.may_give store.old.shelf)) }
@@ -120,7 +120,7 @@ fn check_state<S: Shelf>(
 ) -> Result<(), StartFault>
     ensures ok { OnOk result (state.now.opening ≢ last_number) }
     ensures refused { (objects : Objects) → objects_of S.contents store.old ≡ Some objects → StartsAs objects (state_refusal objects state.now) result }
-    ensures kept { Keeps S.contents store.old store.new }
+    ensures stays { Keeps S.contents store.old store.new }
     ensures untouched { result ≡ Err StartFault.Worn → store.new ≡ store.old }
     ensures reads { ReadsShelf S.may_give S.texts store.old.shelf store.new.shelf }
     ensures cause { IfErr result (IsStateFault state.now (S.may_give store.old.shelf)) }

@@ -18,7 +18,7 @@ pub(crate) fn write_text<S: Shelf>(
     state: &LibState,
 ) -> Result<(), StoreFault>
     ensures value { Writes state.now (status_of S.contents store.old) (status_of S.contents store.new) result }
-    ensures kept { objects_of S.contents store.new ≡ objects_of S.contents store.old }
+    ensures stays { objects_of S.contents store.new ≡ objects_of S.contents store.old }
     ensures lying { AddsNoStray S.contents store.old store.new }
     ensures faults { CountsShelf (S.faults store.old.shelf) (S.faults store.new.shelf) result }
 {
@@ -35,8 +35,8 @@ impl<S: Shelf> Parts<S> {
         ensures ok { OnOk result (self.new.unsettled ≡ false) }
         ensures value { SettlesSo self.old.unsettled self.old.state (status_of S.contents self.old.store) (status_of S.contents self.new.store) result }
         ensures err { OnErr result (self.new.unsettled ≡ self.old.unsettled) }
-        ensures stays { self.new.state ≡ self.old.state }
-        ensures kept { objects_of S.contents self.new.store ≡ objects_of S.contents self.old.store }
+        ensures state { self.new.state ≡ self.old.state }
+        ensures stays { objects_of S.contents self.new.store ≡ objects_of S.contents self.old.store }
         ensures lying { AddsNoStray S.contents self.old.store self.new.store }
         ensures faults { CountsShelf (S.faults self.old.store.shelf) (S.faults self.new.store.shelf) result }
     {
@@ -57,8 +57,8 @@ impl<S: Shelf> Parts<S> {
         requires ready { self.old.unsettled ≡ false }
         ensures value { Writes self.old.state (status_of S.contents self.old.store) (status_of S.contents self.new.store) result }
         ensures ok { self.new.unsettled ≡ leaves_open result }
-        ensures stays { self.new.state ≡ self.old.state }
-        ensures kept { objects_of S.contents self.new.store ≡ objects_of S.contents self.old.store }
+        ensures state { self.new.state ≡ self.old.state }
+        ensures stays { objects_of S.contents self.new.store ≡ objects_of S.contents self.old.store }
         ensures lying { AddsNoStray S.contents self.old.store self.new.store }
         ensures faults { CountsShelf (S.faults self.old.store.shelf) (S.faults self.new.store.shelf) result }
     {
@@ -75,8 +75,8 @@ impl<S: Shelf> Parts<S> {
         ensures value { (next : LibState) → text.now ≡ text_of next → ReadsBack next
             → Writes next (status_of S.contents self.old.store) (status_of S.contents self.new.store) result }
         ensures ok { self.new.unsettled ≡ leaves_open result }
-        ensures stays { self.new.state ≡ self.old.state }
-        ensures kept { objects_of S.contents self.new.store ≡ objects_of S.contents self.old.store }
+        ensures state { self.new.state ≡ self.old.state }
+        ensures stays { objects_of S.contents self.new.store ≡ objects_of S.contents self.old.store }
         ensures lying { AddsNoStray S.contents self.old.store self.new.store }
         ensures free { IfErr result (λ fault. IsTrue (is_free fault)) }
         ensures faults { CountsShelf (S.faults self.old.store.shelf) (S.faults self.new.store.shelf) result }

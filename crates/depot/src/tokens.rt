@@ -32,7 +32,7 @@ impl<S: Shelf> Depot<S> {
         ensures err { OnErr result (self.new.state ≡ self.old.state) }
         ensures shown { OnOk result ((s : State) → state_of S.contents S.faults self.old ≡ Some s
             → state_of S.contents S.faults self.new ≡ Some (with_token user.now secret right s)) }
-        ensures kept { objects_of S.contents self.new.store ≡ objects_of S.contents self.old.store }
+        ensures stays { objects_of S.contents self.new.store ≡ objects_of S.contents self.old.store }
         ensures stands { IsGood S.contents S.faults self.new }
         ensures lying { AddsNoStray S.contents self.old.store self.new.store }
         ensures running { self.new.running ≡ self.old.running }
@@ -99,7 +99,7 @@ impl<S: Shelf> Parts<S> {
         ensures err { OnErr result (self.new.state ≡ self.old.state) }
         ensures value { RewritesSo self.old.unsettled self.old.state (record self.old.state { tokens = self.old.state.tokens ++ token ∷ [] })
             (status_of S.contents self.old.store) self.new.unsettled (status_of S.contents self.new.store) result }
-        ensures kept { objects_of S.contents self.new.store ≡ objects_of S.contents self.old.store }
+        ensures stays { objects_of S.contents self.new.store ≡ objects_of S.contents self.old.store }
         ensures lying { AddsNoStray S.contents self.old.store self.new.store }
         ensures faults { CountsShelf (S.faults self.old.store.shelf) (S.faults self.new.store.shelf) result }
     {

@@ -44,7 +44,7 @@ pub(crate) fn find_base<S: Shelf>(
     pushed: ObjId,
 ) -> Result<Found, WalkFault>
     ensures value { (s : State) → objects_of S.contents store.old ≡ Some s.objects → s.state.kept ≡ kept.now → FindsSo s.objects (base_of s pushed) result }
-    ensures kept { Reads S.contents S.may_give S.texts S.faults store.old store.new result }
+    ensures stays { Reads S.contents S.may_give S.texts S.faults store.old store.new result }
 {
     let mut id = pushed;
     for steps in 0..MAX_STEPS {
@@ -69,7 +69,7 @@ fn find_last<S: Shelf>(
     id: ObjId,
 ) -> Result<Found, WalkFault>
     ensures value { (s : State) → objects_of S.contents store.old ≡ Some s.objects → s.state.kept ≡ kept.now → FindsSo s.objects (base_from s 0 MAX_STEPS id) result }
-    ensures kept { Reads S.contents S.may_give S.texts S.faults store.old store.new result }
+    ensures stays { Reads S.contents S.may_give S.texts S.faults store.old store.new result }
 {
     let seen = match look_at(alloc, store, kept, id) {
         Ok(seen) => seen,
@@ -90,7 +90,7 @@ fn look_at<S: Shelf>(
     id: ObjId,
 ) -> Result<Look, WalkFault>
     ensures value { (objects : Objects) → objects_of S.contents store.old ≡ Some objects → LooksSo objects kept.now id result }
-    ensures kept { Reads S.contents S.may_give S.texts S.faults store.old store.new result }
+    ensures stays { Reads S.contents S.may_give S.texts S.faults store.old store.new result }
 {
     if is_kept(kept, &id) {
         return Ok(Look::Kept);

@@ -61,8 +61,8 @@ impl<S: Shelf> Parts<S> {
     fn write_installed(&mut self, text: &[u8]) -> Result<(), StoreFault>
         ensures value { (next : LibState) → text.now ≡ text_of next → ReadsBack next
             → RewritesSo self.old.unsettled self.old.state next (status_of S.contents self.old.store) self.new.unsettled (status_of S.contents self.new.store) result }
-        ensures stays { self.new.state ≡ self.old.state }
-        ensures kept { objects_of S.contents self.new.store ≡ objects_of S.contents self.old.store }
+        ensures state { self.new.state ≡ self.old.state }
+        ensures stays { objects_of S.contents self.new.store ≡ objects_of S.contents self.old.store }
         ensures lying { AddsNoStray S.contents self.old.store self.new.store }
         ensures free { IfErr result (λ fault. IsTrue (is_free fault)) }
         ensures faults { CountsShelf (S.faults self.old.store.shelf) (S.faults self.new.store.shelf) result }
@@ -98,7 +98,7 @@ fn copied(alloc: Global, kept: &[Install]) -> Result<History, AllocError>
 /// The text of the state with other head updates. The state is as it was, and so are the others.
 fn text_with(alloc: Global, state: &mut LibState, kept: &mut History) -> Result<Bytes, AllocError>
     ensures state { state.new ≡ state.old }
-    ensures kept { kept.new ≡ kept.old }
+    ensures stays { kept.new ≡ kept.old }
     ensures value { IfOk result (λ text. text ≡ text_of (record state.old { kept = kept.old })) }
     ensures reads { IfOk result (λ text. ReadsBack (record state.old { kept = kept.old })) }
 {
@@ -113,7 +113,7 @@ fn put_plan<S: Shelf>(store: &mut Store<S>, plan: &Plan) -> Result<(), StoreFaul
     requires named { AreNamed (objects_in plan.now) }
     requires ready { ArePuttableIn (objects_of S.contents store.old) (objects_in plan.now) }
     ensures value { StoresSo (objects_of S.contents store.old) (objects_in plan.now) (objects_of S.contents store.new) result }
-    ensures kept { status_of S.contents store.new ≡ status_of S.contents store.old }
+    ensures stays { status_of S.contents store.new ≡ status_of S.contents store.old }
     ensures free { (objects : Objects) → objects_of S.contents store.old ≡ Some objects → IfErr result (λ fault. IsTrue (is_free fault)) }
     ensures cause { IfErr result (IsWriteFault (S.may_give store.new.shelf)) }
     ensures lying { StraysBy is_of_shelf S.contents store.old store.new result }
@@ -132,7 +132,7 @@ fn put_dirs<S: Shelf>(store: &mut Store<S>, dirs: &KeyTable<Bytes>) -> Result<()
     requires named { AreNamed (listed (map.entries dirs.now)) }
     requires ready { ArePuttableIn (objects_of S.contents store.old) (listed (map.entries dirs.now)) }
     ensures value { StoresSo (objects_of S.contents store.old) (listed (map.entries dirs.now)) (objects_of S.contents store.new) result }
-    ensures kept { status_of S.contents store.new ≡ status_of S.contents store.old }
+    ensures stays { status_of S.contents store.new ≡ status_of S.contents store.old }
     ensures free { (objects : Objects) → objects_of S.contents store.old ≡ Some objects → IfErr result (λ fault. IsTrue (is_free fault)) }
     ensures cause { IfErr result (IsWriteFault (S.may_give store.new.shelf)) }
     ensures lying { StraysBy is_of_shelf S.contents store.old store.new result }
@@ -157,7 +157,7 @@ fn put_text<S: Shelf>(
     requires named { AreNamed (own_object head.now text.now) }
     requires ready { ArePuttableIn (objects_of S.contents store.old) (own_object head.now text.now) }
     ensures value { StoresSo (objects_of S.contents store.old) (own_object head.now text.now) (objects_of S.contents store.new) result }
-    ensures kept { status_of S.contents store.new ≡ status_of S.contents store.old }
+    ensures stays { status_of S.contents store.new ≡ status_of S.contents store.old }
     ensures free { (objects : Objects) → objects_of S.contents store.old ≡ Some objects → IfErr result (λ fault. IsTrue (is_free fault)) }
     ensures cause { IfErr result (IsWriteFault (S.may_give store.new.shelf)) }
     ensures lying { StraysBy is_of_shelf S.contents store.old store.new result }
@@ -183,7 +183,7 @@ fn put_one<S: Shelf>(store: &mut Store<S>, key: &Key, bytes: &Bytes) -> Result<(
     requires ready { ArePuttableIn (objects_of S.contents store.old) (record { key = key.now; bytes = bytes.now } ∷ []) }
     ensures value { StoresSo (objects_of S.contents store.old) (record { key = key.now; bytes = bytes.now } ∷ []) (objects_of S.contents store.new) result }
     ensures same { OnErr result (objects_of S.contents store.new ≡ objects_of S.contents store.old) }
-    ensures kept { status_of S.contents store.new ≡ status_of S.contents store.old }
+    ensures stays { status_of S.contents store.new ≡ status_of S.contents store.old }
     ensures free { (objects : Objects) → objects_of S.contents store.old ≡ Some objects → IfErr result (λ fault. IsTrue (is_free fault)) }
     ensures cause { IfErr result (IsWriteFault (S.may_give store.new.shelf)) }
     ensures lying { StraysBy is_of_shelf S.contents store.old store.new result }

@@ -49,7 +49,7 @@ pub(crate) fn plan_merge<S: Shelf>(
     ensures named { IfOk result HasNames }
     ensures cause { IfErr result (MayRefuseUpdate store.new.index (S.may_give store.new.shelf)) }
     ensures damaged { (objects : Objects) → objects_of S.contents store.old ≡ Some objects → IfErr result (IsToldDamageOf objects) }
-    ensures kept { ReadsOnly S.contents S.texts S.faults store.old store.new result }
+    ensures stays { ReadsOnly S.contents S.texts S.faults store.old store.new result }
 {
     let head = head_of(state.kept.slice());
     let roots = match read_roots(alloc, store, base, head, pushed) {
@@ -73,7 +73,7 @@ fn read_roots<S: Shelf>(
 ) -> Result<Roots, WalkFault>
     ensures value { (objects : Objects) → objects_of S.contents store.old ≡ Some objects → AreComplete objects base head pushed
         → RootsSo objects base head pushed result }
-    ensures kept { Reads S.contents S.may_give S.texts S.faults store.old store.new result }
+    ensures stays { Reads S.contents S.may_give S.texts S.faults store.old store.new result }
 {
     let base = match root_at(alloc, store, base) {
         Ok(base) => base,
@@ -93,7 +93,7 @@ fn read_roots<S: Shelf>(
 /// The root of a commit.
 fn root_at<S: Shelf>(alloc: Global, store: &mut Store<S>, id: ObjId) -> Result<ObjId, WalkFault>
     ensures value { (objects : Objects) → objects_of S.contents store.old ≡ Some objects → RootSo objects id result }
-    ensures kept { Reads S.contents S.may_give S.texts S.faults store.old store.new result }
+    ensures stays { Reads S.contents S.may_give S.texts S.faults store.old store.new result }
 {
     match commit_at(alloc, store, id) {
         Ok(commit) => Ok(commit.root),

@@ -130,7 +130,7 @@ pub fn read_file<F: Folder>(
         IfOk result (ReadsFile cuts bytes) }
     ensures refused { (c : Contents) (bytes : List ℕ) → F.told folder.old ≡ Some c → at c file.now ≡ Some (File bytes) →
         IfErr result (PassesLimit bytes) }
-    ensures kept { (F.told folder.new ≡ F.told folder.old) × (F.spare folder.new ≡ F.spare folder.old) }
+    ensures stays { (F.told folder.new ≡ F.told folder.old) × (F.spare folder.new ≡ F.spare folder.old) }
     ensures faults { FailsBy is_read_failure (F.faults folder.old) (F.faults folder.new) result }
 {
     let reading = Reading::new(alloc, cuts);
@@ -153,7 +153,7 @@ pub(crate) fn read_rest<F: Folder>(
         IsBehind reading.chunker.cuts bytes reading → IfOk result (ReadsFile reading.chunker.cuts bytes) }
     ensures refused { (c : Contents) (bytes : List ℕ) → F.told folder.old ≡ Some c → at c file.now ≡ Some (File bytes) →
         IsBehind reading.chunker.cuts bytes reading → IfErr result (PassesLimit bytes) }
-    ensures kept { (F.told folder.new ≡ F.told folder.old) × (F.spare folder.new ≡ F.spare folder.old) }
+    ensures stays { (F.told folder.new ≡ F.told folder.old) × (F.spare folder.new ≡ F.spare folder.old) }
     ensures faults { FailsBy is_read_failure (F.faults folder.old) (F.faults folder.new) result }
 {
     let Reading {

@@ -70,7 +70,7 @@ pub fn note_dir(found: &mut Findings, path: Path) -> Result<(), ScanFault>
 pub fn note_other(found: &mut Findings, path: Path) -> Result<(), ScanFault>
     ensures value { (cuts : Cuts) (c : Contents) → AreOf cuts c found.old → at c path ≡ Some Other →
         Gives c (HasTaken cuts c path found.old found.new) result }
-    ensures kept { found.new.paths ≡ found.old.paths }
+    ensures stays { found.new.paths ≡ found.old.paths }
     ensures faults { IfErr result (λ fault. is_scan_failure fault ≡ false) }
 {
     match found.skipped.insert(path, ()) {
@@ -83,7 +83,7 @@ pub fn note_other(found: &mut Findings, path: Path) -> Result<(), ScanFault>
 pub fn note_nameless(found: &mut Findings, dir: Path) -> Result<(), ScanFault>
     ensures value { (cuts : Cuts) (c : Contents) → AreOf cuts c found.old → has_nameless c dir ≡ true →
         Gives c (Grows cuts c found.old found.new × KnowsNameless c found.new dir) result }
-    ensures kept { found.new.paths ≡ found.old.paths }
+    ensures stays { found.new.paths ≡ found.old.paths }
     ensures faults { IfErr result (λ fault. is_scan_failure fault ≡ false) }
 {
     match found.nameless.insert(dir, ()) {

@@ -49,7 +49,7 @@ pub trait Folder {
     fn list(&mut self, alloc: Global, dir: &Path) -> Result<Listing, FolderFault>
         ensures formed { (c : Contents) → told self.old ≡ Some c → OnOk result (IsFolder c) }
         ensures listed { (c : Contents) → told self.old ≡ Some c → IfOk result (λ listing. Some listing ≡ listing_at c dir.now) }
-        ensures kept { (told self.new ≡ told self.old) × (spare self.new ≡ spare self.old) }
+        ensures stays { (told self.new ≡ told self.old) × (spare self.new ≡ spare self.old) }
         ensures faults { FolderFails (faults self.old) (faults self.new) result };
 
     /// Reads bytes of a file from a place on: 1 to `into.len()`, or none exactly at or past the file's end. A
@@ -58,19 +58,19 @@ pub trait Folder {
         requires some { 0 < length into.old }
         ensures bound { IfOk result (λ count. count ≤ length into.new) }
         ensures value { (c : Contents) → told self.old ≡ Some c → IfOk result (λ count. PartAt (at c file.now) place count into.new) }
-        ensures kept { (told self.new ≡ told self.old) × (spare self.new ≡ spare self.old) }
+        ensures stays { (told self.new ≡ told self.old) × (spare self.new ≡ spare self.old) }
         ensures faults { FolderFails (faults self.old) (faults self.new) result };
 
     /// Empties the spare, and makes it where there is none.
     fn spare_clear(&mut self) -> Result<(), FolderFault>
         ensures ok { (c : Contents) → told self.old ≡ Some c → OnOk result (spare self.new ≡ Some []) }
-        ensures kept { told self.new ≡ told self.old }
+        ensures stays { told self.new ≡ told self.old }
         ensures faults { FolderFails (faults self.old) (faults self.new) result };
 
     /// Appends to the spare.
     fn spare_add(&mut self, bytes: &[u8]) -> Result<(), FolderFault>
         ensures ok { OnOk result (spare self.new ≡ option_map (λ held. held ++ bytes.now) (spare self.old)) }
-        ensures kept { told self.new ≡ told self.old }
+        ensures stays { told self.new ≡ told self.old }
         ensures faults { FolderFails (faults self.old) (faults self.new) result };
 
     /// Moves the spare to a path in a directory, in place of a file that is there; anything else there is a
@@ -79,20 +79,20 @@ pub trait Folder {
         ensures ok { (bytes : List ℕ) → spare self.old ≡ Some bytes →
             Changes (with_file file.now bytes) (told self.old) (told self.new) result }
         ensures found { (c : Contents) → told self.old ≡ Some c → OnOk result (IsSome (spare self.old) × TakesFile c file.now) }
-        ensures kept { spare self.old ≡ None → told self.new ≡ told self.old }
+        ensures stays { spare self.old ≡ None → told self.new ≡ told self.old }
         ensures faults { FolderFails (faults self.old) (faults self.new) result };
 
     /// Makes a directory in a directory, where nothing is yet.
     fn make_dir(&mut self, dir: &Path) -> Result<(), FolderFault>
         ensures ok { Changes (with_dir dir.now) (told self.old) (told self.new) result }
         ensures absent { (c : Contents) → told self.old ≡ Some c → OnOk result (IsFree c dir.now) }
-        ensures kept { spare self.new ≡ spare self.old }
+        ensures stays { spare self.new ≡ spare self.old }
         ensures faults { FolderFails (faults self.old) (faults self.new) result };
 
     /// Removes a file or an empty directory; anything else is a fault.
     fn remove(&mut self, path: &Path) -> Result<(), FolderFault>
         ensures ok { Changes (without path.now) (told self.old) (told self.new) result }
         ensures found { (c : Contents) → told self.old ≡ Some c → OnOk result (IsRemovable c path.now (at c path.now)) }
-        ensures kept { spare self.new ≡ spare self.old }
+        ensures stays { spare self.new ≡ spare self.old }
         ensures faults { FolderFails (faults self.old) (faults self.new) result };
 }

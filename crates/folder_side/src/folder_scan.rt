@@ -38,7 +38,7 @@ pub fn scan<F: Folder>(alloc: Global, folder: &mut F, cuts: Cuts) -> Result<Scan
     ensures value { (c : Contents) → F.told folder.old ≡ Some c → IfOk result (IsScan cuts c) }
     ensures bound { (c : Contents) → F.told folder.old ≡ Some c → OnOk result (IsWithinLimits c) }
     ensures refused { (c : Contents) → F.told folder.old ≡ Some c → IfErr result (IsPastLimit c) }
-    ensures kept { (F.told folder.new ≡ F.told folder.old) × (F.spare folder.new ≡ F.spare folder.old) }
+    ensures stays { (F.told folder.new ≡ F.told folder.old) × (F.spare folder.new ≡ F.spare folder.old) }
     ensures faults { FailsBy is_scan_failure (F.faults folder.old) (F.faults folder.new) result }
 {
     let mut buffer = match piece_buffer(alloc) {
@@ -81,7 +81,7 @@ fn scan_dir<F: Folder>(
     ensures value { (c : Contents) → F.told folder.old ≡ Some c → AreOf cuts c found.old →
         Gives c (IsFolder c × HasScanned cuts c dir.now found.old found.new) result }
     ensures few { OnOk result (map.len found.new.paths ≤ MAX_PATHS) }
-    ensures kept { (F.told folder.new ≡ F.told folder.old) × (F.spare folder.new ≡ F.spare folder.old) }
+    ensures stays { (F.told folder.new ≡ F.told folder.old) × (F.spare folder.new ≡ F.spare folder.old) }
     ensures faults { FailsBy is_scan_failure (F.faults folder.old) (F.faults folder.new) result }
 {
     let listing = match folder.list(alloc, dir) {
@@ -120,7 +120,7 @@ fn scan_item<F: Folder>(
         at c (dir.now ++ item.now.name ∷ []) ≡ Some holding → item.now.kind ≡ kind_of holding →
         Gives c (HasTakenItem cuts c (dir.now ++ item.now.name ∷ []) found.old found.new) result }
     ensures few { OnOk result (map.len found.new.paths ≤ MAX_PATHS) }
-    ensures kept { (F.told folder.new ≡ F.told folder.old) × (F.spare folder.new ≡ F.spare folder.old) }
+    ensures stays { (F.told folder.new ≡ F.told folder.old) × (F.spare folder.new ≡ F.spare folder.old) }
     ensures faults { FailsBy is_scan_failure (F.faults folder.old) (F.faults folder.new) result }
 {
     let path = match dir.child(alloc, &item.name) {
@@ -164,7 +164,7 @@ fn note_if_nameless(
 ) -> Result<(), ScanFault>
     ensures value { (cuts : Cuts) (c : Contents) → AreOf cuts c found.old → nameless ≡ nameless_at c dir.now →
         Gives c (Grows cuts c found.old found.new × KnowsNameless c found.new dir.now) result }
-    ensures kept { found.new.paths ≡ found.old.paths }
+    ensures stays { found.new.paths ≡ found.old.paths }
     ensures faults { IfErr result (λ fault. is_scan_failure fault ≡ false) }
 {
     if nameless == 0 {
@@ -191,7 +191,7 @@ fn scan_file<F: Folder>(
     ensures value { (c : Contents) (bytes : List ℕ) → F.told folder.old ≡ Some c → AreOf cuts c found.old →
         at c path ≡ Some (File bytes) → Gives c (HasTaken cuts c path found.old found.new) result }
     ensures few { OnOk result (map.len found.new.paths ≤ MAX_PATHS) }
-    ensures kept { (F.told folder.new ≡ F.told folder.old) × (F.spare folder.new ≡ F.spare folder.old) }
+    ensures stays { (F.told folder.new ≡ F.told folder.old) × (F.spare folder.new ≡ F.spare folder.old) }
     ensures faults { FailsBy is_scan_failure (F.faults folder.old) (F.faults folder.new) result }
 {
     if is_too_deep(&path) {

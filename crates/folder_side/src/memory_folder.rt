@@ -128,7 +128,7 @@ impl Folder for MemoryFolder {
     fn list(&mut self, alloc: Global, dir: &Path) -> Result<Listing, FolderFault>
         ensures formed { (c : Contents) → Some self.old.contents ≡ Some c → OnOk result (IsFolder c) }
         ensures listed { (c : Contents) → Some self.old.contents ≡ Some c → IfOk result (λ listing. Some listing ≡ listing_at c dir.now) }
-        ensures kept { (Some self.new.contents ≡ Some self.old.contents) × (self.new.spare ≡ self.old.spare) }
+        ensures stays { (Some self.new.contents ≡ Some self.old.contents) × (self.new.spare ≡ self.old.spare) }
         ensures faults { FolderFails self.old.faults self.new.faults result }
 
         // It fails exactly where it is to fail, and where the path is no directory.
@@ -150,7 +150,7 @@ impl Folder for MemoryFolder {
         requires some { 0 < length into.old }
         ensures bound { IfOk result (λ count. count ≤ length into.new) }
         ensures value { (c : Contents) → Some self.old.contents ≡ Some c → IfOk result (λ count. PartAt (at c file.now) place count into.new) }
-        ensures kept { (Some self.new.contents ≡ Some self.old.contents) × (self.new.spare ≡ self.old.spare) }
+        ensures stays { (Some self.new.contents ≡ Some self.old.contents) × (self.new.spare ≡ self.old.spare) }
         ensures faults { FolderFails self.old.faults self.new.faults result }
 
         // It fails exactly where it is to fail, and where the path is no file; and it gives as many bytes as it may.
@@ -171,7 +171,7 @@ impl Folder for MemoryFolder {
 
     fn spare_clear(&mut self) -> Result<(), FolderFault>
         ensures ok { (c : Contents) → Some self.old.contents ≡ Some c → OnOk result (self.new.spare ≡ Some []) }
-        ensures kept { Some self.new.contents ≡ Some self.old.contents }
+        ensures stays { Some self.new.contents ≡ Some self.old.contents }
         ensures faults { FolderFails self.old.faults self.new.faults result }
 
         // It fails exactly where it is to fail.
@@ -188,7 +188,7 @@ impl Folder for MemoryFolder {
 
     fn spare_add(&mut self, bytes: &[u8]) -> Result<(), FolderFault>
         ensures ok { OnOk result (self.new.spare ≡ option_map (λ held. held ++ bytes.now) self.old.spare) }
-        ensures kept { Some self.new.contents ≡ Some self.old.contents }
+        ensures stays { Some self.new.contents ≡ Some self.old.contents }
         ensures faults { FolderFails self.old.faults self.new.faults result }
 
         // It fails exactly where it is to fail, and where there is no spare.
@@ -210,7 +210,7 @@ impl Folder for MemoryFolder {
         ensures ok { (bytes : List ℕ) → self.old.spare ≡ Some bytes →
             Changes (with_file file.now bytes) (Some self.old.contents) (Some self.new.contents) result }
         ensures found { (c : Contents) → Some self.old.contents ≡ Some c → OnOk result (IsSome self.old.spare × TakesFile c file.now) }
-        ensures kept { self.old.spare ≡ None → Some self.new.contents ≡ Some self.old.contents }
+        ensures stays { self.old.spare ≡ None → Some self.new.contents ≡ Some self.old.contents }
         ensures faults { FolderFails self.old.faults self.new.faults result }
 
         // It fails exactly where it is to fail, where there is no spare, and where a file can't stand.
@@ -234,7 +234,7 @@ impl Folder for MemoryFolder {
     fn make_dir(&mut self, dir: &Path) -> Result<(), FolderFault>
         ensures ok { Changes (with_dir dir.now) (Some self.old.contents) (Some self.new.contents) result }
         ensures absent { (c : Contents) → Some self.old.contents ≡ Some c → OnOk result (IsFree c dir.now) }
-        ensures kept { self.new.spare ≡ self.old.spare }
+        ensures stays { self.new.spare ≡ self.old.spare }
         ensures faults { FolderFails self.old.faults self.new.faults result }
 
         // It fails exactly where it is to fail, and where a directory can't be made.
@@ -255,7 +255,7 @@ impl Folder for MemoryFolder {
     fn remove(&mut self, path: &Path) -> Result<(), FolderFault>
         ensures ok { Changes (without path.now) (Some self.old.contents) (Some self.new.contents) result }
         ensures found { (c : Contents) → Some self.old.contents ≡ Some c → OnOk result (IsRemovable c path.now (at c path.now)) }
-        ensures kept { self.new.spare ≡ self.old.spare }
+        ensures stays { self.new.spare ≡ self.old.spare }
         ensures faults { FolderFails self.old.faults self.new.faults result }
 
         // It fails exactly where it is to fail, and where the entry can't be removed.
@@ -282,7 +282,7 @@ impl MemoryFolder {
         ensures value { IfOk result (λ done. IsTrue done ↔ (IsSome self.old.spare × TakesFile self.old.contents file.now)) }
         ensures ok { (bytes : List ℕ) → self.old.spare ≡ Some bytes → IfOk result
             (λ done. self.new ≡ (if done then record self.old { contents = with_file file.now bytes self.old.contents; spare = None } else self.old)) }
-        ensures kept { IfOk result (λ done. done ≡ false → self.new ≡ self.old) }
+        ensures stays { IfOk result (λ done. done ≡ false → self.new ≡ self.old) }
         ensures faults { OnOk result (self.new.faults ≡ self.old.faults) }
         ensures err { OnErr result ((self.new ≡ self.old) ⊎ (self.new ≡ record self.old { spare = None })) }
     {

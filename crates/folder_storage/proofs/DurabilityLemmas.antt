@@ -1,12 +1,12 @@
--- What steps add to steps, and which places are among some. The key lemmas are objects-only, places-only, named-more and
+-- What steps add to steps, and which directories are among some. The key lemmas are objects-only, directories-only, named-more and
 -- put-order.
 use Rattle.std.proofs.Common.{◌≡◌, ◌⊎◌, ℕ, suc, zero, ◌<◌, ◌+◌, List, [], ◌∷◌, ◌++◌, length, get_or, inl, inr, take, map, Option, None, Some, Result, Ok, Err, OnOk, OnErr, slice_index, subst, refl, sym, ◌∙◌, ap, arith}
 use Rattle.std.specs.Bool.{⊤}
 use Rattle.std.proofs.lemmas.List.{append-nil, append_assoc, map-append, take_more}
 use Rattle.ids.specs.declared.key.Key.{Key}
-use Rattle.folder_storage.specs.declared.durability.Place.{Place}
-use Rattle.folder_storage.specs.declared.durability.Place.TheVariants.{Objects, OfKind}
-use Rattle.folder_storage.specs.Durability.{AreNamedIn, AreSyncs, In, OnlySyncs, PutText, PutsDurably, Step, SyncedObject, SyncedPlace, TextComesLast, with_steps}
+use Rattle.folder_storage.specs.declared.durability.Directory.{Directory}
+use Rattle.folder_storage.specs.declared.durability.Directory.TheVariants.{Objects, OfKind}
+use Rattle.folder_storage.specs.Durability.{AreNamedIn, AreSyncs, In, OnlySyncs, PutText, PutsDurably, Step, SyncedObject, SyncedDirectory, TextComesLast, with_steps}
 
 -- nothing was done more
 pub steps-none : (told : Option (List Step)) → told ≡ with_steps told []
@@ -28,9 +28,9 @@ pub objects-syncs : (keys : List Key) → AreSyncs (map SyncedObject keys)
 objects-syncs [] = _
 objects-syncs (key ∷ keys) = objects-syncs keys
 
-pub places-syncs : (places : List Place) → AreSyncs (map SyncedPlace places)
-places-syncs [] = _
-places-syncs (place ∷ places) = places-syncs places
+pub directories-syncs : (directories : List Directory) → AreSyncs (map SyncedDirectory directories)
+directories-syncs [] = _
+directories-syncs (directory ∷ directories) = directories-syncs directories
 
 -- one of a list
 pub In-at : {A : Type 0} (xs : List A) (i : ℕ) (d : A) → i < length xs → In (get_or xs i d) xs
@@ -55,15 +55,15 @@ In-front x (y ∷ xs) ys (inr later) = inr (In-front x xs ys later)
 syncs-append : (a b : List Step) → AreSyncs a → AreSyncs b → AreSyncs (a ++ b)
 syncs-append [] b first more = more
 syncs-append (SyncedObject key ∷ a) b first more = syncs-append a b first more
-syncs-append (SyncedPlace place ∷ a) b first more = syncs-append a b first more
+syncs-append (SyncedDirectory directory ∷ a) b first more = syncs-append a b first more
 syncs-append (PutText text ∷ a) b first more = absurd first
 
 -- what was passed before a failure is syncs alone
 pub objects-only : (old mid new : Option (List Step)) (keys : List Key) → mid ≡ with_steps old (map SyncedObject keys) → new ≡ mid → OnlySyncs old new
 objects-only old mid new keys done same = record { syncs = map SyncedObject keys; steps = same ∙ done; no_text = objects-syncs keys }
 
-pub places-only : (old mid new : Option (List Step)) (places : List Place) → mid ≡ with_steps old (map SyncedPlace places) → new ≡ mid → OnlySyncs old new
-places-only old mid new places done same = record { syncs = map SyncedPlace places; steps = same ∙ done; no_text = places-syncs places }
+pub directories-only : (old mid new : Option (List Step)) (directories : List Directory) → mid ≡ with_steps old (map SyncedDirectory directories) → new ≡ mid → OnlySyncs old new
+directories-only old mid new directories done same = record { syncs = map SyncedDirectory directories; steps = same ∙ done; no_text = directories-syncs directories }
 
 pub only-after : (old mid new : Option (List Step)) (keys : List Key) → mid ≡ with_steps old (map SyncedObject keys) → OnlySyncs mid new → OnlySyncs old new
 only-after old mid new keys done only = record {
@@ -72,45 +72,45 @@ only-after old mid new keys done only = record {
   no_text = syncs-append (map SyncedObject keys) only.syncs (objects-syncs keys) only.no_text;
 }
 
-comes-last : (old mid last new : Option (List Step)) (keys : List Key) (places : List Place) (text : List ℕ) → AreNamedIn keys places
-    → mid ≡ with_steps old (map SyncedObject keys) → last ≡ with_steps mid (map SyncedPlace places) → new ≡ with_steps last (PutText text ∷ [])
+comes-last : (old mid last new : Option (List Step)) (keys : List Key) (directories : List Directory) (text : List ℕ) → AreNamedIn keys directories
+    → mid ≡ with_steps old (map SyncedObject keys) → last ≡ with_steps mid (map SyncedDirectory directories) → new ≡ with_steps last (PutText text ∷ [])
     → TextComesLast old new keys text
-comes-last old mid last new keys places text named synced placed put = record {
-  places = places;
+comes-last old mid last new keys directories text named synced placed put = record {
+  directories = directories;
   named = named;
-  steps = put ∙ ap (λ l. with_steps l (PutText text ∷ [])) (placed ∙ ap (λ m. with_steps m (map SyncedPlace places)) synced ∙ steps-more old (map SyncedObject keys) (map SyncedPlace places))
-      ∙ steps-more old (map SyncedObject keys ++ map SyncedPlace places) (PutText text ∷ [])
-      ∙ ap (with_steps old) (append_assoc (map SyncedObject keys) (map SyncedPlace places) (PutText text ∷ []));
+  steps = put ∙ ap (λ l. with_steps l (PutText text ∷ [])) (placed ∙ ap (λ m. with_steps m (map SyncedDirectory directories)) synced ∙ steps-more old (map SyncedObject keys) (map SyncedDirectory directories))
+      ∙ steps-more old (map SyncedObject keys ++ map SyncedDirectory directories) (PutText text ∷ [])
+      ∙ ap (with_steps old) (append_assoc (map SyncedObject keys) (map SyncedDirectory directories) (PutText text ∷ []));
 }
 
-only-synced : (old mid last new : Option (List Step)) (keys : List Key) (places : List Place)
-    → mid ≡ with_steps old (map SyncedObject keys) → last ≡ with_steps mid (map SyncedPlace places) → new ≡ last → OnlySyncs old new
-only-synced old mid last new keys places synced placed same = only-after old mid new keys synced (places-only mid last new places placed same)
+only-synced : (old mid last new : Option (List Step)) (keys : List Key) (directories : List Directory)
+    → mid ≡ with_steps old (map SyncedObject keys) → last ≡ with_steps mid (map SyncedDirectory directories) → new ≡ last → OnlySyncs old new
+only-synced old mid last new keys directories synced placed same = only-after old mid new keys synced (directories-only mid last new directories placed same)
 
-pub put-order : {E : Type 0} (old mid last new : Option (List Step)) (keys : List Key) (places : List Place) (text : List ℕ) (result : Result ⊤ E)
-    → AreNamedIn keys places → mid ≡ with_steps old (map SyncedObject keys) → last ≡ with_steps mid (map SyncedPlace places)
+pub put-order : {E : Type 0} (old mid last new : Option (List Step)) (keys : List Key) (directories : List Directory) (text : List ℕ) (result : Result ⊤ E)
+    → AreNamedIn keys directories → mid ≡ with_steps old (map SyncedObject keys) → last ≡ with_steps mid (map SyncedDirectory directories)
     → OnOk result (new ≡ with_steps last (PutText text ∷ []))
     → OnErr result ((new ≡ last) ⊎ (new ≡ with_steps last (PutText text ∷ []))) → PutsDurably old new keys text result
-put-order old mid last new keys places text (Ok done) named synced placed put failed = comes-last old mid last new keys places text named synced placed put
-put-order old mid last new keys places text (Err failure) named synced placed put (inl same) = inl (only-synced old mid last new keys places synced placed same)
-put-order old mid last new keys places text (Err failure) named synced placed put (inr done) = inr (comes-last old mid last new keys places text named synced placed done)
+put-order old mid last new keys directories text (Ok done) named synced placed put failed = comes-last old mid last new keys directories text named synced placed put
+put-order old mid last new keys directories text (Err failure) named synced placed put (inl same) = inl (only-synced old mid last new keys directories synced placed same)
+put-order old mid last new keys directories text (Err failure) named synced placed put (inr done) = inr (comes-last old mid last new keys directories text named synced placed done)
 
-named-last : (key x : Key) (byte : ℕ) (p : List Place) → byte ≡ slice_index x.id 0 → In key (x ∷ []) → In (Objects x.kind byte) p → In (OfKind x.kind) p
+named-last : (key x : Key) (byte : ℕ) (p : List Directory) → byte ≡ slice_index x.id 0 → In key (x ∷ []) → In (Objects x.kind byte) p → In (OfKind x.kind) p
     → In (Objects key.kind (slice_index key.id 0)) p × In (OfKind key.kind) p
 named-last key x byte p is (inl same) has of_kind =
     subst (λ k. In (Objects k.kind (slice_index k.id 0)) p × In (OfKind k.kind) p) (sym same) (subst (λ b. In (Objects x.kind b) p) is has, of_kind)
 named-last key x byte p is (inr none) has of_kind = absurd none
 
-named-either : (keys : List Key) (key x : Key) (byte : ℕ) (places p q : List Place) → AreNamedIn keys places
-    → ((o : Place) → In o places → In o p) → ((o : Place) → In o p → In o q) → byte ≡ slice_index x.id 0
+named-either : (keys : List Key) (key x : Key) (byte : ℕ) (directories p q : List Directory) → AreNamedIn keys directories
+    → ((o : Directory) → In o directories → In o p) → ((o : Directory) → In o p → In o q) → byte ≡ slice_index x.id 0
     → In (Objects x.kind byte) p → In (OfKind x.kind) q → In key keys ⊎ In key (x ∷ [])
     → In (Objects key.kind (slice_index key.id 0)) q × In (OfKind key.kind) q
-named-either keys key x byte places p q named grows more is has of_kind (inl before) = (more _ (grows _ (named key before).0), more _ (grows _ (named key before).1))
-named-either keys key x byte places p q named grows more is has of_kind (inr last) = named-last key x byte q is last (more _ has) of_kind
+named-either keys key x byte directories p q named grows more is has of_kind (inl before) = (more _ (grows _ (named key before).0), more _ (grows _ (named key before).1))
+named-either keys key x byte directories p q named grows more is has of_kind (inr last) = named-last key x byte q is last (more _ has) of_kind
 
 -- the folders of one more
-pub named-more : (keys keys' : List Key) (x : Key) (byte : ℕ) (places p q : List Place) → keys' ≡ keys ++ x ∷ [] → AreNamedIn keys places
-    → ((o : Place) → In o places → In o p) → ((o : Place) → In o p → In o q) → byte ≡ slice_index x.id 0
+pub named-more : (keys keys' : List Key) (x : Key) (byte : ℕ) (directories p q : List Directory) → keys' ≡ keys ++ x ∷ [] → AreNamedIn keys directories
+    → ((o : Directory) → In o directories → In o p) → ((o : Directory) → In o p → In o q) → byte ≡ slice_index x.id 0
     → In (Objects x.kind byte) p → In (OfKind x.kind) q → AreNamedIn keys' q
-named-more keys keys' x byte places p q all named grows more is has of_kind key among =
-    named-either keys key x byte places p q named grows more is has of_kind (In-split key keys (x ∷ []) (subst (In key) all among))
+named-more keys keys' x byte directories p q all named grows more is has of_kind key among =
+    named-either keys key x byte directories p q named grows more is has of_kind (In-split key keys (x ∷ []) (subst (In key) all among))

@@ -1,6 +1,6 @@
 //! The order in which what was put is made durable: every object, every folder that names one, and then the state text.
 ghost use Rattle.std.specs.Prelude.{◌≡◌, ◌⊎◌, ℕ, List, [], ◌∷◌, IfErr, IfOk, IsTrue, OnErr, OnOk, Option, map, slice_index};
-ghost use Rattle.folder_storage.specs.Durability.{AreNamedIn, In, OnlySyncs, PutsDurably, PutText, Step, SyncedObject, SyncedPlace, with_steps};
+ghost use Rattle.folder_storage.specs.Durability.{AreNamedIn, In, OnlySyncs, PutsDurably, PutText, Step, SyncedObject, SyncedDirectory, with_steps};
 
 use ids::{Key, Kind};
 use std::alloc::{AllocError, Global};
@@ -8,7 +8,7 @@ use std::io;
 
 /// A folder whose names are made durable.
 #[derive(Clone, Copy, Debug, PartialEq, Eq)]
-pub(crate) enum Place {
+pub(crate) enum Directory {
     /// That of a kind's objects whose ids begin with this byte.
     Objects(Kind, u8),
     /// That of a kind.
@@ -28,8 +28,8 @@ pub(crate) trait Disk {
         ensures err { OnErr result (steps self.new ≡ steps self.old) };
 
     /// Makes the names in a folder durable.
-    fn sync_place(&mut self, place: Place) -> io::Result<()>
-        ensures ok { OnOk result (steps self.new ≡ with_steps (steps self.old) (SyncedPlace place ∷ [])) }
+    fn sync_directory(&mut self, directory: Directory) -> io::Result<()>
+        ensures ok { OnOk result (steps self.new ≡ with_steps (steps self.old) (SyncedDirectory directory ∷ [])) }
         ensures err { OnErr result (steps self.new ≡ steps self.old) };
 
     /// Puts the state text, durably. After a failure it may be there.
@@ -48,14 +48,14 @@ pub(crate) fn put_durably<D: Disk>(
 ) -> io::Result<()>
     ensures order { PutsDurably (D.steps disk.old) (D.steps disk.new) keys.now text.now result }
 {
-    let places = match places_of(alloc, keys) {
-        Ok(places) => places,
+    let directories = match directories_of(alloc, keys) {
+        Ok(directories) => directories,
         Err(failure) => return Err(io::Error::from(failure)),
     };
     if let Err(failure) = sync_objects(disk, keys) {
         return Err(failure);
     }
-    if let Err(failure) = sync_places(disk, places.as_slice()) {
+    if let Err(failure) = sync_directories(disk, directories.as_slice()) {
         return Err(failure);
     }
     disk.put_text(text)
@@ -75,12 +75,12 @@ fn sync_objects<D: Disk>(disk: &mut D, keys: &[Key]) -> io::Result<()>
 }
 
 /// Makes the names in the folders durable, up to the first failure.
-fn sync_places<D: Disk>(disk: &mut D, places: &[Place]) -> io::Result<()>
-    ensures ok { OnOk result (D.steps disk.new ≡ with_steps (D.steps disk.old) (map SyncedPlace places.now)) }
+fn sync_directories<D: Disk>(disk: &mut D, directories: &[Directory]) -> io::Result<()>
+    ensures ok { OnOk result (D.steps disk.new ≡ with_steps (D.steps disk.old) (map SyncedDirectory directories.now)) }
     ensures err { OnErr result (OnlySyncs (D.steps disk.old) (D.steps disk.new)) }
 {
-    for place in places {
-        if let Err(failure) = disk.sync_place(*place) {
+    for directory in directories {
+        if let Err(failure) = disk.sync_directory(*directory) {
             return Err(failure);
         }
     }
@@ -88,43 +88,43 @@ fn sync_places<D: Disk>(disk: &mut D, places: &[Place]) -> io::Result<()>
 }
 
 /// The folders that name these objects, once each.
-fn places_of(alloc: Global, keys: &[Key]) -> Result<Vec<Place>, AllocError>
-    ensures named { IfOk result (λ places. AreNamedIn keys.now places.items) }
+fn directories_of(alloc: Global, keys: &[Key]) -> Result<Vec<Directory>, AllocError>
+    ensures named { IfOk result (λ directories. AreNamedIn keys.now directories.items) }
 {
-    let mut places = Vec::new(alloc);
+    let mut directories = Vec::new(alloc);
     for key in keys {
-        add(&mut places, Place::Objects(key.kind, first_byte(key)))?;
-        add(&mut places, Place::OfKind(key.kind))?;
+        add(&mut directories, Directory::Objects(key.kind, first_byte(key)))?;
+        add(&mut directories, Directory::OfKind(key.kind))?;
     }
-    Ok(places)
+    Ok(directories)
 }
 
-/// Adds a place, unless it is there.
-fn add(places: &mut Vec<Place>, place: Place) -> Result<(), AllocError>
-    ensures ok { OnOk result (In place places.new.items) }
-    ensures kept { OnOk result ((other : Place) → In other places.old.items → In other places.new.items) }
+/// Adds a directory, unless it is there.
+fn add(directories: &mut Vec<Directory>, directory: Directory) -> Result<(), AllocError>
+    ensures ok { OnOk result (In directory directories.new.items) }
+    ensures stays { OnOk result ((other : Directory) → In other directories.old.items → In other directories.new.items) }
 {
-    if has(places.as_slice(), place) {
+    if has(directories.as_slice(), directory) {
         return Ok(());
     }
-    places.push(place)?;
+    directories.push(directory)?;
     Ok(())
 }
 
-/// Whether a place is among these.
-fn has(places: &[Place], place: Place) -> bool
-    ensures found { IsTrue result → In place places.now }
+/// Whether a directory is among these.
+fn has(directories: &[Directory], directory: Directory) -> bool
+    ensures found { IsTrue result → In directory directories.now }
 {
-    for other in places {
-        if is_same(other, &place) {
+    for other in directories {
+        if is_same(other, &directory) {
             return true;
         }
     }
     false
 }
 
-/// Whether two places are one.
-fn is_same(one: &Place, other: &Place) -> bool
+/// Whether two directories are one.
+fn is_same(one: &Directory, other: &Directory) -> bool
     ensures value { IsTrue result → other.now ≡ one.now }
 {
     *one == *other

@@ -62,7 +62,7 @@ impl<F: FileSystem + Drop> Ground for FolderGround<F> {
     ghost faults = { λ ground. ground.faults };
 
     fn find(&mut self, folder: &str, lib: LibId) -> Result<Option<FolderShelf<F>>, ShelfFailed>
-        ensures place { IfOk result (λ found. IfSome found (λ shelf. string_bytes shelf.folder.path ≡ library_text folder.now lib)) }
+        ensures folder { IfOk result (λ found. IfSome found (λ shelf. string_bytes shelf.folder.path ≡ library_text folder.now lib)) }
         ensures faults { CountsFaults self.old.faults self.new.faults result }
         ensures fresh { IfOk result (HasNoFaults (λ shelf. shelf.faults)) }
     {
@@ -74,7 +74,7 @@ impl<F: FileSystem + Drop> Ground for FolderGround<F> {
     }
 
     fn make(&mut self, folder: &str, lib: LibId) -> Result<Option<FolderShelf<F>>, ShelfFailed>
-        ensures place { IfOk result (λ made. IfSome made (λ shelf. IsSomeAnd shelf.folder.home (λ home. string_bytes home ≡ library_text folder.now lib))) }
+        ensures folder { IfOk result (λ made. IfSome made (λ shelf. IsSomeAnd shelf.folder.home (λ home. string_bytes home ≡ library_text folder.now lib))) }
         ensures faults { CountsFaults self.old.faults self.new.faults result }
         ensures fresh { IfOk result (HasNoFaults (λ shelf. shelf.faults)) }
     {

@@ -34,7 +34,7 @@ pub struct FolderShelf<F> {
 impl<F> FolderShelf<F> {
     /// A shelf over this folder, with no faults.
     pub(crate) fn new(folder: LibraryFolder<F>) -> FolderShelf<F>
-        ensures place { result.folder ≡ folder }
+        ensures folder { result.folder ≡ folder }
         ensures faults { result.faults ≡ 0 }
     {
         FolderShelf {

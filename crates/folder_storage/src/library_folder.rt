@@ -56,7 +56,7 @@ pub(crate) struct LibraryFolder<F> {
 impl<F: FileSystem + Drop> LibraryFolder<F> {
     /// The folder at this path, which this process has taken, in the folder above.
     pub(crate) fn new(files: F, path: String, above: String, earlier: Earlier) -> LibraryFolder<F>
-        ensures place { result.path ≡ path }
+        ensures folder { result.path ≡ path }
     {
         let alloc = files.alloc();
         LibraryFolder {

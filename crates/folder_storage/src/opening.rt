@@ -20,7 +20,7 @@ pub(crate) fn find_library<F: FileSystem + Drop>(
     folder: &str,
     lib: &LibId,
 ) -> io::Result<Option<LibraryFolder<F>>>
-    ensures place { IfOk result (λ found. IfSome found (λ library. string_bytes library.path ≡ library_text folder.now lib.now)) }
+    ensures folder { IfOk result (λ found. IfSome found (λ library. string_bytes library.path ≡ library_text folder.now lib.now)) }
 {
     let mut files = files.another()?;
     let path = library_path(files.alloc(), folder, lib)?;
@@ -47,7 +47,7 @@ pub(crate) fn make_library<F: FileSystem + Drop>(
     folder: &str,
     lib: &LibId,
 ) -> io::Result<Option<LibraryFolder<F>>>
-    ensures place { IfOk result (λ made. IfSome made (λ library. IsSomeAnd library.home (λ home. string_bytes home ≡ library_text folder.now lib.now))) }
+    ensures folder { IfOk result (λ made. IfSome made (λ library. IsSomeAnd library.home (λ home. string_bytes home ≡ library_text folder.now lib.now))) }
 {
     let mut files = files.another()?;
     let path = library_path(files.alloc(), folder, lib)?;

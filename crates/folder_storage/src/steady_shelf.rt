@@ -50,7 +50,7 @@ impl Shelf for SteadyShelf {
 
     fn fetch(&mut self, slot: Slot) -> Result<Option<Bytes>, ShelfFailed>
         ensures found { IfOk result (λ given. given ≡ lies_in self.new.contents slot) }
-        ensures kept { Some self.new.contents ≡ Some self.old.contents }
+        ensures stays { Some self.new.contents ≡ Some self.old.contents }
         ensures faults { CountsFaults 0 0 result }
         ensures gives { GivesNoMore (Tells self.old.contents) (Tells self.new.contents) }
         ensures texts { self.new.texts ≡ self.old.texts }
@@ -78,7 +78,7 @@ impl Shelf for SteadyShelf {
 
     fn next(&mut self, kind: Kind, after: Option<ObjId>) -> Result<Option<Found>, ShelfFailed>
         ensures found { (held : Contents) → Some self.old.contents ≡ Some held → IfOk result (FindsNext held.objects kind after) }
-        ensures kept { Some self.new.contents ≡ Some self.old.contents }
+        ensures stays { Some self.new.contents ≡ Some self.old.contents }
         ensures faults { CountsFaults 0 0 result }
         ensures gives { GivesNoMore (Tells self.old.contents) (Tells self.new.contents) }
         ensures texts { self.new.texts ≡ self.old.texts }

@@ -1,5 +1,5 @@
 //! How a library's folder makes durable what was put, and the state text after it.
-use crate::durability::{Disk, Place, first_byte, put_durably};
+use crate::durability::{Disk, Directory, first_byte, put_durably};
 use crate::file_system::FileSystem;
 use crate::library_folder::LibraryFolder;
 use crate::paths::{kind_path, listed_folder, moved_path, named_path, object_path};
@@ -149,11 +149,11 @@ impl<F: FileSystem + Drop> LibraryFolder<F> {
     fn enter_folders(&mut self, keys: &[Key]) -> io::Result<()> {
         let mut last = None;
         for key in keys {
-            let place = Place::Objects(key.kind, first_byte(key));
-            if last != Some(place) {
+            let directory = Directory::Objects(key.kind, first_byte(key));
+            if last != Some(directory) {
                 let folder = self.folder_of(key)?;
                 self.enter_anew(folder.as_str())?;
-                last = Some(place);
+                last = Some(directory);
             }
         }
         Ok(())
@@ -242,15 +242,15 @@ impl<F: FileSystem + Drop> Disk for LibraryFolder<F> {
     }
 
     /// Makes a folder's names durable. A folder of objects that isn't there has none.
-    fn sync_place(&mut self, place: Place) -> io::Result<()> {
+    fn sync_directory(&mut self, directory: Directory) -> io::Result<()> {
         let alloc = self.files.alloc();
-        let is_there = match place {
-            Place::Objects(kind, first) => {
+        let is_there = match directory {
+            Directory::Objects(kind, first) => {
                 let folder = listed_folder(alloc, self.path.as_str(), kind, first)?;
                 self.files.sync_folder(folder.as_str())?;
                 true
             }
-            Place::OfKind(kind) => {
+            Directory::OfKind(kind) => {
                 let folder = kind_path(alloc, self.path.as_str(), kind)?;
                 self.files.sync_folder(folder.as_str())?
             }

@@ -46,7 +46,7 @@ impl FsObject {
         ensures value { IfOk result (λ text. text ≡ text_of self.now) }
         ensures reads_back { IfOk result (λ text. IsProper self.now
             → fs_of text ≡ Ok (as_written self.now)) }
-        ensures kept { OnOk result (HasSameEntries self.now (as_written self.now)) }
+        ensures stays { OnOk result (HasSameEntries self.now (as_written self.now)) }
     {
         match self {
             FsObject::File(file) => write_file(alloc, file),
@@ -68,7 +68,7 @@ fn write_directory(alloc: Global, directory: &DirObject) -> Result<Bytes, AllocE
     ensures value { IfOk result (λ text. text ≡ text_of (FsObject.Dir directory.now)) }
     ensures reads_back { IfOk result (λ text. IsProper (FsObject.Dir directory.now)
         → fs_of text ≡ Ok (FsObject.Dir (in_written_order directory.now))) }
-    ensures kept { IsPermutation directory.now (in_written_order directory.now) }
+    ensures stays { IsPermutation directory.now (in_written_order directory.now) }
 {
     let value = directory_value(alloc, directory.entries.slice())?;
     json_words::write(alloc, &value)

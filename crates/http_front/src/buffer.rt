@@ -93,7 +93,7 @@ impl Buffer {
         ensures end { IfOk result (λ n. n ≡ 0 → IsAtEnd (L.left link.new)) }
         ensures err { OnErr result (self.new ≡ self.old) }
         ensures to_read { to_read self.new (L.left link.new) ≡ to_read self.old (L.left link.old) }
-        ensures kept { L.given link.new ≡ L.given link.old }
+        ensures stays { L.given link.new ≡ L.given link.old }
         ensures fills { Fills self.old self.new (told_by L.taken L.given L.asked link.old) (told_by L.taken L.given L.asked link.new) }
         ensures link { result ≡ Err FillFault.Link → Rose (L.faults link.old) (L.faults link.new) }
         ensures faults { result ≢ Err FillFault.Link → L.faults link.new ≡ L.faults link.old }

@@ -40,16 +40,16 @@ pub trait Link {
         ensures end { IfOk result (λ n. n ≡ 0 → IsAtEnd (left self.old)) }
         ensures err_left { OnErr result (left self.new ≡ left self.old) }
         ensures err_taken { OnErr result (taken self.new ≡ taken self.old) }
-        ensures kept { given self.new ≡ given self.old }
+        ensures stays { given self.new ≡ given self.old }
         ensures asked { asked self.new ≡ asked_once_more (asked self.old) (taken self.old) (given self.old) }
         ensures faults { CountsFaults (faults self.old) (faults self.new) result };
 
     /// Gives the piece. After a give that fails a front of the piece was given.
     fn give(&mut self, piece: &[u8]) -> Result<(), LinkFailed>
         ensures given { Gives (given self.old) (given self.new) piece.now result }
-        ensures kept_left { left self.new ≡ left self.old }
-        ensures kept_taken { taken self.new ≡ taken self.old }
-        ensures kept_asked { asked self.new ≡ asked self.old }
+        ensures stays_left { left self.new ≡ left self.old }
+        ensures stays_taken { taken self.new ≡ taken self.old }
+        ensures stays_asked { asked self.new ≡ asked self.old }
         ensures faults { CountsFaults (faults self.old) (faults self.new) result };
 }
 

@@ -114,7 +114,7 @@ impl Link for MemoryLink {
         ensures end { IfOk result (λ n. n ≡ 0 → IsAtEnd (Some self.old.left)) }
         ensures err_left { OnErr result (Some self.new.left ≡ Some self.old.left) }
         ensures err_taken { OnErr result (Some self.new.taken ≡ Some self.old.taken) }
-        ensures kept { Some self.new.given ≡ Some self.old.given }
+        ensures stays { Some self.new.given ≡ Some self.old.given }
         ensures asked { Some self.new.asked ≡ asked_once_more (Some self.old.asked) (Some self.old.taken) (Some self.old.given) }
         ensures faults { CountsFaults self.old.faults self.new.faults result }
 
@@ -140,9 +140,9 @@ impl Link for MemoryLink {
 
     fn give(&mut self, piece: &[u8]) -> Result<(), LinkFailed>
         ensures given { Gives (Some self.old.given) (Some self.new.given) piece.now result }
-        ensures kept_left { Some self.new.left ≡ Some self.old.left }
-        ensures kept_taken { Some self.new.taken ≡ Some self.old.taken }
-        ensures kept_asked { Some self.new.asked ≡ Some self.old.asked }
+        ensures stays_left { Some self.new.left ≡ Some self.old.left }
+        ensures stays_taken { Some self.new.taken ≡ Some self.old.taken }
+        ensures stays_asked { Some self.new.asked ≡ Some self.old.asked }
         ensures faults { CountsFaults self.old.faults self.new.faults result }
 
         // A give fails exactly where it is to fail or the piece finds no room in full, and then

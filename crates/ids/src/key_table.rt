@@ -97,7 +97,7 @@ impl<V: Drop> KeyTable<V> {
     /// Takes the value at the key out of the map.
     pub fn remove(&mut self, key: &Key) -> Option<V>
         ensures value { result ≡ map.get self.old key.now }
-        ensures kept { self.new ≡ map.remove self.old key.now }
+        ensures stays { self.new ≡ map.remove self.old key.now }
     {
         self.held.remove(key)
     }

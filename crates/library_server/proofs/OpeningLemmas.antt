@@ -22,7 +22,7 @@ use Rattle.object_store.specs.Shelf.{Contents, GivesNoMore}
 use Rattle.object_store.specs.StoreView.{StoreView, status_of}
 use Rattle.object_store.specs.declared.shelf.Slot.{Slot}
 use Rattle.object_store.specs.declared.shelf.Slot.TheVariants.{Status}
-use Rattle.server_words.specs.declared.command.Place.{Place}
+use Rattle.server_words.specs.declared.command.Location.{Location}
 use Rattle.library_server.specs.LibraryOpening.{GivesOther, IsDueOpening, IsNotOpened, IsNotStarted, IsOpenedState, IsTextOf, memory_library, of_new, of_text, opening_refusal, read_refusal}
 use Rattle.library_server.specs.Making.{IsNotMade}
 use Rattle.library_server.specs.declared.making.NewLibrary.{NewLibrary}
@@ -66,37 +66,37 @@ unstarted_before lib (unstarted.Fault fault) gives is = fault_before fault gives
 unstarted_before lib unstarted.Other gives is = record { state = is.state; given = given_before is.state gives is.given; other = is.other }
 
 -- the state that was opened is that of a text of the library that was named
-pub opened_state : {before now : Slot → Option (List ℕ) → Type 0} (place : Place) (lib : List ℕ) (shows : ℕ → Type 0) (state : LibState)
-    → GivesNoMore before now → IsNextOf now state → state.lib ≡ lib → IsOpenedState before place lib shows state
-opened_state place lib shows state gives given named = of_text (next_before state gives given) named
+pub opened_state : {before now : Slot → Option (List ℕ) → Type 0} (location : Location) (lib : List ℕ) (shows : ℕ → Type 0) (state : LibState)
+    → GivesNoMore before now → IsNextOf now state → state.lib ≡ lib → IsOpenedState before location lib shows state
+opened_state location lib shows state gives given named = of_text (next_before state gives given) named
 
-opened_before : {before now : Slot → Option (List ℕ) → Type 0} (place : Place) (lib : List ℕ) (shows : ℕ → Type 0) (state : LibState)
-    → GivesNoMore before now → IsOpenedState now place lib shows state → IsOpenedState before place lib shows state
-opened_before place lib shows state gives (of_text given named) = of_text (next_before state gives given) named
-opened_before place lib shows state gives (of_new is moment shown same) = of_new is moment shown same
+opened_before : {before now : Slot → Option (List ℕ) → Type 0} (location : Location) (lib : List ℕ) (shows : ℕ → Type 0) (state : LibState)
+    → GivesNoMore before now → IsOpenedState now location lib shows state → IsOpenedState before location lib shows state
+opened_before location lib shows state gives (of_text given named) = of_text (next_before state gives given) named
+opened_before location lib shows state gives (of_new is moment shown same) = of_new is moment shown same
 
 unmade_before : {before now : Slot → Option (List ℕ) → Type 0} (new : NewLibrary) (moment : ℕ) (why : NotMade) → GivesNoMore before now → IsNotMade now new moment why → IsNotMade before new moment why
 unmade_before new moment (unmade.Storage failed) gives is = tt
 unmade_before new moment unmade.Exists gives is = tt
 unmade_before new moment (unmade.Refused fault) gives is = make_before gives (opening_object (opening_commit new.lib new.user moment)) fault is
 
-unopened_before : {before now : Slot → Option (List ℕ) → Type 0} (place : Place) (lib : List ℕ) (shows : ℕ → Type 0) (why : NotOpened)
-    → GivesNoMore before now → IsNotOpened now place lib shows why → IsNotOpened before place lib shows why
-unopened_before place lib shows (unopened.Storage failed) gives is = tt
-unopened_before place lib shows unopened.Absent gives is = is
-unopened_before place lib shows (unopened.Refused why) gives is = unstarted_before lib why gives is
-unopened_before place lib shows (unopened.Unmade why) gives is = (is.0, is.1, is.2, unmade_before (memory_library lib) is.1 why gives is.3)
+unopened_before : {before now : Slot → Option (List ℕ) → Type 0} (location : Location) (lib : List ℕ) (shows : ℕ → Type 0) (why : NotOpened)
+    → GivesNoMore before now → IsNotOpened now location lib shows why → IsNotOpened before location lib shows why
+unopened_before location lib shows (unopened.Storage failed) gives is = tt
+unopened_before location lib shows unopened.Absent gives is = is
+unopened_before location lib shows (unopened.Refused why) gives is = unstarted_before lib why gives is
+unopened_before location lib shows (unopened.Unmade why) gives is = (is.0, is.1, is.2, unmade_before (memory_library lib) is.1 why gives is.3)
 
 -- the same where it was looked for first, and is not there
-pub absent_given : {S : Type 0} {before now : Slot → Option (List ℕ) → Type 0} (place : Place) (lib : List ℕ) (shows : ℕ → Type 0) (result : Result (DepotView S) NotOpened)
-    → GivesNoMore before now → IfOk result (λ depot. IsOpenedState now place lib shows depot.state) → IfOk result (λ depot. IsOpenedState before place lib shows depot.state)
-absent_given place lib shows (Ok depot) gives is = opened_before place lib shows depot.state gives is
-absent_given place lib shows (Err why) gives is = tt
+pub absent_given : {S : Type 0} {before now : Slot → Option (List ℕ) → Type 0} (location : Location) (lib : List ℕ) (shows : ℕ → Type 0) (result : Result (DepotView S) NotOpened)
+    → GivesNoMore before now → IfOk result (λ depot. IsOpenedState now location lib shows depot.state) → IfOk result (λ depot. IsOpenedState before location lib shows depot.state)
+absent_given location lib shows (Ok depot) gives is = opened_before location lib shows depot.state gives is
+absent_given location lib shows (Err why) gives is = tt
 
-pub absent_cause : {S : Type 0} {before now : Slot → Option (List ℕ) → Type 0} (place : Place) (lib : List ℕ) (shows : ℕ → Type 0) (result : Result (DepotView S) NotOpened)
-    → GivesNoMore before now → IfErr result (IsNotOpened now place lib shows) → IfErr result (IsNotOpened before place lib shows)
-absent_cause place lib shows (Ok depot) gives is = tt
-absent_cause place lib shows (Err why) gives is = unopened_before place lib shows why gives is
+pub absent_cause : {S : Type 0} {before now : Slot → Option (List ℕ) → Type 0} (location : Location) (lib : List ℕ) (shows : ℕ → Type 0) (result : Result (DepotView S) NotOpened)
+    → GivesNoMore before now → IfErr result (IsNotOpened now location lib shows) → IfErr result (IsNotOpened before location lib shows)
+absent_cause location lib shows (Ok depot) gives is = tt
+absent_cause location lib shows (Err why) gives is = unopened_before location lib shows why gives is
 
 ok_same : (a b : LibState) → ◌≡◌ {A = Result LibState StateKey} (Ok a) (Ok b) → a ≡ b
 ok_same a b e = cc

@@ -17,7 +17,7 @@ use Rattle.worker_server.specs.declared.served.Served.{Served}
 use Rattle.worker_server.specs.declared.served.Served.TheVariants as served
 use Rattle.library_server.specs.Connections.{LinkView, ServesOpened, opened, status_of, unopened}
 use Rattle.library_server.specs.Lines.{fault_of_not_added, fault_of_not_made, fault_of_not_opened}
-use Rattle.server_words.specs.declared.command.Place.{Place}
+use Rattle.server_words.specs.declared.command.Location.{Location}
 use Rattle.library_server.specs.Adding.{IsAddedTo, IsNotAdded, is_unadded_counted}
 use Rattle.library_server.specs.Making.{IsNotMade, RoseWhere, is_unmade_counted}
 use Rattle.library_server.specs.declared.adding.NewToken.{NewToken}
@@ -75,9 +75,9 @@ unwrapped a b e = cc
 
 usage_alone : (command : Command) (printed : Printed) → printed_of command ≡ Some printed → printed.status ≡ 2
     → (command ≡ Usage) × (printed.text ≡ line_text line.Usage)
-usage_alone (Create place lib name user secret) printed e two = absurd (cc)
-usage_alone (Token place lib user secret right) printed e two = absurd (cc)
-usage_alone (Inetd place lib) printed e two = absurd (cc)
+usage_alone (Create location lib name user secret) printed e two = absurd (cc)
+usage_alone (Token location lib user secret right) printed e two = absurd (cc)
+usage_alone (Inetd location lib) printed e two = absurd (cc)
 usage_alone Help printed e two = absurd (zero_two (sym (ap (λ z. z.status) (unwrapped help_printed printed e)) ∙ two))
   where
     zero_two : ◌≡◌ {A = ℕ} 0 2 → ⊥
@@ -97,13 +97,13 @@ module _ {S : Type 0} (contents : S → Option Contents) (may_give : S → Slot 
   pub runs_usage : (command : Command) (old new : GroundView) (before now : LinkView) (out_before out_now : SinkView) (status : ℕ)
       → RunsSo contents may_give texts faults gives shows command old new before now out_before out_now status → status ≡ 2
       → (command ≡ Usage) × (out_now.given ≡ append_known out_before.given (line_text line.Usage))
-  runs_usage command old new before now out_before out_now status (creates place lib name user secret is made left) two =
+  runs_usage command old new before now out_before out_now status (creates location lib name user secret is made left) two =
       absurd (no_print (line_printed (created_line lib made.created)) out_before out_now status made.prints (no_creation lib made.created) two)
-  runs_usage command old new before now out_before out_now status (adds place lib token is added left) two =
+  runs_usage command old new before now out_before out_now status (adds location lib token is added left) two =
       absurd (no_print (line_printed (added_line added.added)) out_before out_now status added.prints (no_addition added.added) two)
-  runs_usage command old new before now out_before out_now status (serves place lib is (opened depot after state opens service good back) out) two =
+  runs_usage command old new before now out_before out_now status (serves location lib is (opened depot after state opens service good back) out) two =
       absurd (no_service depot after before now status service two)
-  runs_usage command old new before now out_before out_now status (serves place lib is (unopened why refused code left) out) two =
+  runs_usage command old new before now out_before out_now status (serves location lib is (unopened why refused code left) out) two =
       absurd (no_fault (fault_of_not_opened why) (sym code ∙ two))
   runs_usage command old new before now out_before out_now status (prints printed is (whole put kept code) same left) two =
       let alone = usage_alone command printed is (sym code ∙ two) in
@@ -120,11 +120,11 @@ module _ (gives : Slot → Option (List ℕ) → Type 0) where
   created_so new moment before now (Ok head) is cause count = is
   created_so new moment before now (Err why) is cause count = (cause, count)
 
-  pub added_so : (place : Place) (lib : List ℕ) (shows : ℕ → Type 0) (new : NewToken) (before now : ℕ) (added : Result ⊤ NotAdded)
-      → IfOk added (λ done. IsAddedTo gives place lib shows new) → IfErr added (IsNotAdded gives place lib shows new) → IfErr added (λ why. RoseWhere (is_unadded_counted why) before now)
-      → IsAdded gives place lib shows new before now added
-  added_so place lib shows new before now (Ok done) given cause count = given
-  added_so place lib shows new before now (Err why) given cause count = (cause, count)
+  pub added_so : (location : Location) (lib : List ℕ) (shows : ℕ → Type 0) (new : NewToken) (before now : ℕ) (added : Result ⊤ NotAdded)
+      → IfOk added (λ done. IsAddedTo gives location lib shows new) → IfErr added (IsNotAdded gives location lib shows new) → IfErr added (λ why. RoseWhere (is_unadded_counted why) before now)
+      → IsAdded gives location lib shows new before now added
+  added_so location lib shows new before now (Ok done) given cause count = given
+  added_so location lib shows new before now (Err why) given cause count = (cause, count)
 
 -- a text that was put is the one of its name
 pub printed_as : (printed : Printed) (text : List ℕ) (before now : SinkView) (status : ℕ) → text ≡ printed.text

@@ -51,6 +51,6 @@ hands_after contents old mid new folder lib (Err e) same back = returned_after c
 min_above : (most s0 s1 g : ℕ) → 1 ≤ most → min (s0 + 1) most ≤ s1 → min (g + 1) most ≤ min (g + s1) most
 min_above most s0 s1 g some rose = omega arith
 
--- a shelf whose count rose raises that of the place that takes it back
+-- a shelf whose count rose raises that of the location that takes it back
 pub rose_given : (s0 s1 g g' : ℕ) → Rose s0 s1 → g' ≡ count_sum g s1 → Rose g g'
 rose_given s0 s1 g g' rose is = rw is (min_above (2 ^ 64 - 1) s0 s1 g (omega arith) rose)

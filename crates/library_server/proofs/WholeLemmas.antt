@@ -238,5 +238,5 @@ module _ {S : Type 0} (contents : S → Option Contents) (may_give : S → Slot 
       → Ran (AtAMoment shows (AnswersOn contents may_give texts faults)) depot calls after → NoneOfStorage calls
   calls_whole depot after [] steady names ran = tt
   calls_whole depot after (t ∷ calls) steady names ran =
-      let whole = ran.1.2.whole steady names in
+      let whole = ran.1.2.steady steady names in
       (whole.0, calls_whole ran.0 after calls steady whole.1 ran.2)

@@ -14,7 +14,7 @@ use Rattle.object_graph.specs.Unchanged.{Keeps}
 use Rattle.object_store.specs.Shelf.{Contents}
 use Rattle.object_store.specs.Store.{is_free, is_of_shelf}
 use Rattle.object_store.specs.declared.shelf.Slot.{Slot}
-use Rattle.server_words.specs.declared.command.Place.{Place}
+use Rattle.server_words.specs.declared.command.Location.{Location}
 use Rattle.library_server.specs.LibraryOpening.{IsNotOpened, IsOpenedState, OpensTo, RefusesOpening, is_unopened_counted}
 use Rattle.library_server.specs.Standing.{StandsAs}
 use Rattle.library_server.specs.declared.adding.NewToken.{NewToken}
@@ -41,10 +41,10 @@ RefusesToken new s (token.Store why) after = IsTrue (is_free why) × (StandsWith
 
 -- over told libraries, as one stood before and stands after: what was opened is there with the token, or the token is
 -- refused by its first cause, or nothing was opened
-abbrev pub AddsSo : Place → List ℕ → (ℕ → Type 0) → NewToken → Standing → Result ⊤ NotAdded → Option Standing → Type 0
-AddsSo place lib shows new standing (Ok done) after = (s : State) × OpensTo place lib shows standing s × StandsAs after (with_new new s)
-AddsSo place lib shows new standing (Err (unadded.Refused why)) after = (s : State) × OpensTo place lib shows standing s × RefusesToken new s why after
-AddsSo place lib shows new standing (Err (unadded.Unopened why)) after = RefusesOpening place lib shows standing why after
+abbrev pub AddsSo : Location → List ℕ → (ℕ → Type 0) → NewToken → Standing → Result ⊤ NotAdded → Option Standing → Type 0
+AddsSo location lib shows new standing (Ok done) after = (s : State) × OpensTo location lib shows standing s × StandsAs after (with_new new s)
+AddsSo location lib shows new standing (Err (unadded.Refused why)) after = (s : State) × OpensTo location lib shows standing s × RefusesToken new s why after
+AddsSo location lib shows new standing (Err (unadded.Unopened why)) after = RefusesOpening location lib shows standing why after
 
 -- why a token is refused by the state that was opened: another token has its secret, or there are 1,000
 abbrev pub IsTokenRefused : LibState → NewToken → TokenFault → Type 0
@@ -53,13 +53,13 @@ IsTokenRefused state new token.Full = (is_taken state.tokens new.secret ≡ fals
 IsTokenRefused state new (token.Store why) = IsTrue (is_free why)
 
 -- over any ground, what a token was added to: the library that was opened, which doesn't refuse it
-abbrev pub IsAddedTo : (Slot → Option (List ℕ) → Type 0) → Place → List ℕ → (ℕ → Type 0) → NewToken → Type 0
-IsAddedTo gives place lib shows new = (state : LibState) × IsOpenedState gives place lib shows state × (token_refusal state.tokens new.secret ≡ None)
+abbrev pub IsAddedTo : (Slot → Option (List ℕ) → Type 0) → Location → List ℕ → (ℕ → Type 0) → NewToken → Type 0
+IsAddedTo gives location lib shows new = (state : LibState) × IsOpenedState gives location lib shows state × (token_refusal state.tokens new.secret ≡ None)
 
 -- the cause of each refusal, over any ground, in what the named library may give as it is handed out
-abbrev pub IsNotAdded : (Slot → Option (List ℕ) → Type 0) → Place → List ℕ → (ℕ → Type 0) → NewToken → NotAdded → Type 0
-IsNotAdded gives place lib shows new (unadded.Unopened why) = IsNotOpened gives place lib shows why
-IsNotAdded gives place lib shows new (unadded.Refused why) = (state : LibState) × IsOpenedState gives place lib shows state × IsTokenRefused state new why
+abbrev pub IsNotAdded : (Slot → Option (List ℕ) → Type 0) → Location → List ℕ → (ℕ → Type 0) → NewToken → NotAdded → Type 0
+IsNotAdded gives location lib shows new (unadded.Unopened why) = IsNotOpened gives location lib shows why
+IsNotAdded gives location lib shows new (unadded.Refused why) = (state : LibState) × IsOpenedState gives location lib shows state × IsTokenRefused state new why
 
 -- the failure that the storage counts
 abbrev pub is_unadded_counted : NotAdded → Bool

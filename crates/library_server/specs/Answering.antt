@@ -52,7 +52,7 @@ pub record AnswersOn {S : Type 0} (contents : S → Option Contents) (may_give :
     (old : DepotView S) (lib : List ℕ) (call : Call) (moment : ℕ) (answer : Answer) (lines : List ⊤) (new : DepotView S) : Type 0 where
   pub here : lib ≡ old.state.lib → IsAnswered contents may_give texts faults old call moment answer.reply new
   pub elsewhere : lib ≢ old.state.lib → (answer.reply ≡ reply.Refused refusal.NoLibrary) × (new ≡ old)
-  pub whole : NeverFails faults → NamesIn contents old → (is_storage_reply answer.reply ≡ false) × NamesIn contents new
+  pub steady : NeverFails faults → NamesIn contents old → (is_storage_reply answer.reply ≡ false) × NamesIn contents new
   pub no_lines : lines ≡ []
   pub opening : answer.opening ≡ 0
-  pub place : answer.place ≡ 0
+  pub location : answer.location ≡ 0

@@ -1,4 +1,4 @@
--- The command that serves one connection, and its status. Our own. Read ServesPlace first, at the end.
+-- The command that serves one connection, and its status. Our own. Read ServesLocation first, at the end.
 use Rattle.std.specs.Prelude.{◌≡◌, ℕ, List, Option, Some, ⊤}
 use Rattle.depot.specs.DepotView.{DepotView, IsGood, state_of}
 use Rattle.folder_storage.specs.Ground.{MayGive, Standing}
@@ -7,8 +7,8 @@ use Rattle.library_rules.specs.LibraryState.{State}
 use Rattle.object_store.specs.Shelf.{Contents}
 use Rattle.object_store.specs.declared.shelf.Slot.{Slot}
 use Rattle.server_words.specs.Lines.{fault_status}
-use Rattle.server_words.specs.Spelling.{place_text}
-use Rattle.server_words.specs.declared.command.Place.{Place}
+use Rattle.server_words.specs.Spelling.{location_text}
+use Rattle.server_words.specs.declared.command.Location.{Location}
 use Rattle.worker_server.specs.Calls.{AtAMoment, Told, Ran}
 use Rattle.worker_server.specs.ServedConnection.{CountsEnd, SessionInTime}
 use Rattle.worker_server.specs.declared.served.Served.{Served}
@@ -49,21 +49,21 @@ pub record ServesOpened {S : Type 0} (contents : S → Option Contents) (may_giv
 -- why no library was opened: the refusal, its cause in what the named library may give, and that the storage's count rose
 -- where it failed
 pub record IsUnopened {S : Type 0} (contents : S → Option Contents) (gives : Slot → Option (List ℕ) → Type 0)
-    (place : Place) (lib : List ℕ) (shows : ℕ → Type 0) (old new : GroundView) (why : NotOpened) : Type 0 where
-  pub told : (standing : Standing) → old.stands (place_text place) lib ≡ Some standing → RefusesOpening place lib shows standing why (new.stands (place_text place) lib)
-  pub cause : IsNotOpened gives place lib shows why
+    (location : Location) (lib : List ℕ) (shows : ℕ → Type 0) (old new : GroundView) (why : NotOpened) : Type 0 where
+  pub told : (standing : Standing) → old.stands (location_text location) lib ≡ Some standing → RefusesOpening location lib shows standing why (new.stands (location_text location) lib)
+  pub cause : IsNotOpened gives location lib shows why
   pub count : RoseWhere (is_unopened_counted why) old.faults new.faults
-  pub back : Returned contents old.stands new.stands (place_text place) lib
+  pub back : Returned contents old.stands new.stands (location_text location) lib
 
 -- one connection with the library that a command names, and with no other: it was opened, served and is back, with what its
 -- shelf then holds; or it was not opened, which gives the status, and the link is left alone
-pub data ServesPlace {S : Type 0} (contents : S → Option Contents) (may_give : S → Slot → Option (List ℕ) → Type 0) (texts faults : S → ℕ) (gives : MayGive)
-    (place : Place) (lib : List ℕ) (shows : ℕ → Type 0) (old new : GroundView) (before now : LinkView) (status : ℕ) : Type 0 where
-  opened : (depot after : DepotView S) → IsOpenedState (gives (place_text place) lib) place lib shows depot.state
-      → ((standing : Standing) → old.stands (place_text place) lib ≡ Some standing → (s : State) × (state_of contents faults depot ≡ Some s) × OpensTo place lib shows standing s)
+pub data ServesLocation {S : Type 0} (contents : S → Option Contents) (may_give : S → Slot → Option (List ℕ) → Type 0) (texts faults : S → ℕ) (gives : MayGive)
+    (location : Location) (lib : List ℕ) (shows : ℕ → Type 0) (old new : GroundView) (before now : LinkView) (status : ℕ) : Type 0 where
+  opened : (depot after : DepotView S) → IsOpenedState (gives (location_text location) lib) location lib shows depot.state
+      → ((standing : Standing) → old.stands (location_text location) lib ≡ Some standing → (s : State) × (state_of contents faults depot ≡ Some s) × OpensTo location lib shows standing s)
       → ServesOpened contents may_give texts faults shows depot after before now status
-      → IsGood contents faults after → ComesBack old.stands new.stands (place_text place) lib (contents after.store.shelf)
-      → ServesPlace contents may_give texts faults gives place lib shows old new before now status
-  unopened : (why : NotOpened) → IsUnopened contents (gives (place_text place) lib) place lib shows old new why
+      → IsGood contents faults after → ComesBack old.stands new.stands (location_text location) lib (contents after.store.shelf)
+      → ServesLocation contents may_give texts faults gives location lib shows old new before now status
+  unopened : (why : NotOpened) → IsUnopened contents (gives (location_text location) lib) location lib shows old new why
       → status ≡ fault_status (fault_of_not_opened why) → now ≡ before
-      → ServesPlace contents may_give texts faults gives place lib shows old new before now status
+      → ServesLocation contents may_give texts faults gives location lib shows old new before now status

@@ -18,8 +18,8 @@ use Rattle.library_rules.specs.Recovery.{opened}
 use Rattle.object_store.specs.Shelf.{Contents, is_counted}
 use Rattle.object_store.specs.StoreView.{StoreView}
 use Rattle.object_store.specs.declared.shelf.Slot.{Slot}
-use Rattle.server_words.specs.declared.command.Place.{Place}
-use Rattle.server_words.specs.declared.command.Place.TheVariants.{Memory, Folder}
+use Rattle.server_words.specs.declared.command.Location.{Location}
+use Rattle.server_words.specs.declared.command.Location.TheVariants.{Memory, Folder}
 use Rattle.library_server.specs.Making.{IsNotMade, RefusesNew, first_of, is_unmade_counted, library_of}
 use Rattle.library_server.specs.declared.making.NewLibrary.{NewLibrary}
 use Rattle.library_server.specs.declared.not_done.NotOpened.{NotOpened}
@@ -33,11 +33,11 @@ abbrev pub memory_library : List ℕ → NewLibrary
 memory_library lib = record { lib = lib; name = codes "memory"; user = codes "me"; secret = replicate 20 170 }
 
 -- the library is not there, and its place is memory
-abbrev pub IsMemory : Place → Type 0
+abbrev pub IsMemory : Location → Type 0
 IsMemory Memory = ⊤
 IsMemory (Folder path) = ⊥
 
-abbrev pub IsFolder : Place → Type 0
+abbrev pub IsFolder : Location → Type 0
 IsFolder Memory = ⊥
 IsFolder (Folder path) = ⊤
 
@@ -58,17 +58,17 @@ OpensFrom contents faults lib held depot = (s : State) × (state_of contents fau
 
 -- the library that a command opens, as it stands: the one that is kept there, opened once more; or, in memory where there
 -- is none, one that is new, which is used as it was made
-pub data OpensTo (place : Place) (lib : List ℕ) (shows : ℕ → Type 0) (standing : Standing) (s : State) : Type 0 where
-  reopened : (held : Contents) → standing ≡ Kept held → IsOpenedFrom lib held s → OpensTo place lib shows standing s
-  made : IsMemory place → standing ≡ Absent → (moment count : ℕ) → shows moment → s ≡ library_of (memory_library lib) moment count
-      → OpensTo place lib shows standing s
+pub data OpensTo (location : Location) (lib : List ℕ) (shows : ℕ → Type 0) (standing : Standing) (s : State) : Type 0 where
+  reopened : (held : Contents) → standing ≡ Kept held → IsOpenedFrom lib held s → OpensTo location lib shows standing s
+  made : IsMemory location → standing ≡ Absent → (moment count : ℕ) → shows moment → s ≡ library_of (memory_library lib) moment count
+      → OpensTo location lib shows standing s
 
 -- the same of the state alone, over any ground: that of a text of the named library, which this library may give as it is
 -- handed out, with the next opening number; or, in memory, that of the new library
-pub data IsOpenedState (gives : Slot → Option (List ℕ) → Type 0) (place : Place) (lib : List ℕ) (shows : ℕ → Type 0) (state : LibState)
+pub data IsOpenedState (gives : Slot → Option (List ℕ) → Type 0) (location : Location) (lib : List ℕ) (shows : ℕ → Type 0) (state : LibState)
     : Type 0 where
-  of_text : IsNextOf gives state → state.lib ≡ lib → IsOpenedState gives place lib shows state
-  of_new : IsMemory place → (moment : ℕ) → shows moment → state ≡ first_of (memory_library lib) moment → IsOpenedState gives place lib shows state
+  of_text : IsNextOf gives state → state.lib ≡ lib → IsOpenedState gives location lib shows state
+  of_new : IsMemory location → (moment : ℕ) → shows moment → state ≡ first_of (memory_library lib) moment → IsOpenedState gives location lib shows state
 
 -- ---- why no library is opened
 
@@ -150,25 +150,25 @@ LeavesKept why held after = (h : Contents) × (after ≡ Some (Kept h)) × Leave
 
 -- over told libraries, as one stood before and stands after, why none is opened. A failure of the storage and want of
 -- memory may come in any other's place
-abbrev pub RefusesOpening : Place → List ℕ → (ℕ → Type 0) → Standing → NotOpened → Option Standing → Type 0
-RefusesOpening place lib shows standing (unopened.Storage failed) after = after ≡ Some standing
-RefusesOpening place lib shows standing unopened.Absent after = IsFolder place × (standing ≡ Absent) × (after ≡ Some standing)
-RefusesOpening place lib shows standing (unopened.Refused why) after =
+abbrev pub RefusesOpening : Location → List ℕ → (ℕ → Type 0) → Standing → NotOpened → Option Standing → Type 0
+RefusesOpening location lib shows standing (unopened.Storage failed) after = after ≡ Some standing
+RefusesOpening location lib shows standing unopened.Absent after = IsFolder location × (standing ≡ Absent) × (after ≡ Some standing)
+RefusesOpening location lib shows standing (unopened.Refused why) after =
     (held : Contents) × (standing ≡ Kept held) × IsDueOpening lib held.objects held.status why × LeavesKept why held after
-RefusesOpening place lib shows standing (unopened.Unmade why) after =
-    IsMemory place × (standing ≡ Absent) × (moment : ℕ) × shows moment × RefusesNew (memory_library lib) moment standing why after
+RefusesOpening location lib shows standing (unopened.Unmade why) after =
+    IsMemory location × (standing ≡ Absent) × (moment : ℕ) × shows moment × RefusesNew (memory_library lib) moment standing why after
 
 -- over told libraries: what is opened, or that refusal
-abbrev pub OpensSo : {S : Type 0} → (S → Option Contents) → (S → ℕ) → Place → List ℕ → (ℕ → Type 0) → Standing → Result (DepotView S) NotOpened → Option Standing → Type 0
-OpensSo contents faults place lib shows standing (Ok depot) after = (s : State) × (state_of contents faults depot ≡ Some s) × OpensTo place lib shows standing s
-OpensSo contents faults place lib shows standing (Err why) after = RefusesOpening place lib shows standing why after
+abbrev pub OpensSo : {S : Type 0} → (S → Option Contents) → (S → ℕ) → Location → List ℕ → (ℕ → Type 0) → Standing → Result (DepotView S) NotOpened → Option Standing → Type 0
+OpensSo contents faults location lib shows standing (Ok depot) after = (s : State) × (state_of contents faults depot ≡ Some s) × OpensTo location lib shows standing s
+OpensSo contents faults location lib shows standing (Err why) after = RefusesOpening location lib shows standing why after
 
 -- the cause of each refusal, over any ground, in what the named library may give as it is handed out
-abbrev pub IsNotOpened : (Slot → Option (List ℕ) → Type 0) → Place → List ℕ → (ℕ → Type 0) → NotOpened → Type 0
-IsNotOpened gives place lib shows (unopened.Storage failed) = ⊤
-IsNotOpened gives place lib shows unopened.Absent = IsFolder place
-IsNotOpened gives place lib shows (unopened.Refused why) = IsNotStarted gives lib why
-IsNotOpened gives place lib shows (unopened.Unmade why) = IsMemory place × (moment : ℕ) × shows moment × IsNotMade gives (memory_library lib) moment why
+abbrev pub IsNotOpened : (Slot → Option (List ℕ) → Type 0) → Location → List ℕ → (ℕ → Type 0) → NotOpened → Type 0
+IsNotOpened gives location lib shows (unopened.Storage failed) = ⊤
+IsNotOpened gives location lib shows unopened.Absent = IsFolder location
+IsNotOpened gives location lib shows (unopened.Refused why) = IsNotStarted gives lib why
+IsNotOpened gives location lib shows (unopened.Unmade why) = IsMemory location × (moment : ℕ) × shows moment × IsNotMade gives (memory_library lib) moment why
 
 -- the failure that the storage counts
 abbrev pub is_unopened_counted : NotOpened → Bool

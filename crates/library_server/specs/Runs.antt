@@ -8,14 +8,14 @@ use Rattle.library_rules.specs.Creation.{opening_commit}
 use Rattle.object_store.specs.Shelf.{Contents}
 use Rattle.object_store.specs.declared.shelf.Slot.{Slot}
 use Rattle.server_words.specs.Lines.{help_text, line_text, status_of, version_text}
-use Rattle.server_words.specs.Spelling.{place_text}
+use Rattle.server_words.specs.Spelling.{location_text}
 use Rattle.server_words.specs.declared.command.Command.{Command}
 use Rattle.server_words.specs.declared.command.Command.TheVariants.{Create, Token, Inetd, Help, Version, Usage}
-use Rattle.server_words.specs.declared.command.Place.{Place}
+use Rattle.server_words.specs.declared.command.Location.{Location}
 use Rattle.server_words.specs.declared.line.Line.{Line}
 use Rattle.server_words.specs.declared.line.Line.TheVariants as line
 use Rattle.library_server.specs.Adding.{AddsSo, IsAddedTo, IsNotAdded, is_unadded_counted}
-use Rattle.library_server.specs.Connections.{LinkView, ServesPlace}
+use Rattle.library_server.specs.Connections.{LinkView, ServesLocation}
 use Rattle.library_server.specs.Creating.{CreatesSo}
 use Rattle.library_server.specs.Lines.{fault_of_not_added, fault_of_not_made}
 use Rattle.library_server.specs.Making.{IsNotMade, RoseWhere, is_unmade_counted}
@@ -58,9 +58,9 @@ abbrev pub printed_of : Command → Option Printed
 printed_of Help = Some help_printed
 printed_of Version = Some version_printed
 printed_of Usage = Some (line_printed line.Usage)
-printed_of (Create place lib name user secret) = None
-printed_of (Token place lib user secret right) = None
-printed_of (Inetd place lib) = None
+printed_of (Create location lib name user secret) = None
+printed_of (Token location lib user secret right) = None
+printed_of (Inetd location lib) = None
 
 -- ---- the commands that change a library
 
@@ -79,30 +79,30 @@ abbrev pub IsCreated : (Slot → Option (List ℕ) → Type 0) → NewLibrary �
 IsCreated gives new moment before now (Ok head) = head ≡ (opening_commit new.lib new.user moment).id
 IsCreated gives new moment before now (Err why) = IsNotMade gives new moment why × RoseWhere (is_unmade_counted why) before now
 
-abbrev pub IsAdded : (Slot → Option (List ℕ) → Type 0) → Place → List ℕ → (ℕ → Type 0) → NewToken → ℕ → ℕ → Result ⊤ NotAdded → Type 0
-IsAdded gives place lib shows new before now (Ok done) = IsAddedTo gives place lib shows new
-IsAdded gives place lib shows new before now (Err why) = IsNotAdded gives place lib shows new why × RoseWhere (is_unadded_counted why) before now
+abbrev pub IsAdded : (Slot → Option (List ℕ) → Type 0) → Location → List ℕ → (ℕ → Type 0) → NewToken → ℕ → ℕ → Result ⊤ NotAdded → Type 0
+IsAdded gives location lib shows new before now (Ok done) = IsAddedTo gives location lib shows new
+IsAdded gives location lib shows new before now (Err why) = IsNotAdded gives location lib shows new why × RoseWhere (is_unadded_counted why) before now
 
 -- a library was made at a moment of the clock, or not, and the line tells it
 pub record CreatesLibrary {S : Type 0} (contents : S → Option Contents) (gives : MayGive) (shows : ℕ → Type 0)
-    (place : Place) (new : NewLibrary) (old now : GroundView) (before after : SinkView) (status : ℕ) : Type 0 where
+    (location : Location) (new : NewLibrary) (old now : GroundView) (before after : SinkView) (status : ℕ) : Type 0 where
   pub created : Result (List ℕ) NotMade
   pub moment : ℕ
   pub shown : shows moment
-  pub told : (standing : Standing) → old.stands (place_text place) new.lib ≡ Some standing
-      → CreatesSo new moment standing created (now.stands (place_text place) new.lib)
-  pub is : IsCreated (gives (place_text place) new.lib) new moment old.faults now.faults created
-  pub back : Returned contents old.stands now.stands (place_text place) new.lib
+  pub told : (standing : Standing) → old.stands (location_text location) new.lib ≡ Some standing
+      → CreatesSo new moment standing created (now.stands (location_text location) new.lib)
+  pub is : IsCreated (gives (location_text location) new.lib) new moment old.faults now.faults created
+  pub back : Returned contents old.stands now.stands (location_text location) new.lib
   pub prints : PrintsSo (line_printed (created_line new.lib created)) before after status
 
 -- a token was added, or not, and the line tells it
 pub record AddsToken {S : Type 0} (contents : S → Option Contents) (gives : MayGive) (shows : ℕ → Type 0)
-    (place : Place) (lib : List ℕ) (new : NewToken) (old now : GroundView) (before after : SinkView) (status : ℕ) : Type 0 where
+    (location : Location) (lib : List ℕ) (new : NewToken) (old now : GroundView) (before after : SinkView) (status : ℕ) : Type 0 where
   pub added : Result ⊤ NotAdded
-  pub told : (standing : Standing) → old.stands (place_text place) lib ≡ Some standing
-      → AddsSo place lib shows new standing added (now.stands (place_text place) lib)
-  pub is : IsAdded (gives (place_text place) lib) place lib shows new old.faults now.faults added
-  pub back : Returned contents old.stands now.stands (place_text place) lib
+  pub told : (standing : Standing) → old.stands (location_text location) lib ≡ Some standing
+      → AddsSo location lib shows new standing added (now.stands (location_text location) lib)
+  pub is : IsAdded (gives (location_text location) lib) location lib shows new old.faults now.faults added
+  pub back : Returned contents old.stands now.stands (location_text location) lib
   pub prints : PrintsSo (line_printed (added_line added)) before after status
 
 -- ---- all of it
@@ -113,14 +113,14 @@ pub record AddsToken {S : Type 0} (contents : S → Option Contents) (gives : Ma
 pub data RunsSo {S : Type 0} (contents : S → Option Contents) (may_give : S → Slot → Option (List ℕ) → Type 0) (texts faults : S → ℕ) (gives : MayGive)
     (shows : ℕ → Type 0) (command : Command) (old new : GroundView) (before now : LinkView) (out_before out_now : SinkView) (status : ℕ)
     : Type 0 where
-  creates : (place : Place) (lib name user secret : List ℕ) → command ≡ Create place lib name user secret
-      → CreatesLibrary contents gives shows place (record { lib = lib; name = name; user = user; secret = secret }) old new out_before out_now status
+  creates : (location : Location) (lib name user secret : List ℕ) → command ≡ Create location lib name user secret
+      → CreatesLibrary contents gives shows location (record { lib = lib; name = name; user = user; secret = secret }) old new out_before out_now status
       → now ≡ before → RunsSo contents may_give texts faults gives shows command old new before now out_before out_now status
-  adds : (place : Place) (lib : List ℕ) (token : NewToken) → command ≡ Token place lib token.user token.secret token.right
-      → AddsToken contents gives shows place lib token old new out_before out_now status
+  adds : (location : Location) (lib : List ℕ) (token : NewToken) → command ≡ Token location lib token.user token.secret token.right
+      → AddsToken contents gives shows location lib token old new out_before out_now status
       → now ≡ before → RunsSo contents may_give texts faults gives shows command old new before now out_before out_now status
-  serves : (place : Place) (lib : List ℕ) → command ≡ Inetd place lib
-      → ServesPlace contents may_give texts faults gives place lib shows old new before now status
+  serves : (location : Location) (lib : List ℕ) → command ≡ Inetd location lib
+      → ServesLocation contents may_give texts faults gives location lib shows old new before now status
       → out_now ≡ out_before → RunsSo contents may_give texts faults gives shows command old new before now out_before out_now status
   prints : (printed : Printed) → printed_of command ≡ Some printed → PrintsSo printed out_before out_now status
       → new ≡ old → now ≡ before → RunsSo contents may_give texts faults gives shows command old new before now out_before out_now status

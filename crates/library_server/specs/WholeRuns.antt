@@ -5,12 +5,12 @@ use Rattle.folder_storage.specs.Ground.{MayGive}
 use Rattle.object_store.specs.Shelf.{Contents}
 use Rattle.object_store.specs.declared.shelf.Slot.{Slot}
 use Rattle.server_words.specs.declared.command.Command.{Command}
-use Rattle.server_words.specs.declared.command.Place.{Place}
+use Rattle.server_words.specs.declared.command.Location.{Location}
 use Rattle.server_words.specs.declared.line.Line.{Line}
 use Rattle.server_words.specs.declared.line.Line.TheVariants as line
 use Rattle.worker_server.specs.Calls.{Told}
 use Rattle.library_server.specs.Answering.{is_storage_reply}
-use Rattle.library_server.specs.Connections.{LinkView, ServesPlace, opened, unopened}
+use Rattle.library_server.specs.Connections.{LinkView, ServesLocation, opened, unopened}
 use Rattle.library_server.specs.Lines.{fault_of_not_opened, is_storage_fault}
 use Rattle.library_server.specs.Runs.{RunsSo, SinkView, added_line, adds, created_line, creates, prints, serves, unread}
 use Rattle.library_server.specs.Standing.{GroundView}
@@ -26,8 +26,8 @@ NoneOfStorage calls = AllByRecursion (λ t. is_storage_reply t.answer.reply ≡ 
 
 -- of one connection: no reply was a refusal by the storage; or no library was opened, for another cause
 abbrev pub ServesWhole : {S : Type 0} {contents : S → Option Contents} {may_give : S → Slot → Option (List ℕ) → Type 0} {texts faults : S → ℕ} {gives : MayGive}
-    {place : Place} {lib : List ℕ} {shows : ℕ → Type 0} {old new : GroundView} {before now : LinkView} {status : ℕ}
-    → ServesPlace contents may_give texts faults gives place lib shows old new before now status → Type 0
+    {location : Location} {lib : List ℕ} {shows : ℕ → Type 0} {old new : GroundView} {before now : LinkView} {status : ℕ}
+    → ServesLocation contents may_give texts faults gives location lib shows old new before now status → Type 0
 ServesWhole (opened depot after state opens service good back) = NoneOfStorage service.ran.0
 ServesWhole (unopened why refused code left) = is_storage_fault (fault_of_not_opened why) ≡ false
 
@@ -36,8 +36,8 @@ ServesWhole (unopened why refused code left) = is_storage_fault (fault_of_not_op
 abbrev pub RunsWhole : {S : Type 0} {contents : S → Option Contents} {may_give : S → Slot → Option (List ℕ) → Type 0} {texts faults : S → ℕ} {gives : MayGive}
     {shows : ℕ → Type 0} {command : Command} {old new : GroundView} {before now : LinkView} {out_before out_now : SinkView} {status : ℕ}
     → RunsSo contents may_give texts faults gives shows command old new before now out_before out_now status → Type 0
-RunsWhole (creates place lib name user secret is made left) = is_storage_line (created_line lib made.created) ≡ false
-RunsWhole (adds place lib token is added left) = is_storage_line (added_line added.added) ≡ false
-RunsWhole (serves place lib is service out) = ServesWhole service
+RunsWhole (creates location lib name user secret is made left) = is_storage_line (created_line lib made.created) ≡ false
+RunsWhole (adds location lib token is added left) = is_storage_line (added_line added.added) ≡ false
+RunsWhole (serves location lib is service out) = ServesWhole service
 RunsWhole (prints printed is put same left) = ⊤
 RunsWhole (unread three same left out) = ⊤

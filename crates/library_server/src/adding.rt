@@ -2,7 +2,7 @@
 ghost use Rattle.library_state.specs.declared.state.TheConstants.{MAX_STATE_NAME};
 ghost use Rattle.std.specs.Prelude.{◌≡◌, ◌≤◌, ℕ, IfErr, IfOk, Option, Some, length};
 ghost use Rattle.folder_storage.specs.Ground.{Standing};
-ghost use Rattle.server_words.specs.Spelling.{place_text};
+ghost use Rattle.server_words.specs.Spelling.{location_text};
 ghost use Rattle.library_server.specs.Adding.{AddsSo, IsAddedTo, IsNotAdded, is_unadded_counted};
 ghost use Rattle.library_server.specs.Answering.{NeverFails};
 ghost use Rattle.library_server.specs.Lines.{fault_of_not_added};
@@ -15,7 +15,7 @@ use crate::opening::{bring_back, folder_word, open_library};
 use folder_storage::Ground;
 use ids::{LibId, Text};
 use library_state::{Clock, Right, Secret};
-use server_words::Place;
+use server_words::Location;
 use std::alloc::Global;
 
 /// A token that is to be added. The user's name has 1 to 255 bytes.
@@ -30,32 +30,32 @@ pub(crate) struct NewToken {
 pub(crate) fn add_token<G: Ground, C: Clock>(
     alloc: Global,
     libraries: &mut G,
-    place: &Place,
+    location: &Location,
     lib: LibId,
     token: &NewToken,
     clock: &C,
 ) -> Result<(), NotAdded>
     requires ready { (1 ≤ length token.now.user) × (length token.now.user ≤ MAX_STATE_NAME) }
-    ensures shown { (standing : Standing) → G.stands libraries.old (place_text place.now) lib ≡ Some standing
-        → AddsSo place.now lib (C.shows clock.now) token.now standing result (G.stands libraries.new (place_text place.now) lib) }
-    ensures back { Returned G.S.contents (G.stands libraries.old) (G.stands libraries.new) (place_text place.now) lib }
-    ensures given { IfOk result (λ done. IsAddedTo (G.may_give libraries.old (place_text place.now) lib) place.now lib (C.shows clock.now) token.now) }
-    ensures cause { IfErr result (IsNotAdded (G.may_give libraries.old (place_text place.now) lib) place.now lib (C.shows clock.now) token.now) }
+    ensures shown { (standing : Standing) → G.stands libraries.old (location_text location.now) lib ≡ Some standing
+        → AddsSo location.now lib (C.shows clock.now) token.now standing result (G.stands libraries.new (location_text location.now) lib) }
+    ensures back { Returned G.S.contents (G.stands libraries.old) (G.stands libraries.new) (location_text location.now) lib }
+    ensures given { IfOk result (λ done. IsAddedTo (G.may_give libraries.old (location_text location.now) lib) location.now lib (C.shows clock.now) token.now) }
+    ensures cause { IfErr result (IsNotAdded (G.may_give libraries.old (location_text location.now) lib) location.now lib (C.shows clock.now) token.now) }
     ensures faults { IfErr result (λ why. RoseWhere (is_unadded_counted why) (G.faults libraries.old) (G.faults libraries.new)) }
-    ensures whole { NeverFails G.S.faults → (standing : Standing) → G.stands libraries.old (place_text place.now) lib ≡ Some standing → IsWhole standing
+    ensures steady { NeverFails G.S.faults → (standing : Standing) → G.stands libraries.old (location_text location.now) lib ≡ Some standing → IsWhole standing
         → NotOfStorage fault_of_not_added result }
 {
-    let mut depot = match open_library(alloc, libraries, place, lib, clock) {
+    let mut depot = match open_library(alloc, libraries, location, lib, clock) {
         Ok(depot) => depot,
         Err(fault) => return Err(NotAdded::Unopened(fault)),
     };
     match depot.add_token(&token.user, token.secret, token.right) {
         Ok(()) => {
-            bring_back(libraries, folder_word(place), lib, depot);
+            bring_back(libraries, folder_word(location), lib, depot);
             Ok(())
         }
         Err(fault) => {
-            bring_back(libraries, folder_word(place), lib, depot);
+            bring_back(libraries, folder_word(location), lib, depot);
             Err(NotAdded::Refused(fault))
         }
     }

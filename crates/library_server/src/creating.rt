@@ -33,7 +33,7 @@ pub(crate) fn create<G: Ground>(
     ensures back { Returned G.S.contents (G.stands libraries.old) (G.stands libraries.new) folder.now new.now.lib }
     ensures cause { IfErr result (IsNotMade (G.may_give libraries.old folder.now new.now.lib) new.now moment) }
     ensures faults { IfErr result (λ why. RoseWhere (is_unmade_counted why) (G.faults libraries.old) (G.faults libraries.new)) }
-    ensures whole { NeverFails G.S.faults → (standing : Standing) → G.stands libraries.old folder.now new.now.lib ≡ Some standing → IsWhole standing
+    ensures steady { NeverFails G.S.faults → (standing : Standing) → G.stands libraries.old folder.now new.now.lib ≡ Some standing → IsWhole standing
         → NotOfStorage fault_of_not_made result }
 {
     match make_library(alloc, libraries, folder, new, moment) {

@@ -2,9 +2,9 @@
 ghost use Rattle.std.specs.Prelude.{◌≡◌, Some};
 ghost use Rattle.folder_storage.specs.Ground.{Standing};
 ghost use Rattle.http_front.specs.Link.{told_by};
-ghost use Rattle.server_words.specs.Spelling.{place_text};
+ghost use Rattle.server_words.specs.Spelling.{location_text};
 ghost use Rattle.library_server.specs.Answering.{NeverFails};
-ghost use Rattle.library_server.specs.Connections.{LinkView, ServesOpened, ServesPlace, status_of};
+ghost use Rattle.library_server.specs.Connections.{LinkView, ServesOpened, ServesLocation, status_of};
 ghost use Rattle.library_server.specs.Standing.{GroundView};
 ghost use Rattle.library_server.specs.Whole.{IsWhole};
 ghost use Rattle.library_server.specs.WholeRuns.{ServesWhole};
@@ -17,7 +17,7 @@ use http_front::Link;
 use ids::LibId;
 use library_state::Clock;
 use object_store::Shelf;
-use server_words::{Line, Place};
+use server_words::{Line, Location};
 use std::alloc::Global;
 use worker_server::Served;
 
@@ -25,25 +25,25 @@ use worker_server::Served;
 pub(crate) fn inetd<G: Ground, L: Link, C: Clock>(
     alloc: Global,
     libraries: &mut G,
-    place: &Place,
+    location: &Location,
     lib: LibId,
     link: &mut L,
     clock: &C,
 ) -> u8
-    ensures serves { (service : ServesPlace G.S.contents G.S.may_give G.S.texts G.S.faults (G.may_give libraries.old) place.now lib (C.shows clock.now)
+    ensures serves { (service : ServesLocation G.S.contents G.S.may_give G.S.texts G.S.faults (G.may_give libraries.old) location.now lib (C.shows clock.now)
         (record { stands = G.stands libraries.old; faults = G.faults libraries.old })
         (record { stands = G.stands libraries.new; faults = G.faults libraries.new })
         (record { left = L.left link.old; tells = told_by L.taken L.given L.asked link.old; faults = L.faults link.old })
         (record { left = L.left link.new; tells = told_by L.taken L.given L.asked link.new; faults = L.faults link.new }) result)
-        × (NeverFails G.S.faults → (standing : Standing) → G.stands libraries.old (place_text place.now) lib ≡ Some standing → IsWhole standing
+        × (NeverFails G.S.faults → (standing : Standing) → G.stands libraries.old (location_text location.now) lib ≡ Some standing → IsWhole standing
         → ServesWhole service) }
 {
-    let mut depot = match open_library(alloc, libraries, place, lib, clock) {
+    let mut depot = match open_library(alloc, libraries, location, lib, clock) {
         Ok(depot) => depot,
         Err(fault) => return Line::Fault(fault.fault()).status(),
     };
     let status = serve_opened(alloc, &mut depot, link, clock);
-    bring_back(libraries, folder_word(place), lib, depot);
+    bring_back(libraries, folder_word(location), lib, depot);
     status
 }
 

@@ -50,7 +50,7 @@ pub(crate) fn make_library<G: Ground>(
     ensures back { HandsOutOr G.S.contents (G.stands libraries.old) (G.stands libraries.new) folder.now new.now.lib result }
     ensures cause { IfErr result (IsNotMade (G.may_give libraries.old folder.now new.now.lib) new.now moment) }
     ensures faults { IfErr result (λ why. RoseWhere (is_unmade_counted why) (G.faults libraries.old) (G.faults libraries.new)) }
-    ensures whole { NeverFails G.S.faults → (standing : Standing) → G.stands libraries.old folder.now new.now.lib ≡ Some standing → IsWhole standing
+    ensures steady { NeverFails G.S.faults → (standing : Standing) → G.stands libraries.old folder.now new.now.lib ≡ Some standing → IsWhole standing
         → OutWhole fault_of_not_made G.S.contents result }
     ensures good { IfOk result (IsGood G.S.contents G.S.faults) }
     ensures count { OnOk result (G.faults libraries.new ≡ G.faults libraries.old) }

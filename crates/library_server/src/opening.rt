@@ -7,7 +7,7 @@ ghost use Rattle.depot.specs.Start.{IsNextOf, OpensTold, without_store};
 ghost use Rattle.folder_storage.specs.Ground.{Absent, Standing, TakesBack, count_sum};
 ghost use Rattle.object_store.specs.Shelf.{Contents};
 ghost use Rattle.object_store.specs.StoreView.{Keeps, ReadsShelf, objects_of, status_of};
-ghost use Rattle.server_words.specs.Spelling.{place_text};
+ghost use Rattle.server_words.specs.Spelling.{location_text};
 ghost use Rattle.library_server.specs.Answering.{NeverFails};
 ghost use Rattle.library_server.specs.LibraryOpening.{IsDueOpening, IsMemory, IsNotOpened, IsNotStarted, IsOpenedState, IsTextOf, LeavesShelf, LeftUnstarted, OpensAs, OpensFrom, OpensSo, is_unopened_counted, is_unstarted_counted, memory_library};
 ghost use Rattle.library_server.specs.Lines.{fault_of_not_opened};
@@ -22,16 +22,16 @@ use folder_storage::Ground;
 use ids::{LibId, Text};
 use library_state::{Clock, Secret};
 use object_store::{Shelf, ShelfFailed, Store};
-use server_words::Place;
+use server_words::Location;
 use std::alloc::{AllocError, Global};
 
 /// The word of a place.
-pub(crate) fn folder_word(place: &Place) -> &str
-    ensures value { result.now ≡ place_text place.now }
+pub(crate) fn folder_word(location: &Location) -> &str
+    ensures value { result.now ≡ location_text location.now }
 {
-    match place {
-        Place::Memory => ":memory:",
-        Place::Folder(path) => path.slice(),
+    match location {
+        Location::Memory => ":memory:",
+        Location::Folder(path) => path.slice(),
     }
 }
 
@@ -42,26 +42,26 @@ pub(crate) fn folder_word(place: &Place) -> &str
 pub(crate) fn open_library<G: Ground, C: Clock>(
     alloc: Global,
     libraries: &mut G,
-    place: &Place,
+    location: &Location,
     lib: LibId,
     clock: &C,
 ) -> Result<Depot<G::S>, NotOpened>
-    ensures given { IfOk result (λ depot. IsOpenedState (G.may_give libraries.old (place_text place.now) lib) place.now lib (C.shows clock.now) depot.state) }
+    ensures given { IfOk result (λ depot. IsOpenedState (G.may_give libraries.old (location_text location.now) lib) location.now lib (C.shows clock.now) depot.state) }
     ensures settled { IfOk result (λ depot. depot.unsettled ≡ false) }
-    ensures shown { (standing : Standing) → G.stands libraries.old (place_text place.now) lib ≡ Some standing
-        → OpensSo G.S.contents G.S.faults place.now lib (C.shows clock.now) standing result (G.stands libraries.new (place_text place.now) lib) }
-    ensures back { HandsOutOr G.S.contents (G.stands libraries.old) (G.stands libraries.new) (place_text place.now) lib result }
-    ensures cause { IfErr result (IsNotOpened (G.may_give libraries.old (place_text place.now) lib) place.now lib (C.shows clock.now)) }
+    ensures shown { (standing : Standing) → G.stands libraries.old (location_text location.now) lib ≡ Some standing
+        → OpensSo G.S.contents G.S.faults location.now lib (C.shows clock.now) standing result (G.stands libraries.new (location_text location.now) lib) }
+    ensures back { HandsOutOr G.S.contents (G.stands libraries.old) (G.stands libraries.new) (location_text location.now) lib result }
+    ensures cause { IfErr result (IsNotOpened (G.may_give libraries.old (location_text location.now) lib) location.now lib (C.shows clock.now)) }
     ensures faults { IfErr result (λ why. RoseWhere (is_unopened_counted why) (G.faults libraries.old) (G.faults libraries.new)) }
-    ensures whole { NeverFails G.S.faults → (standing : Standing) → G.stands libraries.old (place_text place.now) lib ≡ Some standing → IsWhole standing
+    ensures steady { NeverFails G.S.faults → (standing : Standing) → G.stands libraries.old (location_text location.now) lib ≡ Some standing → IsWhole standing
         → OutWhole fault_of_not_opened G.S.contents result }
     ensures good { IfOk result (IsGood G.S.contents G.S.faults) }
     ensures count { OnOk result (G.faults libraries.new ≡ G.faults libraries.old) }
 {
-    let folder = folder_word(place);
+    let folder = folder_word(location);
     let shelf = match libraries.find(folder, lib) {
         Ok(Some(shelf)) => shelf,
-        Ok(None) => return open_absent(alloc, libraries, place, lib, clock),
+        Ok(None) => return open_absent(alloc, libraries, location, lib, clock),
         Err(failed) => return Err(NotOpened::Storage(failed)),
     };
     match open_on(alloc, shelf, &lib) {
@@ -86,24 +86,24 @@ pub(crate) fn bring_back<G: Ground>(libraries: &mut G, folder: &str, lib: LibId,
 fn open_absent<G: Ground, C: Clock>(
     alloc: Global,
     libraries: &mut G,
-    place: &Place,
+    location: &Location,
     lib: LibId,
     clock: &C,
 ) -> Result<Depot<G::S>, NotOpened>
-    ensures given { IfOk result (λ depot. IsOpenedState (G.may_give libraries.old (place_text place.now) lib) place.now lib (C.shows clock.now) depot.state) }
+    ensures given { IfOk result (λ depot. IsOpenedState (G.may_give libraries.old (location_text location.now) lib) location.now lib (C.shows clock.now) depot.state) }
     ensures settled { IfOk result (λ depot. depot.unsettled ≡ false) }
-    ensures shown { G.stands libraries.old (place_text place.now) lib ≡ Some Absent
-        → OpensSo G.S.contents G.S.faults place.now lib (C.shows clock.now) Absent result (G.stands libraries.new (place_text place.now) lib) }
-    ensures back { HandsOutOr G.S.contents (G.stands libraries.old) (G.stands libraries.new) (place_text place.now) lib result }
-    ensures cause { IfErr result (IsNotOpened (G.may_give libraries.old (place_text place.now) lib) place.now lib (C.shows clock.now)) }
+    ensures shown { G.stands libraries.old (location_text location.now) lib ≡ Some Absent
+        → OpensSo G.S.contents G.S.faults location.now lib (C.shows clock.now) Absent result (G.stands libraries.new (location_text location.now) lib) }
+    ensures back { HandsOutOr G.S.contents (G.stands libraries.old) (G.stands libraries.new) (location_text location.now) lib result }
+    ensures cause { IfErr result (IsNotOpened (G.may_give libraries.old (location_text location.now) lib) location.now lib (C.shows clock.now)) }
     ensures faults { IfErr result (λ why. RoseWhere (is_unopened_counted why) (G.faults libraries.old) (G.faults libraries.new)) }
-    ensures whole { NeverFails G.S.faults → G.stands libraries.old (place_text place.now) lib ≡ Some Absent → OutWhole fault_of_not_opened G.S.contents result }
+    ensures steady { NeverFails G.S.faults → G.stands libraries.old (location_text location.now) lib ≡ Some Absent → OutWhole fault_of_not_opened G.S.contents result }
     ensures good { IfOk result (IsGood G.S.contents G.S.faults) }
     ensures count { OnOk result (G.faults libraries.new ≡ G.faults libraries.old) }
 {
-    match place {
-        Place::Folder(_) => Err(NotOpened::Absent),
-        Place::Memory => make_in_memory(alloc, libraries, lib, clock),
+    match location {
+        Location::Folder(_) => Err(NotOpened::Absent),
+        Location::Memory => make_in_memory(alloc, libraries, lib, clock),
     }
 }
 
@@ -114,14 +114,14 @@ fn make_in_memory<G: Ground, C: Clock>(
     lib: LibId,
     clock: &C,
 ) -> Result<Depot<G::S>, NotOpened>
-    ensures given { IfOk result (λ depot. IsOpenedState (G.may_give libraries.old (codes ":memory:") lib) Place.Memory lib (C.shows clock.now) depot.state) }
+    ensures given { IfOk result (λ depot. IsOpenedState (G.may_give libraries.old (codes ":memory:") lib) Location.Memory lib (C.shows clock.now) depot.state) }
     ensures settled { IfOk result (λ depot. depot.unsettled ≡ false) }
     ensures shown { G.stands libraries.old (codes ":memory:") lib ≡ Some Absent
-        → OpensSo G.S.contents G.S.faults Place.Memory lib (C.shows clock.now) Absent result (G.stands libraries.new (codes ":memory:") lib) }
+        → OpensSo G.S.contents G.S.faults Location.Memory lib (C.shows clock.now) Absent result (G.stands libraries.new (codes ":memory:") lib) }
     ensures back { HandsOutOr G.S.contents (G.stands libraries.old) (G.stands libraries.new) (codes ":memory:") lib result }
-    ensures cause { IfErr result (IsNotOpened (G.may_give libraries.old (codes ":memory:") lib) Place.Memory lib (C.shows clock.now)) }
+    ensures cause { IfErr result (IsNotOpened (G.may_give libraries.old (codes ":memory:") lib) Location.Memory lib (C.shows clock.now)) }
     ensures faults { IfErr result (λ why. RoseWhere (is_unopened_counted why) (G.faults libraries.old) (G.faults libraries.new)) }
-    ensures whole { NeverFails G.S.faults → G.stands libraries.old (codes ":memory:") lib ≡ Some Absent → OutWhole fault_of_not_opened G.S.contents result }
+    ensures steady { NeverFails G.S.faults → G.stands libraries.old (codes ":memory:") lib ≡ Some Absent → OutWhole fault_of_not_opened G.S.contents result }
     ensures good { IfOk result (IsGood G.S.contents G.S.faults) }
     ensures count { OnOk result (G.faults libraries.new ≡ G.faults libraries.old) }
 {
@@ -179,7 +179,7 @@ fn open_on<S: Shelf>(alloc: Global, shelf: S, lib: &LibId) -> Result<Depot<S>, (
 /// Refuses a store whose state text is another library's, or none. It writes nothing.
 fn check_named<S: Shelf>(alloc: Global, store: &mut Store<S>, lib: &LibId) -> Result<(), NotStarted>
     ensures named { (status : Option (List ℕ)) → status_of S.contents store.old ≡ Some status → IfOk result (λ done. IsTextOf lib.now status) }
-    ensures kept { Keeps S.contents store.old store.new }
+    ensures stays { Keeps S.contents store.old store.new }
     ensures refused { (objects : Objects) → (status : Option (List ℕ)) → status_of S.contents store.old ≡ Some status
         → IfErr result (IsDueOpening lib.now objects status) }
     ensures reads { ReadsShelf S.may_give S.texts store.old.shelf store.new.shelf }
@@ -212,7 +212,7 @@ fn start_named<S: Shelf>(
         → IsTextOf lib.now status → OpensAs lib.now objects status (without_store result) }
     ensures left { (status : Option (List ℕ)) → status_of S.contents store ≡ Some status → IsTextOf lib.now status
         → IfErr result (λ refused. LeftUnstarted S.contents store refused.0 refused.1) }
-    ensures kept { IfErr result (λ refused. objects_of S.contents refused.0 ≡ objects_of S.contents store) }
+    ensures stays { IfErr result (λ refused. objects_of S.contents refused.0 ≡ objects_of S.contents store) }
     ensures cause { IfErr result (λ refused. IsNotStarted (S.may_give store.shelf) lib.now refused.1) }
     ensures faults { IfErr result (λ refused. FailsBy {T = ⊤} is_unstarted_counted (S.faults store.shelf) (S.faults refused.0.shelf) (Err refused.1)) }
 {

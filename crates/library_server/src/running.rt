@@ -8,7 +8,7 @@ ghost use Rattle.server_words.specs.declared.line.Line.TheVariants as lines;
 ghost use Rattle.folder_storage.specs.Ground.{Standing};
 ghost use Rattle.folder_storage.specs.SteadyShelf.{SteadyShelfState};
 ghost use Rattle.http_front.specs.Link.{told_by};
-ghost use Rattle.server_words.specs.Spelling.{place_text};
+ghost use Rattle.server_words.specs.Spelling.{location_text};
 ghost use Rattle.library_server.specs.Answering.{NeverFails};
 ghost use Rattle.library_server.specs.Connections.{LinkView};
 ghost use Rattle.library_server.specs.Runs.{AddsToken, CreatesLibrary, PrintsSo, RunsSo, SinkView, added_line, created_line, help_printed, line_printed, version_printed};
@@ -26,7 +26,7 @@ use folder_storage::{Ground, MemoryGround};
 use http_front::{Link, Sink};
 use ids::{LibId, ObjId, Text};
 use library_state::Clock;
-use server_words::{Command, Line, Place, help_text, read_command, version_text};
+use server_words::{Command, Line, Location, help_text, read_command, version_text};
 use std::alloc::Global;
 
 /// Runs the command that the words are, and gives its status.
@@ -58,7 +58,7 @@ pub fn run<G: Ground, L: Link, C: Clock, O: Sink, R>(
         (record { given = O.given out.new; faults = O.faults out.new }) result }
 
     // Over storage that never fails, in which each object lies under its own name, no line and no reply is a fault of it.
-    ensures whole { NeverFails G.S.faults → AreWhole (G.stands libraries.old) → (done : RunsSo G.S.contents G.S.may_give G.S.texts G.S.faults (G.may_give libraries.old) (C.shows clock.now) (command_of words.now)
+    ensures steady { NeverFails G.S.faults → AreWhole (G.stands libraries.old) → (done : RunsSo G.S.contents G.S.may_give G.S.texts G.S.faults (G.may_give libraries.old) (C.shows clock.now) (command_of words.now)
         (record { stands = G.stands libraries.old; faults = G.faults libraries.old })
         (record { stands = G.stands libraries.new; faults = G.faults libraries.new })
         (record { left = L.left link.old; tells = told_by L.taken L.given L.asked link.old; faults = L.faults link.old })
@@ -92,7 +92,7 @@ pub fn run_in_memory<L: Link, C: Clock, O: Sink, R>(
         (record { left = L.left link.new; tells = told_by L.taken L.given L.asked link.new; faults = L.faults link.new })
         (record { given = O.given out.old; faults = O.faults out.old })
         (record { given = O.given out.new; faults = O.faults out.new }) result }
-    ensures whole { (after : GroundView) × (done : RunsSo {S = SteadyShelfState} (λ shelf. Some shelf.contents) (λ shelf. holds_in shelf.contents) (λ shelf. shelf.texts) (λ shelf. 0) empty_gives (C.shows clock.now) (command_of words.now) empty_ground after
+    ensures steady { (after : GroundView) × (done : RunsSo {S = SteadyShelfState} (λ shelf. Some shelf.contents) (λ shelf. holds_in shelf.contents) (λ shelf. shelf.texts) (λ shelf. 0) empty_gives (C.shows clock.now) (command_of words.now) empty_ground after
         (record { left = L.left link.old; tells = told_by L.taken L.given L.asked link.old; faults = L.faults link.old })
         (record { left = L.left link.new; tells = told_by L.taken L.given L.asked link.new; faults = L.faults link.new })
         (record { given = O.given out.old; faults = O.faults out.old })
@@ -119,7 +119,7 @@ fn perform<G: Ground, L: Link, C: Clock, O: Sink>(
         (record { left = L.left link.new; tells = told_by L.taken L.given L.asked link.new; faults = L.faults link.new })
         (record { given = O.given out.old; faults = O.faults out.old })
         (record { given = O.given out.new; faults = O.faults out.new }) result }
-    ensures whole { NeverFails G.S.faults → AreWhole (G.stands libraries.old) → (done : RunsSo G.S.contents G.S.may_give G.S.texts G.S.faults (G.may_give libraries.old) (C.shows clock.now) command
+    ensures steady { NeverFails G.S.faults → AreWhole (G.stands libraries.old) → (done : RunsSo G.S.contents G.S.may_give G.S.texts G.S.faults (G.may_give libraries.old) (C.shows clock.now) command
         (record { stands = G.stands libraries.old; faults = G.faults libraries.old })
         (record { stands = G.stands libraries.new; faults = G.faults libraries.new })
         (record { left = L.left link.old; tells = told_by L.taken L.given L.asked link.old; faults = L.faults link.old })
@@ -129,7 +129,7 @@ fn perform<G: Ground, L: Link, C: Clock, O: Sink>(
 {
     match command {
         Command::Create {
-            place,
+            location,
             lib,
             name,
             user,
@@ -141,10 +141,10 @@ fn perform<G: Ground, L: Link, C: Clock, O: Sink>(
                 user,
                 secret,
             };
-            create_printed(alloc, libraries, &place, &new, clock, out)
+            create_printed(alloc, libraries, &location, &new, clock, out)
         }
         Command::Token {
-            place,
+            location,
             lib,
             user,
             secret,
@@ -155,9 +155,9 @@ fn perform<G: Ground, L: Link, C: Clock, O: Sink>(
                 secret,
                 right,
             };
-            add_printed(alloc, libraries, &place, lib, &new, clock, out)
+            add_printed(alloc, libraries, &location, lib, &new, clock, out)
         }
-        Command::Inetd { place, lib } => inetd(alloc, libraries, &place, lib, link, clock),
+        Command::Inetd { location, lib } => inetd(alloc, libraries, &location, lib, link, clock),
         Command::Help => print(out, help_text(), 0),
         Command::Version => print(out, version_text(), 0),
         Command::Usage => print_line(out, Line::Usage),
@@ -168,22 +168,22 @@ fn perform<G: Ground, L: Link, C: Clock, O: Sink>(
 fn create_printed<G: Ground, C: Clock, O: Sink>(
     alloc: Global,
     libraries: &mut G,
-    place: &Place,
+    location: &Location,
     new: &NewLibrary,
     clock: &C,
     out: &mut O,
 ) -> u8
     requires fits { length new.now.name ≤ MAX_STATE_NAME }
     requires ready { (1 ≤ length new.now.user) × (length new.now.user ≤ MAX_STATE_NAME) }
-    ensures value { (done : CreatesLibrary G.S.contents (G.may_give libraries.old) (C.shows clock.now) place.now new.now
+    ensures value { (done : CreatesLibrary G.S.contents (G.may_give libraries.old) (C.shows clock.now) location.now new.now
         (record { stands = G.stands libraries.old; faults = G.faults libraries.old })
         (record { stands = G.stands libraries.new; faults = G.faults libraries.new })
         (record { given = O.given out.old; faults = O.faults out.old })
         (record { given = O.given out.new; faults = O.faults out.new }) result)
-        × (NeverFails G.S.faults → (standing : Standing) → G.stands libraries.old (place_text place.now) new.now.lib ≡ Some standing → IsWhole standing
+        × (NeverFails G.S.faults → (standing : Standing) → G.stands libraries.old (location_text location.now) new.now.lib ≡ Some standing → IsWhole standing
         → is_storage_line (created_line new.now.lib done.created) ≡ false) }
 {
-    let created = create(alloc, libraries, folder_word(place), new, clock.now());
+    let created = create(alloc, libraries, folder_word(location), new, clock.now());
     print_line(out, created_line(new.lib, created))
 }
 
@@ -201,22 +201,22 @@ fn created_line(lib: LibId, created: Result<ObjId, NotMade>) -> Line
 fn add_printed<G: Ground, C: Clock, O: Sink>(
     alloc: Global,
     libraries: &mut G,
-    place: &Place,
+    location: &Location,
     lib: LibId,
     new: &NewToken,
     clock: &C,
     out: &mut O,
 ) -> u8
     requires ready { (1 ≤ length new.now.user) × (length new.now.user ≤ MAX_STATE_NAME) }
-    ensures value { (done : AddsToken G.S.contents (G.may_give libraries.old) (C.shows clock.now) place.now lib new.now
+    ensures value { (done : AddsToken G.S.contents (G.may_give libraries.old) (C.shows clock.now) location.now lib new.now
         (record { stands = G.stands libraries.old; faults = G.faults libraries.old })
         (record { stands = G.stands libraries.new; faults = G.faults libraries.new })
         (record { given = O.given out.old; faults = O.faults out.old })
         (record { given = O.given out.new; faults = O.faults out.new }) result)
-        × (NeverFails G.S.faults → (standing : Standing) → G.stands libraries.old (place_text place.now) lib ≡ Some standing → IsWhole standing
+        × (NeverFails G.S.faults → (standing : Standing) → G.stands libraries.old (location_text location.now) lib ≡ Some standing → IsWhole standing
         → is_storage_line (added_line done.added) ≡ false) }
 {
-    let added = add_token(alloc, libraries, place, lib, new, clock);
+    let added = add_token(alloc, libraries, location, lib, new, clock);
     print_line(out, added_line(added))
 }
 

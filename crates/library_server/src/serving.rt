@@ -47,7 +47,7 @@ impl<S: Shelf, C: Clock> Host for Alone<'_, S, C> {
         Answer {
             reply: answer(pass, lib, &call, moment),
             opening: 0,
-            place: 0,
+            location: 0,
         }
     }
 }
@@ -56,7 +56,7 @@ impl<S: Shelf, C: Clock> Host for Alone<'_, S, C> {
 fn answer<S: Shelf>(depot: &mut Depot<S>, lib: LibId, call: &Call, moment: u64) -> Reply
     ensures here { lib ≡ depot.old.state.lib → IsAnswered S.contents S.may_give S.texts S.faults depot.old call.now moment result depot.new }
     ensures elsewhere { lib ≢ depot.old.state.lib → (result ≡ Reply.Refused Refusal.NoLibrary) × (depot.new ≡ depot.old) }
-    ensures whole { NeverFails S.faults → NamesIn S.contents depot.old → (is_storage_reply result ≡ false) × NamesIn S.contents depot.new }
+    ensures steady { NeverFails S.faults → NamesIn S.contents depot.old → (is_storage_reply result ≡ false) × NamesIn S.contents depot.new }
 {
     if lib != depot.lib() {
         return Reply::Refused(Refusal::NoLibrary);

@@ -24,14 +24,14 @@ pub fn a_traversal_reads_only_what_it_visits()
 /// A complete commit stays complete, with the same traversal, as objects are added.
 pub fn a_complete_commit_stays_complete_as_objects_are_added()
     ensures ok { (old : Objects) → (new : Objects) → (id : List ℕ) → IsComplete old id → Keeps old new → IsComplete new id }
-    ensures kept { (old : Objects) → (new : Objects) → (id : List ℕ) → IsComplete old id → Keeps old new
+    ensures stays { (old : Objects) → (new : Objects) → (id : List ℕ) → IsComplete old id → Keeps old new
         → walk_commit new id ≡ walk_commit old id }
 {}
 
 /// A complete commit stays complete, with the same traversal, as objects leave that it doesn't need.
 pub fn a_complete_commit_stays_complete_as_what_it_does_not_need_leaves()
     ensures ok { (old : Objects) → (new : Objects) → (id : List ℕ) → IsComplete old id → AgreeOn (needs old id) old new → IsComplete new id }
-    ensures kept { (old : Objects) → (new : Objects) → (id : List ℕ) → AgreeOn (needs old id) old new
+    ensures stays { (old : Objects) → (new : Objects) → (id : List ℕ) → AgreeOn (needs old id) old new
         → walk_commit new id ≡ walk_commit old id }
 {}
 

@@ -59,7 +59,7 @@ fn judged(key: &Key, bytes: Bytes) -> Result<Bytes, StoreFault>
 /// The bytes of a stored object.
 pub(crate) fn fetch_whole<S: Shelf>(shelf: &mut S, key: &Key) -> Result<Bytes, StoreFault>
     ensures value { FetchesWhole (S.may_give shelf.new) key.now result }
-    ensures kept { S.contents shelf.new ≡ S.contents shelf.old }
+    ensures stays { S.contents shelf.new ≡ S.contents shelf.old }
     ensures shelf { ReadsShelf S.may_give S.texts shelf.old shelf.new }
     ensures faults { CountsShelf (S.faults shelf.old) (S.faults shelf.new) result }
 {
@@ -80,7 +80,7 @@ pub(crate) fn put_stored<S: Shelf>(
     bytes: &[u8],
 ) -> Result<Put, StoreFault>
     ensures value { PutsStored (S.may_give shelf.new) key.now bytes.now result }
-    ensures kept { S.contents shelf.new ≡ S.contents shelf.old }
+    ensures stays { S.contents shelf.new ≡ S.contents shelf.old }
     ensures shelf { ReadsShelf S.may_give S.texts shelf.old shelf.new }
     ensures faults { CountsShelf (S.faults shelf.old) (S.faults shelf.new) result }
 {

@@ -116,7 +116,7 @@ impl Shelf for FuseShelf {
 
     fn fetch(&mut self, slot: Slot) -> Result<Option<Bytes>, ShelfFailed>
         ensures found { IfOk result (λ given. given ≡ lies_in self.new.inner.contents slot) }
-        ensures kept { Some self.new.inner.contents ≡ Some self.old.inner.contents }
+        ensures stays { Some self.new.inner.contents ≡ Some self.old.inner.contents }
         ensures faults { CountsFaults self.old.faults self.new.faults result }
         ensures gives { GivesNoMore (Tells self.old.inner.contents) (Tells self.new.inner.contents) }
         ensures texts { self.new.texts ≡ self.old.texts }
@@ -165,7 +165,7 @@ impl Shelf for FuseShelf {
 
     fn next(&mut self, kind: Kind, after: Option<ObjId>) -> Result<Option<Found>, ShelfFailed>
         ensures found { (held : Contents) → Some self.old.inner.contents ≡ Some held → IfOk result (FindsNext held.objects kind after) }
-        ensures kept { Some self.new.inner.contents ≡ Some self.old.inner.contents }
+        ensures stays { Some self.new.inner.contents ≡ Some self.old.inner.contents }
         ensures faults { CountsFaults self.old.faults self.new.faults result }
         ensures gives { GivesNoMore (Tells self.old.inner.contents) (Tells self.new.inner.contents) }
         ensures texts { self.new.texts ≡ self.old.texts }

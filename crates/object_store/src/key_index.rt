@@ -17,7 +17,7 @@ pub(crate) fn read_index<S: Shelf>(
     shelf: &mut S,
 ) -> Result<KeyTable<u64>, StoreFault>
     ensures value { IfOk result (λ index. (held : Contents) → S.contents shelf.old ≡ Some held → IsIndexOf held.objects index) }
-    ensures kept { S.contents shelf.new ≡ S.contents shelf.old }
+    ensures stays { S.contents shelf.new ≡ S.contents shelf.old }
     ensures refused { IfErr result (λ fault. IsTrue (is_free fault)) }
     ensures shelf { ReadsShelf S.may_give S.texts shelf.old shelf.new }
     ensures faults { CountsShelf (S.faults shelf.old) (S.faults shelf.new) result }
@@ -45,7 +45,7 @@ fn read_kind<S: Shelf>(
 ) -> Result<(), StoreFault>
     requires ready { (held : Contents) → S.contents shelf.old ≡ Some held → Indexes (is_read kind None) held.objects index.old }
     ensures ok { OnOk result ((held : Contents) → S.contents shelf.new ≡ Some held → Indexes (is_done kind) held.objects index.new) }
-    ensures kept { S.contents shelf.new ≡ S.contents shelf.old }
+    ensures stays { S.contents shelf.new ≡ S.contents shelf.old }
     ensures refused { IfErr result (λ fault. IsTrue (is_free fault)) }
     ensures shelf { ReadsShelf S.may_give S.texts shelf.old shelf.new }
     ensures faults { CountsShelf (S.faults shelf.old) (S.faults shelf.new) result }

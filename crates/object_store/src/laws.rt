@@ -11,6 +11,6 @@ pub fn what_a_store_put_is_never_damaged()
     ensures absent { HasNames map.empty }
     ensures ok { (objects : Objects) (key : Key) (bytes : List ℕ) → HasNames objects → put_refusal objects key bytes ≡ None
         → HasNames (map.insert objects key bytes) }
-    ensures kept { (objects : Objects) (key : Key) → HasNames objects → HasNames (map.remove objects key) }
+    ensures stays { (objects : Objects) (key : Key) → HasNames objects → HasNames (map.remove objects key) }
     ensures value { (objects : Objects) (key : Key) → HasNames objects → damage_at objects key ≡ None }
 {}

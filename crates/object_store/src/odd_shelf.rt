@@ -57,7 +57,7 @@ impl Shelf for OddShelf {
 
     fn fetch(&mut self, slot: Slot) -> Result<Option<Bytes>, ShelfFailed>
         ensures found { IfOk result (GivesOdd self.new slot) }
-        ensures kept { ◌≡◌ {A = Option Contents} None None }
+        ensures stays { ◌≡◌ {A = Option Contents} None None }
         ensures faults { CountsFaults self.old.inner.faults self.new.inner.faults result }
         ensures gives { GivesNoMore (GivesOdd self.old) (GivesOdd self.new) }
         ensures texts { self.new.inner.texts ≡ self.old.inner.texts }
@@ -115,7 +115,7 @@ impl Shelf for OddShelf {
 
     fn next(&mut self, kind: Kind, after: Option<ObjId>) -> Result<Option<Found>, ShelfFailed>
         ensures found { (held : Contents) → None ≡ Some held → IfOk result (FindsNext held.objects kind after) }
-        ensures kept { ◌≡◌ {A = Option Contents} None None }
+        ensures stays { ◌≡◌ {A = Option Contents} None None }
         ensures faults { CountsFaults self.old.inner.faults self.new.inner.faults result }
         ensures gives { GivesNoMore (GivesOdd self.old) (GivesOdd self.new) }
         ensures texts { self.new.inner.texts ≡ self.old.inner.texts }

@@ -52,7 +52,7 @@ pub trait Shelf {
     /// The bytes that lie in a slot, if any do.
     fn fetch(&mut self, slot: Slot) -> Result<Option<Bytes>, ShelfFailed>
         ensures found { IfOk result (may_give self.new slot) }
-        ensures kept { contents self.new ≡ contents self.old }
+        ensures stays { contents self.new ≡ contents self.old }
         ensures faults { CountsFaults (faults self.old) (faults self.new) result }
         ensures gives { GivesNoMore (may_give self.old) (may_give self.new) }
         ensures texts { texts self.new ≡ texts self.old };
@@ -76,7 +76,7 @@ pub trait Shelf {
     /// The object of the kind with the least id above `after`, or the least of all, if there is one.
     fn next(&mut self, kind: Kind, after: Option<ObjId>) -> Result<Option<Found>, ShelfFailed>
         ensures found { (held : Contents) → contents self.old ≡ Some held → IfOk result (FindsNext held.objects kind after) }
-        ensures kept { contents self.new ≡ contents self.old }
+        ensures stays { contents self.new ≡ contents self.old }
         ensures faults { CountsFaults (faults self.old) (faults self.new) result }
         ensures gives { GivesNoMore (may_give self.old) (may_give self.new) }
         ensures texts { texts self.new ≡ texts self.old };

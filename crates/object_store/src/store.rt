@@ -66,7 +66,7 @@ impl<S: Shelf> Store<S> {
         ensures err { OnErr result (objects_of S.contents self.new ≡ objects_of S.contents self.old) }
         ensures told { IfOk result (λ put. put ≡ (if is_some (map.get self.old.index key) then Put.Same else Put.New)) }
         ensures found { IfOk result (IsFoundSame (S.may_give self.new.shelf) key bytes.now) }
-        ensures kept { status_of S.contents self.new ≡ status_of S.contents self.old }
+        ensures stays { status_of S.contents self.new ≡ status_of S.contents self.old }
 
         // Of every shelf: what changes in the index and on the shelf.
         ensures changes { PutChanges S.contents self.old self.new key bytes.now result }
@@ -100,7 +100,7 @@ impl<S: Shelf> Store<S> {
     pub fn get(&mut self, key: Key) -> Result<Option<Bytes>, StoreFault>
         ensures found { (objects : Objects) → objects_of S.contents self.old ≡ Some objects
             → IfOk result (λ found. found ≡ map.get objects key) }
-        ensures kept { Keeps S.contents self.old self.new }
+        ensures stays { Keeps S.contents self.old self.new }
 
         // Of every shelf: something is found exactly where the key stands in the index, and under its own name.
         ensures told { IfOk result (λ found. is_some found ≡ is_some (map.get self.old.index key)) }
@@ -155,7 +155,7 @@ impl<S: Shelf> Store<S> {
     pub fn give_up(&mut self, key: Key) -> Result<(), StoreFault>
         requires stored { IsSome (map.get self.old.index key) }
         ensures ok { objects_of S.contents self.new ≡ left_after (objects_of S.contents self.old) key result }
-        ensures kept { status_of S.contents self.new ≡ status_of S.contents self.old }
+        ensures stays { status_of S.contents self.new ≡ status_of S.contents self.old }
         ensures changes { RemovalChanges S.contents self.old self.new key result }
         ensures lying { StraysBy is_of_shelf S.contents self.old self.new result }
         ensures shelf { ChangesShelf S.may_give S.texts self.old.shelf self.new.shelf (Slot.Object key) None }
@@ -169,7 +169,7 @@ impl<S: Shelf> Store<S> {
         ensures ok { OnOk result (status_of S.contents self.new ≡ option_map (λ _. Some text.now) (status_of S.contents self.old)) }
         ensures changes { NoteChanges S.contents self.old self.new text.now result }
         ensures lying { AddsNoStray S.contents self.old self.new }
-        ensures kept { objects_of S.contents self.new ≡ objects_of S.contents self.old }
+        ensures stays { objects_of S.contents self.new ≡ objects_of S.contents self.old }
         ensures shelf { ChangesShelf S.may_give S.texts self.old.shelf self.new.shelf Slot.Status (Some text.now) }
         ensures faults { CountsShelf (S.faults self.old.shelf) (S.faults self.new.shelf) result }
     {
@@ -184,7 +184,7 @@ impl<S: Shelf> Store<S> {
         ensures found { (status : Option (List ℕ)) → status_of S.contents self.old ≡ Some status
             → IfOk result (λ found. found ≡ status) }
         ensures value { IfOk result (S.may_give self.new.shelf Slot.Status) }
-        ensures kept { Keeps S.contents self.old self.new }
+        ensures stays { Keeps S.contents self.old self.new }
         ensures refused { IfErr result (λ fault. IsTrue (is_free fault)) }
         ensures shelf { ReadsShelf S.may_give S.texts self.old.shelf self.new.shelf }
         ensures faults { CountsShelf (S.faults self.old.shelf) (S.faults self.new.shelf) result }

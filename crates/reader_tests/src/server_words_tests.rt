@@ -23,15 +23,15 @@ fn lib() -> LibId {
 }
 
 /// Whether a place is the folder `F`.
-fn is_folder(place: &Place) -> bool {
-    match place {
-        Place::Memory => false,
-        Place::Folder(path) => path.slice() == "F",
+fn is_folder(location: &Location) -> bool {
+    match location {
+        Location::Memory => false,
+        Location::Folder(path) => path.slice() == "F",
     }
 }
 
-fn is_memory(place: &Place) -> bool {
-    matches!(place, Place::Memory)
+fn is_memory(location: &Location) -> bool {
+    matches!(location, Location::Memory)
 }
 
 fn is_secret(secret: &Secret) -> bool {
@@ -41,13 +41,13 @@ fn is_secret(secret: &Secret) -> bool {
 fn is_create(command: &Command) -> bool {
     match command {
         Command::Create {
-            place,
+            location,
             lib: id,
             name,
             user,
             secret,
         } => {
-            is_folder(place)
+            is_folder(location)
                 && *id == lib()
                 && name.slice() == "docs"
                 && user.slice() == "\u{e9}"
@@ -87,7 +87,7 @@ fn a_token_is_added_with_each_right(rt: HostRuntime) -> Result<(), AllocError> {
 
 fn is_inetd(command: &Command) -> bool {
     match command {
-        Command::Inetd { place, lib: id } => is_memory(place) && *id == lib(),
+        Command::Inetd { location, lib: id } => is_memory(location) && *id == lib(),
         _ => false,
     }
 }

@@ -1,2 +1,2 @@
 pub mod SpellingLemmas
-pub mod PlaceLemmas
+pub mod LocationLemmas

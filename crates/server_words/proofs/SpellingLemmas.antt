@@ -19,12 +19,12 @@ use Rattle.json_words.proofs.IdLemmas.{IsOf-has_form, library_id_of-good, object
 use Rattle.library_state.specs.Rights.{right_of, right_text}
 use Rattle.library_state.specs.declared.right.Right.{Right}
 use Rattle.library_state.specs.declared.right.Right.TheVariants.{Read, Write, Owner}
-use Rattle.server_words.specs.CommandLine.{command_of, create_by, create_command, inetd_by, is_name, place_word, secret_of, token_by, token_command}
-use Rattle.server_words.specs.Spelling.{IsBytesOf, IsCommand, IsPlace, place_text, words_of}
+use Rattle.server_words.specs.CommandLine.{command_of, create_by, create_command, inetd_by, is_name, location_word, secret_of, token_by, token_command}
+use Rattle.server_words.specs.Spelling.{IsBytesOf, IsCommand, IsLocation, location_text, words_of}
 use Rattle.server_words.specs.declared.command.Command.{Command}
 use Rattle.server_words.specs.declared.command.Command.TheVariants.{Create, Token, Inetd, Help, Version, Usage}
-use Rattle.server_words.specs.declared.command.Place.{Place}
-use Rattle.server_words.specs.declared.command.Place.TheVariants.{Memory, Folder}
+use Rattle.server_words.specs.declared.command.Location.{Location}
+use Rattle.server_words.specs.declared.command.Location.TheVariants.{Memory, Folder}
 use Rattle.ids.proofs.BasicLemmas.{same_from_bytes_eq, apart_from_bytes_eq}
 
 -- what a text is read as spells the text
@@ -48,13 +48,13 @@ secret_text : (text : List ℕ) → IfSome (secret_of text) (λ id. text ≡ enc
 unfolding object_id_of
 secret_text text = secret_text_at text (has_form digits_form text) refl
 
-place_text_at : (folder : List ℕ) (b : Bool) → (b ≡ true → folder ≡ codes ":memory:") → folder ≡ place_text (cond b Memory (Folder folder))
-place_text_at folder true same = same refl
-place_text_at folder false same = refl
+location_text_at : (folder : List ℕ) (b : Bool) → (b ≡ true → folder ≡ codes ":memory:") → folder ≡ location_text (cond b Memory (Folder folder))
+location_text_at folder true same = same refl
+location_text_at folder false same = refl
 
-place_word_text : (folder : List ℕ) → IfSome (place_word folder) (λ place. folder ≡ place_text place)
-place_word_text [] = tt
-place_word_text (c ∷ cs) = place_text_at (c ∷ cs) (bytes_eq (c ∷ cs) (codes ":memory:")) (same_from_bytes_eq (c ∷ cs) (codes ":memory:"))
+location_word_text : (folder : List ℕ) → IfSome (location_word folder) (λ location. folder ≡ location_text location)
+location_word_text [] = tt
+location_word_text (c ∷ cs) = location_text_at (c ∷ cs) (bytes_eq (c ∷ cs) (codes ":memory:")) (same_from_bytes_eq (c ∷ cs) (codes ":memory:"))
 
 right_text_at : (text : List ℕ) (r rw own : Bool) → (r ≡ true → text ≡ codes "r") → (rw ≡ true → text ≡ codes "rw") → (own ≡ true → text ≡ codes "own")
     → IfSome (cond r (Some Read) (cond rw (Some Write) (cond own (Some Owner) None))) (λ right. text ≡ right_text right)
@@ -77,33 +77,33 @@ unfolding IsSpelling
 spelled_if true words command same other = same
 spelled_if false words command same other = absurd (other refl)
 
-create_spelling : (folder lib name user token : List ℕ) (p : Option Place) (l s : Option (List ℕ)) → IfSome p (λ place. folder ≡ place_text place)
+create_spelling : (folder lib name user token : List ℕ) (p : Option Location) (l s : Option (List ℕ)) → IfSome p (λ location. folder ≡ location_text location)
     → IfSome l (λ id. lib ≡ hyphenated_text lower id) → IfSome s (λ secret. token ≡ encode_lower secret)
     → IsSpelling (codes "create" ∷ folder ∷ lib ∷ name ∷ user ∷ token ∷ []) (create_by name user p l s)
 unfolding IsSpelling
-create_spelling folder lib name user token (Some place) (Some id) (Some secret) same-p same-l same-s =
-    spelled_if (is_name name && is_name user) (codes "create" ∷ folder ∷ lib ∷ name ∷ user ∷ token ∷ []) (Create place id name user secret) (rw (same-p, same-l, same-s))
+create_spelling folder lib name user token (Some location) (Some id) (Some secret) same-p same-l same-s =
+    spelled_if (is_name name && is_name user) (codes "create" ∷ folder ∷ lib ∷ name ∷ user ∷ token ∷ []) (Create location id name user secret) (rw (same-p, same-l, same-s))
 create_spelling folder lib name user token None l s same-p same-l same-s = λ other. absurd (other refl)
-create_spelling folder lib name user token (Some place) None s same-p same-l same-s = λ other. absurd (other refl)
-create_spelling folder lib name user token (Some place) (Some id) None same-p same-l same-s = λ other. absurd (other refl)
+create_spelling folder lib name user token (Some location) None s same-p same-l same-s = λ other. absurd (other refl)
+create_spelling folder lib name user token (Some location) (Some id) None same-p same-l same-s = λ other. absurd (other refl)
 
-token_spelling : (folder lib user token right : List ℕ) (p : Option Place) (l s : Option (List ℕ)) (r : Option Right) → IfSome p (λ place. folder ≡ place_text place)
+token_spelling : (folder lib user token right : List ℕ) (p : Option Location) (l s : Option (List ℕ)) (r : Option Right) → IfSome p (λ location. folder ≡ location_text location)
     → IfSome l (λ id. lib ≡ hyphenated_text lower id) → IfSome s (λ secret. token ≡ encode_lower secret) → IfSome r (λ a. right ≡ right_text a)
     → IsSpelling (codes "token" ∷ folder ∷ lib ∷ user ∷ token ∷ right ∷ []) (token_by user p l s r)
 unfolding IsSpelling
-token_spelling folder lib user token right (Some place) (Some id) (Some secret) (Some a) same-p same-l same-s same-r =
-    spelled_if (is_name user) (codes "token" ∷ folder ∷ lib ∷ user ∷ token ∷ right ∷ []) (Token place id user secret a) (rw (same-p, same-l, same-s, same-r))
+token_spelling folder lib user token right (Some location) (Some id) (Some secret) (Some a) same-p same-l same-s same-r =
+    spelled_if (is_name user) (codes "token" ∷ folder ∷ lib ∷ user ∷ token ∷ right ∷ []) (Token location id user secret a) (rw (same-p, same-l, same-s, same-r))
 token_spelling folder lib user token right None l s r same-p same-l same-s same-r = λ other. absurd (other refl)
-token_spelling folder lib user token right (Some place) None s r same-p same-l same-s same-r = λ other. absurd (other refl)
-token_spelling folder lib user token right (Some place) (Some id) None r same-p same-l same-s same-r = λ other. absurd (other refl)
-token_spelling folder lib user token right (Some place) (Some id) (Some secret) None same-p same-l same-s same-r = λ other. absurd (other refl)
+token_spelling folder lib user token right (Some location) None s r same-p same-l same-s same-r = λ other. absurd (other refl)
+token_spelling folder lib user token right (Some location) (Some id) None r same-p same-l same-s same-r = λ other. absurd (other refl)
+token_spelling folder lib user token right (Some location) (Some id) (Some secret) None same-p same-l same-s same-r = λ other. absurd (other refl)
 
-inetd_spelling : (folder lib : List ℕ) (p : Option Place) (l : Option (List ℕ)) → IfSome p (λ place. folder ≡ place_text place)
+inetd_spelling : (folder lib : List ℕ) (p : Option Location) (l : Option (List ℕ)) → IfSome p (λ location. folder ≡ location_text location)
     → IfSome l (λ id. lib ≡ hyphenated_text lower id) → IsSpelling (codes "inetd" ∷ folder ∷ lib ∷ []) (inetd_by p l)
 unfolding IsSpelling
-inetd_spelling folder lib (Some place) (Some id) same-p same-l = λ other. rw (same-p, same-l)
+inetd_spelling folder lib (Some location) (Some id) same-p same-l = λ other. rw (same-p, same-l)
 inetd_spelling folder lib None l same-p same-l = λ other. absurd (other refl)
-inetd_spelling folder lib (Some place) None same-p same-l = λ other. absurd (other refl)
+inetd_spelling folder lib (Some location) None same-p same-l = λ other. absurd (other refl)
 
 lone_spelling_at : (word : List ℕ) (b d : Bool) → (b ≡ true → word ≡ codes "--help") → (d ≡ true → word ≡ codes "--version")
     → IsSpelling (word ∷ []) (cond b Help (cond d Version Usage))
@@ -113,10 +113,10 @@ lone_spelling_at word false true help version = λ other. rw (version refl)
 lone_spelling_at word false false help version = λ other. absurd (other refl)
 
 short_spelling_at : (word folder lib : List ℕ) (b : Bool) → (b ≡ true → word ≡ codes "inetd")
-    → IsSpelling (word ∷ folder ∷ lib ∷ []) (cond b (inetd_by (place_word folder) (library_id_of lib)) Usage)
+    → IsSpelling (word ∷ folder ∷ lib ∷ []) (cond b (inetd_by (location_word folder) (library_id_of lib)) Usage)
 unfolding IsSpelling
 short_spelling_at word folder lib true inetd = λ other.
-    rw (inetd refl) (inetd_spelling folder lib (place_word folder) (library_id_of lib) (place_word_text folder) (library_text lib) other)
+    rw (inetd refl) (inetd_spelling folder lib (location_word folder) (library_id_of lib) (location_word_text folder) (library_text lib) other)
 short_spelling_at word folder lib false inetd = λ other. absurd (other refl)
 
 long_spelling_at : (word folder lib third fourth fifth : List ℕ) (b d : Bool) → (b ≡ true → word ≡ codes "create") → (d ≡ true → word ≡ codes "token")
@@ -125,11 +125,11 @@ long_spelling_at : (word folder lib third fourth fifth : List ℕ) (b d : Bool) 
 unfolding IsSpelling
 long_spelling_at word folder lib third fourth fifth true d create token = λ other.
     rw (create refl)
-    (create_spelling folder lib third fourth fifth (place_word folder) (library_id_of lib) (secret_of fifth) (place_word_text folder) (library_text lib) (secret_text fifth) other)
+    (create_spelling folder lib third fourth fifth (location_word folder) (library_id_of lib) (secret_of fifth) (location_word_text folder) (library_text lib) (secret_text fifth) other)
 long_spelling_at word folder lib third fourth fifth false true create token = λ other.
     rw (token refl)
-    (token_spelling folder lib third fourth fifth (place_word folder) (library_id_of lib) (secret_of fourth) (right_of fifth)
-    (place_word_text folder) (library_text lib) (secret_text fourth) (right_word_text fifth) other)
+    (token_spelling folder lib third fourth fifth (location_word folder) (library_id_of lib) (secret_of fourth) (right_of fifth)
+    (location_word_text folder) (library_text lib) (secret_text fourth) (right_word_text fifth) other)
 long_spelling_at word folder lib third fourth fifth false false create token = λ other. absurd (other refl)
 
 pub words_of-command_of : (words : List (List ℕ)) → command_of words ≢ Usage → words ≡ words_of (command_of words)
@@ -147,10 +147,10 @@ words_of-command_of (word ∷ folder ∷ lib ∷ a ∷ b ∷ c ∷ []) other =
 words_of-command_of (word ∷ folder ∷ lib ∷ a ∷ b ∷ c ∷ d ∷ more) other = absurd (other refl)
 
 -- what spells a part of a command is read as it
-place_word-place_text : (place : Place) → IsPlace place → place_word (place_text place) ≡ Some place
-place_word-place_text Memory is = refl
-place_word-place_text (Folder []) is = absurd (is.0 refl)
-place_word-place_text (Folder (c ∷ cs)) is = rw (apart_from_bytes_eq (c ∷ cs) (codes ":memory:") is.1)
+location_word-location_text : (location : Location) → IsLocation location → location_word (location_text location) ≡ Some location
+location_word-location_text Memory is = refl
+location_word-location_text (Folder []) is = absurd (is.0 refl)
+location_word-location_text (Folder (c ∷ cs)) is = rw (apart_from_bytes_eq (c ∷ cs) (codes ":memory:") is.1)
 
 library_id_of-text : (lib : List ℕ) → IsBytesOf 16 lib → library_id_of (hyphenated_text lower lib) ≡ Some lib
 library_id_of-text lib is = library_id_of-good (hyphenated_text lower lib) lib (IsOf-hyphenated lib) (parses_hyphenated lower lib (inl refl) is.0 is.1)
@@ -165,11 +165,11 @@ right_of-right_text Write = refl
 right_of-right_text Owner = refl
 
 pub command_of-words_of : (command : Command) → command ≢ Usage → IsCommand command → command_of (words_of command) ≡ command
-command_of-words_of (Create place lib name user secret) other is =
-    rw (place_word-place_text place is.0, library_id_of-text lib is.1, secret_of-digits secret is.4, is.2, is.3)
-command_of-words_of (Token place lib user secret right) other is =
-    rw (place_word-place_text place is.0, library_id_of-text lib is.1, secret_of-digits secret is.3, right_of-right_text right, is.2)
-command_of-words_of (Inetd place lib) other is = rw (place_word-place_text place is.0, library_id_of-text lib is.1)
+command_of-words_of (Create location lib name user secret) other is =
+    rw (location_word-location_text location is.0, library_id_of-text lib is.1, secret_of-digits secret is.4, is.2, is.3)
+command_of-words_of (Token location lib user secret right) other is =
+    rw (location_word-location_text location is.0, library_id_of-text lib is.1, secret_of-digits secret is.3, right_of-right_text right, is.2)
+command_of-words_of (Inetd location lib) other is = rw (location_word-location_text location is.0, library_id_of-text lib is.1)
 command_of-words_of Help other is = refl
 command_of-words_of Version other is = refl
 command_of-words_of Usage other is = absurd (other refl)

@@ -8,8 +8,8 @@ use Rattle.library_state.specs.Rights.{right_of}
 use Rattle.library_state.specs.declared.right.Right.{Right}
 use Rattle.server_words.specs.declared.command.Command.{Command}
 use Rattle.server_words.specs.declared.command.Command.TheVariants.{Create, Token, Inetd, Help, Version, Usage}
-use Rattle.server_words.specs.declared.command.Place.{Place}
-use Rattle.server_words.specs.declared.command.Place.TheVariants.{Memory, Folder}
+use Rattle.server_words.specs.declared.command.Location.{Location}
+use Rattle.server_words.specs.declared.command.Location.TheVariants.{Memory, Folder}
 
 -- the bytes 0 to 31 and 127
 abbrev pub is_control : ℕ → Bool
@@ -19,31 +19,31 @@ is_control byte = nat_lt byte 32 || (byte == 127)
 abbrev pub is_name : List ℕ → Bool
 is_name text = nat_le 1 (length text) && (nat_le (length text) MAX_STATE_NAME && not (list_any is_control text))
 
--- the place that a folder word names
-abbrev pub place_of : List ℕ → Place
-place_of folder = if bytes_eq folder (codes ":memory:") then Memory else Folder folder
+-- the location that a folder word names
+abbrev pub location_of : List ℕ → Location
+location_of folder = if bytes_eq folder (codes ":memory:") then Memory else Folder folder
 
--- the place that a folder word names, and none where it is empty
-abbrev pub place_word : List ℕ → Option Place
-place_word [] = None
-place_word (c ∷ cs) = Some (place_of (c ∷ cs))
+-- the location that a folder word names, and none where it is empty
+abbrev pub location_word : List ℕ → Option Location
+location_word [] = None
+location_word (c ∷ cs) = Some (location_of (c ∷ cs))
 
 -- the secret whose 40 lower-case hexadecimal digits a text is: they are spelled as an object id's
 abbrev pub secret_of : List ℕ → Option (List ℕ)
 secret_of = object_id_of
 
-abbrev pub create_by : List ℕ → List ℕ → Option Place → Option (List ℕ) → Option (List ℕ) → Command
-create_by name user (Some place) (Some lib) (Some secret) =
-    if is_name name && is_name user then Create place lib name user secret else Usage
+abbrev pub create_by : List ℕ → List ℕ → Option Location → Option (List ℕ) → Option (List ℕ) → Command
+create_by name user (Some location) (Some lib) (Some secret) =
+    if is_name name && is_name user then Create location lib name user secret else Usage
 create_by name user _ _ _ = Usage
 
-abbrev pub token_by : List ℕ → Option Place → Option (List ℕ) → Option (List ℕ) → Option Right → Command
-token_by user (Some place) (Some lib) (Some secret) (Some right) =
-    if is_name user then Token place lib user secret right else Usage
+abbrev pub token_by : List ℕ → Option Location → Option (List ℕ) → Option (List ℕ) → Option Right → Command
+token_by user (Some location) (Some lib) (Some secret) (Some right) =
+    if is_name user then Token location lib user secret right else Usage
 token_by user _ _ _ _ = Usage
 
-abbrev pub inetd_by : Option Place → Option (List ℕ) → Command
-inetd_by (Some place) (Some lib) = Inetd place lib
+abbrev pub inetd_by : Option Location → Option (List ℕ) → Command
+inetd_by (Some location) (Some lib) = Inetd location lib
 inetd_by _ _ = Usage
 
 -- the command of a word that stands alone
@@ -56,17 +56,17 @@ lone_command word =
 -- the command of a word with two words after it
 abbrev pub short_command : List ℕ → List ℕ → List ℕ → Command
 short_command word folder lib =
-    if bytes_eq word (codes "inetd") then inetd_by (place_word folder) (library_id_of lib) else Usage
+    if bytes_eq word (codes "inetd") then inetd_by (location_word folder) (library_id_of lib) else Usage
 
 -- `create FOLDER LIB NAME USER TOKEN`
 abbrev pub create_command : List ℕ → List ℕ → List ℕ → List ℕ → List ℕ → Command
 create_command folder lib name user token =
-    create_by name user (place_word folder) (library_id_of lib) (secret_of token)
+    create_by name user (location_word folder) (library_id_of lib) (secret_of token)
 
 -- `token FOLDER LIB USER TOKEN RIGHT`
 abbrev pub token_command : List ℕ → List ℕ → List ℕ → List ℕ → List ℕ → Command
 token_command folder lib user token right =
-    token_by user (place_word folder) (library_id_of lib) (secret_of token) (right_of right)
+    token_by user (location_word folder) (library_id_of lib) (secret_of token) (right_of right)
 
 -- the command of a word with five words after it
 abbrev pub long_command : List ℕ → List ℕ → List ℕ → List ℕ → List ℕ → List ℕ → Command
@@ -83,13 +83,13 @@ command_of (word ∷ folder ∷ lib ∷ third ∷ fourth ∷ fifth ∷ []) = lon
 command_of words = Usage
 
 -- where a command that names a place keeps its libraries
-abbrev pub place_in : Command → Option Place
-place_in (Create place lib name user secret) = Some place
-place_in (Token place lib user secret right) = Some place
-place_in (Inetd place lib) = Some place
-place_in _ = None
+abbrev pub location_in : Command → Option Location
+location_in (Create location lib name user secret) = Some location
+location_in (Token location lib user secret right) = Some location
+location_in (Inetd location lib) = Some location
+location_in _ = None
 
-abbrev pub is_memory : Place → Bool
+abbrev pub is_memory : Location → Bool
 is_memory Memory = true
 is_memory (Folder path) = false
 
@@ -103,6 +103,6 @@ abbrev pub IsNameSize : List ℕ → Type 0
 IsNameSize text = (1 ≤ length text) × (length text ≤ MAX_STATE_NAME)
 
 abbrev pub NamesFit : Command → Type 0
-NamesFit (Create place lib name user secret) = IsNameSize name × IsNameSize user
-NamesFit (Token place lib user secret right) = IsNameSize user
+NamesFit (Create location lib name user secret) = IsNameSize name × IsNameSize user
+NamesFit (Token location lib user secret right) = IsNameSize user
 NamesFit _ = ⊤

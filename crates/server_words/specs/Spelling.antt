@@ -7,29 +7,29 @@ use Rattle.library_state.specs.Rights.{right_text}
 use Rattle.server_words.specs.CommandLine.{is_name}
 use Rattle.server_words.specs.declared.command.Command.{Command}
 use Rattle.server_words.specs.declared.command.Command.TheVariants.{Create, Token, Inetd, Help, Version, Usage}
-use Rattle.server_words.specs.declared.command.Place.{Place}
-use Rattle.server_words.specs.declared.command.Place.TheVariants.{Memory, Folder}
+use Rattle.server_words.specs.declared.command.Location.{Location}
+use Rattle.server_words.specs.declared.command.Location.TheVariants.{Memory, Folder}
 
 -- the word of a place
-abbrev pub place_text : Place → List ℕ
-place_text Memory = codes ":memory:"
-place_text (Folder path) = path
+abbrev pub location_text : Location → List ℕ
+location_text Memory = codes ":memory:"
+location_text (Folder path) = path
 
 -- the words of a command. Usage has none of its own
 abbrev pub words_of : Command → List (List ℕ)
-words_of (Create place lib name user secret) =
-    codes "create" ∷ place_text place ∷ hyphenated_text lower lib ∷ name ∷ user ∷ encode_lower secret ∷ []
-words_of (Token place lib user secret right) =
-    codes "token" ∷ place_text place ∷ hyphenated_text lower lib ∷ user ∷ encode_lower secret ∷ right_text right ∷ []
-words_of (Inetd place lib) = codes "inetd" ∷ place_text place ∷ hyphenated_text lower lib ∷ []
+words_of (Create location lib name user secret) =
+    codes "create" ∷ location_text location ∷ hyphenated_text lower lib ∷ name ∷ user ∷ encode_lower secret ∷ []
+words_of (Token location lib user secret right) =
+    codes "token" ∷ location_text location ∷ hyphenated_text lower lib ∷ user ∷ encode_lower secret ∷ right_text right ∷ []
+words_of (Inetd location lib) = codes "inetd" ∷ location_text location ∷ hyphenated_text lower lib ∷ []
 words_of Help = codes "--help" ∷ []
 words_of Version = codes "--version" ∷ []
 words_of Usage = []
 
 -- a folder's path is a word of its own: not empty, and not the word of the place in memory
-abbrev pub IsPlace : Place → Type 0
-IsPlace Memory = ⊤
-IsPlace (Folder path) = (path ≢ []) × (path ≢ codes ":memory:")
+abbrev pub IsLocation : Location → Type 0
+IsLocation Memory = ⊤
+IsLocation (Folder path) = (path ≢ []) × (path ≢ codes ":memory:")
 
 -- so many bytes
 abbrev pub IsBytesOf : ℕ → List ℕ → Type 0
@@ -37,10 +37,10 @@ IsBytesOf size bytes = (length bytes ≡ size) × All (λ byte. byte < 256) byte
 
 -- the parts of a command are what their words can be
 abbrev pub IsCommand : Command → Type 0
-IsCommand (Create place lib name user secret) =
-    IsPlace place × IsBytesOf 16 lib × IsTrue (is_name name) × IsTrue (is_name user) × IsBytesOf 20 secret
-IsCommand (Token place lib user secret right) = IsPlace place × IsBytesOf 16 lib × IsTrue (is_name user) × IsBytesOf 20 secret
-IsCommand (Inetd place lib) = IsPlace place × IsBytesOf 16 lib
+IsCommand (Create location lib name user secret) =
+    IsLocation location × IsBytesOf 16 lib × IsTrue (is_name name) × IsTrue (is_name user) × IsBytesOf 20 secret
+IsCommand (Token location lib user secret right) = IsLocation location × IsBytesOf 16 lib × IsTrue (is_name user) × IsBytesOf 20 secret
+IsCommand (Inetd location lib) = IsLocation location × IsBytesOf 16 lib
 IsCommand Help = ⊤
 IsCommand Version = ⊤
 IsCommand Usage = ⊤

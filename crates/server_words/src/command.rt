@@ -4,7 +4,7 @@ use library_state::{Right, Secret};
 
 /// Where libraries are kept.
 #[derive(Debug, Drop)]
-pub enum Place {
+pub enum Location {
     /// In memory, until the program ends. Its word is `:memory:`.
     Memory,
     /// In the folder at this path, which is not empty.
@@ -16,7 +16,7 @@ pub enum Place {
 pub enum Command {
     /// Make a library of this name, with a first token, whose user owns it.
     Create {
-        place: Place,
+        location: Location,
         lib: LibId,
         name: Text,
         user: Text,
@@ -24,7 +24,7 @@ pub enum Command {
     },
     /// Add a token to a library.
     Token {
-        place: Place,
+        location: Location,
         lib: LibId,
         user: Text,
         secret: Secret,
@@ -32,7 +32,7 @@ pub enum Command {
     },
     /// Serve one connection over standard input and output.
     Inetd {
-        place: Place,
+        location: Location,
         lib: LibId,
     },
     /// Print the words that there are.

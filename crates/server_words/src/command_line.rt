@@ -2,9 +2,9 @@
 ghost use Rattle.std.specs.Prelude.{◌≡◌, IfOk};
 ghost use Rattle.std.specs.Bool.{OnTrue};
 ghost use Rattle.std.specs.List.{list_any};
-ghost use Rattle.server_words.specs.CommandLine.{IsNameSize, NamesFit, command_of, create_command, is_control, is_name, lone_command, long_command, names_memory, place_word, secret_of, short_command, token_command};
+ghost use Rattle.server_words.specs.CommandLine.{IsNameSize, NamesFit, command_of, create_command, is_control, is_name, lone_command, long_command, names_memory, location_word, secret_of, short_command, token_command};
 
-use crate::command::{Command, Place};
+use crate::command::{Command, Location};
 use ids::Text;
 use json_words::library_id;
 use library_state::{MAX_STATE_NAME, Right, Secret};
@@ -79,23 +79,23 @@ fn short_command(alloc: Global, word: &str, folder: &str, lib: &str) -> Result<C
         Some(lib) => lib,
         None => return Ok(Command::Usage),
     };
-    match place_word(alloc, folder)? {
-        Some(place) => Ok(Command::Inetd { place, lib }),
+    match location_word(alloc, folder)? {
+        Some(location) => Ok(Command::Inetd { location, lib }),
         None => Ok(Command::Usage),
     }
 }
 
 /// The place that a folder word names, and none where it is empty.
-fn place_word(alloc: Global, folder: &str) -> Result<Option<Place>, AllocError>
-    ensures value { IfOk result (λ place. place ≡ place_word folder.now) }
+fn location_word(alloc: Global, folder: &str) -> Result<Option<Location>, AllocError>
+    ensures value { IfOk result (λ location. location ≡ location_word folder.now) }
 {
     if folder.is_empty() {
         return Ok(None);
     }
     if folder == ":memory:" {
-        return Ok(Some(Place::Memory));
+        return Ok(Some(Location::Memory));
     }
-    Ok(Some(Place::Folder(Text::copy(alloc, folder)?)))
+    Ok(Some(Location::Folder(Text::copy(alloc, folder)?)))
 }
 
 /// The command of a word with five words after it.
@@ -141,8 +141,8 @@ fn create_command(
         Some(secret) => secret,
         None => return Ok(Command::Usage),
     };
-    let place = match place_word(alloc, folder)? {
-        Some(place) => place,
+    let location = match location_word(alloc, folder)? {
+        Some(location) => location,
         None => return Ok(Command::Usage),
     };
     if !is_name(name) {
@@ -152,7 +152,7 @@ fn create_command(
         return Ok(Command::Usage);
     }
     Ok(Command::Create {
-        place,
+        location,
         lib,
         name: Text::copy(alloc, name)?,
         user: Text::copy(alloc, user)?,
@@ -184,15 +184,15 @@ fn token_command(
         Some(right) => right,
         None => return Ok(Command::Usage),
     };
-    let place = match place_word(alloc, folder)? {
-        Some(place) => place,
+    let location = match location_word(alloc, folder)? {
+        Some(location) => location,
         None => return Ok(Command::Usage),
     };
     if !is_name(user) {
         return Ok(Command::Usage);
     }
     Ok(Command::Token {
-        place,
+        location,
         lib,
         user: Text::copy(alloc, user)?,
         secret,

@@ -1,8 +1,8 @@
 //! What holds of words and commands, for all of them: theorems on the definitions, with no code.
 ghost use Rattle.std.specs.Prelude.{◌≡◌, ◌≢◌, ℕ, List, Some};
-ghost use Rattle.server_words.specs.CommandLine.{command_of, is_memory, names_memory, place_in};
+ghost use Rattle.server_words.specs.CommandLine.{command_of, is_memory, names_memory, location_in};
 ghost use Rattle.server_words.specs.Spelling.{IsCommand, words_of};
-ghost use Rattle.server_words.specs.declared.command.Place.{Place};
+ghost use Rattle.server_words.specs.declared.command.Location.{Location};
 
 use crate::command::Command;
 
@@ -17,7 +17,7 @@ pub fn a_command_is_read_from_its_spelling()
 {}
 
 /// A command keeps its libraries in memory exactly where its second word says so: whoever looks at that word alone takes
-/// the place that `read_command` reads.
+/// the location that `read_command` reads.
 pub fn a_command_is_in_memory_where_its_words_say_so()
-    ensures { (words : List (List ℕ)) → (place : Place) → place_in (command_of words) ≡ Some place → names_memory words ≡ is_memory place }
+    ensures { (words : List (List ℕ)) → (location : Location) → location_in (command_of words) ≡ Some location → names_memory words ≡ is_memory location }
 {}

@@ -1,6 +1,6 @@
 //! The words of `seaf-server` as a command, and the lines that it prints.
 //!
-//! Shown upward: `Command` with `read_command`, `Place` with `names_memory`; `Line` and `Fault` with their texts and statuses; `LineText`;
+//! Shown upward: `Command` with `read_command`, `Location` with `names_memory`; `Line` and `Fault` with their texts and statuses; `LineText`;
 //! the texts of `--help` and `--version`. Definitions: specs/CommandLine.antt (`command_of`), specs/Lines.antt
 //! (`line_text`, `status_of`). Laws on both: laws.rt.
 //! It does nothing that a command asks for: it opens nothing and prints nothing itself.
@@ -13,7 +13,7 @@ pub mod laws;
 mod line;
 mod line_text;
 
-pub use crate::command::{Command, Place};
+pub use crate::command::{Command, Location};
 pub use crate::command_line::{names_memory, read_command};
 pub use crate::fault::Fault;
 pub use crate::line::{Line, help_text, version_text};

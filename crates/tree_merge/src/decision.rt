@@ -61,7 +61,7 @@ pub(crate) fn decide<S: Shelf>(
     ensures bound { IfOk result (λ decided. map.len decided.leavers ≤ map.len joined) }
     ensures known { IfOk result (λ decided. map.len decided.known ≤ map.len joined) }
     ensures root { IfOk result (λ decided. map.get joined [] ≡ None → map.get decided.leavers [] ≡ None) }
-    ensures kept { Reads S.contents S.may_give S.texts S.faults store.old store.new result }
+    ensures stays { Reads S.contents S.may_give S.texts S.faults store.old store.new result }
 {
     let mut staying = PathTable::new(alloc);
     let mut decided = Decided {
@@ -92,7 +92,7 @@ fn decide_at<S: Shelf>(
         → AnswersWell objects (λ done. IsDecidedAt more path three staying.old staying.new decided.old decided.new) result }
     ensures whole { OnOk result ((objects : Objects) → IsWholeThree objects three → IsWholeDecided objects decided.old → IsWholeDecided objects decided.new) }
     ensures bound { OnOk result (HasGrown path decided.old decided.new) }
-    ensures kept { Reads S.contents S.may_give S.texts S.faults store.old store.new result }
+    ensures stays { Reads S.contents S.may_give S.texts S.faults store.old store.new result }
 {
     let is_marked = staying.has(&path);
     match place(alloc, store, three, is_marked) {
@@ -112,7 +112,7 @@ fn place<S: Shelf>(
         → (more : Objects) → Keeps objects more → IsWholeThree objects three
         → AnswersWell objects (IsPlaced more (choice_in more three) (kept_by three || is_marked)) result }
     ensures whole { IfOk result (λ placing. (objects : Objects) → IsWholeThree objects three → IsWholePlacing objects placing) }
-    ensures kept { Reads S.contents S.may_give S.texts S.faults store.old store.new result }
+    ensures stays { Reads S.contents S.may_give S.texts S.faults store.old store.new result }
 {
     let stays = is_kept(&three) | is_marked;
     let Three { base, head, pushed } = three;

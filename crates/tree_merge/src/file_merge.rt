@@ -35,7 +35,7 @@ pub(crate) fn choose<S: Shelf>(
         → AnswersWell objects (IsChoice more (choice (option_map (version_of more) base) (option_map (version_of more) head) (option_map (version_of more) pushed))) result }
     ensures whole { IfOk result (λ chosen. (objects : Objects) → IsWholeIf objects base → IsWholeIf objects head → IsWholeIf objects pushed
         → IsWholeIf objects chosen.main × IsWholeIf objects chosen.side) }
-    ensures kept { Reads S.contents S.may_give S.texts S.faults store.old store.new result }
+    ensures stays { Reads S.contents S.may_give S.texts S.faults store.old store.new result }
 {
     if same_files(alloc, store, &head, &pushed)? {
         return Ok(only(head)); // the same change on both sides
@@ -82,7 +82,7 @@ fn same_files<S: Shelf>(
     ensures value { (objects : Objects) → objects_of S.contents store.old ≡ Some objects
         → (more : Objects) → Keeps objects more → IsWholeIf objects left.now → IsWholeIf objects right.now
         → AnswersWell objects (λ same. same ≡ same_file (option_map (version_of more) left.now) (option_map (version_of more) right.now)) result }
-    ensures kept { Reads S.contents S.may_give S.texts S.faults store.old store.new result }
+    ensures stays { Reads S.contents S.may_give S.texts S.faults store.old store.new result }
 {
     match (left, right) {
         (Some(left), Some(right)) => same_versions(alloc, store, left, right),
@@ -101,7 +101,7 @@ fn same_versions<S: Shelf>(
     ensures value { (objects : Objects) → objects_of S.contents store.old ≡ Some objects
         → (more : Objects) → Keeps objects more → IsWhole objects left.now.id → IsWhole objects right.now.id
         → AnswersWell objects (λ same. same ≡ same_version (version_of more left.now) (version_of more right.now)) result }
-    ensures kept { Reads S.contents S.may_give S.texts S.faults store.old store.new result }
+    ensures stays { Reads S.contents S.may_give S.texts S.faults store.old store.new result }
 {
     if left.mode != right.mode {
         return Ok(false);

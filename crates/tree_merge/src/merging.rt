@@ -70,7 +70,7 @@ pub fn merge<S: Shelf>(
         → IsTreeOf objects base s.base → IsTreeOf objects head s.head → IsTreeOf objects pushed s.pushed → MergesTo objects s result }
     ensures made { IfOk result (λ merged. AreNamed merged.made) }
     ensures cause { IfErr result IsCaused }
-    ensures kept { Reads S.contents S.may_give S.texts S.faults store.old store.new (as_read result) }
+    ensures stays { Reads S.contents S.may_give S.texts S.faults store.old store.new (as_read result) }
 {
     let joined = match read_sides(alloc, store, base, head, pushed) {
         Ok(joined) => joined,
@@ -110,7 +110,7 @@ fn read_sides<S: Shelf>(
     ensures value { (objects : Objects) → objects_of S.contents store.old ≡ Some objects → AreComplete objects base head pushed
         → AnswersWell objects (IsJoined objects base head pushed) result }
     ensures bound { IfOk result AreFew }
-    ensures kept { Reads S.contents S.may_give S.texts S.faults store.old store.new result }
+    ensures stays { Reads S.contents S.may_give S.texts S.faults store.old store.new result }
 {
     let base = root_entries(alloc, store, base)?;
     let head = match root_entries(alloc, store, head) {
@@ -136,7 +136,7 @@ fn root_entries<S: Shelf>(
     ensures value { (objects : Objects) → objects_of S.contents store.old ≡ Some objects → IsCompleteRoot objects root
         → AnswersWell objects (AreEntriesOf objects root) result }
     ensures bound { IfOk result IsWithinLimits }
-    ensures kept { Reads S.contents S.may_give S.texts S.faults store.old store.new result }
+    ensures stays { Reads S.contents S.may_give S.texts S.faults store.old store.new result }
 {
     tree(alloc, store, root)
 }
@@ -154,7 +154,7 @@ fn merge_sides<S: Shelf>(
         → (s : Sides) → AreTrees s → AreSeen more joined s → NamesSo objects more s result }
     ensures whole { IfOk result (λ named. (objects : Objects) → ((path : PathV) → IsWholeAt objects (map.get joined path)) → AreWholeIn objects named.nodes) }
     ensures cause { IfErr result IsCaused }
-    ensures kept { Reads S.contents S.may_give S.texts S.faults store.old store.new (as_read result) }
+    ensures stays { Reads S.contents S.may_give S.texts S.faults store.old store.new (as_read result) }
 {
     let decided = match decide(alloc, store, joined) {
         Ok(decided) => decided,

@@ -61,7 +61,7 @@ pub fn build(alloc: Global, mut entries: PathTable<Entry>) -> Result<BuiltTree, 
         → (objects : Objects) → Keeps built.made objects → IsDirectoryOf objects built.root id) }
     ensures dirs { IfOk result (λ built. IsSound entries → AreDirectories entries built.made × IsNilOrMade built.made built.root) }
     ensures zeros { IfOk result (λ built. IsSound entries → (built.root ≡ nil) ↔ ((path : PathV) → map.get entries path ≡ None)) }
-    ensures kept { IfOk result (λ built. AreNamed built.made) }
+    ensures stays { IfOk result (λ built. AreNamed built.made) }
 
     // The refusal. Want of memory may come in its place.
     ensures taken { (id : List ℕ) → result ≡ Err (BuildFault.Taken id) → IsSound entries → IsClash entries id }
@@ -103,7 +103,7 @@ fn add_entry(
     requires some { path ≢ [] }
     requires ready { IsDistinct bytes_eq (names_of (held_at (map.get held.old path))) }
     ensures ok { OnOk result (HasAdded path entry held.old held.new made.old made.new) }
-    ensures kept { OnOk result (Keeps made.old made.new) }
+    ensures stays { OnOk result (Keeps made.old made.new) }
     ensures named { AreNamed made.old → AreNamed made.new }
     ensures taken { (id : List ℕ) → result ≡ Err (BuildFault.Taken id) → (entry ≡ dir_entry) × IsRefusedList made.old (held_at (map.get held.old path)) id }
 {
@@ -155,7 +155,7 @@ fn make_dirent(
 ) -> Result<Dirent, BuildFault>
     requires ready { IsDistinct bytes_eq (names_of (held_at entries)) }
     ensures value { IfOk result (IsEntryMade made.new name entry (held_at entries)) }
-    ensures kept { OnOk result (Keeps made.old made.new) }
+    ensures stays { OnOk result (Keeps made.old made.new) }
     ensures told { IfOk result (λ dirent. (id : List ℕ) → HasMade made.new id → (HasMade made.old id) ⊎ IsOwn entry dirent id) }
     ensures named { AreNamed made.old → AreNamed made.new }
     ensures taken { (id : List ℕ) → result ≡ Err (BuildFault.Taken id) → (entry ≡ dir_entry) × IsRefusedList made.old (held_at entries) id }
@@ -208,7 +208,7 @@ fn make_directory(
 ) -> Result<ObjId, BuildFault>
     requires ready { IsDistinct bytes_eq (names_of (held_at entries)) }
     ensures value { IfOk result (λ id. Lists made.new id (held_at entries)) }
-    ensures kept { OnOk result (Keeps made.old made.new) }
+    ensures stays { OnOk result (Keeps made.old made.new) }
     ensures told { IfOk result (λ own. (id : List ℕ) → HasMade made.new id → (HasMade made.old id) ⊎ (id ≡ own)) }
     ensures named { AreNamed made.old → AreNamed made.new }
     ensures taken { (id : List ℕ) → result ≡ Err (BuildFault.Taken id) → IsRefusedList made.old (held_at entries) id }
@@ -227,7 +227,7 @@ fn make_listed(
 ) -> Result<ObjId, BuildFault>
     requires ready { IsDistinct bytes_eq (names_of entries) }
     ensures value { IfOk result (λ id. Lists made.new id entries) }
-    ensures kept { OnOk result (Keeps made.old made.new) }
+    ensures stays { OnOk result (Keeps made.old made.new) }
     ensures told { IfOk result (λ own. (id : List ℕ) → HasMade made.new id → (HasMade made.old id) ⊎ (id ≡ own)) }
     ensures named { AreNamed made.old → AreNamed made.new }
     ensures taken { (id : List ℕ) → result ≡ Err (BuildFault.Taken id) → IsRefusedList made.old entries id }
@@ -253,7 +253,7 @@ fn directory_text(alloc: Global, entries: Items<Dirent>) -> Result<Bytes, AllocE
 /// Keeps an object under its id. The same object is kept once.
 fn make_object(bytes: Bytes, made: &mut KeyTable<Bytes>) -> Result<ObjId, BuildFault>
     ensures value { IfOk result (λ id. IsMade made.new id bytes) }
-    ensures kept { OnOk result (Keeps made.old made.new) }
+    ensures stays { OnOk result (Keeps made.old made.new) }
     ensures told { IfOk result (λ own. (id : List ℕ) → HasMade made.new id → (HasMade made.old id) ⊎ (id ≡ own)) }
     ensures named { AreNamed made.old → AreNamed made.new }
     ensures taken { (id : List ℕ) → result ≡ Err (BuildFault.Taken id) → IsRefused made.old bytes id }

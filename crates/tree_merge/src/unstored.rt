@@ -23,7 +23,7 @@ pub(crate) fn drop_stored<S: Shelf>(
     ensures value { (objects : Objects) → objects_of S.contents store.old ≡ Some objects → LeavesSo objects made result }
     ensures names { IfOk result AreNamed }
     ensures cause { IfErr result IsCaused }
-    ensures kept { Reads S.contents S.may_give S.texts S.faults store.old store.new (as_read result) }
+    ensures stays { Reads S.contents S.may_give S.texts S.faults store.old store.new (as_read result) }
 {
     let mut left = KeyTable::new(alloc);
     while let Some(key) = made.next(None) {
@@ -47,7 +47,7 @@ fn is_stored<S: Shelf>(store: &mut Store<S>, key: &Key, bytes: &Bytes) -> Result
     requires own { IsOwnName key.now bytes.now }
     ensures value { (objects : Objects) → objects_of S.contents store.old ≡ Some objects → FindsSo objects key.now bytes.now result }
     ensures cause { IfErr result IsCaused }
-    ensures kept { Reads S.contents S.may_give S.texts S.faults store.old store.new (as_read result) }
+    ensures stays { Reads S.contents S.may_give S.texts S.faults store.old store.new (as_read result) }
 {
     match store.get(*key) {
         Ok(Some(stored)) => {

@@ -207,7 +207,7 @@ fn complete_root<S: Shelf>(
     commit: ObjId,
 ) -> Result<ObjId, Fail>
     ensures value { IfOk result (λ root. (objects : Objects) → objects_of S.contents store.new ≡ Some objects → IsCompleteRoot objects root) }
-    ensures kept { objects_of S.contents store.new ≡ objects_of S.contents store.old }
+    ensures stays { objects_of S.contents store.new ≡ objects_of S.contents store.old }
 {
     let commit = &commit;
     let root = match commit_at(alloc, store, *commit) {

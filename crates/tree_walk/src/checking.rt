@@ -39,7 +39,7 @@ pub fn check<S: Shelf>(
     ensures value { (objects : Objects) → objects_of S.contents store.old ≡ Some objects
         → Answers objects (walk_commit objects commit).fault (λ done. ⊤) result }
     ensures known { (objects : Objects) → objects_of S.contents store.old ≡ Some objects → Fits objects known.new }
-    ensures kept { Reads S.contents S.may_give S.texts S.faults store.old store.new result }
+    ensures stays { Reads S.contents S.may_give S.texts S.faults store.old store.new result }
 {
     let root = match commit_at(alloc, store, commit) {
         Ok(commit) => commit.root,
@@ -77,7 +77,7 @@ fn check_directory<S: Shelf>(
         → Measures objects (directory_step true objects room (names_of trail.now) id.now) paths (listed objects room id.now) result }
     ensures bound { IfOk result (IsWithin room paths) }
     ensures known { (objects : Objects) → objects_of S.contents store.old ≡ Some objects → Fits objects known.new }
-    ensures kept { Reads S.contents S.may_give S.texts S.faults store.old store.new result }
+    ensures stays { Reads S.contents S.may_give S.texts S.faults store.old store.new result }
 {
     if id.is_nil() {
         return Ok(Extent { paths: 0, deep: 0 });
@@ -124,7 +124,7 @@ fn check_entries<S: Shelf>(
         → Measures objects (entries_step true objects room (names_of trail.now) entries.now) paths (listed_from objects room entries.now) result }
     ensures bound { IfOk result (IsWithin room paths) }
     ensures known { (objects : Objects) → objects_of S.contents store.old ≡ Some objects → Fits objects known.new }
-    ensures kept { Reads S.contents S.may_give S.texts S.faults store.old store.new result }
+    ensures stays { Reads S.contents S.may_give S.texts S.faults store.old store.new result }
 {
     let mut extent = Extent { paths: 0, deep: 0 };
     for entry in entries {
@@ -163,7 +163,7 @@ fn check_entry<S: Shelf>(
         → Measures objects (entry_step true objects room (names_of trail.now) entry.now) paths (listed_one objects room entry.now) result }
     ensures bound { IfOk result (IsWithin room paths) }
     ensures known { (objects : Objects) → objects_of S.contents store.old ≡ Some objects → Fits objects known.new }
-    ensures kept { Reads S.contents S.may_give S.texts S.faults store.old store.new result }
+    ensures stays { Reads S.contents S.may_give S.texts S.faults store.old store.new result }
 {
     if paths >= MAX_PATHS as u64 {
         return Err(WalkFault::TooMany(paths + 1));
@@ -196,7 +196,7 @@ fn check_file<S: Shelf>(
     ensures value { (objects : Objects) → objects_of S.contents store.old ≡ Some objects
         → Answers objects (walk_file_at objects id.now start).fault (λ done. ⊤) result }
     ensures known { (objects : Objects) → objects_of S.contents store.old ≡ Some objects → Fits objects known.new }
-    ensures kept { Reads S.contents S.may_give S.texts S.faults store.old store.new result }
+    ensures stays { Reads S.contents S.may_give S.texts S.faults store.old store.new result }
 {
     if known.has_file(id) {
         return Ok(());

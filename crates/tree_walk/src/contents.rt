@@ -25,7 +25,7 @@ pub fn file_bytes<S: Shelf>(
 ) -> Result<Bytes, WalkFault>
     ensures value { (objects : Objects) → objects_of S.contents store.old ≡ Some objects
         → Answers objects (walk_file_at objects id start).fault (λ bytes. bytes ≡ contents_of objects id) result }
-    ensures kept { Reads S.contents S.may_give S.texts S.faults store.old store.new result }
+    ensures stays { Reads S.contents S.may_give S.texts S.faults store.old store.new result }
 {
     let file = whole_file_at(alloc, store, &id)?;
     join(alloc, store, file.blocks.slice())
@@ -35,7 +35,7 @@ pub fn file_bytes<S: Shelf>(
 fn join<S: Shelf>(alloc: Global, store: &mut Store<S>, blocks: &[ObjId]) -> Result<Bytes, WalkFault>
     ensures value { (objects : Objects) → objects_of S.contents store.old ≡ Some objects
         → Answers objects (blocks_due objects blocks.now) (λ bytes. bytes ≡ joined objects blocks.now) result }
-    ensures kept { Reads S.contents S.may_give S.texts S.faults store.old store.new result }
+    ensures stays { Reads S.contents S.may_give S.texts S.faults store.old store.new result }
 {
     let mut bytes = Vec::new(alloc);
     for block in blocks {
@@ -60,7 +60,7 @@ pub fn same_file<S: Shelf>(
 ) -> Result<bool, WalkFault>
     ensures value { (objects : Objects) → objects_of S.contents store.old ≡ Some objects
         → Answers objects (files_due objects left right) (λ same. same ≡ same_id (contents_of objects left) (contents_of objects right)) result }
-    ensures kept { Reads S.contents S.may_give S.texts S.faults store.old store.new result }
+    ensures stays { Reads S.contents S.may_give S.texts S.faults store.old store.new result }
 {
     let left = &left;
     let right = &right;
@@ -100,7 +100,7 @@ fn same_blocks<S: Shelf>(
     ensures value { (objects : Objects) → objects_of S.contents store.old ≡ Some objects → blocks_due objects left.now ≡ None → blocks_due objects right.now ≡ None
         → length (joined objects left.now) ≡ length (joined objects right.now)
         → Answers objects None (λ same. same ≡ same_id (joined objects left.now) (joined objects right.now)) result }
-    ensures kept { Reads S.contents S.may_give S.texts S.faults store.old store.new result }
+    ensures stays { Reads S.contents S.may_give S.texts S.faults store.old store.new result }
 {
     let mut left = Unread {
         block: Bytes::new(alloc),
@@ -130,7 +130,7 @@ fn step<S: Shelf>(
     ensures value { (objects : Objects) → objects_of S.contents store.old ≡ Some objects → AreReady objects left.old right.old
         → StepsSo objects left.old right.old left.new right.new result }
     ensures bound { IfOk result (Lighter left.old right.old left.new right.new) }
-    ensures kept { Reads S.contents S.may_give S.texts S.faults store.old store.new result }
+    ensures stays { Reads S.contents S.may_give S.texts S.faults store.old store.new result }
 {
     if left.place >= left.block.len() {
         return match load(alloc, store, left)? {

@@ -23,7 +23,7 @@ pub fn file_at<S: Shelf>(
     id: &ObjId,
 ) -> Result<FileObject, WalkFault>
     ensures value { (objects : Objects) → objects_of S.contents store.old ≡ Some objects → AnswersRead objects (file_at objects id.now) result }
-    ensures kept { Reads S.contents S.may_give S.texts S.faults store.old store.new result }
+    ensures stays { Reads S.contents S.may_give S.texts S.faults store.old store.new result }
 {
     if id.is_nil() {
         return Ok(FileObject {
@@ -47,7 +47,7 @@ pub fn whole_file_at<S: Shelf>(
 ) -> Result<FileObject, WalkFault>
     ensures value { (objects : Objects) → objects_of S.contents store.old ≡ Some objects
         → Answers objects (walk_file_at objects id.now start).fault (λ file. file_at objects id.now ≡ Ok file) result }
-    ensures kept { Reads S.contents S.may_give S.texts S.faults store.old store.new result }
+    ensures stays { Reads S.contents S.may_give S.texts S.faults store.old store.new result }
 {
     let file = match file_at(alloc, store, id) {
         Ok(file) => file,
@@ -66,7 +66,7 @@ pub fn check_blocks<S: Shelf>(
     file: &FileObject,
 ) -> Result<(), WalkFault>
     ensures value { (objects : Objects) → objects_of S.contents store.now ≡ Some objects → Answers objects (file_due objects id.now file.now) (λ done. ⊤) result }
-    ensures kept { Reads S.contents S.may_give S.texts S.faults store.now store.now result }
+    ensures stays { Reads S.contents S.may_give S.texts S.faults store.now store.now result }
 {
     let size = file.size;
     match total_size(store, file.blocks.slice())? {
@@ -83,7 +83,7 @@ pub fn check_blocks<S: Shelf>(
 fn total_size<S: Shelf>(store: &Store<S>, blocks: &[ObjId]) -> Result<Option<u64>, WalkFault>
     ensures value { (objects : Objects) → objects_of S.contents store.now ≡ Some objects
         → Answers objects (blocks_due objects blocks.now) (λ total. total ≡ fitting (length (joined objects blocks.now))) result }
-    ensures kept { Reads S.contents S.may_give S.texts S.faults store.now store.now result }
+    ensures stays { Reads S.contents S.may_give S.texts S.faults store.now store.now result }
 {
     let mut total = Some(0);
     for block in blocks {

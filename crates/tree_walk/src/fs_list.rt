@@ -30,7 +30,7 @@ pub fn fs_ids<S: Shelf>(
 ) -> Result<IdList, WalkFault>
     ensures value { (objects : Objects) → objects_of S.contents store.old ≡ Some objects
         → Answers objects (commits_due objects server client) (λ ids. ids ≡ fs_ids objects server client) result }
-    ensures kept { Reads S.contents S.may_give S.texts S.faults store.old store.new result }
+    ensures stays { Reads S.contents S.may_give S.texts S.faults store.old store.new result }
 {
     let wanted = needs(alloc, store, server)?;
     let known = match needs_if(alloc, store, client) {
@@ -49,7 +49,7 @@ fn needs_if<S: Shelf>(
 ) -> Result<KeyList, WalkFault>
     ensures value { (objects : Objects) → objects_of S.contents store.old ≡ Some objects
         → Answers objects (commit_due objects commit) (λ keys. keys ≡ needs_if objects commit) result }
-    ensures kept { Reads S.contents S.may_give S.texts S.faults store.old store.new result }
+    ensures stays { Reads S.contents S.may_give S.texts S.faults store.old store.new result }
 {
     match commit {
         Some(commit) => needs(alloc, store, commit),

@@ -35,7 +35,7 @@ pub fn tree<S: Shelf>(
     ensures value { (objects : Objects) → objects_of S.contents store.old ≡ Some objects
         → Answers objects (walk_root false objects root start).fault (AreEntriesOf objects root) result }
     ensures bound { IfOk result IsWithinLimits }
-    ensures kept { Reads S.contents S.may_give S.texts S.faults store.old store.new result }
+    ensures stays { Reads S.contents S.may_give S.texts S.faults store.old store.new result }
 {
     let mut found = Found::new(alloc);
     let path = Path::root(alloc);
@@ -84,7 +84,7 @@ fn list_directory<S: Shelf>(
     requires fits { length path.now + room ≤ MAX_NAMES }
     ensures value { (objects : Objects) → objects_of S.contents store.old ≡ Some objects
         → Lists objects (directory_step false objects room path.now id.now) path.now (listed objects room id.now) found.old found.new result }
-    ensures kept { Reads S.contents S.may_give S.texts S.faults store.old store.new result }
+    ensures stays { Reads S.contents S.may_give S.texts S.faults store.old store.new result }
 {
     if id.is_nil() {
         return Ok(());
@@ -116,7 +116,7 @@ fn list_entries<S: Shelf>(
     requires fits { length path.now + room ≤ MAX_NAMES }
     ensures value { (objects : Objects) → objects_of S.contents store.old ≡ Some objects
         → Lists objects (entries_step false objects room path.now entries.now) path.now (listed_from objects room entries.now) found.old found.new result }
-    ensures kept { Reads S.contents S.may_give S.texts S.faults store.old store.new result }
+    ensures stays { Reads S.contents S.may_give S.texts S.faults store.old store.new result }
 {
     for entry in entries {
         match list_entry(alloc, store, path, entry, room, found) {
@@ -140,7 +140,7 @@ fn list_entry<S: Shelf>(
     requires fits { length path.now + room ≤ MAX_NAMES }
     ensures value { (objects : Objects) → objects_of S.contents store.old ≡ Some objects
         → Lists objects (entry_step false objects room path.now entry.now) path.now (listed_one objects room entry.now) found.old found.new result }
-    ensures kept { Reads S.contents S.may_give S.texts S.faults store.old store.new result }
+    ensures stays { Reads S.contents S.may_give S.texts S.faults store.old store.new result }
 {
     let count = found.len();
     if count >= MAX_PATHS {

@@ -25,7 +25,7 @@ pub fn commit_at<S: Shelf>(
     ensures value { (objects : Objects) → objects_of S.contents store.old ≡ Some objects → AnswersRead objects (commit_at objects id) result }
     ensures named { IfOk result (λ commit. commit.id ≡ id) }
     ensures of_key { IfErr result (IsFaultAt (commit_key id)) }
-    ensures kept { Reads S.contents S.may_give S.texts S.faults store.old store.new result }
+    ensures stays { Reads S.contents S.may_give S.texts S.faults store.old store.new result }
 {
     let id = &id;
     let key = &commit_key(id);
@@ -50,7 +50,7 @@ pub fn fs_at<S: Shelf>(
     id: &ObjId,
 ) -> Result<FsObject, WalkFault>
     ensures value { (objects : Objects) → objects_of S.contents store.old ≡ Some objects → AnswersRead objects (fs_at objects id.now) result }
-    ensures kept { Reads S.contents S.may_give S.texts S.faults store.old store.new result }
+    ensures stays { Reads S.contents S.may_give S.texts S.faults store.old store.new result }
 {
     let key = &fs_key(id);
     let bytes = bytes_at(store, key)?;
@@ -65,7 +65,7 @@ pub fn fs_at<S: Shelf>(
 pub fn bytes_at<S: Shelf>(store: &mut Store<S>, key: &Key) -> Result<Bytes, WalkFault>
     ensures value { (objects : Objects) → objects_of S.contents store.old ≡ Some objects → AnswersRead objects (stored_at objects key.now) result }
     ensures of_key { IfErr result (IsFaultAt key.now) }
-    ensures kept { Reads S.contents S.may_give S.texts S.faults store.old store.new result }
+    ensures stays { Reads S.contents S.may_give S.texts S.faults store.old store.new result }
 {
     match store.get(*key) {
         Ok(Some(bytes)) => Ok(bytes),

@@ -40,7 +40,7 @@ pub fn load<S: Shelf>(
     ensures value { (objects : Objects) → objects_of S.contents store.old ≡ Some objects → blocks_due objects unread.old.blocks.now ≡ None
         → LoadsSo objects unread.old unread.new result }
     ensures told { IfOk result (Loaded unread.old unread.new) }
-    ensures kept { Reads S.contents S.may_give S.texts S.faults store.old store.new result }
+    ensures stays { Reads S.contents S.may_give S.texts S.faults store.old store.new result }
 {
     match unread.blocks.split_first() {
         Some((next, others)) => {

@@ -30,7 +30,7 @@ pub fn needs<S: Shelf>(
 ) -> Result<KeyList, WalkFault>
     ensures value { (objects : Objects) → objects_of S.contents store.old ≡ Some objects
         → Answers objects (walk_commit objects commit).fault (λ keys. keys ≡ needs objects commit) result }
-    ensures kept { Reads S.contents S.may_give S.texts S.faults store.old store.new result }
+    ensures stays { Reads S.contents S.may_give S.texts S.faults store.old store.new result }
 {
     let id = &commit;
     let met = Met::new(alloc).visit(&commit_key(id))?;
@@ -56,7 +56,7 @@ fn walk_directory<S: Shelf>(
 ) -> Result<Met, WalkFault>
     ensures value { (objects : Objects) → objects_of S.contents store.old ≡ Some objects
         → Walks objects (directory_step true objects room (names_of trail.now) id.now) met result }
-    ensures kept { Reads S.contents S.may_give S.texts S.faults store.old store.new result }
+    ensures stays { Reads S.contents S.may_give S.texts S.faults store.old store.new result }
 {
     if id.is_nil() {
         return Ok(met);
@@ -88,7 +88,7 @@ fn walk_entries<S: Shelf>(
 ) -> Result<Met, WalkFault>
     ensures value { (objects : Objects) → objects_of S.contents store.old ≡ Some objects
         → Walks objects (entries_step true objects room (names_of trail.now) entries.now) met result }
-    ensures kept { Reads S.contents S.may_give S.texts S.faults store.old store.new result }
+    ensures stays { Reads S.contents S.may_give S.texts S.faults store.old store.new result }
 {
     let mut met = met;
     for entry in entries {
@@ -109,7 +109,7 @@ fn walk_entry<S: Shelf>(
 ) -> Result<Met, WalkFault>
     ensures value { (objects : Objects) → objects_of S.contents store.old ≡ Some objects
         → Walks objects (entry_step true objects room (names_of trail.now) entry.now) met result }
-    ensures kept { Reads S.contents S.may_give S.texts S.faults store.old store.new result }
+    ensures stays { Reads S.contents S.may_give S.texts S.faults store.old store.new result }
 {
     let paths = met.paths();
     if paths >= MAX_PATHS as u64 {
@@ -135,7 +135,7 @@ fn walk_file<S: Shelf>(
     met: Met,
 ) -> Result<Met, WalkFault>
     ensures value { (objects : Objects) → objects_of S.contents store.old ≡ Some objects → Walks objects (walk_file_at objects id.now) met result }
-    ensures kept { Reads S.contents S.may_give S.texts S.faults store.old store.new result }
+    ensures stays { Reads S.contents S.may_give S.texts S.faults store.old store.new result }
 {
     if id.is_nil() {
         return Ok(met);

@@ -65,7 +65,7 @@ impl<'a, V: Story> Held<'a, V> {
         ensures value { result ≡ place_of self.old }
         ensures ready { IsHeld self.new × IsSameTurn self.old self.new }
         ensures place { place_of self.new ≡ place_of self.old + 1 }
-        ensures kept { value_of self.new ≡ value_of self.old }
+        ensures stays { value_of self.new ≡ value_of self.old }
         ensures view { view_of (pass_of self.new) ≡ with_entry (view_of (pass_of self.old)) (entry.value ∷ []) result }
     {
         let place = self.turnstile.append(self.pass, entry);
@@ -78,7 +78,7 @@ impl<'a, V: Story> Held<'a, V> {
         requires ready { IsHeld self }
         requires stands { StandsFor V.stands (view_of (pass_of self)) (value_of self) }
         ensures ready { IsPassOf (turnstile_of self.entry) self.exit.1.0.now }
-        ensures kept { view_of self.exit.1.0.now ≡ record (view_of (pass_of self.entry)) { ticket = None; turn = false; told = 0 } }
+        ensures stays { view_of self.exit.1.0.now ≡ record (view_of (pass_of self.entry)) { ticket = None; turn = false; told = 0 } }
     {
         let Held {
             turnstile,

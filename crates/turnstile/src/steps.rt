@@ -29,7 +29,7 @@ impl<V: Story> Turnstile<V> {
         requires own { WasMadeBy self.now pass.old }
         requires parts { ((view_of pass.old).parts ≡ pass.old.parts) × (1 < pass.old.parts) }
         ensures own { WasMadeBy self.now pass.new × WasMadeBy self.now result }
-        ensures kept { (participant_of pass.new ≡ (one_less (view_of pass.old), (participant_of pass.old).1)) × (pass.new.parts + 1 ≡ pass.old.parts) }
+        ensures stays { (participant_of pass.new ≡ (one_less (view_of pass.old), (participant_of pass.old).1)) × (pass.new.parts + 1 ≡ pass.old.parts) }
         ensures value { (participant_of result ≡ (one_part (view_of pass.old), [])) × (result.parts ≡ 1) }
     {
         let seat = self.table.shared.split_seat::<Cut>(&mut pass.seat);
@@ -47,7 +47,7 @@ impl<V: Story> Turnstile<V> {
         requires free { ((view_of into.old).turn ≡ false) × (from.me.0.turn ≡ false) × (from.me.0.ticket ≡ None) × (from.me.1 ≡ []) }
         requires part { 0 < (view_of into.old).parts }
         ensures same { IsSamePass into.old into.new }
-        ensures kept { participant_of into.new ≡ (both_of (view_of into.old) from.me.0, (participant_of into.old).1) }
+        ensures stays { participant_of into.new ≡ (both_of (view_of into.old) from.me.0, (participant_of into.old).1) }
     {
         self.table.shared.join_seat::<Merge>(&mut into.seat, from);
     }
@@ -83,7 +83,7 @@ impl<V: Story> Turnstile<V> {
         requires held { (y : V) × HoldsValue (participant_of pass.old) y }
         ensures same { IsSamePass pass.old pass.new }
         ensures value { HoldsValue (participant_of pass.old) result }
-        ensures kept { (view_of pass.new ≡ view_of pass.old) × HoldsNone (participant_of pass.new) }
+        ensures stays { (view_of pass.new ≡ view_of pass.old) × HoldsNone (participant_of pass.new) }
     {
         let full = self
             .table
@@ -97,7 +97,7 @@ impl<V: Story> Turnstile<V> {
         requires own { WasMadeBy self.now pass.old }
         requires held { HoldsNone (participant_of pass.old) }
         ensures same { IsSamePass pass.old pass.new }
-        ensures kept { (view_of pass.new ≡ view_of pass.old) × HoldsValue (participant_of pass.new) value }
+        ensures stays { (view_of pass.new ≡ view_of pass.old) × HoldsValue (participant_of pass.new) value }
     {
         let empty = self
             .table
@@ -127,7 +127,7 @@ impl<V: Story> Turnstile<V> {
         requires held { HoldsNone (participant_of pass.old) }
         ensures same { IsSamePass pass.old pass.new }
         ensures value { (result ≡ length (view_of pass.old).seen) × (result + 1 < 2 ^ 64) }
-        ensures kept { HoldsNone (participant_of pass.new) × (view_of pass.new ≡ with_entry (view_of pass.old) (entry.value ∷ []) result) }
+        ensures stays { HoldsNone (participant_of pass.new) × (view_of pass.new ≡ with_entry (view_of pass.old) (entry.value ∷ []) result) }
     {
         let empty = self
             .table

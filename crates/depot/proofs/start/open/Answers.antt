@@ -7,12 +7,12 @@ use Rattle.depot.proofs.start.open.Goals as goal
 pub returns-in-Ok-write_text-clause-sound : goal.returns-in-Ok-write_text-clause-sound
 returns-in-Ok-write_text-clause-sound g c = λ objects count told.
     opened_over c.in-Ok.state objects count c.in-Ok.ensures.proper c.in-Ok-check_state.ensures.ok
-    (c.in-Ok-check_state.ensures.refused objects (sym c.in-Ok-check_state.ensures.kept.objects ∙ sym c.in-Ok-write_text.ensures.kept ∙ told))
+    (c.in-Ok-check_state.ensures.refused objects (sym c.in-Ok-check_state.ensures.stays.objects ∙ sym c.in-Ok-write_text.ensures.stays ∙ told))
 
 pub returns-in-Err-write_text-clause-err : goal.returns-in-Err-write_text-clause-err
 returns-in-Err-write_text-clause-err g c =
     left_unopened g.S.Shelf.contents c.args.store.now c.check_state.new.store c.write_text.new.store c.in-Ok.state c.in-Err-write_text.fault c.in-Ok.ensures.value
-    (same_status g.S.Shelf.contents c.args.store.now c.read_state.new.store c.check_state.new.store c.in-Ok.ensures.kept c.in-Ok-check_state.ensures.kept)
+    (same_status g.S.Shelf.contents c.args.store.now c.read_state.new.store c.check_state.new.store c.in-Ok.ensures.stays c.in-Ok-check_state.ensures.stays)
     c.in-Err-write_text.ensures.value
 
 pub returns-in-Ok-write_text-clause-given : goal.returns-in-Ok-write_text-clause-given
@@ -24,21 +24,21 @@ returns-in-Err-check_state-clause-cause g c =
     c.in-Ok.ensures.reads.gives c.in-Err-check_state.ensures.cause
 
 pub returns-in-Err-clause-lying : goal.returns-in-Err-clause-lying
-returns-in-Err-clause-lying g c = strays_kept g.S.Shelf.contents c.args.store.now c.read_state.new.store c.in-Err.ensures.kept.index c.in-Err.ensures.kept.shelf
+returns-in-Err-clause-lying g c = strays_kept g.S.Shelf.contents c.args.store.now c.read_state.new.store c.in-Err.ensures.stays.index c.in-Err.ensures.stays.shelf
 
 pub returns-in-Err-check_state-clause-lying : goal.returns-in-Err-check_state-clause-lying
 returns-in-Err-check_state-clause-lying g c =
     strays_kept g.S.Shelf.contents c.args.store.now c.check_state.new.store
-    (c.in-Err-check_state.ensures.kept.index ∙ c.in-Ok.ensures.kept.index) (c.in-Err-check_state.ensures.kept.shelf ∙ c.in-Ok.ensures.kept.shelf)
+    (c.in-Err-check_state.ensures.stays.index ∙ c.in-Ok.ensures.stays.index) (c.in-Err-check_state.ensures.stays.shelf ∙ c.in-Ok.ensures.stays.shelf)
 
 pub returns-in-Ok-write_text-clause-lying : goal.returns-in-Ok-write_text-clause-lying
 returns-in-Ok-write_text-clause-lying g c key stray =
     strays_kept g.S.Shelf.contents c.args.store.now c.check_state.new.store
-    (c.in-Ok-check_state.ensures.kept.index ∙ c.in-Ok.ensures.kept.index) (c.in-Ok-check_state.ensures.kept.shelf ∙ c.in-Ok.ensures.kept.shelf)
+    (c.in-Ok-check_state.ensures.stays.index ∙ c.in-Ok.ensures.stays.index) (c.in-Ok-check_state.ensures.stays.shelf ∙ c.in-Ok.ensures.stays.shelf)
     key (c.in-Ok-write_text.ensures.lying key stray)
 
 pub returns-in-Err-write_text-clause-lying : goal.returns-in-Err-write_text-clause-lying
 returns-in-Err-write_text-clause-lying g c key stray =
     strays_kept g.S.Shelf.contents c.args.store.now c.check_state.new.store
-    (c.in-Ok-check_state.ensures.kept.index ∙ c.in-Ok.ensures.kept.index) (c.in-Ok-check_state.ensures.kept.shelf ∙ c.in-Ok.ensures.kept.shelf)
+    (c.in-Ok-check_state.ensures.stays.index ∙ c.in-Ok.ensures.stays.index) (c.in-Ok-check_state.ensures.stays.shelf ∙ c.in-Ok.ensures.stays.shelf)
     key (c.in-Err-write_text.ensures.lying key stray)

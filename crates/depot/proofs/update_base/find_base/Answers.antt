@@ -12,8 +12,8 @@ returns-in-Err-clause-value g c = λ s told same.
     finds_moved s.objects _ _ c.in-Err.fault (c.loop-steps.invariant.left s told same)
     (finds_fault s (128 - c.loop-steps.steps) c.loop-steps.steps c.loop-steps.id c.in-Err.fault (not_kept s c.args.kept.now c.loop-steps.id same seen.0) seen.1)
 
-pub returns-in-Err-clause-kept : goal.returns-in-Err-clause-kept
-returns-in-Err-clause-kept g c = reads_then tt (Err c.in-Err.fault) c.loop-steps.invariant.reads (reads_fails c.in-Err.fault c.in-Err.ensures.kept)
+pub returns-in-Err-clause-stays : goal.returns-in-Err-clause-stays
+returns-in-Err-clause-stays g c = reads_then tt (Err c.in-Err.fault) c.loop-steps.invariant.reads (reads_fails c.in-Err.fault c.in-Err.ensures.stays)
 
 pub returns-in-Kept-clause-value : goal.returns-in-Kept-clause-value
 returns-in-Kept-clause-value g c = λ s told same.
@@ -29,7 +29,7 @@ returns-in-Last-clause-value g c = λ s told same.
 
 pub loop-steps-preserved : goal.loop-steps-preserved
 loop-steps-preserved g c = record {
-  reads = reads_done c.in-Ok.seen (reads_then tt (Ok c.in-Ok.seen) c.loop-steps.invariant.reads c.in-Ok.ensures.kept);
+  reads = reads_done c.in-Ok.seen (reads_then tt (Ok c.in-Ok.seen) c.loop-steps.invariant.reads c.in-Ok.ensures.stays);
   left = λ s told same.
       let seen = at_look s.objects c.args.kept.now c.loop-steps.id c.in-Ok.seen (look.Parent c.in-Parent.parent) c.in-Parent.is (c.in-Ok.ensures.value s.objects (told_after c.loop-steps.invariant.reads told)) in
       c.loop-steps.invariant.left s told same

@@ -28,7 +28,7 @@ loop-key-preserved g c =
           (subst (λ (left : List (Key × List ℕ)). IsPutting (objects_of g.S.Shelf.contents c.args.store.now) (listed (map.entries c.args.dirs.now)) (listed left)
           (objects_of g.S.Shelf.contents c.loop-key.store)) next c.loop-key.invariant.putting) c.in-Ok.ensures.value;
       lying = λ key stray. c.loop-key.invariant.lying key (c.in-Ok.ensures.lying key stray);
-      slot = c.in-Ok.ensures.kept ∙ c.loop-key.invariant.slot;
+      slot = c.in-Ok.ensures.stays ∙ c.loop-key.invariant.slot;
       written = c.in-Ok.ensures.written ∙ c.loop-key.invariant.written;
       count = c.in-Ok.ensures.faults ∙ c.loop-key.invariant.count;
     }

@@ -30,7 +30,7 @@ pub merge-requires : goal.merge-requires
 merge-requires g c = record {
   whole = λ objects told.
       let head : c.head_of-head.result ≡ head_of c.args.state.now.kept = c.head_of-head.ensures.value ∙ ap head_of c.slice.ensures.value in
-      let before = sym c.in-Ok.ensures.kept.kept.objects ∙ told in
+      let before = sym c.in-Ok.ensures.stays.kept.objects ∙ told in
       let complete = c.requires.complete objects before in
       roots_whole objects c.args.base (head_of c.args.state.now.kept) c.args.pushed c.in-Ok.roots complete
       (roots_at objects c.args.base c.head_of-head.result (head_of c.args.state.now.kept) c.args.pushed c.in-Ok.roots head complete (c.in-Ok.ensures.value objects before));
@@ -43,7 +43,7 @@ returns-in-Err-merge-clause-value g c = λ objects count told.
     subst (MergeRefuses (library c.args.state.now count objects) c.args.moment c.args.user.now c.args.base c.args.pushed) (sym c.merge_refusal.ensures.value)
     (merge_refuses c.args.state.now count objects c.args.moment c.args.user.now c.args.base c.args.pushed c.in-Ok.roots complete
     (roots_at objects c.args.base c.head_of-head.result (head_of c.args.state.now.kept) c.args.pushed c.in-Ok.roots head complete (c.in-Ok.ensures.value objects told))
-    c.in-Err-merge.fault (c.in-Err-merge.ensures.value objects (c.in-Ok.ensures.kept.kept.objects ∙ told)))
+    c.in-Err-merge.fault (c.in-Err-merge.ensures.value objects (c.in-Ok.ensures.stays.kept.objects ∙ told)))
 
 pub returns-in-Err-merge-clause-damaged : goal.returns-in-Err-merge-clause-damaged
 returns-in-Err-merge-clause-damaged g c = λ objects told.
@@ -52,19 +52,19 @@ returns-in-Err-merge-clause-damaged g c = λ objects told.
     subst (IsToldDamageOf objects) (sym c.merge_refusal.ensures.value)
     (merge_damage c.args.state.now 0 objects c.args.moment c.args.user.now c.args.base c.args.pushed c.in-Ok.roots complete
     (roots_at objects c.args.base c.head_of-head.result (head_of c.args.state.now.kept) c.args.pushed c.in-Ok.roots head complete (c.in-Ok.ensures.value objects told))
-    c.in-Err-merge.fault (c.in-Err-merge.ensures.value objects (c.in-Ok.ensures.kept.kept.objects ∙ told)))
+    c.in-Err-merge.fault (c.in-Err-merge.ensures.value objects (c.in-Ok.ensures.stays.kept.objects ∙ told)))
 
 pub returns-in-Err-merge-clause-cause : goal.returns-in-Err-merge-clause-cause
 returns-in-Err-merge-clause-cause g c =
     subst (MayRefuseUpdate c.merge.new.store.index (g.S.Shelf.may_give c.merge.new.store.shelf)) (sym c.merge_refusal.ensures.value)
-    (merge_may c.merge.new.store.index (g.S.Shelf.may_give c.merge.new.store.shelf) c.in-Err-merge.fault c.in-Err-merge.ensures.cause c.in-Err-merge.ensures.kept.cause)
+    (merge_may c.merge.new.store.index (g.S.Shelf.may_give c.merge.new.store.shelf) c.in-Err-merge.fault c.in-Err-merge.ensures.cause c.in-Err-merge.ensures.stays.cause)
 
 pub returns-clause-value : goal.returns-clause-value
 returns-clause-value g c = λ objects count told.
     let head : c.head_of-head.result ≡ head_of c.args.state.now.kept = c.head_of-head.ensures.value ∙ ap head_of c.slice.ensures.value in
     let complete = c.requires.complete objects told in
-    let mid = c.in-Ok.ensures.kept.kept.objects ∙ told in
+    let mid = c.in-Ok.ensures.stays.kept.objects ∙ told in
     merges_so c.args.state.now count objects c.args.moment c.args.user.now c.args.base c.args.pushed c.in-Ok.roots complete
     (roots_at objects c.args.base c.head_of-head.result (head_of c.args.state.now.kept) c.args.pushed c.in-Ok.roots head complete (c.in-Ok.ensures.value objects told))
     c.in-Ok-merge.merged (c.in-Ok-merge.ensures.value objects mid) c.in-Ok-merge.ensures.made c.plan_merged.result
-    (c.plan_merged.ensures.value objects count (c.in-Ok-merge.ensures.kept.kept.objects ∙ mid))
+    (c.plan_merged.ensures.value objects count (c.in-Ok-merge.ensures.stays.kept.objects ∙ mid))

@@ -8,9 +8,9 @@ returns-in-Err-clause-value g c = λ objects told are. root_fault objects c.args
 
 pub returns-in-Err-root_at-clause-value : goal.returns-in-Err-root_at-clause-value
 returns-in-Err-root_at-clause-value g c = λ objects told are.
-    root_fault objects c.args.head c.in-Err-root_at.fault are.head_complete (c.in-Err-root_at.ensures.value objects (c.in-Ok.ensures.kept.kept.objects ∙ told))
+    root_fault objects c.args.head c.in-Err-root_at.fault are.head_complete (c.in-Err-root_at.ensures.value objects (c.in-Ok.ensures.stays.kept.objects ∙ told))
 
 pub returns-in-Err-root_at-2-clause-value : goal.returns-in-Err-root_at-2-clause-value
 returns-in-Err-root_at-2-clause-value g c = λ objects told are.
     root_fault objects c.args.pushed c.in-Err-root_at-2.fault are.pushed_complete
-    (c.in-Err-root_at-2.ensures.value objects (c.in-Ok-root_at.ensures.kept.kept.objects ∙ c.in-Ok.ensures.kept.kept.objects ∙ told))
+    (c.in-Err-root_at-2.ensures.value objects (c.in-Ok-root_at.ensures.stays.kept.objects ∙ c.in-Ok.ensures.stays.kept.objects ∙ told))

@@ -18,7 +18,7 @@ returns-then-is_head-clause-named g c = none_named c.new.result c.args.pushed c.
 
 pub plan_merge-requires-clause-complete : goal.plan_merge-requires-clause-complete
 plan_merge-requires-clause-complete g c = λ objects told.
-    let before = sym c.in-Ok.ensures.kept.kept.objects ∙ told in
+    let before = sym c.in-Ok.ensures.stays.kept.objects ∙ told in
     are_complete c.args.state.now objects c.args.base c.args.pushed (c.requires.sound objects 0 before) c.requires.some_kept (c.requires.based objects before)
     (c.in-Ok.ensures.value objects before).0
 
@@ -27,4 +27,4 @@ returns-clause-value g c = λ objects count told.
     merges_due (library c.args.state.now count objects) c.args.moment c.args.user.now c.args.base c.args.pushed (walk_commit objects c.args.pushed).fault
     (c.in-Ok.ensures.value objects told).0 c.plan_merge.result
     (ap (λ kept. same_id c.args.base (head_of kept)) (sym c.slice.ensures.value) ∙ sym c.is_head.ensures.value ∙ c.if-is_head.false)
-    (c.plan_merge.ensures.value objects count (c.in-Ok.ensures.kept.kept.objects ∙ told))
+    (c.plan_merge.ensures.value objects count (c.in-Ok.ensures.stays.kept.objects ∙ told))

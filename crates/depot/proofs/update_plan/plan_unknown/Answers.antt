@@ -24,17 +24,17 @@ returns-in-Unrelated-clause-value g c = λ objects count told.
     (c.in-Ok.ensures.value (library c.args.state.now count objects) told (sym c.slice.ensures.value))))
 
 pub plan_based-requires-clause-sound : goal.plan_based-requires-clause-sound
-plan_based-requires-clause-sound g c = λ objects count told. c.requires.sound objects count (sym c.in-Ok.ensures.kept.kept.objects ∙ told)
+plan_based-requires-clause-sound g c = λ objects count told. c.requires.sound objects count (sym c.in-Ok.ensures.stays.kept.objects ∙ told)
 
 pub plan_based-requires-clause-based : goal.plan_based-requires-clause-based
 plan_based-requires-clause-based g c = λ objects told.
     base_is_kept c.args.state.now objects c.args.pushed c.in-At.base
     (found_at objects (base_of (library c.args.state.now 0 objects) c.args.pushed) c.in-Ok.found (found.At c.in-At.base) c.in-At.is
-    (c.in-Ok.ensures.value (library c.args.state.now 0 objects) (sym c.in-Ok.ensures.kept.kept.objects ∙ told) (sym c.slice.ensures.value)))
+    (c.in-Ok.ensures.value (library c.args.state.now 0 objects) (sym c.in-Ok.ensures.stays.kept.objects ∙ told) (sym c.slice.ensures.value)))
 
 pub returns-clause-value : goal.returns-clause-value
 returns-clause-value g c = λ objects count told.
     known_base (library c.args.state.now count objects) c.args.moment c.args.user.now c.args.pushed (base_of (library c.args.state.now count objects) c.args.pushed) c.in-At.base c.plan_based.result
     (found_at objects (base_of (library c.args.state.now count objects) c.args.pushed) c.in-Ok.found (found.At c.in-At.base) c.in-At.is
     (c.in-Ok.ensures.value (library c.args.state.now count objects) told (sym c.slice.ensures.value)))
-    (c.plan_based.ensures.value objects count (c.in-Ok.ensures.kept.kept.objects ∙ told))
+    (c.plan_based.ensures.value objects count (c.in-Ok.ensures.stays.kept.objects ∙ told))

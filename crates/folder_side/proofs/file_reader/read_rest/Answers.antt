@@ -14,8 +14,8 @@ returns-in-Ok-end_file-clause-value g c = λ c' bytes t a h.
 
 pub loop-place-preserved : goal.loop-place-preserved
 loop-place-preserved g c = record {
-  told = c.in-Ok.ensures.kept.0 ∙ c.loop-place.invariant.told;
-  spare = c.in-Ok.ensures.kept.1 ∙ c.loop-place.invariant.spare;
+  told = c.in-Ok.ensures.stays.0 ∙ c.loop-place.invariant.told;
+  spare = c.in-Ok.ensures.stays.1 ∙ c.loop-place.invariant.spare;
   faults = c.in-Ok.ensures.faults ∙ c.loop-place.invariant.faults;
   alive = ap (λ p. p.failed) c.in-Ok-take_piece.ensures.ok ∙ c.loop-place.invariant.alive;
   bound = omega (arith, c.in-Ok.ensures.bound, c.requires.fits);

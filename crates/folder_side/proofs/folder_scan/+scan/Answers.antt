@@ -14,10 +14,10 @@ scan_dir-returns-in-Err-note_if_nameless-clause-value g t c = λ c' told are.
 
 pub scan_dir-loop-item-init : goal.scan_dir-loop-item-init
 scan_dir-loop-item-init g t c = record {
-  told = c.in-Ok.ensures.kept.0;
-  spare = c.in-Ok.ensures.kept.1;
+  told = c.in-Ok.ensures.stays.0;
+  spare = c.in-Ok.ensures.stays.1;
   faults = c.in-Ok.ensures.faults;
-  few = subst (λ m. map.len m ≤ MAX_PATHS) (sym c.in-Ok-note_if_nameless.ensures.kept) c.requires.few;
+  few = subst (λ m. map.len m ≤ MAX_PATHS) (sym c.in-Ok-note_if_nameless.ensures.stays) c.requires.few;
   folder = c.in-Ok.ensures.formed;
   items = λ c' told. c.slice-item-items.ensures.value ∙ dir_items c' c.args.dir.now c.in-Ok.listing (c.in-Ok.ensures.listed c' told);
   goes = λ c' told are.
@@ -33,8 +33,8 @@ scan_dir-returns-in-Err-scan_item-clause-value g t c = λ c' told are.
 
 pub scan_dir-loop-item-preserved : goal.scan_dir-loop-item-preserved
 scan_dir-loop-item-preserved g t c = record {
-  told = c.in-Ok-scan_item.ensures.kept.0 ∙ c.loop-item.invariant.told;
-  spare = c.in-Ok-scan_item.ensures.kept.1 ∙ c.loop-item.invariant.spare;
+  told = c.in-Ok-scan_item.ensures.stays.0 ∙ c.loop-item.invariant.told;
+  spare = c.in-Ok-scan_item.ensures.stays.1 ∙ c.loop-item.invariant.spare;
   faults = c.in-Ok-scan_item.ensures.faults ∙ c.loop-item.invariant.faults;
   few = c.in-Ok-scan_item.ensures.few;
   folder = c.loop-item.invariant.folder;

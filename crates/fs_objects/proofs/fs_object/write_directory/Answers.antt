@@ -24,12 +24,12 @@ use Rattle.fs_objects.proofs.fs_object.write_directory.Goals as goal
 abbrev HasDistinctNames : List Dirent → Type 0
 HasDistinctNames entries = IsDistinct bytes_eq (names_of entries)
 
-pub returns-in_err-value-clause-kept : goal.returns-in_err-value-clause-kept
-returns-in_err-value-clause-kept c =
+pub returns-in_err-value-clause-stays : goal.returns-in_err-value-clause-stays
+returns-in_err-value-clause-stays c =
     in_written_order-permutes c.args.directory.now (subst HasDistinctNames c.directory.view_is c.directory.invariant)
 
-pub returns-clause-kept : goal.returns-clause-kept
-returns-clause-kept c =
+pub returns-clause-stays : goal.returns-clause-stays
+returns-clause-stays c =
     in_written_order-permutes c.args.directory.now (subst HasDistinctNames c.directory.view_is c.directory.invariant)
 
 pub returns-clause-value : goal.returns-clause-value

@@ -31,15 +31,15 @@ returns-in-Err-add_token-clause-shown g c = λ standing there.
       opens.2,
       refuses_token g.G.S.Shelf.contents g.G.S.Shelf.faults c.in-Ok.depot c.add_token.new.self opens.0 c.args.token.now c.in-Err-add_token.fault _
           c.in-Ok.ensures.good c.in-Ok.ensures.settled opens.1 c.in-Err-add_token.ensures.refused c.in-Err-add_token.ensures.untouched c.in-Err-add_token.ensures.text
-          c.add_token.ensures.kept (λ held told. back.here standing held there told),
+          c.add_token.ensures.stays (λ held told. back.here standing held there told),
     )
 
 pub returns-in-Err-add_token-clause-back : goal.returns-in-Err-add_token-clause-back
 returns-in-Err-add_token-clause-back g c =
     came_back c.add_token.new.self.store.shelf (comes_back _ _ _ _ _ _ c.in-Ok.ensures.back (rw c.folder_word-in-Err-add_token.ensures.value at c.bring_back-in-Err-add_token.ensures.ok))
 
-pub returns-in-Err-add_token-clause-whole : goal.returns-in-Err-add_token-clause-whole
-returns-in-Err-add_token-clause-whole g c = λ steady standing there whole.
+pub returns-in-Err-add_token-clause-steady : goal.returns-in-Err-add_token-clause-steady
+returns-in-Err-add_token-clause-steady g c = λ steady standing there whole.
     token_whole c.in-Ok.depot.state.tokens c.args.token.now.secret c.in-Err-add_token.fault c.in-Err-add_token.ensures.refused
     (steady_count {T = ⊤} is_token_counted _ _ (Err c.in-Err-add_token.fault) (steady _) (steady _) c.in-Err-add_token.ensures.faults)
 

@@ -15,7 +15,7 @@ returns-in-Err g c = record {
       count = c.in-Err.ensures.faults;
       back = c.in-Err.ensures.back;
     }) (c.status.ensures.value ∙ ap fault_status c.fault.ensures.value) refl,
-    c.in-Err.ensures.whole,
+    c.in-Err.ensures.steady,
   );
 }
 
@@ -27,6 +27,6 @@ returns g c = record {
     λ steady standing there whole.
         let ran = c.serve_opened-status.ensures.serves.ran in
         calls_whole g.G.S.Shelf.contents g.G.S.Shelf.may_give g.G.S.Shelf.texts g.G.S.Shelf.faults (g.C.Clock.shows c.args.clock.now) c.in-Ok.depot c.serve_opened-status.new.depot ran.0 steady
-        (c.in-Ok.ensures.whole steady standing there whole) ran.1,
+        (c.in-Ok.ensures.steady steady standing there whole) ran.1,
   );
 }

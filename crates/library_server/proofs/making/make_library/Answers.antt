@@ -34,20 +34,20 @@ pub returns-in-Err-make_on-clause-back : goal.returns-in-Err-make_on-clause-back
 returns-in-Err-make_on-clause-back g c =
     came_back c.in-Err-make_on.shelf (comes_back _ _ _ _ _ _ (rw c.in-Ok-Some.field-0-is at c.in-Ok-Some.ensures.ok) c.give_back.ensures.ok)
 
-pub returns-in-Ok-None-clause-whole : goal.returns-in-Ok-None-clause-whole
-returns-in-Ok-None-clause-whole g c = λ steady standing there whole. refl
+pub returns-in-Ok-None-clause-steady : goal.returns-in-Ok-None-clause-steady
+returns-in-Ok-None-clause-steady g c = λ steady standing there whole. refl
 
-pub returns-in-Err-clause-whole : goal.returns-in-Err-clause-whole
-returns-in-Err-clause-whole g c = λ steady standing there whole. want_whole c.in-Err.failed (c.in-Err.ensures.there standing there)
+pub returns-in-Err-clause-steady : goal.returns-in-Err-clause-steady
+returns-in-Err-clause-steady g c = λ steady standing there whole. want_whole c.in-Err.failed (c.in-Err.ensures.there standing there)
 
-pub returns-in-Ok-clause-whole : goal.returns-in-Ok-clause-whole
-returns-in-Ok-clause-whole g c = λ steady standing there whole.
+pub returns-in-Ok-clause-steady : goal.returns-in-Ok-clause-steady
+returns-in-Ok-clause-steady g c = λ steady standing there whole.
     let made = (rw c.in-Ok-Some.field-0-is at c.in-Ok-Some.ensures.found) standing there in
     names_of g.G.S.Shelf.contents g.G.S.Shelf.faults c.in-Ok.depot _ (c.in-Ok.ensures.shown no_contents made.1)
     (new_names (opening_commit c.args.new.now.lib c.args.new.now.user c.args.moment).id _)
 
-pub returns-in-Err-make_on-clause-whole : goal.returns-in-Err-make_on-clause-whole
-returns-in-Err-make_on-clause-whole g c = λ steady standing there whole.
+pub returns-in-Err-make_on-clause-steady : goal.returns-in-Err-make_on-clause-steady
+returns-in-Err-make_on-clause-steady g c = λ steady standing there whole.
     let made = (rw c.in-Ok-Some.field-0-is at c.in-Ok-Some.ensures.found) standing there in
     made_whole (opening_commit c.args.new.now.lib c.args.new.now.user c.args.moment).id _ c.in-Err-make_on.fault
     (steady_count {T = ⊤} is_make_counted _ _ (Err c.in-Err-make_on.fault) (steady _) (steady _) c.in-Err-make_on.ensures.faults)

@@ -10,11 +10,11 @@ returns-in-Ok-make_library-clause-shown g c = λ absent.
     let new = (rw c.in-Ok.ensures.value at c.in-Ok-make_library.ensures.shown) Absent absent in
     (library_of (memory_library c.args.lib) c.now.result new.1, new.2, made tt refl c.now.result new.1 c.now.ensures.value refl)
 
-pub returns-in-Ok-make_library-clause-whole : goal.returns-in-Ok-make_library-clause-whole
-returns-in-Ok-make_library-clause-whole g c = λ steady absent. (rw c.in-Ok.ensures.value at c.in-Ok-make_library.ensures.whole) steady Absent absent tt
+pub returns-in-Ok-make_library-clause-steady : goal.returns-in-Ok-make_library-clause-steady
+returns-in-Ok-make_library-clause-steady g c = λ steady absent. (rw c.in-Ok.ensures.value at c.in-Ok-make_library.ensures.steady) steady Absent absent tt
 
-pub returns-clause-whole : goal.returns-clause-whole
-returns-clause-whole g c = λ steady absent. (rw c.in-Ok.ensures.value at c.in-Err-make_library.ensures.whole) steady Absent absent tt
+pub returns-clause-steady : goal.returns-clause-steady
+returns-clause-steady g c = λ steady absent. (rw c.in-Ok.ensures.value at c.in-Err-make_library.ensures.steady) steady Absent absent tt
 
 pub returns-in-Ok-make_library-clause-given : goal.returns-in-Ok-make_library-clause-given
 returns-in-Ok-make_library-clause-given g c =

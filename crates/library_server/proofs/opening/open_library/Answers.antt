@@ -43,35 +43,35 @@ returns-in-Err-clause-shown g c = λ standing there. c.in-Err.ensures.err _ _ �
 
 pub returns-in-Ok-clause-given : goal.returns-in-Ok-clause-given
 returns-in-Ok-clause-given g c =
-    opened_state c.args.place.now c.args.lib _ _ (rw c.in-Ok-Some.field-0-is at (rw c.folder_word-folder.ensures.value at c.in-Ok-Some.ensures.handed)) c.in-Ok.ensures.given c.in-Ok.ensures.named
+    opened_state c.args.location.now c.args.lib _ _ (rw c.in-Ok-Some.field-0-is at (rw c.folder_word-folder.ensures.value at c.in-Ok-Some.ensures.handed)) c.in-Ok.ensures.given c.in-Ok.ensures.named
 
 pub returns-in-Err-open_on-clause-cause : goal.returns-in-Err-open_on-clause-cause
 returns-in-Err-open_on-clause-cause g c =
     unstarted_before c.args.lib c.in-Err-open_on.why (rw c.in-Ok-Some.field-0-is at (rw c.folder_word-folder.ensures.value at c.in-Ok-Some.ensures.handed)) c.in-Err-open_on.ensures.cause
 
 pub returns-in-Ok-None-clause-given : goal.returns-in-Ok-None-clause-given
-returns-in-Ok-None-clause-given g c = absent_given c.args.place.now c.args.lib _ c.open_absent.result (c.in-Ok-None.ensures.gives _ _) c.open_absent.ensures.given
+returns-in-Ok-None-clause-given g c = absent_given c.args.location.now c.args.lib _ c.open_absent.result (c.in-Ok-None.ensures.gives _ _) c.open_absent.ensures.given
 
 pub returns-in-Ok-None-clause-cause : goal.returns-in-Ok-None-clause-cause
-returns-in-Ok-None-clause-cause g c = absent_cause c.args.place.now c.args.lib _ c.open_absent.result (c.in-Ok-None.ensures.gives _ _) c.open_absent.ensures.cause
+returns-in-Ok-None-clause-cause g c = absent_cause c.args.location.now c.args.lib _ c.open_absent.result (c.in-Ok-None.ensures.gives _ _) c.open_absent.ensures.cause
 
-pub returns-in-Ok-None-clause-whole : goal.returns-in-Ok-None-clause-whole
-returns-in-Ok-None-clause-whole g c = λ steady standing there whole.
+pub returns-in-Ok-None-clause-steady : goal.returns-in-Ok-None-clause-steady
+returns-in-Ok-None-clause-steady g c = λ steady standing there whole.
     let absent = (rw c.in-Ok-None.field-0-is at (rw c.folder_word-folder.ensures.value at c.in-Ok-None.ensures.found)) standing there in
-    c.open_absent.ensures.whole steady ((rw c.in-Ok-None.field-0-is at c.in-Ok-None.ensures.ok) _ _ ∙ there ∙ ap Some absent)
+    c.open_absent.ensures.steady steady ((rw c.in-Ok-None.field-0-is at c.in-Ok-None.ensures.ok) _ _ ∙ there ∙ ap Some absent)
 
-pub returns-in-Err-clause-whole : goal.returns-in-Err-clause-whole
-returns-in-Err-clause-whole g c = λ steady standing there whole.
+pub returns-in-Err-clause-steady : goal.returns-in-Err-clause-steady
+returns-in-Err-clause-steady g c = λ steady standing there whole.
     want_whole c.in-Err.failed ((rw c.folder_word-folder.ensures.value at c.in-Err.ensures.there) standing there (whole_in standing whole))
 
-pub returns-in-Ok-clause-whole : goal.returns-in-Ok-clause-whole
-returns-in-Ok-clause-whole g c = λ steady standing there whole.
+pub returns-in-Ok-clause-steady : goal.returns-in-Ok-clause-steady
+returns-in-Ok-clause-steady g c = λ steady standing there whole.
     let found = (rw c.in-Ok-Some.field-0-is at (rw c.folder_word-folder.ensures.value at c.in-Ok-Some.ensures.found)) standing there in
     let opens = c.in-Ok.ensures.shown found.0 found.2 in
     names_of g.G.S.Shelf.contents g.G.S.Shelf.faults c.in-Ok.depot opens.0 opens.1 (opened_names c.args.lib found.0 opens.0 opens.2 (subst IsWhole found.1 whole))
 
-pub returns-in-Err-open_on-clause-whole : goal.returns-in-Err-open_on-clause-whole
-returns-in-Err-open_on-clause-whole g c = λ steady standing there whole.
+pub returns-in-Err-open_on-clause-steady : goal.returns-in-Err-open_on-clause-steady
+returns-in-Err-open_on-clause-steady g c = λ steady standing there whole.
     let found = (rw c.in-Ok-Some.field-0-is at (rw c.folder_word-folder.ensures.value at c.in-Ok-Some.ensures.found)) standing there in
     started_whole c.args.lib found.0.objects found.0.status c.in-Err-open_on.why (subst IsWhole found.1 whole)
     (steady_count {T = ⊤} is_unstarted_counted _ _ (Err c.in-Err-open_on.why) (steady _) (steady _) c.in-Err-open_on.ensures.faults)

@@ -10,8 +10,8 @@ use Rattle.library_server.proofs.opening.open_on.Goals as goal
 
 pub returns-in-Ok-start_named-clause-shown : goal.returns-in-Ok-start_named-clause-shown
 returns-in-Ok-start_named-clause-shown g c = λ held there.
-    let objects = c.in-Ok-check_named.ensures.kept.objects ∙ (c.in-Ok.ensures.ok.objects ∙ ap (option_map (λ (h : Contents). h.objects)) there) in
-    let status = ap (option_map (λ (h : Contents). h.status)) (c.in-Ok-check_named.ensures.kept.shelf ∙ (c.in-Ok.ensures.ok.shelf ∙ there)) in
+    let objects = c.in-Ok-check_named.ensures.stays.objects ∙ (c.in-Ok.ensures.ok.objects ∙ ap (option_map (λ (h : Contents). h.objects)) there) in
+    let status = ap (option_map (λ (h : Contents). h.status)) (c.in-Ok-check_named.ensures.stays.shelf ∙ (c.in-Ok.ensures.ok.shelf ∙ there)) in
     let opens = c.in-Ok-start_named.ensures.shown held.objects objects in
     let count = g.S.Shelf.faults c.check_named.new.store.shelf in (
       opened held.objects count (library opens.found count held.objects),
@@ -30,16 +30,16 @@ returns-in-Ok-start_named-clause-shown g c = λ held there.
 
 pub returns-in-Ok-start_named-clause-refused : goal.returns-in-Ok-start_named-clause-refused
 returns-in-Ok-start_named-clause-refused g c = λ held there.
-    let objects = c.in-Ok-check_named.ensures.kept.objects ∙ (c.in-Ok.ensures.ok.objects ∙ ap (option_map (λ (h : Contents). h.objects)) there) in
+    let objects = c.in-Ok-check_named.ensures.stays.objects ∙ (c.in-Ok.ensures.ok.objects ∙ ap (option_map (λ (h : Contents). h.objects)) there) in
     let before = ap (option_map (λ (h : Contents). h.status)) (c.in-Ok.ensures.ok.shelf ∙ there) in
-    let status = ap (option_map (λ (h : Contents). h.status)) (c.in-Ok-check_named.ensures.kept.shelf ∙ (c.in-Ok.ensures.ok.shelf ∙ there)) in
+    let status = ap (option_map (λ (h : Contents). h.status)) (c.in-Ok-check_named.ensures.stays.shelf ∙ (c.in-Ok.ensures.ok.shelf ∙ there)) in
     c.in-Ok-start_named.ensures.refused held.objects held.status objects status (c.in-Ok-check_named.ensures.named held.status before)
 
 pub returns-in-Err-start_named-clause-refused : goal.returns-in-Err-start_named-clause-refused
 returns-in-Err-start_named-clause-refused g c = λ held there.
-    let objects = c.in-Ok-check_named.ensures.kept.objects ∙ (c.in-Ok.ensures.ok.objects ∙ ap (option_map (λ (h : Contents). h.objects)) there) in
+    let objects = c.in-Ok-check_named.ensures.stays.objects ∙ (c.in-Ok.ensures.ok.objects ∙ ap (option_map (λ (h : Contents). h.objects)) there) in
     let before = ap (option_map (λ (h : Contents). h.status)) (c.in-Ok.ensures.ok.shelf ∙ there) in
-    let status = ap (option_map (λ (h : Contents). h.status)) (c.in-Ok-check_named.ensures.kept.shelf ∙ (c.in-Ok.ensures.ok.shelf ∙ there)) in
+    let status = ap (option_map (λ (h : Contents). h.status)) (c.in-Ok-check_named.ensures.stays.shelf ∙ (c.in-Ok.ensures.ok.shelf ∙ there)) in
     c.in-Err-start_named.ensures.refused held.objects held.status objects status (c.in-Ok-check_named.ensures.named held.status before)
 
 pub returns-in-Err-check_named-clause-refused : goal.returns-in-Err-check_named-clause-refused
@@ -51,15 +51,15 @@ returns-in-Err-clause-left g c = λ held there. (held, c.in-Err.ensures.err ∙ 
 
 pub returns-in-Err-check_named-clause-left : goal.returns-in-Err-check_named-clause-left
 returns-in-Err-check_named-clause-left g c = λ held there.
-    rw c.end.ensures.value (left_checked c.in-Err-check_named.why held _ (c.in-Err-check_named.ensures.kept.shelf ∙ (c.in-Ok.ensures.ok.shelf ∙ there)))
+    rw c.end.ensures.value (left_checked c.in-Err-check_named.why held _ (c.in-Err-check_named.ensures.stays.shelf ∙ (c.in-Ok.ensures.ok.shelf ∙ there)))
 
 pub returns-in-Err-start_named-clause-left : goal.returns-in-Err-start_named-clause-left
 returns-in-Err-start_named-clause-left g c = λ held there.
-    let objects = c.in-Ok-check_named.ensures.kept.objects ∙ (c.in-Ok.ensures.ok.objects ∙ ap (option_map (λ (h : Contents). h.objects)) there) in
+    let objects = c.in-Ok-check_named.ensures.stays.objects ∙ (c.in-Ok.ensures.ok.objects ∙ ap (option_map (λ (h : Contents). h.objects)) there) in
     let before = ap (option_map (λ (h : Contents). h.status)) (c.in-Ok.ensures.ok.shelf ∙ there) in
-    let status = ap (option_map (λ (h : Contents). h.status)) (c.in-Ok-check_named.ensures.kept.shelf ∙ (c.in-Ok.ensures.ok.shelf ∙ there)) in
+    let status = ap (option_map (λ (h : Contents). h.status)) (c.in-Ok-check_named.ensures.stays.shelf ∙ (c.in-Ok.ensures.ok.shelf ∙ there)) in
     rw c.end-in-Err-start_named.ensures.value (left_unstarted g.S.Shelf.contents c.check_named.new.store c.in-Err-start_named.store held c.in-Err-start_named.why
-    (c.in-Err-start_named.ensures.left held.status status (c.in-Ok-check_named.ensures.named held.status before)) status (c.in-Err-start_named.ensures.kept ∙ objects))
+    (c.in-Err-start_named.ensures.left held.status status (c.in-Ok-check_named.ensures.named held.status before)) status (c.in-Err-start_named.ensures.stays ∙ objects))
 
 pub returns-in-Ok-start_named-clause-given : goal.returns-in-Ok-start_named-clause-given
 returns-in-Ok-start_named-clause-given g c = next_before _ (reads_then c.in-Ok.ensures.shelf c.in-Ok-check_named.ensures.reads).gives c.in-Ok-start_named.ensures.given

@@ -17,8 +17,8 @@ pub returns-then-ne-clause-left : goal.returns-then-ne-clause-left
 returns-then-ne-clause-left g c = λ status at is.
     no_other g.S.Shelf.contents g.S.Shelf.faults _ _ _ c.args.lib.now status c.in-Ok.ensures.value at is (λ same. is_other _ _ c.if-ne.ensures (c.lib.ensures.value ∙ same))
 
-pub returns-then-ne-clause-kept : goal.returns-then-ne-clause-kept
-returns-then-ne-clause-kept g c = rw c.close.ensures.value c.in-Ok.ensures.value.objects
+pub returns-then-ne-clause-stays : goal.returns-then-ne-clause-stays
+returns-then-ne-clause-stays g c = rw c.close.ensures.value c.in-Ok.ensures.value.objects
 
 pub returns-then-ne-clause-cause : goal.returns-then-ne-clause-cause
 returns-then-ne-clause-cause g c = gives_other (g.S.Shelf.may_give c.args.store.shelf) c.args.lib.now _ c.in-Ok.ensures.given (λ same. is_other _ _ c.if-ne.ensures (c.lib.ensures.value ∙ same))

@@ -9,10 +9,10 @@ returns g c = record {
     record {
       added = c.add_token-added.result;
       told = c.add_token-added.ensures.shown;
-      is = added_so _ c.args.place.now c.args.lib (g.C.Clock.shows c.args.clock.now) c.args.new.now _ _ c.add_token-added.result c.add_token-added.ensures.given c.add_token-added.ensures.cause c.add_token-added.ensures.faults;
+      is = added_so _ c.args.location.now c.args.lib (g.C.Clock.shows c.args.clock.now) c.args.new.now _ _ c.add_token-added.result c.add_token-added.ensures.given c.add_token-added.ensures.cause c.add_token-added.ensures.faults;
       back = c.add_token-added.ensures.back;
       prints = rw c.added_line.ensures.value at c.print_line.ensures.prints;
     },
-    λ steady standing there whole. added_whole c.add_token-added.result (c.add_token-added.ensures.whole steady standing there whole),
+    λ steady standing there whole. added_whole c.add_token-added.result (c.add_token-added.ensures.steady steady standing there whole),
   );
 }

@@ -1,6 +1,6 @@
 -- A command makes a library, adds a token, serves, or prints its text.
 use Rattle.std.proofs.Common.{refl, ap}
-use Rattle.server_words.specs.Spelling.{place_text}
+use Rattle.server_words.specs.Spelling.{location_text}
 use Rattle.library_server.specs.Runs.{adds, creates, help_printed, line_printed, printed_of, prints, serves, version_printed}
 use Rattle.server_words.specs.declared.line.Line.TheVariants as line
 use Rattle.library_server.proofs.RunLemmas.{printed_as}
@@ -8,30 +8,30 @@ use Rattle.library_server.proofs.running.perform.Goals as goal
 
 pub returns-in-Create : goal.returns-in-Create
 returns-in-Create g c = record {
-  runs = creates c.in-Create.place c.in-Create.lib c.in-Create.name c.in-Create.user c.in-Create.secret c.in-Create.is c.create_printed.ensures.value.0 refl;
-  whole = λ steady all.
-      let whole = all (place_text c.in-Create.place) c.in-Create.lib in (
-        creates c.in-Create.place c.in-Create.lib c.in-Create.name c.in-Create.user c.in-Create.secret c.in-Create.is c.create_printed.ensures.value.0 refl,
+  runs = creates c.in-Create.location c.in-Create.lib c.in-Create.name c.in-Create.user c.in-Create.secret c.in-Create.is c.create_printed.ensures.value.0 refl;
+  steady = λ steady all.
+      let whole = all (location_text c.in-Create.location) c.in-Create.lib in (
+        creates c.in-Create.location c.in-Create.lib c.in-Create.name c.in-Create.user c.in-Create.secret c.in-Create.is c.create_printed.ensures.value.0 refl,
         c.create_printed.ensures.value.1 steady whole.0 whole.1 whole.2,
       );
 }
 
 pub returns-in-Token : goal.returns-in-Token
 returns-in-Token g c = record {
-  runs = adds c.in-Token.place c.in-Token.lib (record { user = c.in-Token.user; secret = c.in-Token.secret; right = c.in-Token.right }) c.in-Token.is c.add_printed.ensures.value.0 refl;
-  whole = λ steady all.
-      let whole = all (place_text c.in-Token.place) c.in-Token.lib in (
-        adds c.in-Token.place c.in-Token.lib (record { user = c.in-Token.user; secret = c.in-Token.secret; right = c.in-Token.right }) c.in-Token.is c.add_printed.ensures.value.0 refl,
+  runs = adds c.in-Token.location c.in-Token.lib (record { user = c.in-Token.user; secret = c.in-Token.secret; right = c.in-Token.right }) c.in-Token.is c.add_printed.ensures.value.0 refl;
+  steady = λ steady all.
+      let whole = all (location_text c.in-Token.location) c.in-Token.lib in (
+        adds c.in-Token.location c.in-Token.lib (record { user = c.in-Token.user; secret = c.in-Token.secret; right = c.in-Token.right }) c.in-Token.is c.add_printed.ensures.value.0 refl,
         c.add_printed.ensures.value.1 steady whole.0 whole.1 whole.2,
       );
 }
 
 pub returns-in-Inetd : goal.returns-in-Inetd
 returns-in-Inetd g c = record {
-  runs = serves c.in-Inetd.place c.in-Inetd.lib c.in-Inetd.is c.inetd.ensures.serves.0 refl;
-  whole = λ steady all.
-      let whole = all (place_text c.in-Inetd.place) c.in-Inetd.lib in (
-        serves c.in-Inetd.place c.in-Inetd.lib c.in-Inetd.is c.inetd.ensures.serves.0 refl,
+  runs = serves c.in-Inetd.location c.in-Inetd.lib c.in-Inetd.is c.inetd.ensures.serves.0 refl;
+  steady = λ steady all.
+      let whole = all (location_text c.in-Inetd.location) c.in-Inetd.lib in (
+        serves c.in-Inetd.location c.in-Inetd.lib c.in-Inetd.is c.inetd.ensures.serves.0 refl,
         c.inetd.ensures.serves.1 steady whole.0 whole.1 whole.2,
       );
 }
@@ -41,7 +41,7 @@ returns-in-Help g c =
     let put = printed_as help_printed _ _ _ _ c.help_text.ensures.value c.print.ensures.prints in
     record {
       runs = prints help_printed (ap printed_of c.in-Help.is) put refl refl;
-      whole = λ steady all. (prints help_printed (ap printed_of c.in-Help.is) put refl refl, tt);
+      steady = λ steady all. (prints help_printed (ap printed_of c.in-Help.is) put refl refl, tt);
     }
 
 pub returns-in-Version : goal.returns-in-Version
@@ -49,11 +49,11 @@ returns-in-Version g c =
     let put = printed_as version_printed _ _ _ _ c.version_text.ensures.value c.print-in-Version.ensures.prints in
     record {
       runs = prints version_printed (ap printed_of c.in-Version.is) put refl refl;
-      whole = λ steady all. (prints version_printed (ap printed_of c.in-Version.is) put refl refl, tt);
+      steady = λ steady all. (prints version_printed (ap printed_of c.in-Version.is) put refl refl, tt);
     }
 
 pub returns-in-Usage : goal.returns-in-Usage
 returns-in-Usage g c = record {
   runs = prints (line_printed line.Usage) (ap printed_of c.in-Usage.is) c.print_line.ensures.prints refl refl;
-  whole = λ steady all. (prints (line_printed line.Usage) (ap printed_of c.in-Usage.is) c.print_line.ensures.prints refl refl, tt);
+  steady = λ steady all. (prints (line_printed line.Usage) (ap printed_of c.in-Usage.is) c.print_line.ensures.prints refl refl, tt);
 }

@@ -6,13 +6,13 @@ use Rattle.library_server.proofs.running.run_in_memory.Goals as goal
 
 pub returns : goal.returns
 returns g c =
-    let done = (rw c.new-libraries.ensures.value at (rw c.new-libraries.ensures.faults at c.run.ensures.whole)) (λ shelf. refl) (λ folder lib. (Absent, refl, tt)) in
+    let done = (rw c.new-libraries.ensures.value at (rw c.new-libraries.ensures.faults at c.run.ensures.steady)) (λ shelf. refl) (λ folder lib. (Absent, refl, tt)) in
     record {
       runs = (
         record { stands = standings c.run.new.libraries.libraries.items; faults = c.run.new.libraries.faults },
         done.0,
       );
-      whole = (
+      steady = (
         record { stands = standings c.run.new.libraries.libraries.items; faults = c.run.new.libraries.faults },
         done.0,
         done.1,

@@ -2,5 +2,5 @@
 use Rattle.library_server.proofs.WholeLemmas.{answers_whole}
 use Rattle.library_server.proofs.serving.answer.Goals as goal
 
-pub returns-clause-whole : goal.returns-clause-whole
-returns-clause-whole g c = answers_whole g.S.Shelf.contents g.S.Shelf.faults c.args.depot.now c.answer.new.self c.args.call.now c.args.moment c.answer.result c.answer.ensures.shown c.answer.ensures.damaged c.answer.ensures.faults
+pub returns-clause-steady : goal.returns-clause-steady
+returns-clause-steady g c = answers_whole g.S.Shelf.contents g.S.Shelf.faults c.args.depot.now c.answer.new.self c.args.call.now c.args.moment c.answer.result c.answer.ensures.shown c.answer.ensures.damaged c.answer.ensures.faults

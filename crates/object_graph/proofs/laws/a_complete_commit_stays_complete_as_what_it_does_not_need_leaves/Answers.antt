@@ -6,5 +6,5 @@ use Rattle.object_graph.proofs.laws.a_complete_commit_stays_complete_as_what_it_
 pub returns-clause-ok : goal.returns-clause-ok
 returns-clause-ok c = λ old new id complete agree. ap (λ (w : Walk). w.fault) (commit_needed old new id agree) ∙ complete
 
-pub returns-clause-kept : goal.returns-clause-kept
-returns-clause-kept c = λ old new id agree. commit_needed old new id agree
+pub returns-clause-stays : goal.returns-clause-stays
+returns-clause-stays c = λ old new id agree. commit_needed old new id agree

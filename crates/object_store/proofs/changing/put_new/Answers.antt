@@ -15,7 +15,7 @@ returns-in-Ok-put-clause-ready g c =
 
 pub returns-in-Err-put-clause-ready : goal.returns-in-Err-put-clause-ready
 returns-in-Err-put-clause-ready g c =
-    let left = c.remove.ensures.kept ∙ ap (λ m. map.remove m c.args.key.now) c.in-Ok.ensures.ok
+    let left = c.remove.ensures.stays ∙ ap (λ m. map.remove m c.args.key.now) c.in-Ok.ensures.ok
     ∙ put_back c.args.index.now c.args.key.now (length c.args.bytes.now) c.requires.absent in
     rw left
     (ready-failed c.in-Err-put.failed (g.S.Shelf.contents c.args.shelf.now) (g.S.Shelf.contents c.put.new.self) c.args.index.now c.args.key.now c.args.bytes.now
@@ -23,7 +23,7 @@ returns-in-Err-put-clause-ready g c =
 
 pub returns-in-Err-put-clause-value : goal.returns-in-Err-put-clause-value
 returns-in-Err-put-clause-value g c =
-    let left = c.remove.ensures.kept ∙ ap (λ m. map.remove m c.args.key.now) c.in-Ok.ensures.ok
+    let left = c.remove.ensures.stays ∙ ap (λ m. map.remove m c.args.key.now) c.in-Ok.ensures.ok
     ∙ put_back c.args.index.now c.args.key.now (length c.args.bytes.now) c.requires.absent in
     rw c.fault_of.ensures.value
     (failed-both c.in-Err-put.failed c.args.index.now (map.insert c.args.index.now c.args.key.now (length c.args.bytes.now)) c.remove.new.self

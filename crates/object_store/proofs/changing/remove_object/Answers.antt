@@ -6,12 +6,12 @@ use Rattle.object_store.proofs.changing.remove_object.Goals as goal
 
 pub returns-in-Ok-clause-ready : goal.returns-in-Ok-clause-ready
 returns-in-Ok-clause-ready g c =
-    rw c.remove-in-Ok.ensures.kept
+    rw c.remove-in-Ok.ensures.stays
     (ready-kept (removed_known (g.S.Shelf.contents c.args.shelf.now) (Object c.args.key.now)) (g.S.Shelf.contents c.remove.new.self) _
     c.in-Ok.ensures.ok (ready-removed (g.S.Shelf.contents c.args.shelf.now) c.args.index.now c.args.key.now c.requires.ready))
 
 pub returns-in-Err-Shelf-clause-ready : goal.returns-in-Err-Shelf-clause-ready
 returns-in-Err-Shelf-clause-ready g c =
     let change = rw c.in-Err-Shelf.field-0-is at c.in-Err-Shelf.ensures.ok in
-    rw c.remove-in-Err-Shelf.ensures.kept
+    rw c.remove-in-Err-Shelf.ensures.stays
     (ready-given_up (g.S.Shelf.contents c.args.shelf.now) (g.S.Shelf.contents c.remove.new.self) c.args.index.now c.args.key.now change c.requires.ready)

@@ -6,6 +6,6 @@ pub returns : goal.returns
 returns c = record {
   absent = names-empty;
   ok = names-insert;
-  kept = names-remove;
+  stays = names-remove;
   value = undamaged;
 }

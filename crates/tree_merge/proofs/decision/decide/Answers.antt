@@ -63,7 +63,7 @@ loop-path-preserved g c =
     let one = popped_len c.loop-path.joined c.pop_last.new.self (c.in-Some.path, c.in-Some.three) c.in-Some.ensures.found in
     let grown = c.in-Ok.ensures.bound in
     record {
-      reads = reads_then tt (Ok tt) inv.reads c.in-Ok.ensures.kept;
+      reads = reads_then tt (Ok tt) inv.reads c.in-Ok.ensures.stays;
       left = left_more c.loop-path.joined c.pop_last.new.self c.args.joined c.in-Some.path popped inv.left;
       leavers = omega (arith, grown.leavers, inv.leavers);
       known = omega (arith, grown.known, inv.known);

@@ -14,7 +14,7 @@ returns-in-Ok-clause-value c =
       needed = c.in-Ok.ensures.needed;
       dirs = c.in-Ok.ensures.dirs;
       zeros = c.in-Ok.ensures.zeros;
-      names = c.in-Ok.ensures.kept;
+      names = c.in-Ok.ensures.stays;
       conflicts = refl;
     })
 

@@ -4,8 +4,8 @@ use Rattle.tree_merge.proofs.merging.read_sides.Goals as goal
 
 pub returns-in-Ok-join-clause-value : goal.returns-in-Ok-join-clause-value
 returns-in-Ok-join-clause-value g c objects told complete =
-    let told_base = told_after c.in_ok-base.ensures.kept told in
-    let told_head = told_after c.in-Ok.ensures.kept told_base in (
+    let told_base = told_after c.in_ok-base.ensures.stays told in
+    let told_head = told_after c.in-Ok.ensures.stays told_base in (
       refl,
       record {
         base_entries = c.in_ok-base.base;

@@ -69,14 +69,14 @@ loop-path-preserved c =
           sound (inv.built sound) added.split there popped
           (above_popped c.loop-path.entries c.pop_last.new.self (c.in-Some.path, c.in-Some.entry) c.in-Some.ensures.found)
           (below_popped c.loop-path.entries c.pop_last.new.self (c.in-Some.path, c.in-Some.entry) c.in-Some.ensures.found)
-          added.made c.in-Ok.ensures.kept added.told free added.listed;
+          added.made c.in-Ok.ensures.stays added.told free added.listed;
       dirs = λ sound.
           dirs_more c.drop_root.new.entries c.loop-path.entries (λ d. held_at (map.get c.loop-path.held d)) (λ d. held_at (map.get c.add_entry.new.held d))
           c.loop-path.made c.add_entry.new.made c.in-Some.path added.dir added.name c.in-Some.entry added.dirent
           sound (inv.built sound) (inv.dirs sound) added.split there
           (above_popped c.loop-path.entries c.pop_last.new.self (c.in-Some.path, c.in-Some.entry) c.in-Some.ensures.found)
           (before_child c.in-Some.path)
-          added.made c.in-Ok.ensures.kept (c.in-Ok.ensures.named inv.named) added.told added.listed;
+          added.made c.in-Ok.ensures.stays (c.in-Ok.ensures.named inv.named) added.told added.listed;
     }
 
 gone_all : (m : map.FinMap path_cmp Entry) → m ≡ map.empty → (q : PathV) → map.get m q ≡ None
@@ -92,7 +92,7 @@ returns-in-Ok-make_directory-clause-value c sound objects keeps path =
     let left = same_sound c.drop_root.new.entries c.args.entries whole sound in
     sym (whole path)
     ∙ built_all c.drop_root.new.entries c.loop-path.entries (λ d. held_at (map.get c.loop-path.held d)) c.loop-path.made c.make_directory.new.made c.in-Ok-make_directory.root left
-    (c.loop-path.invariant.built left) (gone_all c.loop-path.entries c.in_default.ensures.absent) c.in-Ok-make_directory.ensures.kept
+    (c.loop-path.invariant.built left) (gone_all c.loop-path.entries c.in_default.ensures.absent) c.in-Ok-make_directory.ensures.stays
     (top_lists c.make_directory.new.made c.in-Ok-make_directory.root c.loop-path.held c.root-root.result c.remove-top.result c.root-root.ensures.value c.remove-top.ensures.value c.in-Ok-make_directory.ensures.value)
     objects keeps path
 
@@ -100,19 +100,19 @@ pub returns-in-Ok-make_directory-clause-needed : goal.returns-in-Ok-make_directo
 returns-in-Ok-make_directory-clause-needed c sound id has objects keeps =
     let left = same_sound c.drop_root.new.entries c.args.entries (without_root c.args.entries c.drop_root.new.entries c.drop_root.ensures.ok sound.no_root) sound in
     needed_all c.drop_root.new.entries c.loop-path.entries (λ d. held_at (map.get c.loop-path.held d)) c.loop-path.made c.make_directory.new.made c.in-Ok-make_directory.root left
-    (c.loop-path.invariant.built left) (gone_all c.loop-path.entries c.in_default.ensures.absent) c.in-Ok-make_directory.ensures.kept
+    (c.loop-path.invariant.built left) (gone_all c.loop-path.entries c.in_default.ensures.absent) c.in-Ok-make_directory.ensures.stays
     (top_lists c.make_directory.new.made c.in-Ok-make_directory.root c.loop-path.held c.root-root.result c.remove-top.result c.root-root.ensures.value c.remove-top.ensures.value c.in-Ok-make_directory.ensures.value)
     c.in-Ok-make_directory.ensures.told id has objects keeps
 
-pub returns-in-Ok-make_directory-clause-kept : goal.returns-in-Ok-make_directory-clause-kept
-returns-in-Ok-make_directory-clause-kept c = c.in-Ok-make_directory.ensures.named c.loop-path.invariant.named
+pub returns-in-Ok-make_directory-clause-stays : goal.returns-in-Ok-make_directory-clause-stays
+returns-in-Ok-make_directory-clause-stays c = c.in-Ok-make_directory.ensures.named c.loop-path.invariant.named
 
 pub returns-in-Ok-make_directory-clause-dirs : goal.returns-in-Ok-make_directory-clause-dirs
 returns-in-Ok-make_directory-clause-dirs c sound =
     let whole = without_root c.args.entries c.drop_root.new.entries c.drop_root.ensures.ok sound.no_root in
     let left = same_sound c.drop_root.new.entries c.args.entries whole sound in
     let all = dirs_all c.drop_root.new.entries c.loop-path.entries (λ d. held_at (map.get c.loop-path.held d)) c.loop-path.made c.make_directory.new.made c.in-Ok-make_directory.root
-    (c.loop-path.invariant.built left) (c.loop-path.invariant.dirs left) (gone_all c.loop-path.entries c.in_default.ensures.absent) c.in-Ok-make_directory.ensures.kept
+    (c.loop-path.invariant.built left) (c.loop-path.invariant.dirs left) (gone_all c.loop-path.entries c.in_default.ensures.absent) c.in-Ok-make_directory.ensures.stays
     (c.in-Ok-make_directory.ensures.named c.loop-path.invariant.named)
     (top_lists c.make_directory.new.made c.in-Ok-make_directory.root c.loop-path.held c.root-root.result c.remove-top.result c.root-root.ensures.value c.remove-top.ensures.value c.in-Ok-make_directory.ensures.value)
     c.in-Ok-make_directory.ensures.told in

@@ -33,8 +33,8 @@ returns-in-Ok-clause-value c = record {
   some = some_id c.is_nil.result c.of-id.result c.if-is_nil.false c.is_nil.ensures.value.1;
 }
 
-pub returns-in-Ok-clause-kept : goal.returns-in-Ok-clause-kept
-returns-in-Ok-clause-kept c =
+pub returns-in-Ok-clause-stays : goal.returns-in-Ok-clause-stays
+returns-in-Ok-clause-stays c =
     made_kept c.args.made.now c.keep.new.made (record { kind = Fs; id = c.of-id.result }) c.args.bytes c.in-Ok.ensures.ok (sym c.in-None.ensures.value)
 
 pub returns-in-Ok-clause-told : goal.returns-in-Ok-clause-told

@@ -17,24 +17,24 @@ is_stored-requires g c = record { own = c.loop-key.invariant.names c.in-Some.key
 
 pub loop-key-smaller-then-is_stored : goal.loop-key-smaller-then-is_stored
 loop-key-smaller-then-is_stored g c =
-    removed_len c.loop-key.made c.remove.new.self c.in-Some.key c.in-Some-remove.bytes c.remove.ensures.kept (sym c.in-Some-remove.ensures.value)
+    removed_len c.loop-key.made c.remove.new.self c.in-Some.key c.in-Some-remove.bytes c.remove.ensures.stays (sym c.in-Some-remove.ensures.value)
 
 pub loop-key-smaller : goal.loop-key-smaller
 loop-key-smaller g c =
-    removed_len c.loop-key.made c.remove.new.self c.in-Some.key c.in-Some-remove.bytes c.remove.ensures.kept (sym c.in-Some-remove.ensures.value)
+    removed_len c.loop-key.made c.remove.new.self c.in-Some.key c.in-Some-remove.bytes c.remove.ensures.stays (sym c.in-Some-remove.ensures.value)
 
 pub loop-key-preserved-then-is_stored : goal.loop-key-preserved-then-is_stored
 loop-key-preserved-then-is_stored g c =
     let inv = c.loop-key.invariant in
     let there = sym c.in-Some-remove.ensures.value in
     record {
-      reads = reads_then tt (Ok tt) inv.reads c.in-Ok-true.ensures.kept;
-      names = named_rest c.loop-key.made c.remove.new.self c.in-Some.key c.remove.ensures.kept inv.names;
+      reads = reads_then tt (Ok tt) inv.reads c.in-Ok-true.ensures.stays;
+      names = named_rest c.loop-key.made c.remove.new.self c.in-Some.key c.remove.ensures.stays inv.names;
       left_names = inv.left_names;
       drops = λ objects told.
           let so = inv.drops objects told in
           let found = c.in-Ok-true.ensures.value objects (told_after inv.reads told) in
-          drops_more objects c.args.made c.loop-key.made c.remove.new.self c.loop-key.left c.loop-key.left c.in-Some.key c.in-Some-remove.bytes so there c.remove.ensures.kept
+          drops_more objects c.args.made c.loop-key.made c.remove.new.self c.loop-key.left c.loop-key.left c.in-Some.key c.in-Some-remove.bytes so there c.remove.ensures.stays
           (stored_put objects c.loop-key.left c.in-Some.key c.in-Some-remove.bytes
           (left_none objects c.args.made c.loop-key.made c.loop-key.left so c.in-Some.key c.in-Some-remove.bytes there) (sym c.in-Ok-true.field-0-test ∙ found.0)) found.1;
     }
@@ -44,12 +44,12 @@ loop-key-preserved g c =
     let inv = c.loop-key.invariant in
     let there = sym c.in-Some-remove.ensures.value in
     record {
-      reads = reads_then tt (Ok tt) inv.reads c.in-Ok-false.ensures.kept;
-      names = named_rest c.loop-key.made c.remove.new.self c.in-Some.key c.remove.ensures.kept inv.names;
+      reads = reads_then tt (Ok tt) inv.reads c.in-Ok-false.ensures.stays;
+      names = named_rest c.loop-key.made c.remove.new.self c.in-Some.key c.remove.ensures.stays inv.names;
       left_names = made_named c.loop-key.left c.keep.new.made c.in-Some.key c.in-Some-remove.bytes c.in-Ok.ensures.ok (inv.names c.in-Some.key c.in-Some-remove.bytes there) inv.left_names;
       drops = λ objects told.
           let found = c.in-Ok-false.ensures.value objects (told_after inv.reads told) in
-          drops_more objects c.args.made c.loop-key.made c.remove.new.self c.loop-key.left c.keep.new.made c.in-Some.key c.in-Some-remove.bytes (inv.drops objects told) there c.remove.ensures.kept
+          drops_more objects c.args.made c.loop-key.made c.remove.new.self c.loop-key.left c.keep.new.made c.in-Some.key c.in-Some-remove.bytes (inv.drops objects told) there c.remove.ensures.stays
           (unstored_put objects c.loop-key.left c.keep.new.made c.in-Some.key c.in-Some-remove.bytes c.in-Ok.ensures.ok (sym c.in-Ok-false.field-0-test ∙ found.0)) found.1;
     }
 

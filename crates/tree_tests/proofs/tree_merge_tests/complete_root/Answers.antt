@@ -19,7 +19,7 @@ root_of objects id commit read complete =
 
 pub returns-in-Ok-needs-clause-value : goal.returns-in-Ok-needs-clause-value
 returns-in-Ok-needs-clause-value g c objects told =
-    let told_read = sym c.in-Ok-needs.ensures.kept.kept.objects ∙ told in
-    let told_first = sym c.in-Ok.ensures.kept.kept.objects ∙ told_read in
+    let told_read = sym c.in-Ok-needs.ensures.stays.kept.objects ∙ told in
+    let told_first = sym c.in-Ok.ensures.stays.kept.objects ∙ told_read in
     root_of objects c.args.commit c.in-Ok.commit (read_ok objects (commit_at objects c.args.commit) c.in-Ok.commit (c.in-Ok.ensures.value objects told_first))
     (c.in-Ok-needs.ensures.value objects told_read).0

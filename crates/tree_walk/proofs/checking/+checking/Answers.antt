@@ -32,7 +32,7 @@ check_directory-returns-clause-value g t c = λ objects told.
     (read_ok objects _ _ (c.in-Ok.ensures.value objects told) ∙ ap Ok c.in-Dir.is)
     c.in-Ok-in_name_order.ensures.value
     (subst (λ es. Measures objects (entries_step true objects c.args.room (names_of c.args.trail.now) es) c.args.paths (listed_from objects c.args.room es) (Ok c.in-Ok-check_entries.extent))
-    c.as_slice.ensures.value (c.in-Ok-check_entries.ensures.value objects (told_after c.in-Ok.ensures.kept told)))
+    c.as_slice.ensures.value (c.in-Ok-check_entries.ensures.value objects (told_after c.in-Ok.ensures.stays told)))
 
 pub check_directory-returns-in-Err-check_entries-clause-value :
     goal.check_directory-returns-in-Err-check_entries-clause-value
@@ -42,21 +42,21 @@ check_directory-returns-in-Err-check_entries-clause-value g t c = λ objects tol
     (read_ok objects _ _ (c.in-Ok.ensures.value objects told) ∙ ap Ok c.in-Dir.is)
     c.in-Ok-in_name_order.ensures.value
     (subst (λ es. Measures objects (entries_step true objects c.args.room (names_of c.args.trail.now) es) c.args.paths (listed_from objects c.args.room es) (Err c.in-Err-check_entries.fault))
-    c.as_slice.ensures.value (c.in-Err-check_entries.ensures.value objects (told_after c.in-Ok.ensures.kept told)))
+    c.as_slice.ensures.value (c.in-Err-check_entries.ensures.value objects (told_after c.in-Ok.ensures.stays told)))
 
 pub check_directory-returns-clause-known :
     goal.check_directory-returns-clause-known
 check_directory-returns-clause-known g t c = λ objects told.
     learned objects c.check_entries.new.known c.learn.new.self c.args.id.now c.in-Ok-check_entries.extent
-    (c.in-Ok-check_entries.ensures.known objects (told_after c.in-Ok.ensures.kept told))
+    (c.in-Ok-check_entries.ensures.known objects (told_after c.in-Ok.ensures.stays told))
     (becomes_known objects c.args.room c.args.paths (names_of c.args.trail.now) c.args.id.now c.in-Ok-check_entries.extent c.requires.room c.in-Ok-check_entries.ensures.bound
     (counted c.args.paths) (check_directory-returns-clause-value g t c objects told (counted c.args.paths) (has_counted c.args.paths)))
     c.learn.ensures.value
 
 pub check_entries-loop-entry-preserved : goal.check_entries-loop-entry-preserved
 check_entries-loop-entry-preserved g t c = record {
-  reads = reads_then _ _ c.loop-entry.invariant.reads (reads_done _ c.in-Ok.ensures.kept);
-  known = λ objects told. c.in-Ok.ensures.known objects (told_before c.in-Ok.ensures.kept told);
+  reads = reads_then _ _ c.loop-entry.invariant.reads (reads_done _ c.in-Ok.ensures.stays);
+  known = λ objects told. c.in-Ok.ensures.known objects (told_before c.in-Ok.ensures.stays told);
   within = within_next c.args.room c.args.paths c.loop-entry.extent c.in-Ok.more _ c.loop-entry.invariant.within c.in-Ok.ensures.bound c.joined-extent.ensures.value;
   counts = λ objects told.
       counts_next objects c.args.room c.args.paths (names_of c.args.trail.now) c.args.entries.now (drop (c.loop-entry.entry-index + 1) c.args.entries.now) c.entry-item.result

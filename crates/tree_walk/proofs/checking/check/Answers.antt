@@ -9,11 +9,11 @@ returns-in-Err-clause-value g c = λ objects told. commit_unread objects c.args.
 pub returns-in-Ok-check_directory-clause-value : goal.returns-in-Ok-check_directory-clause-value
 returns-in-Ok-check_directory-clause-value g c = λ objects told. (
   commit_whole objects c.args.commit c.in-Ok.commit _ (read_ok objects _ _ (c.in-Ok.ensures.value objects told))
-      (c.in-Ok-check_directory.ensures.value objects (told_after c.in-Ok.ensures.kept told)),
+      (c.in-Ok-check_directory.ensures.value objects (told_after c.in-Ok.ensures.stays told)),
   tt,
 )
 
 pub returns-in-Err-check_directory-clause-value : goal.returns-in-Err-check_directory-clause-value
 returns-in-Err-check_directory-clause-value g c = λ objects told.
     commit_stops objects c.args.commit c.in-Ok.commit c.in-Err-check_directory.fault (read_ok objects _ _ (c.in-Ok.ensures.value objects told))
-    (c.in-Err-check_directory.ensures.value objects (told_after c.in-Ok.ensures.kept told))
+    (c.in-Err-check_directory.ensures.value objects (told_after c.in-Ok.ensures.stays told))

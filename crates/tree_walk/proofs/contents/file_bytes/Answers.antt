@@ -12,4 +12,4 @@ returns-clause-value g c = λ objects told.
     let whole = c.in_ok-file.ensures.value objects told in
     bytes_of_file objects c.args.id c.in_ok-file.file c.join.result whole.0 whole.1
     (subst (λ ids. Answers objects (blocks_due objects ids) (λ bytes. bytes ≡ joined objects ids) c.join.result) c.slice.ensures.value
-    (c.join.ensures.value objects (told_after c.in_ok-file.ensures.kept told)))
+    (c.join.ensures.value objects (told_after c.in_ok-file.ensures.stays told)))

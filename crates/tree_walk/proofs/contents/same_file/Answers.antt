@@ -6,12 +6,12 @@ use Rattle.tree_walk.proofs.contents.same_file.Goals as goal
 pub returns-in-Err-clause-value : goal.returns-in-Err-clause-value
 returns-in-Err-clause-value g c = λ objects told.
     second_stops objects c.args.left c.args.right c.in-Err.fault (c.in_ok-left_file.ensures.value objects told).0
-    (c.in-Err.ensures.value objects (told_after c.in_ok-left_file.ensures.kept told))
+    (c.in-Err.ensures.value objects (told_after c.in_ok-left_file.ensures.stays told))
 
 pub returns-then-is_one-clause-value : goal.returns-then-is_one-clause-value
 returns-then-is_one-clause-value g c = λ objects told.
     let l = c.in_ok-left_file.ensures.value objects told in
-    let r = c.in-Ok.ensures.value objects (told_after c.in_ok-left_file.ensures.kept told) in
+    let r = c.in-Ok.ensures.value objects (told_after c.in_ok-left_file.ensures.stays told) in
     one_file objects c.args.left c.args.right c.in_ok-left_file.left_file c.in-Ok.file (record { none = l.0; read = l.1 }) (record { none = r.0; read = r.1 })
     (c.is_one.ensures.value.0 c.if-is_one.true)
 
@@ -19,14 +19,14 @@ pub returns-then-left_file-right_file-clause-value :
     goal.returns-then-left_file-right_file-clause-value
 returns-then-left_file-right_file-clause-value g c = λ objects told.
     let l = c.in_ok-left_file.ensures.value objects told in
-    let r = c.in-Ok.ensures.value objects (told_after c.in_ok-left_file.ensures.kept told) in
+    let r = c.in-Ok.ensures.value objects (told_after c.in_ok-left_file.ensures.stays told) in
     two_sizes objects c.args.left c.args.right c.in_ok-left_file.left_file c.in-Ok.file (record { none = l.0; read = l.1 }) (record { none = r.0; read = r.1 })
     c.if-left_file-right_file.true
 
 pub returns-clause-value : goal.returns-clause-value
 returns-clause-value g c = λ objects told.
     let l = c.in_ok-left_file.ensures.value objects told in
-    let r = c.in-Ok.ensures.value objects (told_after c.in_ok-left_file.ensures.kept told) in
+    let r = c.in-Ok.ensures.value objects (told_after c.in_ok-left_file.ensures.stays told) in
     compared objects c.args.left c.args.right c.in_ok-left_file.left_file c.in-Ok.file c.slice.result.now c.slice-2.result.now c.same_blocks.result
     (record { none = l.0; read = l.1 }) (record { none = r.0; read = r.1 }) c.slice.ensures.value c.slice-2.ensures.value c.if-left_file-right_file.false
-    (c.same_blocks.ensures.value objects (told_after c.in-Ok.ensures.kept (told_after c.in_ok-left_file.ensures.kept told)))
+    (c.same_blocks.ensures.value objects (told_after c.in-Ok.ensures.stays (told_after c.in_ok-left_file.ensures.stays told)))

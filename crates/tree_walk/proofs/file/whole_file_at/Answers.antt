@@ -11,10 +11,10 @@ returns-in-Err-clause-value g c = λ objects told. unread_stops objects c.args.i
 pub returns-in-Ok-check_blocks-clause-value : goal.returns-in-Ok-check_blocks-clause-value
 returns-in-Ok-check_blocks-clause-value g c = λ objects told.
     let read = read_ok objects _ _ (c.in-Ok.ensures.value objects told) in
-    let done = c.in-Ok-check_blocks.ensures.value objects (told_after c.in-Ok.ensures.kept told) in
+    let done = c.in-Ok-check_blocks.ensures.value objects (told_after c.in-Ok.ensures.stays told) in
     (whole_due objects c.args.id.now c.in-Ok.file read ∙ done.0, read)
 
 pub returns-in-Err-check_blocks-clause-value : goal.returns-in-Err-check_blocks-clause-value
 returns-in-Err-check_blocks-clause-value g c = λ objects told.
     file_stops objects c.args.id.now c.in-Ok.file start c.in-Err-check_blocks.fault refl (read_ok objects _ _ (c.in-Ok.ensures.value objects told))
-    (c.in-Err-check_blocks.ensures.value objects (told_after c.in-Ok.ensures.kept told))
+    (c.in-Err-check_blocks.ensures.value objects (told_after c.in-Ok.ensures.stays told))

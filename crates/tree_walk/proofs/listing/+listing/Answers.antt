@@ -25,11 +25,11 @@ list_directory-returns-in-Ok-in_name_order-clause-value g t c = λ objects told.
     (read_ok objects _ _ (c.in-Ok.ensures.value objects told) ∙ ap Ok c.in-Dir.is)
     c.in-Ok-in_name_order.ensures.value
     (subst (λ es. Lists objects (entries_step false objects c.args.room c.args.path.now es) c.args.path.now (listed_from objects c.args.room es) c.args.found.now c.list_entries.new.found c.list_entries.result)
-    c.as_slice.ensures.value (c.list_entries.ensures.value objects (told_after c.in-Ok.ensures.kept told)))
+    c.as_slice.ensures.value (c.list_entries.ensures.value objects (told_after c.in-Ok.ensures.stays told)))
 
 pub list_entries-loop-entry-preserved : goal.list_entries-loop-entry-preserved
 list_entries-loop-entry-preserved g t c = record {
-  reads = reads_then _ _ c.loop-entry.invariant.reads c.in-Ok.ensures.kept;
+  reads = reads_then _ _ c.loop-entry.invariant.reads c.in-Ok.ensures.stays;
   goes = λ objects told.
       goes_next objects c.args.room c.args.path.now c.args.entries.now (drop (c.loop-entry.entry-index + 1) c.args.entries.now) c.entry-item.result
       c.args.found.now c.loop-entry.found c.list_entry.new.found

@@ -15,12 +15,12 @@ returns-in-Err-clause-value g c = λ objects told.
 pub returns-in-Err-clause-of_key : goal.returns-in-Err-clause-of_key
 returns-in-Err-clause-of_key g c = store_of c.args.key.now (g.S.Shelf.may_give c.get.new.self.shelf) c.in-Err.fault c.in-Err.ensures.damaged
 
-pub returns-in-Err-clause-kept : goal.returns-in-Err-clause-kept
-returns-in-Err-clause-kept g c = record {
-  kept = c.in-Err.ensures.kept;
+pub returns-in-Err-clause-stays : goal.returns-in-Err-clause-stays
+returns-in-Err-clause-stays g c = record {
+  kept = c.in-Err.ensures.stays;
   shelf = c.in-Err.ensures.shelf;
   cause = store_cause c.get.new.self.index c.args.key.now (g.S.Shelf.may_give c.get.new.self.shelf) c.in-Err.fault
-      (subst (λ (i : Index). IsOfStored (map.get i c.args.key.now) c.args.key.now c.in-Err.fault) (sym c.in-Err.ensures.kept.index) c.in-Err.ensures.stored)
+      (subst (λ (i : Index). IsOfStored (map.get i c.args.key.now) c.args.key.now c.in-Err.fault) (sym c.in-Err.ensures.stays.index) c.in-Err.ensures.stored)
       c.in-Err.ensures.damaged;
   count = c.in-Err.ensures.faults;
 }

@@ -22,11 +22,11 @@ walk_directory-returns-in-Ok-in_name_order-clause-value g t c = λ objects told.
     c.in-Ok-in_name_order.ensures.value
     (c.in_ok-met.ensures.value ∙ ap (λ k. with_key_met k c.args.met) c.fs_key.ensures.value)
     (subst (λ es. Walks objects (entries_step true objects c.args.room (names_of c.args.trail.now) es) c.in_ok-met.met c.walk_entries.result)
-    c.as_slice.ensures.value (c.walk_entries.ensures.value objects (told_after c.in-Ok.ensures.kept told)))
+    c.as_slice.ensures.value (c.walk_entries.ensures.value objects (told_after c.in-Ok.ensures.stays told)))
 
 pub walk_entries-loop-entry-preserved : goal.walk_entries-loop-entry-preserved
 walk_entries-loop-entry-preserved g t c = record {
-  reads = reads_then _ _ c.loop-entry.invariant.reads (reads_done _ c.in_ok-met.ensures.kept);
+  reads = reads_then _ _ c.loop-entry.invariant.reads (reads_done _ c.in_ok-met.ensures.stays);
   goes = λ objects told.
       walks_next objects c.args.room (names_of c.args.trail.now) c.args.entries.now (drop (c.loop-entry.entry-index + 1) c.args.entries.now) c.entry-item.result
       c.args.met c.loop-entry.met c.in_ok-met.met

@@ -12,7 +12,7 @@ returns-in-Ok-walk_directory-clause-value g c = λ objects told.
     commit_met objects c.args.commit c.in-Ok.commit c.new.result c.in_ok-met.met c.in-Ok-walk_directory.met c.into_keys.result
     (read_ok objects _ _ (c.in-Ok.ensures.value objects told)) c.new.ensures.value
     (c.in_ok-met.ensures.value ∙ ap (λ k. with_key_met k c.new.result) c.commit_key.ensures.value)
-    (c.in-Ok-walk_directory.ensures.value objects (told_after c.in-Ok.ensures.kept told))
+    (c.in-Ok-walk_directory.ensures.value objects (told_after c.in-Ok.ensures.stays told))
     c.into_keys.ensures.value c.into_keys.ensures.once
 
 pub returns-in-Err-walk_directory-clause-value :
@@ -21,4 +21,4 @@ returns-in-Err-walk_directory-clause-value g c = λ objects told.
     commit_stops objects c.args.commit c.in-Ok.commit c.new.result c.in_ok-met.met c.in-Err-walk_directory.fault
     (read_ok objects _ _ (c.in-Ok.ensures.value objects told)) c.new.ensures.value
     (c.in_ok-met.ensures.value ∙ ap (λ k. with_key_met k c.new.result) c.commit_key.ensures.value)
-    (c.in-Err-walk_directory.ensures.value objects (told_after c.in-Ok.ensures.kept told))
+    (c.in-Err-walk_directory.ensures.value objects (told_after c.in-Ok.ensures.stays told))

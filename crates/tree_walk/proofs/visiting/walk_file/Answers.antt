@@ -13,13 +13,13 @@ returns-in-Err-clause-value g c = λ objects told.
 pub returns-in-Err-check_blocks-clause-value : goal.returns-in-Err-check_blocks-clause-value
 returns-in-Err-check_blocks-clause-value g c = λ objects told.
     file_stops objects c.args.id.now c.in-Ok.file (seen c.args.met) c.in-Err-check_blocks.fault refl (read_ok objects _ _ (c.in-Ok.ensures.value objects told))
-    (c.in-Err-check_blocks.ensures.value objects (told_after c.in-Ok.ensures.kept told))
+    (c.in-Err-check_blocks.ensures.value objects (told_after c.in-Ok.ensures.stays told))
 
 pub returns-in-Ok-visit_blocks-clause-value : goal.returns-in-Ok-visit_blocks-clause-value
 returns-in-Ok-visit_blocks-clause-value g c = λ objects told.
     file_whole objects c.args.id.now c.args.met c.in_ok-met.met c.in-Ok-visit_blocks.met c.in-Ok.file c.slice.result.now
     (other_id c.args.id.now c.is_nil.result c.is_nil.ensures.value c.if-is_nil.false)
     (read_ok objects _ _ (c.in-Ok.ensures.value objects told))
-    (c.in-Ok-check_blocks.ensures.value objects (told_after c.in-Ok.ensures.kept told)).0
+    (c.in-Ok-check_blocks.ensures.value objects (told_after c.in-Ok.ensures.stays told)).0
     (c.in_ok-met.ensures.value ∙ ap (λ k. with_key_met k c.args.met) c.fs_key.ensures.value)
     c.slice.ensures.value c.in-Ok-visit_blocks.ensures.value

@@ -37,7 +37,7 @@ returns-in-Err-give-clause-one g c = λ rest e.
     let gave = subst (λ (z : List ℕ). GivesFront (g.L.Link.given c.next_request.new.link) (g.L.Link.given c.give.new.self) z) (c.slice.ensures.value ∙ served.3) c.in-Err-give.ensures.given in
     record {
       stops = inr (StopsAsked-from_front asks c.args.number rest _ _ _ next c.closes_at-closes.result closes _ _ _ stands.3 gave);
-      reading = Unfinished-later _ _ _ _ _ c.in-Err-give.ensures.kept_taken c.in-Err-give.ensures.kept_asked c.in-Ok.ensures.reading;
+      reading = Unfinished-later _ _ _ _ _ c.in-Err-give.ensures.stays_taken c.in-Err-give.ensures.stays_asked c.in-Ok.ensures.reading;
     }
 
 pub returns-in-Err-give-clause-ran : goal.returns-in-Err-give-clause-ran
@@ -52,8 +52,8 @@ returns-clause-one g c = λ rest e.
     let gave : g.L.Link.given c.give.new.self ≡ append_known (g.L.Link.given c.next_request.new.link) (text served.0 c.closes_at-closes.result) =
     c.in-Ok-give.ensures.given ∙ ap (λ (z : List ℕ). append_known (g.L.Link.given c.next_request.new.link) z) (c.slice.ensures.value ∙ served.3) in
     let give = c.in-Ok-give.ensures in
-    OneMore-from_reply asks c.args.number _ c.next_request.new.buffer _ (g.L.Link.left c.next_request.new.link) _ rest c.in-Ok.head stands.0 stands.1 stands.2 (c.in-Ok.ensures.to_read ∙ e) c.skip.ensures give.kept_left
-    _ _ served.0 served.1 here c.closes_at-closes.result c.closes_at-closes.ensures.value _ _ _ stands.3 gave give.kept_taken give.kept_asked c.in-Ok.ensures.reading
+    OneMore-from_reply asks c.args.number _ c.next_request.new.buffer _ (g.L.Link.left c.next_request.new.link) _ rest c.in-Ok.head stands.0 stands.1 stands.2 (c.in-Ok.ensures.to_read ∙ e) c.skip.ensures give.stays_left
+    _ _ served.0 served.1 here c.closes_at-closes.result c.closes_at-closes.ensures.value _ _ _ stands.3 gave give.stays_taken give.stays_asked c.in-Ok.ensures.reading
 
 pub returns-clause-ran : goal.returns-clause-ran
 returns-clause-ran g c = Serves-ran _ _ _ _ _ _ c.in-Some.ensures.serves.2

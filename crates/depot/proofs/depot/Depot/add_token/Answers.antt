@@ -16,7 +16,7 @@ invariant_of-self g c =
     (ap (λ tokens. is_taken tokens c.args.secret) (sym c.slice.ensures.value) ∙ sym c.has_secret.ensures.value ∙ c.if-has_secret.false)
     room c.requires.fits.0 c.requires.fits.1
     c.write_token.new.self.store c.write_token.new.self.state c.write_token.new.self.unsettled c.write_token.result
-    c.write_token.ensures.ok c.write_token.ensures.err c.write_token.ensures.value c.write_token.ensures.kept
+    c.write_token.ensures.ok c.write_token.ensures.err c.write_token.ensures.value c.write_token.ensures.stays
 
 pub returns-clause-stands : goal.returns-clause-stands
 returns-clause-stands g c =
@@ -27,7 +27,7 @@ returns-clause-stands g c =
     (ap (λ tokens. is_taken tokens c.args.secret) (sym c.slice.ensures.value) ∙ sym c.has_secret.ensures.value ∙ c.if-has_secret.false)
     room c.requires.fits.0 c.requires.fits.1
     c.write_token.new.self.store c.write_token.new.self.state c.write_token.new.self.unsettled c.write_token.result
-    c.write_token.ensures.ok c.write_token.ensures.err c.write_token.ensures.value c.write_token.ensures.kept
+    c.write_token.ensures.ok c.write_token.ensures.err c.write_token.ensures.value c.write_token.ensures.stays
 
 pub returns-clause-lying : goal.returns-clause-lying
 returns-clause-lying g c =

@@ -17,7 +17,7 @@ invariant_of-self g c =
     (seen_asked c.requires.who.0 (act.Check op.Upload) c.self.inside.parts.state.tokens c.args.place c.self.inside.parts.state.collection no_token
     (subst (λ (given : DepotView g.row.S.Denot). MayAsk given.state.tokens c.requires.who.0 (act.Check op.Upload) c.args.place) (sym c.self.view_is) c.requires.who.1))
     c.see_collection-seen.new.self.store c.see_collection-seen.new.self.state c.see_collection-seen.new.self.unsettled c.see_collection-seen.result
-    (c.see_collection-seen.ensures.value no_token) c.see_collection-seen.ensures.err (c.see_collection-seen.ensures.text no_token) c.see_collection-seen.ensures.kept
+    (c.see_collection-seen.ensures.value no_token) c.see_collection-seen.ensures.err (c.see_collection-seen.ensures.text no_token) c.see_collection-seen.ensures.stays
 
 pub returns : goal.returns
 returns g c = record {
@@ -30,6 +30,6 @@ returns g c = record {
       (upload_serves g.S.Shelf.contents g.S.Shelf.may_give g.S.Shelf.texts g.S.Shelf.faults (record { store = c.self.inside.parts.store; state = c.self.inside.parts.state; unsettled = c.self.inside.parts.unsettled; running = None }) call moment who.right
       (marked c.args.place c.self.inside.parts.state.collection c.self.inside.parts.state.tokens no_token) asks
       (seen_asked call.secret call.act c.self.inside.parts.state.tokens c.args.place c.self.inside.parts.state.collection no_token who)
-      c.see_collection-seen.new.self.store c.see_collection-seen.new.self.state c.see_collection-seen.new.self.unsettled c.see_collection-seen.ensures.kept c.see_collection-seen.ensures.lying c.see_collection-seen.result
+      c.see_collection-seen.new.self.store c.see_collection-seen.new.self.state c.see_collection-seen.new.self.unsettled c.see_collection-seen.ensures.stays c.see_collection-seen.ensures.lying c.see_collection-seen.result
       (c.see_collection-seen.ensures.value no_token) c.see_collection-seen.ensures.err (c.see_collection-seen.ensures.text no_token) c.see_collection-seen.ensures.faults));
 }

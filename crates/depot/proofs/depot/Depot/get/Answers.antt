@@ -10,7 +10,7 @@ use Rattle.depot.proofs.depot.Depot.get.Goals as goal
 pub invariant_of-self : goal.invariant_of-self
 invariant_of-self g c =
     good_kept g.S.Shelf.contents g.S.Shelf.faults (record { store = c.self.inside.parts.store; state = c.self.inside.parts.state; unsettled = c.self.inside.parts.unsettled; running = None }) c.self.invariant c.get_object.new.store
-    (kept_status g.S.Shelf.contents c.self.inside.parts.store c.get_object.new.store c.get_object.ensures.kept) c.get_object.ensures.kept.objects
+    (kept_status g.S.Shelf.contents c.self.inside.parts.store c.get_object.new.store c.get_object.ensures.stays) c.get_object.ensures.stays.objects
 
 pub returns : goal.returns
 returns g c = record {
@@ -18,5 +18,5 @@ returns g c = record {
       (record { store = c.get_object.new.store; state = c.self.inside.parts.state; unsettled = c.self.inside.parts.unsettled; running = None }))
       c.self.view_is
       (λ call moment right asks. get_serves g.S.Shelf.contents g.S.Shelf.may_give g.S.Shelf.texts g.S.Shelf.faults (record { store = c.self.inside.parts.store; state = c.self.inside.parts.state; unsettled = c.self.inside.parts.unsettled; running = None }) call moment right c.args.key.now asks
-      c.get_object.new.store c.get_object.result c.get_object.ensures.kept c.get_object.ensures.written c.get_object.ensures.value c.get_object.ensures.cause c.get_object.ensures.damaged c.get_object.ensures.faults);
+      c.get_object.new.store c.get_object.result c.get_object.ensures.stays c.get_object.ensures.written c.get_object.ensures.value c.get_object.ensures.cause c.get_object.ensures.damaged c.get_object.ensures.faults);
 }

@@ -22,7 +22,7 @@ invariant_of-self g c =
     limit_good g.S.Shelf.contents g.S.Shelf.texts g.S.Shelf.faults (record { store = c.self.inside.parts.store; state = c.self.inside.parts.state; unsettled = c.self.inside.parts.unsettled; running = None }) c.self.invariant c.args.days
     (sym (simp (to_z-of_z, c.ranges.days) at c.is_day_count.ensures.value) ∙ c.if-not-is_day_count.false)
     c.set_days-set.new.self.store c.set_days-set.new.self.state c.set_days-set.new.self.unsettled c.set_days-set.result
-    (simp (to_z-of_z, c.ranges.days) at c.set_days-set.ensures.ok) c.set_days-set.ensures.err (simp (to_z-of_z, c.ranges.days) at c.set_days-set.ensures.text) c.set_days-set.ensures.kept
+    (simp (to_z-of_z, c.ranges.days) at c.set_days-set.ensures.ok) c.set_days-set.ensures.err (simp (to_z-of_z, c.ranges.days) at c.set_days-set.ensures.text) c.set_days-set.ensures.stays
 
 pub returns : goal.returns
 returns g c = record {
@@ -33,6 +33,6 @@ returns g c = record {
       (record { store = c.set_days-set.new.self.store; state = c.set_days-set.new.self.state; unsettled = c.set_days-set.new.self.unsettled; running = None })) (sym c.answer_of.ensures.value)
       (limit_serves g.S.Shelf.contents g.S.Shelf.may_give g.S.Shelf.texts g.S.Shelf.faults (record { store = c.self.inside.parts.store; state = c.self.inside.parts.state; unsettled = c.self.inside.parts.unsettled; running = None }) call moment right c.args.days asks
       (sym (simp (to_z-of_z, c.ranges.days) at c.is_day_count.ensures.value) ∙ c.if-not-is_day_count.false)
-      c.set_days-set.new.self.store c.set_days-set.new.self.state c.set_days-set.new.self.unsettled c.set_days-set.ensures.kept c.set_days-set.ensures.lying c.set_days-set.result
+      c.set_days-set.new.self.store c.set_days-set.new.self.state c.set_days-set.new.self.unsettled c.set_days-set.ensures.stays c.set_days-set.ensures.lying c.set_days-set.result
       (simp (to_z-of_z, c.ranges.days) at c.set_days-set.ensures.ok) c.set_days-set.ensures.err (simp (to_z-of_z, c.ranges.days) at c.set_days-set.ensures.text) c.set_days-set.ensures.faults));
 }

@@ -13,7 +13,7 @@ use Rattle.depot.proofs.depot.Depot.list.Goals as goal
 pub invariant_of-self : goal.invariant_of-self
 invariant_of-self g c =
     good_kept g.S.Shelf.contents g.S.Shelf.faults (record { store = c.self.inside.parts.store; state = c.self.inside.parts.state; unsettled = c.self.inside.parts.unsettled; running = None }) c.self.invariant c.list_ids.new.store
-    (kept_status g.S.Shelf.contents c.self.inside.parts.store c.list_ids.new.store c.list_ids.ensures.kept) c.list_ids.ensures.kept.objects
+    (kept_status g.S.Shelf.contents c.self.inside.parts.store c.list_ids.new.store c.list_ids.ensures.stays) c.list_ids.ensures.stays.objects
 
 pub returns : goal.returns
 returns g c = record {
@@ -21,7 +21,7 @@ returns g c = record {
       (record { store = c.list_ids.new.store; state = c.self.inside.parts.state; unsettled = c.self.inside.parts.unsettled; running = None }))
       c.self.view_is
       (λ call moment right asks. list_serves g.S.Shelf.contents g.S.Shelf.may_give g.S.Shelf.texts g.S.Shelf.faults (record { store = c.self.inside.parts.store; state = c.self.inside.parts.state; unsettled = c.self.inside.parts.unsettled; running = None }) call moment right c.args.server.now c.args.client.now asks
-      c.list_ids.new.store c.list_ids.result c.list_ids.ensures.kept c.list_ids.ensures.written
+      c.list_ids.new.store c.list_ids.result c.list_ids.ensures.stays c.list_ids.ensures.written
       (λ objects told. c.list_ids.ensures.value (library c.self.inside.parts.state (g.S.Shelf.faults c.self.inside.parts.store.shelf) objects) told (sym c.slice.ensures.value)
       (sound_at g.S.Shelf.contents g.S.Shelf.faults (record { store = c.self.inside.parts.store; state = c.self.inside.parts.state; unsettled = c.self.inside.parts.unsettled; running = None }) c.self.invariant objects (g.S.Shelf.faults c.self.inside.parts.store.shelf) told))
       (subst (λ (kept : List Install). MayAnswer c.list_ids.new.store.index (g.S.Shelf.may_give c.list_ids.new.store.shelf) (act.Ids c.args.server.now c.args.client.now) (ids_decided kept c.args.server.now) c.list_ids.result)

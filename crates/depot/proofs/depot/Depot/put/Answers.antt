@@ -9,7 +9,7 @@ use Rattle.depot.proofs.depot.Depot.put.Goals as goal
 
 pub invariant_of-self : goal.invariant_of-self
 invariant_of-self g c =
-    good_put g.S.Shelf.contents g.S.Shelf.faults (record { store = c.self.inside.parts.store; state = c.self.inside.parts.state; unsettled = c.self.inside.parts.unsettled; running = None }) c.self.invariant c.put_object.new.store c.put_object.ensures.kept
+    good_put g.S.Shelf.contents g.S.Shelf.faults (record { store = c.self.inside.parts.store; state = c.self.inside.parts.state; unsettled = c.self.inside.parts.unsettled; running = None }) c.self.invariant c.put_object.new.store c.put_object.ensures.stays
     (record { key = c.args.key.now; bytes = c.args.bytes.now }) c.put_object.ensures.stored
 
 pub returns : goal.returns
@@ -18,7 +18,7 @@ returns g c = record {
       (record { store = c.put_object.new.store; state = c.self.inside.parts.state; unsettled = c.self.inside.parts.unsettled; running = None }))
       c.self.view_is
       (λ call moment right asks. put_serves g.S.Shelf.contents g.S.Shelf.may_give g.S.Shelf.texts g.S.Shelf.faults (record { store = c.self.inside.parts.store; state = c.self.inside.parts.state; unsettled = c.self.inside.parts.unsettled; running = None }) call moment right c.args.key.now c.args.bytes.now asks
-      c.put_object.new.store c.put_object.result c.put_object.ensures.kept c.put_object.ensures.written
+      c.put_object.new.store c.put_object.result c.put_object.ensures.stays c.put_object.ensures.written
       (λ objects told. c.put_object.ensures.value (library c.self.inside.parts.state (g.S.Shelf.faults c.self.inside.parts.store.shelf) objects) told refl)
       c.put_object.ensures.cause c.put_object.ensures.damaged c.put_object.ensures.faults c.put_object.ensures.lying);
 }

@@ -7,7 +7,7 @@ pub returns-in-Err-write_next-clause-err : goal.returns-in-Err-write_next-clause
 returns-in-Err-write_next-clause-err g c =
     let d : Token = c.index-slice-place.result in
     marked_undone c.args.self.now.state c.settle.new.self.state c.write_next.new.self.state c.args.place d c.mark.new.tokens c.mark-in-Err-write_next.new.tokens c.slice.result.now
-    c.requires.within c.in-Ok.ensures.stays c.slice.ensures.value (c.mark.ensures.value d) c.write_next.ensures.stays (c.mark-in-Err-write_next.ensures.value d)
+    c.requires.within c.in-Ok.ensures.state c.slice.ensures.value (c.mark.ensures.value d) c.write_next.ensures.state (c.mark-in-Err-write_next.ensures.value d)
 
 pub returns-in-Ok-write_next-clause-lying : goal.returns-in-Ok-write_next-clause-lying
 returns-in-Ok-write_next-clause-lying g c key stray = c.in-Ok.ensures.lying key (c.write_next.ensures.lying key stray)

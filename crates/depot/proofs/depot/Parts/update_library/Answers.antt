@@ -31,14 +31,14 @@ plan_of-requires-clause-some_kept g c = c.requires.good.head
 pub returns-in-Err-clause-value : goal.returns-in-Err-clause-value
 returns-in-Err-clause-value g c = λ call asks updates.
     serves_refused g.S.Shelf.contents g.S.Shelf.may_give g.S.Shelf.texts g.S.Shelf.faults (record { store = c.args.self.now.store; state = c.args.self.now.state; unsettled = c.args.self.now.unsettled; running = None })
-    call c.args.moment c.args.pushed updates c.plan_of.new.store c.in-Err.ensures.kept.kept c.in-Err.ensures.kept.written c.in-Err.why
-    (λ objects told. c.in-Err.ensures.value objects (g.S.Shelf.faults c.args.self.now.store.shelf) told call asks updates) c.in-Err.ensures.kept.count
+    call c.args.moment c.args.pushed updates c.plan_of.new.store c.in-Err.ensures.stays.kept c.in-Err.ensures.stays.written c.in-Err.why
+    (λ objects told. c.in-Err.ensures.value objects (g.S.Shelf.faults c.args.self.now.store.shelf) told call asks updates) c.in-Err.ensures.stays.count
     (c.in-Err.ensures.any call asks updates) c.in-Err.ensures.damaged
 
 pub returns-in-Err-clause-stands : goal.returns-in-Err-clause-stands
 returns-in-Err-clause-stands g c =
     good_kept g.S.Shelf.contents g.S.Shelf.faults (record { store = c.args.self.now.store; state = c.args.self.now.state; unsettled = c.args.self.now.unsettled; running = None }) c.requires.good c.plan_of.new.store
-    (kept_status g.S.Shelf.contents c.args.self.now.store c.plan_of.new.store c.in-Err.ensures.kept.kept) c.in-Err.ensures.kept.kept.objects
+    (kept_status g.S.Shelf.contents c.args.self.now.store c.plan_of.new.store c.in-Err.ensures.stays.kept) c.in-Err.ensures.stays.kept.objects
 
 pub head_of-requires : goal.head_of-requires
 head_of-requires g c = record { some = λ none. c.requires.good.head (sym c.slice.ensures.value ∙ none) }
@@ -50,16 +50,16 @@ returns-in-None-clause-value g c = λ call asks updates.
     subst (λ id. Serves g.S.Shelf.contents g.S.Shelf.may_give g.S.Shelf.texts g.S.Shelf.faults old call c.args.moment (reply.Updated id)
     (record { store = c.plan_of.new.store; state = c.args.self.now.state; unsettled = c.args.self.now.unsettled; running = None }))
     (sym (c.head_of.ensures.value ∙ ap head_of c.slice.ensures.value))
-    (serves_kept g.S.Shelf.contents g.S.Shelf.may_give g.S.Shelf.texts g.S.Shelf.faults old call c.args.moment c.args.pushed updates c.plan_of.new.store c.in-Ok.ensures.kept.kept c.in-Ok.ensures.kept.written decides.0
+    (serves_kept g.S.Shelf.contents g.S.Shelf.may_give g.S.Shelf.texts g.S.Shelf.faults old call c.args.moment c.args.pushed updates c.plan_of.new.store c.in-Ok.ensures.stays.kept c.in-Ok.ensures.stays.written decides.0
     (λ objects told. (plans_at (library c.args.self.now.state (g.S.Shelf.faults c.args.self.now.store.shelf) objects) c.args.moment c.args.pushed
     (due (library c.args.self.now.state (g.S.Shelf.faults c.args.self.now.store.shelf) objects) call) c.in-Ok.plan None c.in-None.is
     (c.in-Ok.ensures.value objects (g.S.Shelf.faults c.args.self.now.store.shelf) told call asks updates)).1)
-    c.in-Ok.ensures.kept.count decides.1)
+    c.in-Ok.ensures.stays.count decides.1)
 
 pub returns-in-None-clause-stands : goal.returns-in-None-clause-stands
 returns-in-None-clause-stands g c =
     good_kept g.S.Shelf.contents g.S.Shelf.faults (record { store = c.args.self.now.store; state = c.args.self.now.state; unsettled = c.args.self.now.unsettled; running = None }) c.requires.good c.plan_of.new.store
-    (kept_status g.S.Shelf.contents c.args.self.now.store c.plan_of.new.store c.in-Ok.ensures.kept.kept) c.in-Ok.ensures.kept.kept.objects
+    (kept_status g.S.Shelf.contents c.args.self.now.store c.plan_of.new.store c.in-Ok.ensures.stays.kept) c.in-Ok.ensures.stays.kept.objects
 
 pub carry_out-requires-clause-named : goal.carry_out-requires-clause-named
 carry_out-requires-clause-named g c =
@@ -69,7 +69,7 @@ carry_out-requires-clause-named g c =
 pub carry_out-requires-clause-ready : goal.carry_out-requires-clause-ready
 carry_out-requires-clause-ready g c = λ objects told.
     let call : Call = record { secret = c.requires.who.0; act = act.Update c.args.pushed } in
-    let before = sym c.in-Ok.ensures.kept.kept.objects ∙ told in
+    let before = sym c.in-Ok.ensures.stays.kept.objects ∙ told in
     plan_puttable (library c.args.self.now.state 0 objects) c.args.moment (due (library c.args.self.now.state 0 objects) call) c.in-Some.plan
     (plans_at (library c.args.self.now.state 0 objects) c.args.moment c.args.pushed (due (library c.args.self.now.state 0 objects) call) c.in-Ok.plan (Some c.in-Some.plan) c.in-Some.is
     (c.in-Ok.ensures.value objects 0 before call c.requires.who.1 refl)).1
@@ -86,9 +86,9 @@ returns-in-Ok-carry_out-clause-value g c = λ call asks updates.
     decides.1 c.carry_out.new.self.store c.carry_out.new.self.state c.carry_out.new.self.unsettled
     (subst (λ held. CarriesSo c.args.self.now.unsettled c.args.self.now.state (with_install c.in-Some.plan.head c.args.pushed c.args.moment c.args.self.now.state) (objects_in c.in-Some.plan) held
     c.carry_out.new.self.unsettled (held_in g.S.Shelf.contents g.S.Shelf.texts c.carry_out.new.self.store) (Ok tt))
-    (held_kept g.S.Shelf.contents g.S.Shelf.texts c.args.self.now.store c.plan_of.new.store c.in-Ok.ensures.kept.kept c.in-Ok.ensures.kept.written) c.in-Ok-carry_out.ensures.value)
-    c.in-Ok-carry_out.ensures.ok (c.in-Ok-carry_out.ensures.faults ∙ c.in-Ok.ensures.kept.count)
-    (λ key stray. strays_kept g.S.Shelf.contents c.args.self.now.store c.plan_of.new.store c.in-Ok.ensures.kept.kept.index c.in-Ok.ensures.kept.kept.shelf key (c.in-Ok-carry_out.ensures.lying key stray))
+    (held_kept g.S.Shelf.contents g.S.Shelf.texts c.args.self.now.store c.plan_of.new.store c.in-Ok.ensures.stays.kept c.in-Ok.ensures.stays.written) c.in-Ok-carry_out.ensures.value)
+    c.in-Ok-carry_out.ensures.ok (c.in-Ok-carry_out.ensures.faults ∙ c.in-Ok.ensures.stays.count)
+    (λ key stray. strays_kept g.S.Shelf.contents c.args.self.now.store c.plan_of.new.store c.in-Ok.ensures.stays.kept.index c.in-Ok.ensures.stays.kept.shelf key (c.in-Ok-carry_out.ensures.lying key stray))
 
 pub returns-in-Ok-carry_out-clause-stands : goal.returns-in-Ok-carry_out-clause-stands
 returns-in-Ok-carry_out-clause-stands g c =
@@ -102,7 +102,7 @@ returns-in-Ok-carry_out-clause-stands g c =
     decides.1 c.carry_out.new.self.store c.carry_out.new.self.state c.carry_out.new.self.unsettled
     (subst (λ held. CarriesSo c.args.self.now.unsettled c.args.self.now.state (with_install c.in-Some.plan.head c.args.pushed c.args.moment c.args.self.now.state) (objects_in c.in-Some.plan) held
     c.carry_out.new.self.unsettled (held_in g.S.Shelf.contents g.S.Shelf.texts c.carry_out.new.self.store) (Ok tt))
-    (held_kept g.S.Shelf.contents g.S.Shelf.texts c.args.self.now.store c.plan_of.new.store c.in-Ok.ensures.kept.kept c.in-Ok.ensures.kept.written) c.in-Ok-carry_out.ensures.value)
+    (held_kept g.S.Shelf.contents g.S.Shelf.texts c.args.self.now.store c.plan_of.new.store c.in-Ok.ensures.stays.kept c.in-Ok.ensures.stays.written) c.in-Ok-carry_out.ensures.value)
     c.in-Ok-carry_out.ensures.ok c.requires.good
 
 pub returns-clause-value : goal.returns-clause-value
@@ -118,12 +118,12 @@ returns-clause-value g c = λ call asks updates.
     decides.1 c.carry_out.new.self.store c.carry_out.new.self.state c.carry_out.new.self.unsettled c.in-Err-carry_out.fault
     (subst (λ held. CarriesSo c.args.self.now.unsettled c.args.self.now.state (with_install c.in-Some.plan.head c.args.pushed c.args.moment c.args.self.now.state) (objects_in c.in-Some.plan) held
     c.carry_out.new.self.unsettled (held_in g.S.Shelf.contents g.S.Shelf.texts c.carry_out.new.self.store) (Err c.in-Err-carry_out.fault))
-    (held_kept g.S.Shelf.contents g.S.Shelf.texts c.args.self.now.store c.plan_of.new.store c.in-Ok.ensures.kept.kept c.in-Ok.ensures.kept.written) c.in-Err-carry_out.ensures.value)
+    (held_kept g.S.Shelf.contents g.S.Shelf.texts c.args.self.now.store c.plan_of.new.store c.in-Ok.ensures.stays.kept c.in-Ok.ensures.stays.written) c.in-Err-carry_out.ensures.value)
     c.in-Err-carry_out.ensures.err
-    (λ objects told. c.in-Err-carry_out.ensures.free objects (c.in-Ok.ensures.kept.kept.objects ∙ told))
-    (subst (λ n. CountsShelf {T = ⊤} n (g.S.Shelf.faults c.carry_out.new.self.store.shelf) (Err c.in-Err-carry_out.fault)) c.in-Ok.ensures.kept.count c.in-Err-carry_out.ensures.faults)
+    (λ objects told. c.in-Err-carry_out.ensures.free objects (c.in-Ok.ensures.stays.kept.objects ∙ told))
+    (subst (λ n. CountsShelf {T = ⊤} n (g.S.Shelf.faults c.carry_out.new.self.store.shelf) (Err c.in-Err-carry_out.fault)) c.in-Ok.ensures.stays.count c.in-Err-carry_out.ensures.faults)
     c.in-Err-carry_out.ensures.cause
-    (λ free key stray. strays_kept g.S.Shelf.contents c.args.self.now.store c.plan_of.new.store c.in-Ok.ensures.kept.kept.index c.in-Ok.ensures.kept.kept.shelf key (c.in-Err-carry_out.ensures.lying free key stray)))
+    (λ free key stray. strays_kept g.S.Shelf.contents c.args.self.now.store c.plan_of.new.store c.in-Ok.ensures.stays.kept.index c.in-Ok.ensures.stays.kept.shelf key (c.in-Err-carry_out.ensures.lying free key stray)))
 
 pub returns-clause-stands : goal.returns-clause-stands
 returns-clause-stands g c =
@@ -137,8 +137,8 @@ returns-clause-stands g c =
     decides.1 c.carry_out.new.self.store c.carry_out.new.self.state c.carry_out.new.self.unsettled c.in-Err-carry_out.fault
     (subst (λ held. CarriesSo c.args.self.now.unsettled c.args.self.now.state (with_install c.in-Some.plan.head c.args.pushed c.args.moment c.args.self.now.state) (objects_in c.in-Some.plan) held
     c.carry_out.new.self.unsettled (held_in g.S.Shelf.contents g.S.Shelf.texts c.carry_out.new.self.store) (Err c.in-Err-carry_out.fault))
-    (held_kept g.S.Shelf.contents g.S.Shelf.texts c.args.self.now.store c.plan_of.new.store c.in-Ok.ensures.kept.kept c.in-Ok.ensures.kept.written) c.in-Err-carry_out.ensures.value)
+    (held_kept g.S.Shelf.contents g.S.Shelf.texts c.args.self.now.store c.plan_of.new.store c.in-Ok.ensures.stays.kept c.in-Ok.ensures.stays.written) c.in-Err-carry_out.ensures.value)
     c.in-Err-carry_out.ensures.err
-    (λ objects told. c.in-Err-carry_out.ensures.free objects (c.in-Ok.ensures.kept.kept.objects ∙ told))
-    (subst (λ n. CountsShelf {T = ⊤} n (g.S.Shelf.faults c.carry_out.new.self.store.shelf) (Err c.in-Err-carry_out.fault)) c.in-Ok.ensures.kept.count c.in-Err-carry_out.ensures.faults)
+    (λ objects told. c.in-Err-carry_out.ensures.free objects (c.in-Ok.ensures.stays.kept.objects ∙ told))
+    (subst (λ n. CountsShelf {T = ⊤} n (g.S.Shelf.faults c.carry_out.new.self.store.shelf) (Err c.in-Err-carry_out.fault)) c.in-Ok.ensures.stays.count c.in-Err-carry_out.ensures.faults)
     c.requires.good

@@ -7,5 +7,5 @@ use Rattle.ids.proofs.key_table.KeyTable.remove.Goals as goal
 pub returns-clause-value : goal.returns-clause-value
 returns-clause-value g c = rw (← c.self.view_is) (c.remove.ensures.value ∙ sym (get-map_of key_cmp_total c.self.inside.held c.args.key.now))
 
-pub returns-clause-kept : goal.returns-clause-kept
-returns-clause-kept g c = rw (← c.self.view_is) (remove-map_of key_cmp_total key_cmp_exact c.self.inside.held c.remove.new.self c.args.key.now c.remove.ensures.updates)
+pub returns-clause-stays : goal.returns-clause-stays
+returns-clause-stays g c = rw (← c.self.view_is) (remove-map_of key_cmp_total key_cmp_exact c.self.inside.held c.remove.new.self c.args.key.now c.remove.ensures.updates)

@@ -23,7 +23,7 @@ returns-clause-found g c objects told =
     let there = sym c.has.ensures.value ∙ c.if-not-has.false in
     let tells = given-stored (g.S.Shelf.contents c.self.inside.shelf) c.self.inside.index objects c.args.key known there
     (g.S.Shelf.may_give c.fetch_whole.new.shelf)
-    (λ held given is gives. g.met.S.Shelf.told c.fetch_whole.new.shelf held (Object c.args.key) given (c.fetch_whole.ensures.kept ∙ is) gives) in
+    (λ held given is gives. g.met.S.Shelf.told c.fetch_whole.new.shelf held (Object c.args.key) given (c.fetch_whole.ensures.stays ∙ is) gives) in
     elim c.match-fetch_whole.branch [
       | in-Ok w ↦ rw w.result-is (tells (Some w.in-Ok.bytes) w.in-Ok.ensures.value.0)
       | in-Err w ↦ rw w.result-is tt
@@ -35,7 +35,7 @@ returns-clause-refused g c objects told =
     let there = sym c.has.ensures.value ∙ c.if-not-has.false in
     let tells = given-stored (g.S.Shelf.contents c.self.inside.shelf) c.self.inside.index objects c.args.key known there
     (g.S.Shelf.may_give c.fetch_whole.new.shelf)
-    (λ held given is gives. g.met.S.Shelf.told c.fetch_whole.new.shelf held (Object c.args.key) given (c.fetch_whole.ensures.kept ∙ is) gives) in
+    (λ held given is gives. g.met.S.Shelf.told c.fetch_whole.new.shelf held (Object c.args.key) given (c.fetch_whole.ensures.stays ∙ is) gives) in
     let held = there-held (g.S.Shelf.contents c.self.inside.shelf) c.self.inside.index objects c.args.key known c.self.invariant there in
     elim c.match-fetch_whole.branch [
       | in-Ok w ↦ rw w.result-is (whole-due c.args.key w.in-Ok.bytes (map.get objects c.args.key) (tells (Some w.in-Ok.bytes) w.in-Ok.ensures.value.0) w.in-Ok.ensures.value.1)

@@ -9,6 +9,6 @@ pub returns-clause-found : goal.returns-clause-found
 returns-clause-found g c status told =
     let at = status-at (g.S.Shelf.contents c.self.inside.shelf) status (rw (← c.self.view_is) at told) in
     elim c.match-fetch.branch [
-      | in-Ok w ↦ rw w.result-is (g.met.S.Shelf.told c.fetch.new.self at.0 Status w.in-Ok.text (c.fetch.ensures.kept ∙ at.1) w.in-Ok.ensures.found ∙ at.2)
+      | in-Ok w ↦ rw w.result-is (g.met.S.Shelf.told c.fetch.new.self at.0 Status w.in-Ok.text (c.fetch.ensures.stays ∙ at.1) w.in-Ok.ensures.found ∙ at.2)
       | in-Err w ↦ rw w.result-is tt
     ]

@@ -13,9 +13,9 @@ use Rattle.object_store.proofs.store.Store.put.Goals.{in-Ok, in-Err}
 pub returns-then-has-clause-ok : goal.returns-then-has-clause-ok
 returns-then-has-clause-ok g c =
     if-same (g.S.Shelf.may_give c.put_stored.new.shelf) c.args.key c.args.bytes.now c.put_stored.result c.put_stored.ensures.value (λ gives.
-    rw (← c.self.view_is, c.put_stored.ensures.kept)
+    rw (← c.self.view_is, c.put_stored.ensures.stays)
     (same-held (g.S.Shelf.contents c.self.inside.shelf) c.self.inside.index c.args.key c.args.bytes.now (sym c.has.ensures.value ∙ c.if-has.true)
-    (λ held is. g.met.S.Shelf.told c.put_stored.new.shelf held (Object c.args.key) (Some c.args.bytes.now) (c.put_stored.ensures.kept ∙ is) gives)))
+    (λ held is. g.met.S.Shelf.told c.put_stored.new.shelf held (Object c.args.key) (Some c.args.bytes.now) (c.put_stored.ensures.stays ∙ is) gives)))
 
 pub returns-then-has-clause-refused : goal.returns-then-has-clause-refused
 returns-then-has-clause-refused g c objects told =
@@ -23,7 +23,7 @@ returns-then-has-clause-refused g c objects told =
     let there = sym c.has.ensures.value ∙ c.if-has.true in
     let tells = given-stored (g.S.Shelf.contents c.self.inside.shelf) c.self.inside.index objects c.args.key known there
     (g.S.Shelf.may_give c.put_stored.new.shelf)
-    (λ held given is gives. g.met.S.Shelf.told c.put_stored.new.shelf held (Object c.args.key) given (c.put_stored.ensures.kept ∙ is) gives) in
+    (λ held given is gives. g.met.S.Shelf.told c.put_stored.new.shelf held (Object c.args.key) given (c.put_stored.ensures.stays ∙ is) gives) in
     let held = there-held (g.S.Shelf.contents c.self.inside.shelf) c.self.inside.index objects c.args.key known c.self.invariant there in
     put-refused (g.S.Shelf.may_give c.put_stored.new.shelf) c.args.key c.args.bytes.now objects (sym c.in_default.ensures.value) held tells
     c.put_stored.result c.put_stored.ensures.value
@@ -64,7 +64,7 @@ pub returns-then-has-clause-lying : goal.returns-then-has-clause-lying
 returns-then-has-clause-lying g c =
     rw (← c.self.view_is)
     (strays_same g.S.Shelf.contents (record { shelf = c.self.inside.shelf; index = c.self.inside.index }) (record { shelf = c.put_stored.new.shelf; index = c.self.inside.index })
-    c.put_stored.result refl c.put_stored.ensures.kept)
+    c.put_stored.result refl c.put_stored.ensures.stays)
 
 pub returns-clause-lying : goal.returns-clause-lying
 returns-clause-lying g c =

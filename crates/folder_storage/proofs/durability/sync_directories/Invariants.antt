@@ -1,0 +1,7 @@
+use Rattle.std.proofs.Common.{◌≡◌, map, take}
+use Rattle.folder_storage.specs.Durability.{SyncedDirectory, with_steps}
+use Rattle.folder_storage.proofs.durability.sync_directories.Given as goal
+
+-- the steps of those that were passed
+abbrev pub invariant-loop-directory : goal.invariant-loop-directory
+invariant-loop-directory g l = g.D.Disk.steps l.disk ≡ with_steps (g.D.Disk.steps l.fn.disk) (map SyncedDirectory (take l.directory-index l.directories))

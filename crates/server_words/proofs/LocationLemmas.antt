@@ -1,0 +1,96 @@
+-- The place of a command is that of its second word. The key lemma is location_of_words, at the end.
+use Rattle.std.proofs.Common.{◌≡◌, ℕ, Bool, true, false, ◌&&◌, List, [], ◌∷◌, Option, Some, None, refl, cond, codes}
+use Rattle.std.specs.Option.{IfSome}
+use Rattle.std.specs.Str.{bytes_eq}
+use Rattle.json_words.specs.IdText.{library_id_of}
+use Rattle.library_state.specs.Rights.{right_of}
+use Rattle.library_state.specs.declared.right.Right.{Right}
+use Rattle.server_words.specs.CommandLine.{command_of, create_by, create_command, inetd_by, is_memory, is_name, names_memory, location_in, location_word, secret_of, token_by, token_command}
+use Rattle.server_words.specs.declared.command.Command.{Command}
+use Rattle.server_words.specs.declared.command.Command.TheVariants.{Create, Token, Inetd, Help, Version, Usage}
+use Rattle.server_words.specs.declared.command.Location.{Location}
+use Rattle.server_words.specs.declared.command.Location.TheVariants.{Memory, Folder}
+
+-- the place of the command is in memory exactly where this is true
+IsIn : Bool → Command → Type 0
+IsIn memory command = (location : Location) → location_in command ≡ Some location → memory ≡ is_memory location
+
+location_at : (path : List ℕ) (b : Bool) → b ≡ is_memory (cond b Memory (Folder path))
+location_at path true = refl
+location_at path false = refl
+
+folder_location : (folder : List ℕ) → IfSome (location_word folder) (λ location. bytes_eq folder (codes ":memory:") ≡ is_memory location)
+folder_location [] = tt
+folder_location (c ∷ cs) = location_at (c ∷ cs) (bytes_eq (c ∷ cs) (codes ":memory:"))
+
+none_some : (location : Location) → ◌≡◌ {A = Option Location} None (Some location) → ⊥
+none_some location e = cc
+
+usage_in : (memory : Bool) → IsIn memory Usage
+unfolding IsIn
+usage_in memory = λ location e. absurd (none_some location e)
+
+same_place : (memory : Bool) (p q : Location) → memory ≡ is_memory p → ◌≡◌ {A = Option Location} (Some p) (Some q) → memory ≡ is_memory q
+same_place memory p q is e = cc
+
+created_in : (memory b : Bool) (p : Location) (lib name user secret : List ℕ) → memory ≡ is_memory p → IsIn memory (cond b (Create p lib name user secret) Usage)
+unfolding IsIn
+created_in memory true p lib name user secret is = λ q e. same_place memory p q is e
+created_in memory false p lib name user secret is = λ q e. absurd (none_some q e)
+
+added_in : (memory b : Bool) (p : Location) (lib user secret : List ℕ) (right : Right) → memory ≡ is_memory p → IsIn memory (cond b (Token p lib user secret right) Usage)
+unfolding IsIn
+added_in memory true p lib user secret right is = λ q e. same_place memory p q is e
+added_in memory false p lib user secret right is = λ q e. absurd (none_some q e)
+
+create_in : (memory : Bool) (name user : List ℕ) (p : Option Location) (l s : Option (List ℕ)) → IfSome p (λ location. memory ≡ is_memory location)
+    → IsIn memory (create_by name user p l s)
+create_in memory name user (Some p) (Some lib) (Some secret) is = created_in memory (is_name name && is_name user) p lib name user secret is
+create_in memory name user None l s is = usage_in memory
+create_in memory name user (Some p) None s is = usage_in memory
+create_in memory name user (Some p) (Some lib) None is = usage_in memory
+
+token_in : (memory : Bool) (user : List ℕ) (p : Option Location) (l s : Option (List ℕ)) (r : Option Right) → IfSome p (λ location. memory ≡ is_memory location)
+    → IsIn memory (token_by user p l s r)
+token_in memory user (Some p) (Some lib) (Some secret) (Some right) is = added_in memory (is_name user) p lib user secret right is
+token_in memory user None l s r is = usage_in memory
+token_in memory user (Some p) None s r is = usage_in memory
+token_in memory user (Some p) (Some lib) None r is = usage_in memory
+token_in memory user (Some p) (Some lib) (Some secret) None is = usage_in memory
+
+inetd_in : (memory : Bool) (p : Option Location) (l : Option (List ℕ)) → IfSome p (λ location. memory ≡ is_memory location) → IsIn memory (inetd_by p l)
+unfolding IsIn
+inetd_in memory (Some p) (Some lib) is = λ q e. same_place memory p q is e
+inetd_in memory None l is = λ q e. absurd (none_some q e)
+inetd_in memory (Some p) None is = λ q e. absurd (none_some q e)
+
+short_in : (memory b : Bool) (folder lib : List ℕ) → IfSome (location_word folder) (λ location. memory ≡ is_memory location)
+    → IsIn memory (cond b (inetd_by (location_word folder) (library_id_of lib)) Usage)
+short_in memory true folder lib is = inetd_in memory (location_word folder) (library_id_of lib) is
+short_in memory false folder lib is = usage_in memory
+
+long_in : (memory b d : Bool) (folder lib third fourth fifth : List ℕ) → IfSome (location_word folder) (λ location. memory ≡ is_memory location)
+    → IsIn memory (cond b (create_command folder lib third fourth fifth) (cond d (token_command folder lib third fourth fifth) Usage))
+long_in memory true d folder lib third fourth fifth is = create_in memory third fourth (location_word folder) (library_id_of lib) (secret_of fifth) is
+long_in memory false true folder lib third fourth fifth is =
+    token_in memory third (location_word folder) (library_id_of lib) (secret_of fourth) (right_of fifth) is
+long_in memory false false folder lib third fourth fifth is = usage_in memory
+
+lone_in : (b d : Bool) → IsIn false (cond b Help (cond d Version Usage))
+unfolding IsIn
+lone_in true d = λ q e. absurd (none_some q e)
+lone_in false true = λ q e. absurd (none_some q e)
+lone_in false false = λ q e. absurd (none_some q e)
+
+pub location_of_words : (words : List (List ℕ)) (location : Location) → location_in (command_of words) ≡ Some location → names_memory words ≡ is_memory location
+unfolding IsIn
+location_of_words [] = λ q e. absurd (none_some q e)
+location_of_words (word ∷ []) = lone_in (bytes_eq word (codes "--help")) (bytes_eq word (codes "--version"))
+location_of_words (word ∷ folder ∷ []) = λ q e. absurd (none_some q e)
+location_of_words (word ∷ folder ∷ lib ∷ []) =
+    short_in (bytes_eq folder (codes ":memory:")) (bytes_eq word (codes "inetd")) folder lib (folder_location folder)
+location_of_words (word ∷ folder ∷ lib ∷ a ∷ []) = λ q e. absurd (none_some q e)
+location_of_words (word ∷ folder ∷ lib ∷ a ∷ b ∷ []) = λ q e. absurd (none_some q e)
+location_of_words (word ∷ folder ∷ lib ∷ a ∷ b ∷ c ∷ []) =
+    long_in (bytes_eq folder (codes ":memory:")) (bytes_eq word (codes "create")) (bytes_eq word (codes "token")) folder lib a b c (folder_location folder)
+location_of_words (word ∷ folder ∷ lib ∷ a ∷ b ∷ c ∷ d ∷ more) = λ q e. absurd (none_some q e)
