@@ -1,6 +1,6 @@
 -- A call's own query is read as what it asks for. The lemmas that callers want are check_asked, update_asked and
 -- ids_asked, at the end.
-use Rattle.std.proofs.Common.{◌≡◌, ℕ, nat_eq, Bool, true, false, List, [], ◌∷◌, ◌++◌, length, get_or, codes, Option, Some, None, Result, Ok, refl, sym, ap, ◌∙◌, arith, not, All, take, drop, ◌+◌, if◌then◌else◌, length-append, ne_eqb}
+use Rattle.std.proofs.Common.{◌≡◌, ℕ, nat_eq, true, false, List, [], ◌∷◌, ◌++◌, length, get_or, codes, Option, Some, None, Result, Ok, refl, sym, ap, ◌∙◌, arith, not, All, take, drop, ◌+◌, if◌then◌else◌, length-append, ne_eqb}
 use Rattle.std.proofs.lemmas.Bool.{true≢false, not-true}
 use Rattle.std.proofs.lemmas.List.{drop_at, get_or_append_left, get_or_at, length_push, append_assoc, take_at}
 use Rattle.std.proofs.lemmas.List.Elements.{All-append, All-cons, All-from_get_or, All-get_or}

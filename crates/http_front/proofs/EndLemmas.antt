@@ -113,17 +113,17 @@ one_status rest first second (by_head head after at judged) (by_length is long u
     absurd (head_and_none rest head after at unread.none)
 one_status rest first second (by_bytes is over) (by_head head after at judged) = absurd (head_and_many rest head after at over)
 one_status rest first second (by_bytes is over) (by_bytes also also_over) = inl (is ∙ sym also)
-one_status rest first second (by_bytes is over) (by_length also long unread) = inr (record { none = unread.none; many = over })
+one_status rest first second (by_bytes is over) (by_length also long unread) = inr (record { none = unread.none; may = unread.may; many = over })
 one_status rest first second (by_length is long unread) (by_head head after at judged) =
     absurd (head_and_none rest head after at unread.none)
-one_status rest first second (by_length is long unread) (by_bytes also over) = inr (record { none = unread.none; many = over })
+one_status rest first second (by_length is long unread) (by_bytes also over) = inr (record { none = unread.none; may = unread.may; many = over })
 one_status rest first second (by_length is long unread) (by_length also also_long also_unread) = inl (is ∙ sym also)
 
 -- what is cut short is not refused
 pub cut_or_refused : (rest given : List ℕ) (status : ℕ) → IsCutAfter rest given → IsRefused rest status → NeedsManyFields rest
 cut_or_refused rest given status (in_head some short unread none) (by_head head after at judged) =
     absurd (head_and_none rest head after at unread.none)
-cut_or_refused rest given status (in_head some short unread none) (by_bytes is over) = record { none = unread.none; many = over }
+cut_or_refused rest given status (in_head some short unread none) (by_bytes is over) = record { none = unread.none; may = unread.may; many = over }
 cut_or_refused rest given status (in_head some short unread none) (by_length is long also) = absurd (omega (arith, short, long))
 cut_or_refused rest given status (in_body head after size at judged few due) (by_head other more also refused) =
     absurd (accepted_and_refused rest head other after more size status at also judged refused)

@@ -6,6 +6,8 @@ pub mod EndLemmas
 pub mod FieldLemmas
 pub mod HeadLemmas
 pub mod IdArrayLemmas
+pub mod LineLemmas
+pub mod LinkLemmas
 pub mod MemoryLinkLemmas
 pub mod NumberLemmas
 pub mod OrderLemmas

@@ -1,9 +1,8 @@
 -- The bodies of refusals have no float, so their text is serde_json's. The lemma that callers want is refused_text.
-use Rattle.std.proofs.Common.{◌≡◌, ◌≢◌, ℕ, ℤ, pos, negsuc, List, [], ◌∷◌, map, None, Some, codes, true, false, refl, ap, ◌∙◌, subst, ne_eqb}
+use Rattle.std.proofs.Common.{◌≡◌, ◌≢◌, ℕ, List, [], ◌∷◌, map, None, Some, codes, true, false, refl, ap, ◌∙◌, subst, ne_eqb}
 use Rattle.http_front.specs.declared.status.Status.TheVariants.{NotImplemented}
 use Rattle.http_front.specs.ReplyText.{bad_body, bad_text, json_parts, written}
 use Rattle.serde_json.specs.Data.{Data, array}
-use Rattle.serde_json.specs.Find.{is_float, of_integer}
 use Rattle.serde_json.specs.View.{view, items_of}
 use Rattle.serde_json.specs.Written.{compact_text, has_float, items_have_float}
 use Rattle.serde_json.specs.declared.value.Value.{Value}

@@ -46,7 +46,7 @@ limit_at_bound (Some (route.PutFs lib)) = omega arith
 limit_at_bound (Some (route.GetFs lib)) = omega arith
 limit_at_bound (Some (route.Ids lib)) = omega arith
 
-limit_bound : (method : Method) (target : List ℕ) → limit_of method target ≤ 67108864
+pub limit_bound : (method : Method) (target : List ℕ) → limit_of method target ≤ 67108864
 unfolding limit_of
 limit_bound method target = limit_at_bound (route_of method target)
 

@@ -5,6 +5,7 @@ pub mod Fields
 pub mod IdArray
 pub mod Link
 pub mod MemoryLink
+pub mod Limits
 pub mod NextHead
 pub mod Order
 pub mod ParsedHead

@@ -7,6 +7,7 @@ use Rattle.httparse.specs.Spans.{RequestOverflows}
 use Rattle.library_state.specs.declared.tag.Tag.{Tag}
 use Rattle.http_front.specs.TargetFront.{MayBecomeHead}
 use Rattle.http_front.specs.Fields.{Found, once, found, values_of}
+use Rattle.http_front.specs.Limits.{field_limit, head_limit}
 use Rattle.http_front.specs.EntityTag.{numbers_text, tag_text}
 use Rattle.http_front.specs.RequestHead.{fields_of, judge, expects, closes, method_of}
 use Rattle.http_front.specs.declared.head.Head.{Head}
@@ -56,7 +57,7 @@ IsTagIn field (Some tag) = IsTag tag × (field ≡ once (tag_text tag))
 -- the head is what the request's head says
 pub record IsHeadOf (front : List ℕ) (head : Head) (request : RequestHead) : Type 0 where
   pub reads : ReadsRequest front request (drop head.used front)
-  pub few : length request.fields ≤ 64
+  pub few : length request.fields ≤ field_limit
   pub used : head.used ≡ length (print_request request)
   pub body : judge request ≡ Ok head.body
   pub expects_is : head.expects ≡ expects request
@@ -69,8 +70,8 @@ pub record IsHeadOf (front : List ℕ) (head : Head) (request : RequestHead) : T
 -- why the front is refused with that status
 pub data IsBad (front : List ℕ) (full : Bool) (status : ℕ) : Type 0 where
   of_head : (request : RequestHead) (rest : List ℕ) → ReadsRequest front request rest
-      → length request.fields ≤ 64 → judge request ≡ Err status → IsBad front full status
-  of_bytes : status ≡ 400 → RequestOverflows 64 front → IsBad front full status
+      → length request.fields ≤ field_limit → judge request ≡ Err status → IsBad front full status
+  of_bytes : status ≡ 400 → RequestOverflows field_limit front → IsBad front full status
   of_length : status ≡ 431 → full ≡ true → HasNoRequest front → MayBecomeHead front
       → IsBad front full status
 
@@ -82,4 +83,4 @@ IsNextIn front full (next.Bad status) = IsBad front full status
 
 -- what stands at the front of the buffer
 abbrev pub IsNext : List ℕ → Next → Type 0
-IsNext buffer told = IsNextIn (take 16384 buffer) (nat_le 16384 (length buffer)) told
+IsNext buffer told = IsNextIn (take head_limit buffer) (nat_le head_limit (length buffer)) told

@@ -4,6 +4,7 @@ use Rattle.std.specs.Prelude.{ℕ, ◌≡◌, ◌≢◌, ◌<◌, ◌≤◌, ◌
 use Rattle.httparse.specs.Grammar.{RequestHead, ReadsRequest, print_request, HasNoRequest}
 use Rattle.httparse.specs.Spans.{RequestOverflows}
 use Rattle.http_front.specs.TargetFront.{MayBecomeHead}
+use Rattle.http_front.specs.Limits.{field_limit, head_limit}
 use Rattle.http_front.specs.ReplyText.{interim_due}
 use Rattle.http_front.specs.RequestHead.{judge, closes, expects}
 
@@ -15,8 +16,8 @@ pub record Request : Type 0 where
 -- the input is that head, and then the rest
 pub record IsHeadAt (input : List ℕ) (head : RequestHead) (rest : List ℕ) : Type 0 where
   pub reads : ReadsRequest input head rest
-  pub few : length head.fields ≤ 64
-  pub short : length (print_request head) ≤ 16384
+  pub few : length head.fields ≤ field_limit
+  pub short : length (print_request head) ≤ head_limit
 
 -- the input is that request, whose head is accepted, and then the rest
 pub record IsRequest (input : List ℕ) (request : Request) (rest : List ℕ) : Type 0 where
@@ -41,7 +42,7 @@ pub record Extends (shorter longer : List Request) : Type 0 where
 
 -- the bytes of which a head is read
 abbrev pub front_of : List ℕ → List ℕ
-front_of rest = take 16384 rest
+front_of rest = take head_limit rest
 
 -- no head stands there yet, and one may still come
 pub record IsOpen (rest : List ℕ) : Type 0 where
@@ -54,7 +55,7 @@ interim_of head = interim_due (expects head)
 
 -- the input ends within a request, for which these bytes were given: the interim reply of its head, if that waits for one
 pub data IsCutAfter (rest given : List ℕ) : Type 0 where
-  in_head : rest ≢ [] → length rest < 16384 → IsOpen rest → given ≡ [] → IsCutAfter rest given
+  in_head : rest ≢ [] → length rest < head_limit → IsOpen rest → given ≡ [] → IsCutAfter rest given
   in_body : (head : RequestHead) (after : List ℕ) (length_due : ℕ) → IsHeadAt rest head after
       → judge head ≡ Ok length_due → length after < length_due → given ≡ interim_of head → IsCutAfter rest given
 
@@ -67,7 +68,7 @@ pub record IsLookedAt (seen : ℕ) (unread : List ℕ) : Type 0 where
 
 -- less than a request, for which these bytes were given: the interim reply of its head, if that is there and waits for one
 pub data IsUnfinished (unread given : List ℕ) : Type 0 where
-  head_open : (seen : ℕ) → length unread < 16384 → HasNoRequest unread → IsLookedAt seen unread → given ≡ [] → IsUnfinished unread given
+  head_open : (seen : ℕ) → length unread < head_limit → HasNoRequest unread → IsLookedAt seen unread → given ≡ [] → IsUnfinished unread given
   body_open : (head : RequestHead) (after : List ℕ) (length_due : ℕ) → IsHeadAt unread head after
       → judge head ≡ Ok length_due → length after < length_due → given ≡ interim_of head → IsUnfinished unread given
 
@@ -75,15 +76,16 @@ pub data IsUnfinished (unread given : List ℕ) : Type 0 where
 pub data IsRefused (rest : List ℕ) (status : ℕ) : Type 0 where
   by_head : (head : RequestHead) (after : List ℕ) → IsHeadAt rest head after → judge head ≡ Err status
       → IsRefused rest status
-  by_bytes : status ≡ 400 → RequestOverflows 64 (front_of rest) → IsRefused rest status
-  by_length : status ≡ 431 → 16384 ≤ length rest → IsOpen rest → IsRefused rest status
+  by_bytes : status ≡ 400 → RequestOverflows field_limit (front_of rest) → IsRefused rest status
+  by_length : status ≡ 431 → head_limit ≤ length rest → IsOpen rest → IsRefused rest status
 
 -- the input begins with no whole request
 abbrev pub HasNoWhole : List ℕ → Type 0
 HasNoWhole input = (request : Request) (rest : List ℕ) → IsRequest input request rest → ⊥
 
--- no head stands there, and none of at most 64 fields can come. Whether this is told as cut short or as refused, and with
--- which status, is free
+-- no head stands there and one may come, but none of at most 64 fields. Whether this is told as cut short or as refused, and
+-- with which status, is free
 pub record NeedsManyFields (rest : List ℕ) : Type 0 where
   pub none : HasNoRequest (front_of rest)
-  pub many : RequestOverflows 64 (front_of rest)
+  pub may : MayBecomeHead (front_of rest)
+  pub many : RequestOverflows field_limit (front_of rest)

@@ -26,6 +26,7 @@ use Rattle.hex.specs.Hex.{encode_lower}
 use Rattle.uuid.specs.Text.{hyphenated_text, lower}
 use Rattle.json_words.specs.IdText.{library_id_of, object_id_of}
 use Rattle.ids.specs.Kind.{kind_word}
+use Rattle.http_front.specs.Limits.{body_limit}
 use Rattle.http_front.specs.Target.{parts_of}
 use Rattle.http_front.specs.declared.method.Method.{Method}
 use Rattle.http_front.specs.declared.method.Method.TheVariants as method
@@ -137,7 +138,7 @@ route_limit (Get lib key) = usual_limit
 route_limit (Put lib key) = object_limit key.kind
 route_limit (CheckFs lib) = usual_limit
 route_limit (CheckBlocks lib) = usual_limit
-route_limit (PutFs lib) = 67108864
+route_limit (PutFs lib) = body_limit
 route_limit (GetFs lib) = usual_limit
 route_limit (Ids lib) = usual_limit
 

@@ -5,6 +5,7 @@ use Rattle.std.specs.Int.{to_be_bytes, w32}
 use Rattle.hex.specs.Hex.{encode_lower}
 use Rattle.json_words.specs.declared.answer.ReadFault.{ReadFault}
 use Rattle.json_words.specs.declared.answer.ReadFault.TheVariants.{Bad, NoMemory}
+use Rattle.http_front.specs.Limits.{row_limit}
 use Rattle.http_front.specs.declared.row.Row.{Row}
 
 abbrev pub row_with : List ℕ → List ℕ → Row
@@ -19,13 +20,13 @@ rows_text (row ∷ rows) = row_text row ++ rows_text rows
 
 -- each object is short enough for its length to be told
 abbrev pub FitRows : List Row → Type 0
-FitRows rows = All (λ row. length row.bytes < 4294967296) rows
+FitRows rows = All (λ row. length row.bytes < row_limit) rows
 
 -- a row that a text can spell
 pub record IsRow (row : Row) : Type 0 where
   pub id_size : length row.id ≡ 20
   pub id_bytes : All (λ byte. byte < 256) row.id
-  pub fits : length row.bytes < 4294967296
+  pub fits : length row.bytes < row_limit
 
 -- no row stands at the front
 abbrev pub HasNoRow : List ℕ → Type 0

@@ -2,7 +2,8 @@
 ghost use Rattle.std.specs.Prelude.{◌≡◌, ◌≢◌, ◌+◌, ◌≤◌, ◌↔◌, IsTrue, [], length, drop, IfOk, IfErr, OnErr};
 ghost use Rattle.std.specs.Io.KnownBytes.{IsAtEnd};
 ghost use Rattle.http_front.specs.Buffer.{Fills, to_read};
-ghost use Rattle.http_front.specs.Link.{told_by};
+ghost use Rattle.http_front.specs.Link.{AskedLast, told_by};
+ghost use Rattle.http_front.specs.Limits.{piece_limit};
 ghost use Rattle.ids.specs.FaultCount.{Rose};
 
 use crate::link::Link;
@@ -34,12 +35,13 @@ pub struct Buffer {
 
 impl Model for Buffer {
     ghost use Rattle.std.specs.Prelude.{List, ℕ, ◌≡◌, ◌≤◌, length, drop};
+    ghost use Rattle.http_front.specs.Limits.{piece_limit};
 
     ghost Value = { List ℕ };
 
     ghost view = { λ b. drop b.from b.bytes.items };
 
-    ghost invariant = { λ b. record { from : b.from ≤ length b.bytes.items; piece : length b.piece.items ≡ 65536 } };
+    ghost invariant = { λ b. record { from : b.from ≤ length b.bytes.items; piece : length b.piece.items ≡ piece_limit } };
 }
 
 impl Buffer {
@@ -89,13 +91,14 @@ impl Buffer {
     /// at the end of input. Where it fails, nothing was taken.
     pub fn fill<L: Link>(&mut self, link: &mut L) -> Result<usize, FillFault>
         ensures value { IfOk result (λ n. length self.new ≡ length self.old + n) }
-        ensures bound { IfOk result (λ n. n ≤ 65536) }
+        ensures bound { IfOk result (λ n. n ≤ piece_limit) }
         ensures end { IfOk result (λ n. n ≡ 0 → IsAtEnd (L.left link.new)) }
         ensures err { OnErr result (self.new ≡ self.old) }
         ensures to_read { to_read self.new (L.left link.new) ≡ to_read self.old (L.left link.old) }
         ensures stays { L.given link.new ≡ L.given link.old }
         ensures fills { Fills self.old self.new (told_by L.taken L.given L.asked link.old) (told_by L.taken L.given L.asked link.new) }
         ensures link { result ≡ Err FillFault.Link → Rose (L.faults link.old) (L.faults link.new) }
+        ensures last { result ≡ Err FillFault.Link → AskedLast (told_by L.taken L.given L.asked link.new) }
         ensures faults { result ≢ Err FillFault.Link → L.faults link.new ≡ L.faults link.old }
     {
         self.tidy();

@@ -3,6 +3,7 @@ ghost use Rattle.std.specs.Prelude.{◌≡◌, ◌≤◌, take, length, map, nat
 ghost use Rattle.httparse.specs.Grammar.{HasNoRequest, MayBecomeRequest};
 ghost use Rattle.httparse.specs.Spans.{IsHeaderWithin, IsWithin, span_bytes};
 ghost use Rattle.http_front.specs.Fields.{fields_at};
+ghost use Rattle.http_front.specs.Limits.{head_limit};
 ghost use Rattle.http_front.specs.NextHead.{IsNext, IsNextIn};
 ghost use Rattle.http_front.specs.ParsedHead.{IsParsedBy};
 ghost use Rattle.http_front.specs.RequestHead.{judged_by};
@@ -20,10 +21,10 @@ use library_state::{Secret, Tag};
 use std::alloc::{AllocError, Global};
 
 /// The most bytes that a head may have.
-const HEAD_LIMIT: usize = 16_384;
+pub const HEAD_LIMIT: usize = 16_384;
 
 /// The most fields that a head may have.
-const FIELD_ROOM: usize = 64;
+const FIELD_LIMIT: usize = 64;
 
 /// What the head of a request asks for.
 #[derive(Debug, Drop)]
@@ -75,7 +76,7 @@ pub fn next_head(alloc: Global, buffer: &[u8]) -> Result<Next, AllocError>
 
 /// The bytes of which a head is read.
 fn front_of(buffer: &[u8]) -> &[u8]
-    ensures { result.now ≡ take 16384 buffer.now }
+    ensures { result.now ≡ take head_limit buffer.now }
 {
     buffer.split_at(HEAD_LIMIT.min(buffer.len())).0
 }
@@ -84,7 +85,7 @@ fn front_of(buffer: &[u8]) -> &[u8]
 fn parse(alloc: Global, front: &[u8], full: bool) -> Result<Next, AllocError>
     ensures { IfOk result (IsNextIn front.now full) }
 {
-    let mut headers = [EMPTY_HEADER_SPAN; FIELD_ROOM];
+    let mut headers = [EMPTY_HEADER_SPAN; FIELD_LIMIT];
     match parse_request(front, &mut headers) {
         Ok(Status::Complete(spans)) => {
             let target = match std::str::from_utf8(spans.path.of(front)) {

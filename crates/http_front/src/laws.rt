@@ -1,12 +1,13 @@
 //! Theorems about the stream of requests and the table of calls.
-ghost use Rattle.std.specs.Prelude.{◌≡◌, ◌<◌, ◌⊎◌, ℕ, List, [], length, Option, Result, Ok, Some};
+ghost use Rattle.std.specs.Prelude.{◌≡◌, ◌+◌, ◌^◌, ◌<◌, ◌≤◌, ◌⊎◌, ℕ, List, [], length, Option, Result, Ok, Some};
 ghost use Rattle.library_state.specs.declared.call.Op.{Op};
 ghost use Rattle.library_state.specs.declared.refusal.Refusal.{Refusal};
 ghost use Rattle.http_front.specs.CallQuery.{IsClient, IsObjectId, check_query, ids_query, update_query};
+ghost use Rattle.http_front.specs.Limits.{body_limit, field_limit, head_limit, piece_limit, row_limit};
 ghost use Rattle.http_front.specs.Order.{IsOrder, asked_of};
 ghost use Rattle.http_front.specs.Query.{query_of};
 ghost use Rattle.http_front.specs.RequestStream.{Extends, HasNoWhole, IsCutAfter, IsRefused, IsUnfinished, NeedsManyFields, Reads, Request};
-ghost use Rattle.http_front.specs.Route.{IsCall, IsLibrary, method_in, path_in, route_of};
+ghost use Rattle.http_front.specs.Route.{IsCall, IsLibrary, limit_of, method_in, path_in, route_of};
 ghost use Rattle.http_front.specs.Target.{path_of};
 ghost use Rattle.http_front.specs.declared.method.Method.{Method};
 ghost use Rattle.http_front.specs.declared.order.Order.{Order};
@@ -27,7 +28,7 @@ pub fn what_ends_a_connection_begins_with_no_request()
 {}
 
 /// What is left has one end: it is nothing, or cut short after one reply at most, or refused with one status. Two ends may be
-/// told only where no head stands there and none of at most 64 fields can come.
+/// told only where no head stands there and one may come, but none of at most 64 fields.
 pub fn what_is_left_has_one_end()
     ensures nothing_cut { (given : List ℕ) → IsCutAfter [] given → ⊥ }
     ensures nothing_refused { (status : ℕ) → IsRefused [] status → ⊥ }
@@ -41,7 +42,17 @@ pub fn what_is_left_has_one_end()
 /// What is less than a request is no whole one, and has less than 67,125,248 bytes: those of a head and of the longest body.
 pub fn what_is_unfinished_is_short()
     ensures none { (unread given : List ℕ) → IsUnfinished unread given → HasNoWhole unread }
-    ensures bound { (unread given : List ℕ) → IsUnfinished unread given → length unread < 67125248 }
+    ensures bound { (unread given : List ℕ) → IsUnfinished unread given → length unread < head_limit + body_limit }
+{}
+
+/// The limits of what is read, in numbers.
+pub fn the_limits_are_these()
+    ensures { (head_limit ≡ 16384) × (field_limit ≡ 64) × (body_limit ≡ 67108864) × (piece_limit ≡ 65536) × (row_limit ≡ 2 ^ 32) }
+{}
+
+/// No body is longer than the longest.
+pub fn no_body_is_longer_than_the_longest()
+    ensures { (method : Method) (target : List ℕ) → limit_of method target ≤ body_limit }
 {}
 
 /// A request names a call by that call's method and path alone, but for a slash at the end and a query.

@@ -32,7 +32,7 @@ mod target_front;
 mod token;
 
 pub use buffer::{Buffer, FillFault};
-pub use head::{Head, Next, next_head};
+pub use head::{HEAD_LIMIT, Head, Next, next_head};
 pub use link::{Link, LinkFailed, Sink};
 pub use memory_link::MemoryLink;
 pub use memory_sink::MemorySink;

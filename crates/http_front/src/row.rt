@@ -4,6 +4,7 @@ ghost use Rattle.std.specs.Int.{to_be_bytes, w32};
 ghost use Rattle.hex.specs.Hex.{encode_lower};
 ghost use Rattle.ids.specs.Digits.{digits_form};
 ghost use Rattle.ids.specs.Form.{IsOf};
+ghost use Rattle.http_front.specs.Limits.{row_limit};
 ghost use Rattle.http_front.specs.Rows.{FitRows, HasNoRow, ReadsRows, row_with, rows_text};
 
 use ids::{Bytes, Items, ObjId};
@@ -20,6 +21,9 @@ pub struct Row {
 
 /// The digits of an id and the length of the bytes in front of each object.
 const FRONT: usize = 44;
+
+/// An object of a row has fewer bytes.
+const ROW_LIMIT: usize = 4_294_967_296;
 
 /// The rows that a body is, or the place at which its first bad row begins. Each object is copied once.
 pub(crate) fn read_rows(alloc: Global, body: &[u8]) -> Result<Items<Row>, ReadFault<u64>>
@@ -65,7 +69,7 @@ fn row_of(alloc: Global, id: ObjId, bytes: &[u8]) -> Result<Row, AllocError>
 fn front_row(rest: &[u8]) -> Option<(ObjId, &[u8])>
     ensures whole { IfSome result (λ front. rest.now
         ≡ encode_lower front.0 ++ (to_be_bytes w32 (length front.1.now) ++ (front.1.now ++ drop (44 + length front.1.now) rest.now))) }
-    ensures fits { IfSome result (λ front. length front.1.now < 4294967296) }
+    ensures fits { IfSome result (λ front. length front.1.now < row_limit) }
     ensures bound { IfSome result (λ front. 44 + length front.1.now ≤ length rest.now) }
     ensures id_size { IfSome result (λ front. length front.0 ≡ 20) }
     ensures id_bytes { IfSome result (λ front. All (λ byte. byte < 256) front.0) }
@@ -113,9 +117,9 @@ pub(crate) fn write_rows(alloc: Global, rows: &[Row]) -> Result<Vec<u8>, AllocEr
 fn push_row(text: &mut Vec<u8>, id: &ObjId, bytes: &[u8]) -> Result<(), AllocError>
     ensures ok { OnOk result (text.new.items
         ≡ text.old.items ++ (encode_lower id.now ++ (to_be_bytes w32 (length bytes.now) ++ bytes.now))) }
-    ensures fits { OnOk result (length bytes.now < 4294967296) }
+    ensures fits { OnOk result (length bytes.now < row_limit) }
 {
-    if bytes.len() >= 4_294_967_296 {
+    if bytes.len() >= ROW_LIMIT {
         return Err(AllocError);
     }
     let size = bytes.len() as u32;

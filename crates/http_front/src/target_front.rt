@@ -2,11 +2,12 @@
 ghost use Rattle.std.specs.Prelude.{◌≡◌, false, IsTrue};
 ghost use Rattle.httparse.specs.Grammar.{MayBecomeRequest};
 ghost use Rattle.httparse.specs.Spans.{RequestOverflows};
+ghost use Rattle.http_front.specs.Limits.{field_limit};
 ghost use Rattle.http_front.specs.TargetFront.{IsBroken, IsTextFront, MayBecomeHead, after_space, has_space};
 
 /// Whether the bytes end within a target that no bytes can make a text. Then they begin no head.
 pub(crate) fn breaks_target(front: &[u8]) -> bool
-    ensures broken { IsTrue result → RequestOverflows 64 front.now }
+    ensures broken { IsTrue result → RequestOverflows field_limit front.now }
     ensures whole { result ≡ false → MayBecomeRequest front.now → MayBecomeHead front.now }
 {
     let target = after_space(front);

@@ -7,6 +7,7 @@ ghost use Rattle.http_front.specs.NextHead.{IsSecretText, IsTokenIn};
 use crate::fields::{Seen, look_for};
 use httparse::spans::HeaderSpan;
 use library_state::Secret;
+use std::str::from_utf8;
 
 /// The secret whose 40 digits are there once.
 pub(crate) fn read_token(bytes: &[u8], headers: &[HeaderSpan]) -> Option<Secret>
@@ -23,14 +24,17 @@ pub(crate) fn read_token(bytes: &[u8], headers: &[HeaderSpan]) -> Option<Secret>
 fn read_secret(text: &[u8]) -> Option<Secret>
     ensures { IsSecretText text.now result }
 {
-    let mut bytes = [0; 20];
-    match hex::decode_to_slice(text, &mut bytes) {
-        Ok(()) => {}
-        Err(_) => return None,
+    match from_utf8(text) {
+        Ok(text) => secret_in(text),
+        Err(_) => None,
     }
-    let secret = Secret::from_bytes(bytes);
-    if secret.digits().as_slice() == text {
-        return Some(secret);
+}
+
+fn secret_in(text: &str) -> Option<Secret>
+    ensures { IsSecretText text.now result }
+{
+    match Secret::read(text) {
+        Ok(secret) => Some(secret),
+        Err(_) => None,
     }
-    None
 }
