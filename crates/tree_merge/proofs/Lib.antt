@@ -25,3 +25,4 @@ pub mod MergedEntryLemmas
 pub mod MergedRootLemmas
 pub mod MergingLemmas
 pub mod BuiltLemmas
+pub mod FileContentsLemmas

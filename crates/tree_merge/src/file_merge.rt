@@ -9,10 +9,11 @@ ghost use Rattle.tree_merge.specs.FileEntry.{version_of};
 ghost use Rattle.tree_merge.specs.FileChoice.{IsChoice, IsWholeIf, changed_both};
 ghost use Rattle.tree_merge.specs.Telling.{AnswersWell, IsWhole};
 
+use crate::file_contents::same_contents;
 use crate::file_entry::FileEntry;
 use object_store::{Shelf, Store};
 use std::alloc::Global;
-use tree_walk::{WalkFault, same_file};
+use tree_walk::WalkFault;
 
 /// The file that keeps its name at a path, and the one that gets a conflict name.
 #[derive(Drop)]
@@ -109,5 +110,5 @@ fn same_versions<S: Shelf>(
     if left.id == right.id {
         return Ok(true);
     }
-    same_file(alloc, store, left.id, right.id)
+    same_contents(alloc, store, left.id, right.id)
 }

@@ -7,6 +7,7 @@
 
 mod conflict_copies;
 mod decision;
+mod file_contents;
 mod file_entry;
 mod file_merge;
 mod merging;

@@ -1,0 +1,23 @@
+-- What the store refuses: a stored object that is damaged, or a failure of the shelf.
+use Rattle.std.proofs.Common.{sym, subst}
+use Rattle.std.specs.FinMap as map
+use Rattle.object_store.specs.Store.{IsOfStored}
+use Rattle.object_store.specs.StoreView.{Index}
+use Rattle.tree_walk.specs.Reading.{stored_at}
+use Rattle.tree_walk.proofs.ReadsLemmas.{read_stops, store_cause, store_due}
+use Rattle.tree_merge.proofs.file_contents.bytes_at.Goals as goal
+
+pub returns-in-Err-clause-value : goal.returns-in-Err-clause-value
+returns-in-Err-clause-value g c = λ objects told.
+    read_stops objects (stored_at objects c.args.key.now) c.in-Err.fault
+    (store_due objects c.args.key.now (g.S.Shelf.may_give c.get.new.self.shelf) c.in-Err.fault c.in-Err.ensures.damaged (c.in-Err.ensures.refused objects told))
+
+pub returns-in-Err-clause-stays : goal.returns-in-Err-clause-stays
+returns-in-Err-clause-stays g c = record {
+  kept = c.in-Err.ensures.stays;
+  shelf = c.in-Err.ensures.shelf;
+  cause = store_cause c.get.new.self.index c.args.key.now (g.S.Shelf.may_give c.get.new.self.shelf) c.in-Err.fault
+      (subst (λ (i : Index). IsOfStored (map.get i c.args.key.now) c.args.key.now c.in-Err.fault) (sym c.in-Err.ensures.stays.index) c.in-Err.ensures.stored)
+      c.in-Err.ensures.damaged;
+  count = c.in-Err.ensures.faults;
+}
