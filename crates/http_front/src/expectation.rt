@@ -34,7 +34,7 @@ pub(crate) fn closes(minor: u8, bytes: &[u8], headers: &[HeaderSpan]) -> bool
 }
 
 /// Whether some `Connection` field has the element `close`.
-fn wants_close(bytes: &[u8], headers: &[HeaderSpan]) -> bool
+pub fn wants_close(bytes: &[u8], headers: &[HeaderSpan]) -> bool
     requires { All (IsHeaderWithin (length bytes.now)) headers.now }
     ensures { result ≡ wants_close (fields_at bytes.now headers.now) }
 {

@@ -8,7 +8,7 @@ use httparse::spans::{HeaderSpan, Span};
 
 /// How often a field is there, and where its value is.
 #[derive(Clone, Copy)]
-pub(crate) enum Seen {
+pub enum Seen {
     Never,
     Once(Span),
     Again,
@@ -22,7 +22,7 @@ pub(crate) fn is_word(word: &[u8], bytes: &[u8]) -> bool
 }
 
 /// Looks for the fields of that name.
-pub(crate) fn look_for(name: &[u8], bytes: &[u8], headers: &[HeaderSpan]) -> Seen
+pub fn look_for(name: &[u8], bytes: &[u8], headers: &[HeaderSpan]) -> Seen
     requires { All (IsHeaderWithin (length bytes.now)) headers.now }
     ensures value { found_at bytes.now result ≡ found (values_of name.now (fields_at bytes.now headers.now)) }
     ensures within { IsSeenWithin (length bytes.now) result }

@@ -25,7 +25,7 @@ use std::str::from_utf8;
 /// The ids of a body that is a JSON array of their texts, or 0, the place of every bad body of this kind.
 ///
 /// The body is read token by token, and no value of it is kept but the ids. It takes the memory of the body once more.
-pub(crate) fn read_ids(alloc: Global, body: &[u8]) -> Result<IdList, ReadFault<u64>>
+pub fn read_ids(alloc: Global, body: &[u8]) -> Result<IdList, ReadFault<u64>>
     ensures value { ReadsAs result (ids_of body.now) }
 {
     match from_utf8(body) {
@@ -101,7 +101,7 @@ fn id_in_token(token: Token<'_>) -> Option<ObjId>
 }
 
 /// The compact JSON array of the texts of some ids.
-pub(crate) fn array_bytes(alloc: Global, ids: &[ObjId]) -> Result<Vec<u8>, AllocError>
+pub fn array_bytes(alloc: Global, ids: &[ObjId]) -> Result<Vec<u8>, AllocError>
     ensures value { IfOk result (λ text. text.items ≡ array_text ids.now) }
 {
     let values = id_values(alloc, ids)?;

@@ -26,7 +26,7 @@ const FRONT: usize = 44;
 const ROW_LIMIT: usize = 4_294_967_296;
 
 /// The rows that a body is, or the place at which its first bad row begins. Each object is copied once.
-pub(crate) fn read_rows(alloc: Global, body: &[u8]) -> Result<Items<Row>, ReadFault<u64>>
+pub fn read_rows(alloc: Global, body: &[u8]) -> Result<Items<Row>, ReadFault<u64>>
     ensures value { ReadsRows body.now result }
 {
     let mut rows = Items::new(alloc);
@@ -102,7 +102,7 @@ fn id_in_digits(digits: &[u8]) -> Option<ObjId>
 }
 
 /// The text of some rows. An object of 2^32 bytes or more has no row, and the answer is then want of memory.
-pub(crate) fn write_rows(alloc: Global, rows: &[Row]) -> Result<Vec<u8>, AllocError>
+pub fn write_rows(alloc: Global, rows: &[Row]) -> Result<Vec<u8>, AllocError>
     ensures value { IfOk result (λ text. text.items ≡ rows_text rows.now) }
     ensures fits { OnOk result (FitRows rows.now) }
 {

@@ -1,0 +1,172 @@
+//! Replies as a client reads them: each outcome once, and beginnings that are no reply, with their places.
+use http_client::next_response;
+use http_front::{Order, What};
+use ids::{IdList, Key, Kind, LibId, ObjId};
+use library_state::{Op, Secret};
+use std::alloc::Global;
+use std::process::Abort;
+use std::test::Fail;
+
+const LIB: &str = "11111111-2222-4333-8444-555555555555";
+
+/// The SHA-1 of `abc`.
+const ABC: &str = "a9993e364706816aba3e25717850c26c9cd0d89d";
+
+const SECRET: &str = "aaaaaaaaaaaaaaaaaaaaaaaaaaaaaaaaaaaaaaaa";
+
+/// What is told of some bytes to one who gave an order, as it is printed.
+fn told(alloc: Global, what: What, buffer: &[u8]) -> Result<String, Fail> {
+    let order = Order {
+        lib: Some(LibId::read(LIB)?),
+        secret: Some(Secret::read(SECRET)?),
+        what,
+    };
+    let response = next_response(alloc, &order, buffer)?;
+    Ok(format!(in alloc; "{response:?}")?)
+}
+
+fn block() -> Result<Key, Fail> {
+    Ok(Key {
+        kind: Kind::Block,
+        id: ObjId::read(ABC)?,
+    })
+}
+
+/// The order of a word.
+fn order(alloc: Global, word: &str) -> Result<What, Fail> {
+    let id = ObjId::read(ABC)?;
+    Ok(match word {
+        "version" => What::Version,
+        "check" => What::Check(Op::Upload),
+        "update" => What::Update(id),
+        "get" => What::Get(block()?),
+        "missing" => What::Missing(Kind::Block, one(alloc)?),
+        "objects" => What::GetFs(one(alloc)?),
+        "list" => What::Ids(id, None),
+        _ => What::Head,
+    })
+}
+
+/// The list of the id of `abc` alone.
+fn one(alloc: Global) -> Result<IdList, Fail> {
+    let mut ids = IdList::new(alloc);
+    ids.push(ObjId::read(ABC)?)?;
+    Ok(ids)
+}
+
+/// Whether one who gave the order of a word is told so of a reply.
+fn holds(alloc: Global, word: &str, reply: &str, wanted: &str) -> Result<bool, Fail> {
+    let found = told(alloc, order(alloc, word)?, reply.as_bytes())?;
+    Ok(found.as_str() == wanted)
+}
+
+/// Orders, replies to them, and what is told.
+const OUTCOMES: [(&str, &str, &str); 9] = [
+    (
+        "version",
+        "HTTP/1.1 200 OK\r\ncontent-length: 13\r\n\r\n{\"version\":2}",
+        "Whole { outcome: Version, used: 52, closes: false }",
+    ),
+    (
+        "check",
+        "HTTP/1.1 200 OK\r\nContent-Length: 0\r\nConnection: close\r\n\r\n",
+        "Whole { outcome: Plain(Checked, Tag { opening: 0, count: 0 }), used: 57, closes: true }",
+    ),
+    (
+        "missing",
+        "HTTP/1.1 200 OK\r\nContent-Length: 2\r\n\r\n[]",
+        "Whole { outcome: Plain(Absent(Items { inner: [] }), Tag { opening: 0, count: 0 }), used: 40, closes: false }",
+    ),
+    (
+        "missing",
+        "HTTP/1.1 200 OK\r\nContent-Length: 44\r\n\r\n[\"2aae6c35c94fcfb415dbe95f408b9ce91ee846ed\"]",
+        "Bad(39)",
+    ),
+    (
+        "list",
+        "HTTP/1.1 200 OK\r\nContent-Length: 2\r\n\r\n[]",
+        "Whole { outcome: Plain(Listed(Items { inner: [] }), Tag { opening: 0, count: 0 }), used: 40, closes: false }",
+    ),
+    (
+        "objects",
+        "HTTP/1.1 200 OK\r\nContent-Length: 0\r\n\r\n",
+        "Bad(38)",
+    ),
+    (
+        "update",
+        "HTTP/1.1 409 Conflict\r\nContent-Length: 35\r\n\r\n{\"last\":1,\"now\":2,\"reason\":\"stale\"}",
+        "Whole { outcome: Refused(Stale { last: 1, now: 2 }), used: 80, closes: false }",
+    ),
+    (
+        "head",
+        "HTTP/1.1 409 Conflict\r\nContent-Length: 35\r\n\r\n{\"last\":1,\"now\":2,\"reason\":\"stale\"}",
+        "Bad(45)",
+    ),
+    (
+        "get",
+        "HTTP/1.1 500 Internal Server Error\r\nContent-Length: 19\r\n\r\n{\"reason\": \"store\"}",
+        "Whole { outcome: Refused(Store), used: 77, closes: false }",
+    ),
+];
+
+#[test]
+fn each_reply_tells_the_outcome_of_its_order(rt: HostRuntime) -> Result<(), Fail> {
+    for (word, reply, wanted) in OUTCOMES {
+        assert!(rt; holds(rt.alloc(), word, reply, wanted)?, "{word}: {wanted}");
+    }
+    Ok(())
+}
+
+#[test]
+fn a_cut_reply_is_never_whole(rt: HostRuntime) -> Result<(), Fail> {
+    let reply =
+        b"HTTP/1.1 200 OK\r\nContent-Type: application/octet-stream\r\nContent-Length: 3\r\nConnection: close\r\n\r\nabc";
+    let whole = told(rt.alloc(), What::Get(block()?), reply)?;
+    assert_eq!(rt;
+        whole.as_str(),
+        "Whole { outcome: Plain(Got(Items { inner: [97, 98, 99] }), Tag { opening: 0, count: 0 }), used: 100, closes: true }"
+    );
+    for length in 0..100 {
+        let cut = told(rt.alloc(), What::Get(block()?), &reply[..length])?;
+        assert_eq!(rt; cut.as_str(), "Need", "at {length}");
+    }
+    Ok(())
+}
+
+/// Beginnings of replies to the question for the head, and what is told of them.
+const FRONTS: [(&str, &str); 17] = [
+    ("HTTP/1.1 20", "Need"),
+    ("HTTP/1.0 2", "Bad(7)"),
+    ("HTTP/1.0 200 OK\r\nContent-Length: 0\r\n\r\n", "Bad(7)"),
+    ("x", "Bad(0)"),
+    ("HTTP/1.1 2x", "Bad(10)"),
+    ("\r\n\nHTTP/1.0", "Bad(10)"),
+    ("\r\r\nHTTP/1.1", "Bad(1)"),
+    ("HTTP/1.1 200 OK\r\nA : b", "Bad(18)"),
+    ("HTTP/1.1 299 OK\r\nContent-Length: 0\r\n\r\n", "Bad(38)"),
+    ("HTTP/1.1 200 OK\r\n\r\n", "Bad(19)"),
+    ("HTTP/1.1 200 OK\r\nContent-Length: x\r\n\r\n", "Bad(38)"),
+    (
+        "HTTP/1.1 200 OK\r\nContent-Length: 1\r\nContent-Length: 1\r\n\r\n1",
+        "Bad(57)",
+    ),
+    ("HTTP/1.1 304 Not Modified\r\n\r\n", "Bad(29)"),
+    (
+        "HTTP/1.1 304 Not Modified\r\nETag: \"1-2\"\r\nContent-Length: 5\r\n\r\n",
+        "Bad(61)",
+    ),
+    ("HTTP/1.1 200 OK\r\nContent-Length: 2\r\n\r\n{", "Need"),
+    ("HTTP/1.1 200 OK\r\nContent-Length: 2\r\n\r\n{}", "Bad(38)"),
+    (
+        "HTTP/1.1 403 No\r\nContent-Length: 28\r\nX: y\r\n\r\n{\"b\":[7], \"reason\":\"denied\"}HTTP",
+        "Whole { outcome: Refused(Denied), used: 73, closes: false }",
+    ),
+];
+
+#[test]
+fn what_is_no_reply_is_told_with_its_place(rt: HostRuntime) -> Result<(), Fail> {
+    for (front, wanted) in FRONTS {
+        assert!(rt; holds(rt.alloc(), "head", front, wanted)?, "{front}");
+    }
+    Ok(())
+}

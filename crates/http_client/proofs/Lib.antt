@@ -1,0 +1,11 @@
+pub mod AskedIdsLemmas
+pub mod BodySizeLemmas
+pub mod CanHaveLemmas
+pub mod FrontLemmas
+pub mod HostLemmas
+pub mod MemberLemmas
+pub mod OutcomeLemmas
+pub mod RefusalLemmas
+pub mod ResponseLemmas
+pub mod SeenHeadLemmas
+pub mod StatusLemmas

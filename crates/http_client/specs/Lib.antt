@@ -1,0 +1,10 @@
+pub mod AskedIds
+pub mod Conditions
+pub mod HeadReading
+pub mod OrderOutcome
+pub mod OutcomeReading
+pub mod RefusalReading
+pub mod RefusalWords
+pub mod ReplyHead
+pub mod RequestText
+pub mod Response

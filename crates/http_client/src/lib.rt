@@ -1,0 +1,21 @@
+//! HTTP/1.1 as a client of this server speaks it: the bytes of a request, and the outcome that a reply tells.
+//!
+//! Shown upward: `request_bytes`, `next_response` and its `Response`; and laws.rt. What orders and outcomes are stands in
+//! `http_front`.
+#![tactic(auto)]
+
+mod asked_ids;
+mod conditions;
+pub mod laws;
+mod outcome_reading;
+mod path_reading;
+mod refusal_due;
+mod refusal_reading;
+mod reply_front;
+mod reply_head;
+mod request_text;
+mod response;
+
+pub use conditions::{body_limit, body_size, has_request, is_host, is_within_limit};
+pub use request_text::request_bytes;
+pub use response::{Response, next_response};
