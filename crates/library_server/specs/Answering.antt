@@ -55,4 +55,4 @@ pub record AnswersOn {S : Type 0} (contents : S → Option Contents) (may_give :
   pub steady : NeverFails faults → NamesIn contents old → (is_storage_reply answer.reply ≡ false) × NamesIn contents new
   pub no_lines : lines ≡ []
   pub opening : answer.opening ≡ 0
-  pub location : answer.location ≡ 0
+  pub place : answer.place ≡ 0

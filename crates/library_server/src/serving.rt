@@ -47,7 +47,7 @@ impl<S: Shelf, C: Clock> Host for Alone<'_, S, C> {
         Answer {
             reply: answer(pass, lib, &call, moment),
             opening: 0,
-            location: 0,
+            place: 0,
         }
     }
 }
