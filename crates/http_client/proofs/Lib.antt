@@ -2,10 +2,14 @@ pub mod AskedIdsLemmas
 pub mod BodySizeLemmas
 pub mod CanHaveLemmas
 pub mod FrontLemmas
+pub mod HeadSizeLemmas
 pub mod HostLemmas
 pub mod MemberLemmas
 pub mod OutcomeLemmas
 pub mod RefusalLemmas
+pub mod RequestLemmas
 pub mod ResponseLemmas
 pub mod SeenHeadLemmas
 pub mod StatusLemmas
+pub mod TargetTextLemmas
+pub mod WrittenHeadLemmas

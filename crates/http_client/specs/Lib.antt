@@ -3,6 +3,7 @@ pub mod Conditions
 pub mod HeadReading
 pub mod OrderOutcome
 pub mod OutcomeReading
+pub mod ReadOrder
 pub mod RefusalReading
 pub mod RefusalWords
 pub mod ReplyHead

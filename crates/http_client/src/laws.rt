@@ -1,12 +1,21 @@
 //! Theorems about what a client writes and reads.
-ghost use Rattle.std.specs.Prelude.{ℕ, Bool, List};
+ghost use Rattle.std.specs.Prelude.{ℕ, Bool, List, ◌++◌};
+ghost use Rattle.http_front.specs.declared.order.Order.{Order};
 ghost use Rattle.http_front.specs.declared.order.What.{What};
 ghost use Rattle.http_front.specs.declared.outcome.Outcome.{Outcome};
 ghost use Rattle.http_client.specs.OrderOutcome.{CanHave};
+ghost use Rattle.http_client.specs.ReadOrder.{IsTyped, SpellsOrder};
+ghost use Rattle.http_client.specs.RequestText.{HasRequest, IsHost, IsWithinLimit, request_text};
 ghost use Rattle.http_client.specs.Response.{IsWhole};
 
 /// A whole reply tells an outcome that the order can have.
 pub fn a_whole_reply_tells_an_outcome_that_the_order_can_have()
     ensures { (order : What) (buffer : List ℕ) (outcome : Outcome) (used : ℕ) (ends : Bool)
         → IsWhole order buffer outcome used ends → CanHave order outcome }
+{}
+
+/// What is written for an order is read by a server as that order, whatever follows it.
+pub fn what_is_written_for_an_order_is_read_as_the_order()
+    ensures { (order : Order) (host rest : List ℕ) (ends : Bool) → IsTyped order → HasRequest order → IsWithinLimit order → IsHost host
+        → SpellsOrder (request_text order host ends ++ rest) order ends rest }
 {}
