@@ -5,7 +5,9 @@ pub mod FrontLemmas
 pub mod HeadSizeLemmas
 pub mod HostLemmas
 pub mod MemberLemmas
+pub mod OutcomeBodyLemmas
 pub mod OutcomeLemmas
+pub mod RefusalBodyLemmas
 pub mod RefusalLemmas
 pub mod RequestLemmas
 pub mod ResponseLemmas

@@ -60,7 +60,7 @@ shallow : (ids : List (List ℕ)) → items_depth (items_of (map id_data ids)) �
 shallow [] = refl
 shallow (id ∷ ids) = ap (max 0) (shallow ids)
 
-ids_read_back : (ids : List (List ℕ)) → All IsObjectId ids → ids_of (array_text ids) ≡ Ok ids
+pub ids_read_back : (ids : List (List ℕ)) → All IsObjectId ids → ids_of (array_text ids) ≡ Ok ids
 unfolding ids_of array_text ids_of_value
 ids_read_back ids are =
     let depth_is = shallow ids in

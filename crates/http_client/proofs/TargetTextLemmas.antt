@@ -1,13 +1,15 @@
 -- The target that is written for an order: its bytes, its length, and the path and query that a server cuts it into. The
 -- key lemmas are target_visible, target_short, path_is and query_is.
-use Rattle.std.proofs.Common.{◌≡◌, ◌≢◌, ℕ, ◌+◌, ◌*◌, ◌<◌, ◌≤◌, ◌==◌, ◌&&◌, not, nat_lt, Bool, true, false, cond, IsTrue, List, [], ◌∷◌, ◌++◌, length, take, drop, get_or, All, Option, None, Some, codes, refl, sym, ap, subst, ◌∙◌, arith, lit≤, lit<, length-append, append-nil}
+use Rattle.std.proofs.Common.{IsUtf8, get_or, ◌≡◌, ◌≢◌, ℕ, ◌+◌, ◌*◌, ◌<◌, ◌≤◌, ◌==◌, ◌&&◌, not, nat_lt, Bool, true, false, cond, IsTrue, List, [], ◌∷◌, ◌++◌, length, take, drop, get_or, All, Option, None, Some, codes, refl, sym, ap, subst, ◌∙◌, arith, lit≤, lit<, length-append, append-nil}
 use Rattle.std.specs.Prelude.{⊤}
 use Rattle.std.specs.List.{join_with_byte, list_all, position_or_len}
 use Rattle.std.proofs.lemmas.Bool.{and_parts, and_from, eqb-true, false≢true}
 use Rattle.std.proofs.lemmas.Bool.Decides.{nat_tests}
 use Rattle.std.proofs.lemmas.List.{drop_all, drop_at, drop-drop, take_all, take_at}
 use Rattle.std.proofs.lemmas.List.Elements.{All-from_get_or}
-use Rattle.std.proofs.lemmas.List.Sums.{list_all-from_AllPass}
+use Rattle.std.proofs.lemmas.List.Sums.{AllPass-from_list_all, list_all-from_AllPass}
+use Rattle.std.proofs.lemmas.Str.{IsUtf8-from_ascii}
+use Rattle.std.proofs.lemmas.Str.Ascii.{IsAscii-from_all}
 use Rattle.hex.specs.Hex.{encode_lower, lower_digits}
 use Rattle.hex.proofs.HexLemmas.{length-encode_with}
 use Rattle.uuid.specs.Text.{hyphenated_text, lower}
@@ -71,14 +73,24 @@ library_are lib =
     list_all-from_AllPass is_part_byte text
     (All-from_get_or (λ c. IsTrue (is_part_byte c)) text 0 (λ k l. allowed_byte (is_hyphen_place k) (get_or text k 0) (form.each k (omega (arith, l, form.whole)))))
 
+visible_ascii : (b : ℕ) → is_visible b ≡ true → b < 128
+visible_ascii b is = grind (arith, nat_tests)
+
+pub visible_utf8 : (text : List ℕ) → list_all is_visible text ≡ true → IsUtf8 text
+visible_utf8 text are =
+    IsUtf8-from_ascii text (IsAscii-from_all text (All-from_get_or (λ b. b < 128) text 0 (λ k l. visible_ascii (get_or text k 0) (AllPass-from_list_all is_visible text are k 0 l))))
+
+part_path_byte : (b : ℕ) → is_part_byte b ≡ true → is_path_byte b ≡ true
+part_path_byte b is = (and_parts (is_path_byte b) (not (b == 47)) is).0
+
+pub library_utf8 : (lib : List ℕ) → IsUtf8 (hyphenated_text lower lib)
+library_utf8 lib = visible_utf8 (hyphenated_text lower lib) (weaker is_part_byte is_visible (λ b e. path_byte_visible b (part_path_byte b e)) (hyphenated_text lower lib) (library_are lib))
+
 -- ---- a path: its parts, each short and of path bytes, of which the last is some bytes that end in no slash
 
 record IsPart (part : List ℕ) : Type 0 where
   bytes : list_all is_part_byte part ≡ true
   short : length part ≤ 40
-
-part_path_byte : (b : ℕ) → is_part_byte b ≡ true → is_path_byte b ≡ true
-part_path_byte b is = (and_parts (is_path_byte b) (not (b == 47)) is).0
 
 path_bytes_of : (part : List ℕ) → IsPart part → list_all is_path_byte part ≡ true
 path_bytes_of part is = weaker is_part_byte is_path_byte part_path_byte part is.bytes

@@ -1,7 +1,7 @@
 -- The outcome that the body of a reply tells one who gave an order, by the status. What a text does not show is read as
 -- fixed: a tag of two zeros, that what was put was new, and that a refusal came before any library was asked.
 -- Read first: OrderOutcome, RefusalReading; here: IsOutcome, at the end.
-use Rattle.std.specs.Prelude.{ℕ, ◌≡◌, Bool, true, false, ◌==◌, if◌then◌else◌, Option, None, Some, Ok, List, length, map, option_map, codes}
+use Rattle.std.specs.Prelude.{ℕ, ◌≡◌, Bool, true, false, ◌==◌, if◌then◌else◌, Option, None, Some, Ok, List, length, map, option_map, codes, All, ⊤}
 use Rattle.std.specs.Option.{option_and_then}
 use Rattle.std.specs.Result.{result_ok}
 use Rattle.serde_json.specs.Data.{Data, boolean, number}
@@ -11,18 +11,19 @@ use Rattle.library_state.specs.declared.refusal.Refusal.{Refusal}
 use Rattle.library_state.specs.declared.reply.Reply.{Reply}
 use Rattle.library_state.specs.declared.reply.Reply.TheVariants as reply
 use Rattle.library_state.specs.declared.tag.Tag.{Tag}
+use Rattle.http_front.specs.CallQuery.{IsObjectId}
 use Rattle.http_front.specs.IdArray.{ids_of}
 use Rattle.http_front.specs.RefusalText.{refused_status}
-use Rattle.http_front.specs.Rows.{IsRowsOf}
+use Rattle.http_front.specs.Rows.{IsRow, IsRowsOf}
 use Rattle.http_front.specs.declared.order.What.{What}
 use Rattle.http_front.specs.declared.order.What.TheVariants as what
 use Rattle.http_front.specs.declared.outcome.Outcome.{Outcome}
-use Rattle.http_front.specs.declared.outcome.Outcome.TheVariants.{Version, Plain, Packed, Refused}
+use Rattle.http_front.specs.declared.outcome.Outcome.TheVariants.{Version, Same, Plain, Packed, Collected, Refused}
 use Rattle.http_front.specs.declared.row.Row.{Row}
 use Rattle.http_front.specs.declared.status.Status.{Status}
 use Rattle.http_front.specs.declared.status.Status.TheVariants.{Success, NotModified}
 use Rattle.http_client.specs.OrderOutcome.{are_among, can_refuse, row_id}
-use Rattle.http_client.specs.RefusalReading.{TellsRefusal}
+use Rattle.http_client.specs.RefusalReading.{IsSpoken, NamesThings, TellsRefusal}
 use Rattle.http_client.specs.RefusalWords.{id_at, number_at}
 use Rattle.http_client.specs.ReplyHead.{status_number}
 
@@ -103,3 +104,39 @@ abbrev pub IsOutcome : What → Status → List ℕ → Option Outcome → Type 
 IsOutcome order Success body told = IsSuccess order body told
 IsOutcome order NotModified body told = told ≡ None
 IsOutcome order status body told = IsRefusal order status body told
+
+-- ---- what is read of an outcome that was written
+
+abbrev pub answer_read : Reply → Outcome
+answer_read reply.Checked = answered reply.Checked
+answer_read (reply.HeadIs id) = answered (reply.HeadIs id)
+answer_read (reply.Got bytes) = answered (reply.Got bytes)
+answer_read (reply.Stored is_new) = answered (reply.Stored true)
+answer_read (reply.Absent ids) = answered (reply.Absent ids)
+answer_read (reply.Updated id) = answered (reply.Updated id)
+answer_read reply.Limited = answered reply.Limited
+answer_read (reply.Listed ids) = answered (reply.Listed ids)
+answer_read (reply.Refused why) = Refused why
+
+abbrev pub as_read : Outcome → Outcome
+as_read Version = Version
+as_read (Same tag) = Same tag
+as_read (Plain told tag) = answer_read told
+as_read (Packed rows) = Packed rows
+as_read (Collected count removed) = Collected count removed
+as_read (Refused why) = Refused why
+
+-- ids are ids, rows have lengths that are told, and what a refusal says can be said, as in every outcome of a program
+abbrev pub SaysThings : Reply → Type 0
+SaysThings (reply.HeadIs id) = IsObjectId id
+SaysThings (reply.Updated id) = IsObjectId id
+SaysThings (reply.Absent ids) = All IsObjectId ids
+SaysThings (reply.Listed ids) = All IsObjectId ids
+SaysThings (reply.Refused why) = NamesThings why × IsSpoken why
+SaysThings _ = ⊤
+
+abbrev pub TellsThings : Outcome → Type 0
+TellsThings (Plain told tag) = SaysThings told
+TellsThings (Packed rows) = All IsRow rows
+TellsThings (Refused why) = NamesThings why × IsSpoken why
+TellsThings _ = ⊤

@@ -1,9 +1,9 @@
 -- The refusal that a JSON value tells: the one whose own text, as a server writes it, has no member that the value lacks.
 -- Other members of the value are passed over. Our own. Read first: RefusalText of `http_front`; here: TellsRefusal.
-use Rattle.std.specs.Prelude.{◌≡◌, Some, ⊤}
+use Rattle.std.specs.Prelude.{◌≡◌, ◌<◌, ◌^◌, IsUtf8, Some, ⊤}
 use Rattle.serde_json.specs.Data.{Data, null, boolean, number, string, array, object, Members, member, no_members}
 use Rattle.serde_json.specs.Find.{get}
-use Rattle.tree_model.specs.Path.{IsPath}
+use Rattle.tree_model.specs.Path.{IsPath, path_text}
 use Rattle.library_state.specs.declared.refusal.Refusal.{Refusal}
 use Rattle.library_state.specs.declared.refusal.Refusal.TheVariants as refusal
 use Rattle.http_front.specs.CallQuery.{IsClient, IsObjectId}
@@ -42,3 +42,16 @@ NamesThings _ = ⊤
 pub record TellsRefusal (d : Data) (why : Refusal) : Type 0 where
   pub named : NamesThings why
   pub has : HasMembers d (members_of (refused_data why))
+
+-- its numbers have 64 bits and its path is a text, as in every refusal of a program. That days are bad no order is told
+abbrev pub IsSpoken : Refusal → Type 0
+IsSpoken (refusal.BadBody at) = at < 2 ^ 64
+IsSpoken (refusal.BadFs code) = code < 2 ^ 64
+IsSpoken (refusal.BadCommit code) = code < 2 ^ 64
+IsSpoken (refusal.Stale last now) = (last < 2 ^ 64) × (now < 2 ^ 64)
+IsSpoken (refusal.Unrelated count) = count < 2 ^ 64
+IsSpoken (refusal.TooDeep path) = IsUtf8 (path_text path)
+IsSpoken (refusal.TooMany count) = count < 2 ^ 64
+IsSpoken (refusal.TooLong path size) = IsUtf8 (path_text path) × (size < 2 ^ 64)
+IsSpoken (refusal.BadDays days) = ⊥
+IsSpoken _ = ⊤

@@ -1,9 +1,11 @@
 //! Theorems about what a client writes and reads.
-ghost use Rattle.std.specs.Prelude.{ℕ, Bool, List, ◌++◌};
+ghost use Rattle.std.specs.Prelude.{◌++◌, ℕ, Bool, Some, List};
+ghost use Rattle.http_front.specs.ReplyText.{parts_of};
 ghost use Rattle.http_front.specs.declared.order.Order.{Order};
 ghost use Rattle.http_front.specs.declared.order.What.{What};
 ghost use Rattle.http_front.specs.declared.outcome.Outcome.{Outcome};
 ghost use Rattle.http_client.specs.OrderOutcome.{CanHave};
+ghost use Rattle.http_client.specs.OutcomeReading.{IsOutcome, TellsThings, as_read};
 ghost use Rattle.http_client.specs.ReadOrder.{IsTyped, SpellsOrder};
 ghost use Rattle.http_client.specs.RequestText.{HasRequest, IsHost, IsWithinLimit, request_text};
 ghost use Rattle.http_client.specs.Response.{IsWhole};
@@ -18,4 +20,11 @@ pub fn a_whole_reply_tells_an_outcome_that_the_order_can_have()
 pub fn what_is_written_for_an_order_is_read_as_the_order()
     ensures { (order : Order) (host rest : List ℕ) (ends : Bool) → IsTyped order → HasRequest order → IsWithinLimit order → IsHost host
         → SpellsOrder (request_text order host ends ++ rest) order ends rest }
+{}
+
+/// The status and the body that a server writes for an outcome are read as that outcome, by whoever gave an order that can
+/// have it. What a text doesn't show is read as fixed (`as_read`).
+pub fn the_body_that_is_written_for_an_outcome_is_read_as_the_outcome()
+    ensures { (order : What) (outcome : Outcome) → CanHave order outcome → TellsThings outcome
+        → IsOutcome order (parts_of outcome).status (parts_of outcome).body (Some (as_read outcome)) }
 {}

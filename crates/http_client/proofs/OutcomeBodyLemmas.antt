@@ -1,0 +1,161 @@
+-- The body that a server writes for an outcome is read as the outcome. The key lemma is outcome_read.
+use Rattle.std.proofs.Common.{◌≡◌, ℕ, ◌==◌, true, if◌then◌else◌, List, [], All, None, Some, codes, refl, sym, ap, ◌∙◌, lit≤, lit<, option_map}
+use Rattle.std.specs.Option.{option_and_then}
+use Rattle.std.specs.Result.{result_ok}
+use Rattle.std.proofs.lemmas.Bool.{false≢true}
+use Rattle.json_words.proofs.WrittenLemmas.{IsUtf8-are_ascii, json_of-compact_text}
+use Rattle.library_state.specs.declared.reply.Reply.TheVariants as reply
+use Rattle.http_front.specs.CallQuery.{IsObjectId}
+use Rattle.http_front.specs.IdArray.{array_text}
+use Rattle.http_front.specs.ReplyBody.{head_body, head_data, version_body, version_data}
+use Rattle.http_front.specs.ReplyText.{parts_of}
+use Rattle.http_front.specs.Rows.{IsRow, rows_text}
+use Rattle.http_front.specs.declared.order.What.{What}
+use Rattle.http_front.specs.declared.order.What.TheVariants as what
+use Rattle.http_front.specs.declared.outcome.Outcome.{Outcome}
+use Rattle.http_front.specs.declared.outcome.Outcome.TheVariants.{Version, Same, Plain, Packed, Collected, Refused}
+use Rattle.http_front.specs.declared.row.Row.{Row}
+use Rattle.http_front.specs.declared.status.Status.TheVariants.{Success}
+use Rattle.http_client.specs.OrderOutcome.{CanHave, CanMiss, CanPack, asks_head, asks_list, asks_object, asks_right, asks_version, is_update, stores}
+use Rattle.http_client.specs.OutcomeReading.{IsOutcome, TellsThings, absent_of, answered, as_read, head_in, told_in, version_in}
+use Rattle.http_client.proofs.MemberLemmas.{id_at-found, number_at-found}
+use Rattle.http_client.proofs.RefusalBodyLemmas.{digits_utf8, refusal_read}
+use Rattle.http_client.proofs.RequestLemmas.{ids_read_back}
+
+version_told : told_in version_in version_body ≡ Some Version
+unfolding version_body
+version_told =
+    ap (option_and_then version_in) (json_of-compact_text version_data (IsUtf8-are_ascii (codes "version") refl, lit< tt, refl, tt) (lit≤ tt))
+    ∙ ap (option_and_then (λ version. if version == 2 then Some Version else None)) (number_at-found (codes "version") version_data 2 refl)
+
+head_told : (id : List ℕ) → IsObjectId id → told_in head_in (head_body id) ≡ Some id
+unfolding head_body
+head_told id named =
+    ap (option_and_then head_in)
+    (json_of-compact_text (head_data id)
+    (IsUtf8-are_ascii (codes "head_commit_id") refl, digits_utf8 id, refl, (IsUtf8-are_ascii (codes "is_corrupted") refl, lit< tt, refl, tt)) (lit≤ tt))
+    ∙ id_at-found (codes "head_commit_id") (head_data id) id named refl
+
+version_read : (order : What) → asks_version order ≡ true → IsOutcome order Success version_body (Some Version)
+version_read what.Version can = sym version_told
+version_read (what.Check op) can = absurd (false≢true can)
+version_read what.Head can = absurd (false≢true can)
+version_read (what.Update commit) can = absurd (false≢true can)
+version_read (what.Get key) can = absurd (false≢true can)
+version_read (what.Put key bytes) can = absurd (false≢true can)
+version_read (what.Missing kind asked) can = absurd (false≢true can)
+version_read (what.PutFs objects) can = absurd (false≢true can)
+version_read (what.GetFs asked) can = absurd (false≢true can)
+version_read (what.Ids server client) can = absurd (false≢true can)
+
+checked_read : (order : What) → asks_right order ≡ true → IsOutcome order Success [] (Some (answered reply.Checked))
+checked_read what.Version can = absurd (false≢true can)
+checked_read (what.Check op) can = refl
+checked_read what.Head can = absurd (false≢true can)
+checked_read (what.Update commit) can = absurd (false≢true can)
+checked_read (what.Get key) can = absurd (false≢true can)
+checked_read (what.Put key bytes) can = absurd (false≢true can)
+checked_read (what.Missing kind asked) can = absurd (false≢true can)
+checked_read (what.PutFs objects) can = absurd (false≢true can)
+checked_read (what.GetFs asked) can = absurd (false≢true can)
+checked_read (what.Ids server client) can = absurd (false≢true can)
+
+head_read : (id : List ℕ) (named : IsObjectId id) (order : What) → asks_head order ≡ true → IsOutcome order Success (head_body id) (Some (answered (reply.HeadIs id)))
+head_read id named what.Version can = absurd (false≢true can)
+head_read id named (what.Check op) can = absurd (false≢true can)
+head_read id named what.Head can = sym (ap (option_map (λ i. answered (reply.HeadIs i))) (head_told id named))
+head_read id named (what.Update commit) can = absurd (false≢true can)
+head_read id named (what.Get key) can = absurd (false≢true can)
+head_read id named (what.Put key bytes) can = absurd (false≢true can)
+head_read id named (what.Missing kind asked) can = absurd (false≢true can)
+head_read id named (what.PutFs objects) can = absurd (false≢true can)
+head_read id named (what.GetFs asked) can = absurd (false≢true can)
+head_read id named (what.Ids server client) can = absurd (false≢true can)
+
+updated_read : (id : List ℕ) (named : IsObjectId id) (order : What) → is_update order ≡ true → IsOutcome order Success (head_body id) (Some (answered (reply.Updated id)))
+updated_read id named what.Version can = absurd (false≢true can)
+updated_read id named (what.Check op) can = absurd (false≢true can)
+updated_read id named what.Head can = absurd (false≢true can)
+updated_read id named (what.Update commit) can = sym (ap (option_map (λ i. answered (reply.Updated i))) (head_told id named))
+updated_read id named (what.Get key) can = absurd (false≢true can)
+updated_read id named (what.Put key bytes) can = absurd (false≢true can)
+updated_read id named (what.Missing kind asked) can = absurd (false≢true can)
+updated_read id named (what.PutFs objects) can = absurd (false≢true can)
+updated_read id named (what.GetFs asked) can = absurd (false≢true can)
+updated_read id named (what.Ids server client) can = absurd (false≢true can)
+
+got_read : (body : List ℕ) (order : What) → asks_object order ≡ true → IsOutcome order Success body (Some (answered (reply.Got body)))
+got_read body what.Version can = absurd (false≢true can)
+got_read body (what.Check op) can = absurd (false≢true can)
+got_read body what.Head can = absurd (false≢true can)
+got_read body (what.Update commit) can = absurd (false≢true can)
+got_read body (what.Get key) can = refl
+got_read body (what.Put key bytes) can = absurd (false≢true can)
+got_read body (what.Missing kind asked) can = absurd (false≢true can)
+got_read body (what.PutFs objects) can = absurd (false≢true can)
+got_read body (what.GetFs asked) can = absurd (false≢true can)
+got_read body (what.Ids server client) can = absurd (false≢true can)
+
+stored_read : (order : What) → stores order ≡ true → IsOutcome order Success [] (Some (answered (reply.Stored true)))
+stored_read what.Version can = absurd (false≢true can)
+stored_read (what.Check op) can = absurd (false≢true can)
+stored_read what.Head can = absurd (false≢true can)
+stored_read (what.Update commit) can = absurd (false≢true can)
+stored_read (what.Get key) can = absurd (false≢true can)
+stored_read (what.Put key bytes) can = refl
+stored_read (what.Missing kind asked) can = absurd (false≢true can)
+stored_read (what.PutFs objects) can = refl
+stored_read (what.GetFs asked) can = absurd (false≢true can)
+stored_read (what.Ids server client) can = absurd (false≢true can)
+
+listed_read : (ids : List (List ℕ)) (are : All IsObjectId ids) (order : What) → asks_list order ≡ true → IsOutcome order Success (array_text ids) (Some (answered (reply.Listed ids)))
+listed_read ids are what.Version can = absurd (false≢true can)
+listed_read ids are (what.Check op) can = absurd (false≢true can)
+listed_read ids are what.Head can = absurd (false≢true can)
+listed_read ids are (what.Update commit) can = absurd (false≢true can)
+listed_read ids are (what.Get key) can = absurd (false≢true can)
+listed_read ids are (what.Put key bytes) can = absurd (false≢true can)
+listed_read ids are (what.Missing kind asked) can = absurd (false≢true can)
+listed_read ids are (what.PutFs objects) can = absurd (false≢true can)
+listed_read ids are (what.GetFs asked) can = absurd (false≢true can)
+listed_read ids are (what.Ids server client) can = sym (ap (λ r. option_map (λ i. answered (reply.Listed i)) (result_ok r)) (ids_read_back ids are))
+
+absent_read : (ids : List (List ℕ)) (are : All IsObjectId ids) (order : What) → CanMiss order ids → IsOutcome order Success (array_text ids) (Some (answered (reply.Absent ids)))
+absent_read ids are what.Version can = absurd can
+absent_read ids are (what.Check op) can = absurd can
+absent_read ids are what.Head can = absurd can
+absent_read ids are (what.Update commit) can = absurd can
+absent_read ids are (what.Get key) can = absurd can
+absent_read ids are (what.Put key bytes) can = absurd can
+absent_read ids are (what.Missing kind asked) can = sym (ap (λ r. absent_of asked (result_ok r)) (ids_read_back ids are) ∙ ap (λ b. if b then Some (answered (reply.Absent ids)) else None) can)
+absent_read ids are (what.PutFs objects) can = absurd can
+absent_read ids are (what.GetFs asked) can = absurd can
+absent_read ids are (what.Ids server client) can = absurd can
+
+packed_read : (rows : List Row) (are : All IsRow rows) (order : What) → CanPack order rows → IsOutcome order Success (rows_text rows) (Some (Packed rows))
+packed_read rows are what.Version can = absurd can
+packed_read rows are (what.Check op) can = absurd can
+packed_read rows are what.Head can = absurd can
+packed_read rows are (what.Update commit) can = absurd can
+packed_read rows are (what.Get key) can = absurd can
+packed_read rows are (what.Put key bytes) can = absurd can
+packed_read rows are (what.Missing kind asked) can = absurd can
+packed_read rows are (what.PutFs objects) can = absurd can
+packed_read rows are (what.GetFs asked) can = ((are, refl), can)
+packed_read rows are (what.Ids server client) can = absurd can
+
+pub outcome_read : (order : What) (o : Outcome) → CanHave order o → TellsThings o → IsOutcome order (parts_of o).status (parts_of o).body (Some (as_read o))
+outcome_read order Version can is = version_read order can
+outcome_read order (Same tag) can is = absurd can
+outcome_read order (Plain reply.Checked tag) can is = checked_read order can
+outcome_read order (Plain (reply.HeadIs id) tag) can is = head_read id is order can
+outcome_read order (Plain (reply.Got bytes) tag) can is = got_read bytes order can
+outcome_read order (Plain (reply.Stored is_new) tag) can is = stored_read order can
+outcome_read order (Plain (reply.Absent ids) tag) can is = absent_read ids is order can
+outcome_read order (Plain (reply.Updated id) tag) can is = updated_read id is order can
+outcome_read order (Plain reply.Limited tag) can is = absurd can
+outcome_read order (Plain (reply.Listed ids) tag) can is = listed_read ids is order can
+outcome_read order (Plain (reply.Refused why) tag) can is = refusal_read order why can is.0 is.1
+outcome_read order (Packed rows) can is = packed_read rows is order can
+outcome_read order (Collected number removed) can is = absurd can
+outcome_read order (Refused why) can is = refusal_read order why can is.0 is.1
