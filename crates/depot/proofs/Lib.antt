@@ -7,6 +7,7 @@ pub mod StartLemmas
 pub mod ObjectCallLemmas
 pub mod AnsweringLemmas
 pub mod GrownLemmas
+pub mod FitsLemmas
 pub mod ServingLemmas
 pub mod TextLemmas
 pub mod MissingLemmas

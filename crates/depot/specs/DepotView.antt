@@ -1,5 +1,5 @@
 -- What a depot is: a store, the library that its state text tells, whether the last write of that text failed, and the
--- collection that runs. Our own. Read DepotView and state_of first, then IsGood.
+-- collection that runs. Our own. Read DepotView and state_of first, then IsGood and IsKept.
 use Rattle.std.specs.Prelude.{◌≡◌, ◌≢◌, ◌⊎◌, ℕ, Bool, true, false, List, [], Option, None, Some, is_some, option_map, Ok, refl}
 use Rattle.std.specs.Coded.{Coded, code_by, coded×, coded_bool, coded_option, coded_ℕ}
 use Rattle.std.specs.FinMap as map
@@ -14,6 +14,7 @@ use Rattle.library_state.specs.contracts.state.LibState as state_contracts
 use Rattle.library_state.specs.declared.state.LibState.{LibState}
 use Rattle.object_store.specs.Shelf.{Contents}
 use Rattle.object_store.specs.StoreView.{StoreView, store_code, objects_of, status_of}
+use Rattle.tree_walk.specs.KnownTrees.{Fits, KnownView}
 use Rattle.depot.specs.NextState.{Follows}
 use Rattle.depot.specs.Writing.{ReadsBack}
 
@@ -86,3 +87,15 @@ pub record IsGood {S : Type 0} (contents : S → Option Contents) (faults : S �
   pub sound : (s : State) → state_of contents faults depot ≡ Some s → IsSound s
   pub text : (objects : Objects) (status : Option (List ℕ)) → objects_of contents depot.store ≡ Some objects
       → status_of contents depot.store ≡ Some status → Holds depot.unsettled depot.state objects status
+
+-- ---- what a depot knows of its trees, beside what contracts see
+
+-- what is known of stored trees is so over what a store holds, where that is told
+abbrev pub FitsIn : {S : Type 0} → (S → Option Contents) → StoreView S → KnownView → Type 0
+FitsIn contents store known = (objects : Objects) → objects_of contents store ≡ Some objects → Fits objects known
+
+-- a depot is good, and what it knows is so over its store as it stands. Objects that come leave that right; before one of
+-- them leaves it has to be forgotten
+pub record IsKept {S : Type 0} (contents : S → Option Contents) (faults : S → ℕ) (depot : DepotView S) (known : KnownView) : Type 0 where
+  pub good : IsGood contents faults depot
+  pub fits : FitsIn contents depot.store known

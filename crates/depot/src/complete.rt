@@ -1,13 +1,12 @@
 //! Whether a commit is complete.
-ghost use Rattle.std.specs.Prelude.{◌≡◌, Some, IfErr, ⊤};
+ghost use Rattle.std.specs.Prelude.{◌≡◌, Some, IfErr};
 ghost use Rattle.ids.specs.FaultCount.{FailsBy};
 ghost use Rattle.ids.specs.Key.{Objects};
 ghost use Rattle.object_graph.specs.Traversal.{walk_commit};
 ghost use Rattle.object_store.specs.StoreView.{Keeps, ReadsShelf, objects_of};
+ghost use Rattle.depot.specs.DepotView.{FitsIn};
 ghost use Rattle.depot.specs.Start.{ChecksSo, IsCheckFault, check_fault_of, first_incomplete, is_check_counted};
 ghost use Rattle.library_rules.specs.LibraryState.{kept_commits};
-ghost use Rattle.tree_walk.specs.KnownTrees.{Fits};
-ghost use Rattle.tree_walk.specs.Reading.{Answers, Reads};
 ghost use Rattle.tree_walk.specs.Files.{first_due};
 
 use ids::ObjId;
@@ -26,21 +25,6 @@ pub(crate) enum CheckFault {
     Store(StoreFault),
 }
 
-/// Whether a pushed commit is complete. What was found whole is not read again, under however many names it stands, where it
-/// fits at its place and there was memory to keep that.
-pub(crate) fn check_pushed<S: Shelf>(
-    alloc: Global,
-    store: &mut Store<S>,
-    commit: ObjId,
-) -> Result<(), WalkFault>
-    ensures value { (objects : Objects) → objects_of S.contents store.old ≡ Some objects
-        → Answers objects (walk_commit objects commit).fault (λ done. ⊤) result }
-    ensures stays { Reads S.contents S.may_give S.texts S.faults store.old store.new result }
-{
-    let mut known = Known::new(alloc);
-    check(alloc, store, &mut known, commit)
-}
-
 /// Whether all that the commit needs is stored and can be read. What is found whole becomes known.
 pub(crate) fn check_complete<S: Shelf>(
     alloc: Global,
@@ -48,8 +32,8 @@ pub(crate) fn check_complete<S: Shelf>(
     known: &mut Known,
     commit: ObjId,
 ) -> Result<(), CheckFault>
-    requires known { (objects : Objects) → objects_of S.contents store.old ≡ Some objects → Fits objects known.old }
-    ensures known { (objects : Objects) → objects_of S.contents store.old ≡ Some objects → Fits objects known.new }
+    requires known { FitsIn S.contents store.old known.old }
+    ensures known { FitsIn S.contents store.old known.new }
     ensures value { (objects : Objects) → objects_of S.contents store.old ≡ Some objects → ChecksSo objects (walk_commit objects commit).fault result }
     ensures stays { Keeps S.contents store.old store.new }
     ensures reads { ReadsShelf S.may_give S.texts store.old.shelf store.new.shelf }
@@ -82,27 +66,11 @@ fn check_fault(fault: WalkFault) -> CheckFault
 pub(crate) fn check_kept<S: Shelf>(
     alloc: Global,
     store: &mut Store<S>,
-    kept: &[Install],
-) -> Result<(), CheckFault>
-    ensures value { (objects : Objects) → objects_of S.contents store.old ≡ Some objects
-        → ChecksSo objects (first_incomplete objects (kept_commits kept.now)) result }
-    ensures stays { Keeps S.contents store.old store.new }
-    ensures reads { ReadsShelf S.may_give S.texts store.old.shelf store.new.shelf }
-    ensures cause { IfErr result (IsCheckFault (S.may_give store.old.shelf)) }
-    ensures faults { FailsBy is_check_counted (S.faults store.old.shelf) (S.faults store.new.shelf) result }
-{
-    let mut known = Known::new(alloc);
-    check_installs(alloc, store, &mut known, kept)
-}
-
-/// The same by what is known.
-fn check_installs<S: Shelf>(
-    alloc: Global,
-    store: &mut Store<S>,
     known: &mut Known,
     kept: &[Install],
 ) -> Result<(), CheckFault>
-    requires known { (objects : Objects) → objects_of S.contents store.old ≡ Some objects → Fits objects known.old }
+    requires known { FitsIn S.contents store.old known.old }
+    ensures known { FitsIn S.contents store.old known.new }
     ensures value { (objects : Objects) → objects_of S.contents store.old ≡ Some objects
         → ChecksSo objects (first_incomplete objects (kept_commits kept.now)) result }
     ensures stays { Keeps S.contents store.old store.new }
@@ -126,8 +94,8 @@ fn check_install<S: Shelf>(
     known: &mut Known,
     install: &Install,
 ) -> Result<(), CheckFault>
-    requires known { (objects : Objects) → objects_of S.contents store.old ≡ Some objects → Fits objects known.old }
-    ensures known { (objects : Objects) → objects_of S.contents store.old ≡ Some objects → Fits objects known.new }
+    requires known { FitsIn S.contents store.old known.old }
+    ensures known { FitsIn S.contents store.old known.new }
     ensures value { (objects : Objects) → objects_of S.contents store.old ≡ Some objects
         → ChecksSo objects (first_due (walk_commit objects install.now.head).fault (walk_commit objects install.now.pushed).fault) result }
     ensures stays { Keeps S.contents store.old store.new }

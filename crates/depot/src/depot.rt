@@ -7,6 +7,7 @@ use library_state::LibState;
 use object_store::{Shelf, Store};
 use std::alloc::Global;
 use std::marker::Model;
+use tree_walk::Known;
 
 /// A library that is kept: its objects in a store, and the rest of its state, of which the shelf's status slot holds the
 /// text. Where the shelf tells its contents, contracts see the state of a library (`state_of`), which is always sound.
@@ -14,9 +15,15 @@ use std::marker::Model;
 /// Objects are put before the text that names them. A write of the text that fails leaves the depot unsettled: the slot
 /// holds the present state or the one that the refused call would have made, and the present one is written again before
 /// any other text.
+///
+/// It keeps which directories and files it found whole, so that an update reads what it changes and no more. That is no part
+/// of what contracts see; it takes at most an entry for each object that is stored, and where there is no memory for it less
+/// is kept.
 #[derive(Drop)]
 pub struct Depot<S: Shelf> {
     pub(crate) parts: Parts<S>,
+    /// What was found whole. It is to be forgotten before an object leaves the store.
+    pub(crate) known: Known,
 }
 
 /// What a depot holds. Its methods are the steps that write.
@@ -31,7 +38,7 @@ pub(crate) struct Parts<S: Shelf> {
 
 impl<S: Shelf> Model for Depot<S> {
     ghost use Rattle.std.specs.Prelude.{None};
-    ghost use Rattle.depot.specs.DepotView.{DepotView, IsGood, depot_code};
+    ghost use Rattle.depot.specs.DepotView.{DepotView, IsKept, depot_code};
 
     ghost Value = { DepotView S };
 
@@ -39,7 +46,7 @@ impl<S: Shelf> Model for Depot<S> {
 
     ghost view = { λ a. record { store = a.parts.store; state = a.parts.state; unsettled = a.parts.unsettled; running = None } };
 
-    ghost invariant = { λ a. IsGood S.contents S.faults (record { store = a.parts.store; state = a.parts.state; unsettled = a.parts.unsettled; running = None }) };
+    ghost invariant = { λ a. IsKept S.contents S.faults (record { store = a.parts.store; state = a.parts.state; unsettled = a.parts.unsettled; running = None }) a.known };
 }
 
 impl<S: Shelf> Depot<S> {

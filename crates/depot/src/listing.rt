@@ -5,6 +5,7 @@ ghost use Rattle.library_rules.specs.Calls.{kept_alone, listed, said_by};
 ghost use Rattle.library_rules.specs.LibraryState.{State, IsSound};
 ghost use Rattle.object_store.specs.StoreView.{Keeps, objects_of};
 ghost use Rattle.depot.specs.Answering.{MayAnswer, ServesAct, ids_decided};
+ghost use Rattle.depot.specs.DepotView.{FitsIn};
 ghost use Rattle.depot.specs.ObjectCalls.{Counts, IsToldDamage, SaysOr};
 ghost use Rattle.library_state.specs.declared.call.Act.TheVariants as act;
 
@@ -15,7 +16,7 @@ use ids::{Key, Kind, ObjId};
 use library_state::{Install, Refusal, Reply};
 use object_store::{Shelf, Store};
 use std::alloc::Global;
-use tree_walk::fs_ids;
+use tree_walk::{Known, fs_ids};
 
 impl<S: Shelf> Depot<S> {
     /// Lists the files and directories that one kept commit needs and another doesn't.
@@ -25,6 +26,7 @@ impl<S: Shelf> Depot<S> {
         list_ids(
             self.parts.alloc,
             &mut self.parts.store,
+            &mut self.known,
             self.parts.state.kept.slice(),
             server,
             client,
@@ -33,14 +35,17 @@ impl<S: Shelf> Depot<S> {
 }
 
 /// The ids of the files and directories that a kept commit needs and the client's doesn't, in ascending order. A client's
-/// commit that isn't kept counts as none.
+/// commit that isn't kept counts as none. What is known to be whole isn't walked for faults again.
 fn list_ids<S: Shelf>(
     alloc: Global,
     store: &mut Store<S>,
+    known: &mut Known,
     kept: &[Install],
     server: &ObjId,
     client: &Option<ObjId>,
 ) -> Reply
+    requires known { FitsIn S.contents store.old known.old }
+    ensures known { FitsIn S.contents store.old known.new }
     ensures value { (s : State) → objects_of S.contents store.old ≡ Some s.objects → s.state.kept ≡ kept.now → IsSound s → SaysOr s.objects (said_by (ids_decided s.state.kept server.now) (listed s server.now client.now)) result }
     ensures stays { Keeps S.contents store.old store.new }
     ensures cause { MayAnswer store.new.index (S.may_give store.new.shelf) (act.Ids server.now client.now) (ids_decided kept.now server.now) result }
@@ -54,7 +59,7 @@ fn list_ids<S: Shelf>(
             id: *server,
         }));
     }
-    match fs_ids(alloc, store, *server, kept_alone(kept, client)) {
+    match fs_ids(alloc, store, known, *server, kept_alone(kept, client)) {
         Ok(ids) => Reply::Listed(ids),
         Err(fault) => Reply::Refused(walk_refusal(fault)),
     }

@@ -21,6 +21,7 @@ use ids::{Items, LibId, ObjId, Text};
 use library_state::{History, Install, LibState, Right, Secret, Token};
 use object_store::{Shelf, Store, StoreFault};
 use std::alloc::{AllocError, Global};
+use tree_walk::Known;
 
 impl<S: Shelf> Depot<S> {
     /// Makes a library on a shelf that holds no state text: with one commit, which has no file, one token of every right,
@@ -67,6 +68,7 @@ impl<S: Shelf> Depot<S> {
                     state,
                     unsettled: false,
                 },
+                known: Known::new(alloc),
             }),
             Err(fault) => Err((store, fault)),
         }

@@ -5,7 +5,7 @@ ghost use Rattle.ids.specs.Key.{Objects};
 ghost use Rattle.library_rules.specs.LibraryState.{last_number};
 ghost use Rattle.library_state.specs.ProperState.{IsProper};
 ghost use Rattle.object_store.specs.StoreView.{AddsNoStray, Keeps, ReadsShelf, objects_of, status_of};
-ghost use Rattle.depot.specs.DepotView.{IsGood, IsSoundIn};
+ghost use Rattle.depot.specs.DepotView.{FitsIn, IsGood, IsSoundIn};
 ghost use Rattle.depot.specs.Start.{IsDueOr, IsFound, IsGiven, IsNextOf, IsOpened, IsStartFault, IsStateFault, IsTextFault, LeftUnopenedBy, OpensTold, StartsAs, is_start_counted, start_refusal, state_refusal, without_store};
 
 use crate::complete::{CheckFault, check_kept};
@@ -16,11 +16,12 @@ use json_words::ReadFault;
 use library_state::{LAST, LibState};
 use object_store::{Shelf, Store, StoreFault};
 use std::alloc::Global;
+use tree_walk::Known;
 
 impl<S: Shelf> Depot<S> {
     /// Opens the library whose state text the shelf holds, with all objects that lie there, and counts the opening.
     ///
-    /// Each kept commit is checked to be complete. After a refusal the store is given back as it was, but that after a
+    /// Each kept commit is checked to be complete, and what was found whole is kept known. After a refusal the store is given back as it was, but that after a
     /// failure of the shelf the text may be the one with the next opening number.
     pub fn start(alloc: Global, store: Store<S>) -> Result<Depot<S>, (Store<S>, StartFault)>
         ensures value { IfOk result (λ depot. IsOpened S.contents S.faults store depot.store depot.state) }
@@ -42,7 +43,8 @@ impl<S: Shelf> Depot<S> {
         ensures faults { IfErr result (λ refused. FailsBy {T = ⊤} is_start_counted (S.faults store.shelf) (S.faults refused.0.shelf) (Err refused.1)) }
     {
         let mut store = store;
-        match open(alloc, &mut store) {
+        let mut known = Known::new(alloc);
+        match open(alloc, &mut store, &mut known) {
             Ok(state) => Ok(Depot {
                 parts: Parts {
                     alloc,
@@ -50,6 +52,7 @@ impl<S: Shelf> Depot<S> {
                     state,
                     unsettled: false,
                 },
+                known,
             }),
             Err(fault) => Err((store, fault)),
         }
@@ -57,7 +60,13 @@ impl<S: Shelf> Depot<S> {
 }
 
 /// Reads the state, checks what it keeps, and counts the opening.
-fn open<S: Shelf>(alloc: Global, store: &mut Store<S>) -> Result<LibState, StartFault>
+fn open<S: Shelf>(
+    alloc: Global,
+    store: &mut Store<S>,
+    known: &mut Known,
+) -> Result<LibState, StartFault>
+    requires known { FitsIn S.contents store.old known.old }
+    ensures known { FitsIn S.contents store.old known.new }
     ensures value { IfOk result (IsOpened S.contents S.faults store.old store.new) }
     ensures found { IfOk result (λ state. state.kept ≢ []) }
     ensures sound { IfOk result (IsSoundIn S.contents store.new) }
@@ -74,7 +83,7 @@ fn open<S: Shelf>(alloc: Global, store: &mut Store<S>) -> Result<LibState, Start
         Ok(state) => state,
         Err(fault) => return Err(fault),
     };
-    match check_state(alloc, store, &state) {
+    match check_state(alloc, store, known, &state) {
         Ok(()) => {}
         Err(fault) => return Err(fault),
     }
@@ -116,8 +125,11 @@ pub fn read_state<S: Shelf>(alloc: Global, store: &mut Store<S>) -> Result<LibSt
 fn check_state<S: Shelf>(
     alloc: Global,
     store: &mut Store<S>,
+    known: &mut Known,
     state: &LibState,
 ) -> Result<(), StartFault>
+    requires known { FitsIn S.contents store.old known.old }
+    ensures known { FitsIn S.contents store.old known.new }
     ensures ok { OnOk result (state.now.opening ≢ last_number) }
     ensures refused { (objects : Objects) → objects_of S.contents store.old ≡ Some objects → StartsAs objects (state_refusal objects state.now) result }
     ensures stays { Keeps S.contents store.old store.new }
@@ -129,7 +141,7 @@ fn check_state<S: Shelf>(
     if state.opening == LAST {
         return Err(StartFault::Worn);
     }
-    match check_kept(alloc, store, state.kept.slice()) {
+    match check_kept(alloc, store, known, state.kept.slice()) {
         Ok(()) => Ok(()),
         Err(CheckFault::Tree(fault)) => Err(StartFault::Walk(fault)),
         Err(CheckFault::Store(fault)) => Err(StartFault::Store(fault)),

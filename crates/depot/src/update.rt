@@ -2,7 +2,7 @@
 ghost use Rattle.std.specs.Prelude.{ℕ, List, None, Option};
 ghost use Rattle.library_state.specs.declared.call.Act.TheVariants as act;
 ghost use Rattle.depot.specs.Answering.{MayAsk, ServesAt};
-ghost use Rattle.depot.specs.DepotView.{IsGood};
+ghost use Rattle.depot.specs.DepotView.{FitsIn, IsGood};
 
 use crate::depot::{Depot, Parts};
 use crate::history::head_of;
@@ -11,6 +11,7 @@ use crate::update_plan::plan_of;
 use ids::ObjId;
 use library_state::{Install, Reply};
 use object_store::Shelf;
+use tree_walk::Known;
 
 impl<S: Shelf> Depot<S> {
     /// Takes in a commit that the token at a place pushes.
@@ -22,22 +23,32 @@ impl<S: Shelf> Depot<S> {
         requires who { (secret : Option (List ℕ)) × MayAsk self.old.state.tokens secret (act.Update pushed) place }
         ensures value { ServesAt S.contents S.may_give S.texts S.faults self.old place (act.Update pushed) moment result self.new }
     {
-        self.parts.update_library(place, pushed, moment)
+        self.parts
+            .update_library(&mut self.known, place, pushed, moment)
     }
 }
 
 impl<S: Shelf> Parts<S> {
-    /// The same, of the parts.
-    fn update_library(&mut self, place: usize, pushed: ObjId, moment: u64) -> Reply
+    /// The same, of the parts, by what is known.
+    fn update_library(
+        &mut self,
+        known: &mut Known,
+        place: usize,
+        pushed: ObjId,
+        moment: u64,
+    ) -> Reply
+        requires known { FitsIn S.contents self.old.store known.old }
         requires who { (secret : Option (List ℕ)) × MayAsk self.old.state.tokens secret (act.Update pushed) place }
         requires good { IsGood S.contents S.faults (record { store = self.old.store; state = self.old.state; unsettled = self.old.unsettled; running = None }) }
         ensures value { ServesAt S.contents S.may_give S.texts S.faults (record { store = self.old.store; state = self.old.state; unsettled = self.old.unsettled; running = None })
             place (act.Update pushed) moment result (record { store = self.new.store; state = self.new.state; unsettled = self.new.unsettled; running = None }) }
+        ensures known { FitsIn S.contents self.new.store known.new }
         ensures stands { IsGood S.contents S.faults (record { store = self.new.store; state = self.new.state; unsettled = self.new.unsettled; running = None }) }
     {
         let plan = match plan_of(
             self.alloc,
             &mut self.store,
+            known,
             &self.state,
             place,
             pushed,

@@ -9,12 +9,11 @@ ghost use Rattle.library_state.specs.declared.call.Call.{Call};
 ghost use Rattle.object_graph.specs.Traversal.{walk_commit};
 ghost use Rattle.object_store.specs.StoreView.{objects_of};
 ghost use Rattle.depot.specs.Answering.{MayAsk, MayRefuseUpdate};
-ghost use Rattle.depot.specs.DepotView.{IsSoundIn, library};
+ghost use Rattle.depot.specs.DepotView.{FitsIn, IsSoundIn, library};
 ghost use Rattle.depot.specs.ObjectCalls.{IsToldDamageOf};
 ghost use Rattle.depot.specs.UpdateBase.{ReadsOnly};
 ghost use Rattle.depot.specs.UpdatePlan.{DecidesCall, DecidesSo, HasNames, PlansDue, PlansSo};
 
-use crate::complete::check_pushed;
 use crate::history::{is_head, is_kept};
 use crate::refusals::walk_refusal;
 use crate::update_base::{Found, find_base};
@@ -23,6 +22,7 @@ use ids::{Bytes, KeyTable, ObjId, Text};
 use library_state::{LibState, Refusal, Token};
 use object_store::{Shelf, Store};
 use std::alloc::Global;
+use tree_walk::{Known, check};
 
 /// What an update that is not refused does.
 #[derive(Drop)]
@@ -39,6 +39,7 @@ pub(crate) struct Plan {
 pub(crate) fn plan_of<S: Shelf>(
     alloc: Global,
     store: &mut Store<S>,
+    known: &mut Known,
     state: &LibState,
     place: usize,
     pushed: ObjId,
@@ -46,7 +47,9 @@ pub(crate) fn plan_of<S: Shelf>(
 ) -> Result<Option<Plan>, Refusal>
     requires within { place < length state.now.tokens }
     requires sound { IsSoundIn S.contents store.old state.now }
+    requires known { FitsIn S.contents store.old known.old }
     requires some_kept { state.now.kept ≢ [] }
+    ensures known { FitsIn S.contents store.old known.new }
     ensures value { (objects : Objects) (count : ℕ) → objects_of S.contents store.old ≡ Some objects
         → (call : Call) → MayAsk state.now.tokens call.secret call.act place → call.act ≡ act.Update pushed
         → PlansSo (library state.now count objects) moment pushed (due (library state.now count objects) call) result }
@@ -56,7 +59,7 @@ pub(crate) fn plan_of<S: Shelf>(
     ensures stays { ReadsOnly S.contents S.texts S.faults store.old store.new result }
 {
     let token = &state.tokens.slice()[place];
-    plan_update(alloc, store, state, token, pushed, moment)
+    plan_update(alloc, store, known, state, token, pushed, moment)
 }
 
 /// The plan of an update by a token, and none where the pushed commit is kept already.
@@ -66,13 +69,16 @@ pub(crate) fn plan_of<S: Shelf>(
 fn plan_update<S: Shelf>(
     alloc: Global,
     store: &mut Store<S>,
+    known: &mut Known,
     state: &LibState,
     token: &Token,
     pushed: ObjId,
     moment: u64,
 ) -> Result<Option<Plan>, Refusal>
     requires sound { IsSoundIn S.contents store.old state.now }
+    requires known { FitsIn S.contents store.old known.old }
     requires some_kept { state.now.kept ≢ [] }
+    ensures known { FitsIn S.contents store.old known.new }
     ensures value { (objects : Objects) (count : ℕ) → objects_of S.contents store.old ≡ Some objects
         → PlansSo (library state.now count objects) moment pushed (update_due (library state.now count objects) token.now pushed) result }
     ensures any { DecidesSo state.now token.now pushed store.new.index (S.may_give store.new.shelf) result }
@@ -88,7 +94,7 @@ fn plan_update<S: Shelf>(
             now: state.collection,
         });
     }
-    match plan_unknown(alloc, store, state, &token.user, pushed, moment) {
+    match plan_unknown(alloc, store, known, state, &token.user, pushed, moment) {
         Ok(plan) => Ok(Some(plan)),
         Err(why) => Err(why),
     }
@@ -98,13 +104,16 @@ fn plan_update<S: Shelf>(
 fn plan_unknown<S: Shelf>(
     alloc: Global,
     store: &mut Store<S>,
+    known: &mut Known,
     state: &LibState,
     user: &Text,
     pushed: ObjId,
     moment: u64,
 ) -> Result<Plan, Refusal>
     requires sound { IsSoundIn S.contents store.old state.now }
+    requires known { FitsIn S.contents store.old known.old }
     requires some_kept { state.now.kept ≢ [] }
+    ensures known { FitsIn S.contents store.old known.new }
     ensures value { (objects : Objects) (count : ℕ) → objects_of S.contents store.old ≡ Some objects
         → PlansDue (library state.now count objects) moment
         (base_due (library state.now count objects) user.now pushed (base_of (library state.now count objects) pushed)) result }
@@ -121,13 +130,14 @@ fn plan_unknown<S: Shelf>(
         Found::At(base) => base,
         Found::Unrelated(steps) => return Err(Refusal::Unrelated(steps)),
     };
-    plan_based(alloc, store, state, user, base, pushed, moment)
+    plan_based(alloc, store, known, state, user, base, pushed, moment)
 }
 
-/// The plan of an update over a merge base.
+/// The plan of an update over a merge base. What was found whole before isn't read again.
 fn plan_based<S: Shelf>(
     alloc: Global,
     store: &mut Store<S>,
+    known: &mut Known,
     state: &LibState,
     user: &Text,
     base: ObjId,
@@ -135,8 +145,10 @@ fn plan_based<S: Shelf>(
     moment: u64,
 ) -> Result<Plan, Refusal>
     requires sound { IsSoundIn S.contents store.old state.now }
+    requires known { FitsIn S.contents store.old known.old }
     requires some_kept { state.now.kept ≢ [] }
     requires based { (objects : Objects) → objects_of S.contents store.old ≡ Some objects → is_kept state.now.kept base ≡ true }
+    ensures known { FitsIn S.contents store.old known.new }
     ensures value { (objects : Objects) (count : ℕ) → objects_of S.contents store.old ≡ Some objects
         → PlansDue (library state.now count objects) moment (complete_due (library state.now count objects) user.now base pushed (walk_commit objects pushed).fault) result }
     ensures named { IfOk result HasNames }
@@ -144,7 +156,7 @@ fn plan_based<S: Shelf>(
     ensures damaged { (objects : Objects) → objects_of S.contents store.old ≡ Some objects → IfErr result (IsToldDamageOf objects) }
     ensures stays { ReadsOnly S.contents S.texts S.faults store.old store.new result }
 {
-    match check_pushed(alloc, store, pushed) {
+    match check(alloc, store, known, pushed) {
         Ok(()) => {}
         Err(fault) => return Err(walk_refusal(fault)),
     }

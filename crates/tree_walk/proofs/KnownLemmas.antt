@@ -1,4 +1,4 @@
--- Ids of keys that aren't known. The key lemmas are with_ids_push, with_ids_are and firsts_are.
+-- Ids of keys that aren't known. The key lemmas are with_ids_push, with_ids_are, firsts_are and same_fs_ids.
 use Rattle.std.proofs.Common.{◌≡◌, ◌&&◌, ◌||◌, not, ℕ, Bool, true, false, cond, if◌then◌else◌, is_some, List, [], ◌∷◌, ◌++◌, length, refl, sym, ap, ap₂, ◌∙◌, Option, None, Some, arith, ◌<◌, ◌+◌, get_or, take, take-suc, add-one}
 use Rattle.std.specs.Prelude.{⊤, map as list_map}
 use Rattle.std.specs.Cmp.{Equal-is}
@@ -10,11 +10,12 @@ use Rattle.ids.specs.declared.key.Key.{Key}
 use Rattle.ids.specs.declared.key.Kind.{Kind}
 use Rattle.ids.specs.declared.key.Kind.TheVariants.{Commit, Fs, Block}
 use Rattle.ids.proofs.KeyOrderLemmas.{id_cmp_total, id_cmp_exact, key_cmp_total}
-use Rattle.object_graph.specs.FsIds.{fs_ids_among, is_fs}
+use Rattle.object_graph.specs.FsIds.{fs_ids_among, fs_ids_of, is_fs}
 use Rattle.object_graph.specs.Objects.{fs_key}
 use Rattle.object_graph.specs.Traversal.{is_in}
-use Rattle.object_graph.proofs.KeyLemmas.{same_key, in_append}
+use Rattle.object_graph.proofs.KeyLemmas.{same_key, same_key-true, in_append}
 use Rattle.tree_walk.specs.Known.{Knows, is_wanted, with_ids}
+use Rattle.tree_walk.specs.Reaching.{HasFsOf}
 
 -- one key more is known
 pub knows_more : (keys : List Key) (known : map.FinMap key_cmp ⊤) (key : Key) → Knows keys known → Knows (keys ++ key ∷ []) (map.insert known key tt)
@@ -129,3 +130,46 @@ no_ids (p ∷ pairs) e = absurd (omega arith)
 
 pub next_key : (keys : List Key) (i : ℕ) (key : Key) → i < length keys → key ≡ get_or keys i key → take (i + 1) keys ≡ take i keys ++ key ∷ []
 next_key keys i key within is = rw (add-one, take-suc keys i key) (ap (λ k. take i keys ++ k ∷ []) (sym is))
+
+-- ---- ids of files and directories, by which keys there are
+
+-- an id is among those of some keys where its key is one of them
+ids_among : (keys : List Key) (q : List ℕ) → is_some (map.get (fs_ids_among keys) q) ≡ is_in keys (fs_key q)
+ids_among [] q = ap is_some (map.get-empty id_cmp q)
+ids_among (key ∷ keys) q = by (ids_among keys q) (is_fs key.kind) refl
+  where
+    put : (b c : Bool) (o : Option ⊤) → is_some o ≡ c → is_some (cond b (Some tt) o) ≡ (b || c)
+    put true c o is = refl
+    put false c o is = is
+
+    one : is_fs key.kind ≡ true → eq_by_cmp id_cmp q key.id ≡ same_key (fs_key q) key
+    one is = ap (same_key (fs_key q)) (fs_is key is)
+
+    other : is_fs key.kind ≡ false → (b : Bool) → same_key (fs_key q) key ≡ b → b ≡ false
+    other is true e = ap (λ (k : Key). is_fs k.kind) (same_key-true (fs_key q) key e) ∙ is
+    other is false e = refl
+
+    by : is_some (map.get (fs_ids_among keys) q) ≡ is_in keys (fs_key q) → (b : Bool) → is_fs key.kind ≡ b
+        → is_some (map.get (if b then map.insert (fs_ids_among keys) key.id tt else fs_ids_among keys) q) ≡ (same_key (fs_key q) key || is_in keys (fs_key q))
+    by rest true is =
+        ap is_some (map.get-insert id_cmp_total (fs_ids_among keys) key.id tt q)
+        ∙ put (eq_by_cmp id_cmp q key.id) (is_in keys (fs_key q)) (map.get (fs_ids_among keys) q) rest
+        ∙ ap (λ b. b || is_in keys (fs_key q)) (one is)
+    by rest false is = rest ∙ ap (λ b. b || is_in keys (fs_key q)) (sym (other is (same_key (fs_key q) key) refl))
+
+-- the list goes by which keys of files and directories there are, and which are known
+pub same_fs_ids : (wanted others known had : List Key) → HasFsOf wanted others → HasFsOf known had → fs_ids_of wanted known ≡ fs_ids_of others had
+same_fs_ids wanted others known had same same_known =
+    ap map.keys (map.same_map id_cmp_total id_cmp_exact (map.retain_keys (fs_ids_among wanted) (free known)) (map.retain_keys (fs_ids_among others) (free had))
+    (λ q. get_kept (free known) (fs_ids_among wanted) q
+    ∙ ap₂ (λ (b : Bool) (o : Option ⊤). cond b o None) (ap not (same_known q)) (told (map.get (fs_ids_among wanted) q) (map.get (fs_ids_among others) q) (ids_among wanted q ∙ same q ∙ sym (ids_among others q)))
+    ∙ sym (get_kept (free had) (fs_ids_among others) q)))
+  where
+    free : List Key → List ℕ → Bool
+    free keys id = not (is_in keys (fs_key id))
+
+    told : (o p : Option ⊤) → is_some o ≡ is_some p → o ≡ p
+    told None None is = refl
+    told (Some x) (Some y) is = refl
+    told None (Some y) is = cc
+    told (Some x) None is = cc

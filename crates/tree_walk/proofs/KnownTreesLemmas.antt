@@ -1,5 +1,6 @@
--- What is known stays right. The key lemmas are fits_nothing, learned, learned_file and fits_grown.
-use Rattle.std.proofs.Common.{◌≡◌, ◌⊎◌, inl, inr, ℕ, zero, suc, Bool, true, false, cond, if◌then◌else◌, is_some, List, [], ◌∷◌, ◌++◌, refl, sym, ap, ap₂, ◌∙◌, subst, None, Some, Result, Ok, Err}
+-- What is known stays right. The key lemmas are fits_nothing, learned, learned_file, fits_grown and
+-- known_stored.
+use Rattle.std.proofs.Common.{◌≡◌, ◌⊎◌, inl, inr, ℕ, zero, suc, Bool, true, false, cond, if◌then◌else◌, is_some, List, [], ◌∷◌, ◌++◌, refl, sym, ap, ap₂, ◌∙◌, subst, Option, None, Some, Result, Ok, Err}
 use Rattle.std.specs.FinMap as map
 use Rattle.ids.specs.Key.{Objects, key_cmp}
 use Rattle.ids.specs.declared.key.Key.{Key}
@@ -10,8 +11,8 @@ use Rattle.fs_objects.specs.declared.dirent.Dirent.{Dirent}
 use Rattle.fs_objects.specs.declared.fs_object.FsObject.{FsObject}
 use Rattle.fs_objects.specs.declared.fs_object.FsObject.TheVariants as fs
 use Rattle.object_graph.specs.Listing.{Listed, prefixed, listed, listed_in}
-use Rattle.object_graph.specs.Objects.{dirents_at, entries_of, entry_of, fs_at, fs_key, in_name_order, is_nil}
-use Rattle.object_graph.specs.Traversal.{Walk, start, visited, walk_below, walk_file_at, walk_object, walk_root}
+use Rattle.object_graph.specs.Objects.{dirents_at, entries_of, entry_of, fs_at, fs_in, fs_key, in_name_order, is_nil}
+use Rattle.object_graph.specs.Traversal.{Walk, start, then_read, visited, walk_below, walk_file_at, walk_found, walk_object, walk_root}
 use Rattle.object_graph.specs.Unchanged.{AgreeOn, Keeps}
 use Rattle.object_graph.specs.declared.fault.TreeFault.{TreeFault}
 use Rattle.object_graph.proofs.BelowLemmas.{Ran, ran_entry}
@@ -147,3 +148,25 @@ fits_grown A B known keeps fits = record {
   directories = λ id extent there. directory_grown A B id extent keeps (fits.directories id extent there);
   files = λ id there. file_grown A B id keeps (fits.files id there);
 }
+
+-- ---- what is known is stored
+
+-- an object whose traversal has no fault
+whole_stored : (objects : Objects) (wants : Bool) (id : List ℕ) → is_nil id ≡ false → (walk_object true objects (walk_below true objects 100) wants [] id start).fault ≡ None
+    → is_some (map.get objects (fs_key id)) ≡ true
+whole_stored objects wants id other none = by (map.get objects (fs_key id)) refl
+  where
+    by : (o : Option (List ℕ)) → map.get objects (fs_key id) ≡ o → is_some (map.get objects (fs_key id)) ≡ true
+    by None is =
+        let e =
+        sym (ap₂ (λ (n : Bool) (r : Result FsObject TreeFault). (if n then start else then_read r (walk_found true objects (walk_below true objects 100) wants [] id) (visited (fs_key id) start)).fault)
+        other (ap (fs_in (fs_key id)) is)) ∙ none in cc e
+    by (Some bytes) is = ap is_some is
+
+pub known_stored : (objects : Objects) (known : KnownView) (id : List ℕ) (extent : Extent) → Fits objects known → is_nil id ≡ false
+    → map.get known.directories (fs_key id) ≡ Some extent → is_some (map.get objects (fs_key id)) ≡ true
+known_stored objects known id extent fits other there = whole_stored objects true id other (fits.directories id extent there).complete
+
+pub known_file_stored : (objects : Objects) (known : KnownView) (id : List ℕ) → Fits objects known → is_nil id ≡ false
+    → is_some (map.get known.files (fs_key id)) ≡ true → is_some (map.get objects (fs_key id)) ≡ true
+known_file_stored objects known id fits other there = whole_stored objects false id other (fits.files id there)

@@ -6,6 +6,7 @@ pub mod KnownTreesLemmas
 pub mod LimitLemmas
 pub mod ListingLemmas
 pub mod OrderedLemmas
+pub mod ReachingLemmas
 pub mod ReadsLemmas
 pub mod StepsLemmas
 pub mod VisitLemmas

@@ -8,12 +8,16 @@ ghost use Rattle.ids.specs.ObjectId.{id_cmp};
 ghost use Rattle.object_graph.specs.FsIds.{fs_ids, fs_ids_of, needs_if};
 ghost use Rattle.object_store.specs.StoreView.{objects_of};
 ghost use Rattle.tree_walk.specs.Known.{is_wanted, with_ids};
+ghost use Rattle.tree_walk.specs.KnownTrees.{Fits};
+ghost use Rattle.tree_walk.specs.Reaching.{HasFsOf};
 ghost use Rattle.tree_walk.specs.Reading.{Answers, Reads};
 ghost use Rattle.tree_walk.specs.Visits.{commit_due, commits_due};
 
+use crate::checking::check;
 use crate::fault::WalkFault;
 use crate::known::table_of;
-use crate::visiting::needs;
+use crate::known_trees::Known;
+use crate::reaching::reached;
 use ids::{IdList, Key, KeyList, KeyTable, Kind, ObjId};
 use object_store::{Shelf, Store};
 use std::alloc::{AllocError, Global};
@@ -21,39 +25,61 @@ use std::collections::BTreeMap;
 
 /// The ids of the files and directories that the server's commit needs and the client's doesn't, in ascending order.
 ///
-/// The first fault of the server's traversal is answered, and then that of the client's.
+/// The first fault of the server's traversal is answered, and then that of the client's. What is known to be whole isn't
+/// walked for faults again; then each directory that one of the commits needs is read once, and no file.
 pub fn fs_ids<S: Shelf>(
     alloc: Global,
     store: &mut Store<S>,
+    known: &mut Known,
     server: ObjId,
     client: Option<ObjId>,
 ) -> Result<IdList, WalkFault>
+    requires known { (objects : Objects) → objects_of S.contents store.old ≡ Some objects → Fits objects known.old }
     ensures value { (objects : Objects) → objects_of S.contents store.old ≡ Some objects
         → Answers objects (commits_due objects server client) (λ ids. ids ≡ fs_ids objects server client) result }
+    ensures known { (objects : Objects) → objects_of S.contents store.old ≡ Some objects → Fits objects known.new }
     ensures stays { Reads S.contents S.may_give S.texts S.faults store.old store.new result }
 {
-    let wanted = needs(alloc, store, server)?;
-    let known = match needs_if(alloc, store, client) {
-        Ok(known) => known,
+    match check(alloc, store, known, server) {
+        Ok(()) => {}
+        Err(fault) => return Err(fault),
+    }
+    let wanted = match reached(alloc, store, server) {
+        Ok(wanted) => wanted,
         Err(fault) => return Err(fault),
     };
-    let ids = list(alloc, wanted, &known)?;
+    let had = match reached_if(alloc, store, known, client) {
+        Ok(had) => had,
+        Err(fault) => return Err(fault),
+    };
+    let ids = list(alloc, wanted, &had)?;
     Ok(ids)
 }
 
-/// What a commit needs, if there is one.
-fn needs_if<S: Shelf>(
+/// The files and directories that a commit needs, if there is one.
+fn reached_if<S: Shelf>(
     alloc: Global,
     store: &mut Store<S>,
+    known: &mut Known,
     commit: Option<ObjId>,
 ) -> Result<KeyList, WalkFault>
+    requires known { (objects : Objects) → objects_of S.contents store.old ≡ Some objects → Fits objects known.old }
     ensures value { (objects : Objects) → objects_of S.contents store.old ≡ Some objects
-        → Answers objects (commit_due objects commit) (λ keys. keys ≡ needs_if objects commit) result }
+        → Answers objects (commit_due objects commit) (λ keys. HasFsOf keys (needs_if objects commit)) result }
+    ensures known { (objects : Objects) → objects_of S.contents store.old ≡ Some objects → Fits objects known.new }
     ensures stays { Reads S.contents S.may_give S.texts S.faults store.old store.new result }
 {
-    match commit {
-        Some(commit) => needs(alloc, store, commit),
-        None => Ok(KeyList::new(alloc)),
+    let commit = match commit {
+        Some(commit) => commit,
+        None => return Ok(KeyList::new(alloc)),
+    };
+    match check(alloc, store, known, commit) {
+        Ok(()) => {}
+        Err(fault) => return Err(fault),
+    }
+    match reached(alloc, store, commit) {
+        Ok(keys) => Ok(keys),
+        Err(fault) => Err(fault),
     }
 }
 

@@ -15,6 +15,7 @@ pub mod laws;
 mod listing;
 mod met;
 mod name_order;
+mod reaching;
 mod reading;
 mod trail;
 mod unread;

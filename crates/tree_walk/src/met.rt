@@ -26,7 +26,7 @@ impl Model for Met {
 
 impl Met {
     ghost use Rattle.std.specs.Prelude.{◌≡◌, ◌+◌, ◌<◌, ◌≤◌, [], IfOk};
-    ghost use Rattle.object_graph.specs.Traversal.{distinct_from};
+    ghost use Rattle.object_graph.specs.Traversal.{distinct_from, is_in};
     ghost use Rattle.tree_model.specs.declared.limits.TheConstants.{MAX_PATHS};
     ghost use Rattle.tree_walk.specs.Visits.{with_key_met};
 
@@ -39,6 +39,13 @@ impl Met {
             known: KeyTable::new(alloc),
             paths: 0,
         }
+    }
+
+    /// Whether a key was met.
+    pub fn has(&self, key: &Key) -> bool
+        ensures value { result ≡ is_in self.now.keys key.now }
+    {
+        self.known.has(key)
     }
 
     /// The same with one key more, if it wasn't met before.

@@ -4,6 +4,18 @@ use Rattle.depot.proofs.StartLemmas.{left_unopened, opened_over, same_status, st
 use Rattle.object_store.proofs.StrayLemmas.{strays_kept}
 use Rattle.depot.proofs.start.open.Goals as goal
 
+pub check_state-requires : goal.check_state-requires
+check_state-requires g c = record { known = λ objects told. c.requires.known objects (sym c.in-Ok.ensures.stays.objects ∙ told) }
+
+pub returns-in-Err-check_state-clause-known : goal.returns-in-Err-check_state-clause-known
+returns-in-Err-check_state-clause-known g c = λ objects told. c.in-Err-check_state.ensures.known objects (c.in-Ok.ensures.stays.objects ∙ told)
+
+pub returns-in-Ok-write_text-clause-known : goal.returns-in-Ok-write_text-clause-known
+returns-in-Ok-write_text-clause-known g c = λ objects told. c.in-Ok-check_state.ensures.known objects (c.in-Ok.ensures.stays.objects ∙ told)
+
+pub returns-in-Err-write_text-clause-known : goal.returns-in-Err-write_text-clause-known
+returns-in-Err-write_text-clause-known g c = λ objects told. c.in-Ok-check_state.ensures.known objects (c.in-Ok.ensures.stays.objects ∙ told)
+
 pub returns-in-Ok-write_text-clause-sound : goal.returns-in-Ok-write_text-clause-sound
 returns-in-Ok-write_text-clause-sound g c = λ objects count told.
     opened_over c.in-Ok.state objects count c.in-Ok.ensures.proper c.in-Ok-check_state.ensures.ok

@@ -32,6 +32,12 @@ plan_based-requires-clause-based g c = λ objects told.
     (found_at objects (base_of (library c.args.state.now 0 objects) c.args.pushed) c.in-Ok.found (found.At c.in-At.base) c.in-At.is
     (c.in-Ok.ensures.value (library c.args.state.now 0 objects) (sym c.in-Ok.ensures.stays.kept.objects ∙ told) (sym c.slice.ensures.value)))
 
+pub plan_based-requires-clause-known : goal.plan_based-requires-clause-known
+plan_based-requires-clause-known g c = λ objects told. c.requires.known objects (sym c.in-Ok.ensures.stays.kept.objects ∙ told)
+
+pub returns-clause-known : goal.returns-clause-known
+returns-clause-known g c = λ objects told. c.plan_based.ensures.known objects (c.in-Ok.ensures.stays.kept.objects ∙ told)
+
 pub returns-clause-value : goal.returns-clause-value
 returns-clause-value g c = λ objects count told.
     known_base (library c.args.state.now count objects) c.args.moment c.args.user.now c.args.pushed (base_of (library c.args.state.now count objects) c.args.pushed) c.in-At.base c.plan_based.result

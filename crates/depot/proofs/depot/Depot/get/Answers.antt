@@ -5,12 +5,16 @@ use Rattle.depot.specs.Answering.{ServesAct}
 use Rattle.depot.specs.DepotView.{DepotView}
 use Rattle.depot.proofs.ActLemmas.{get_serves}
 use Rattle.depot.proofs.GrownLemmas.{good_kept, kept_status}
+use Rattle.depot.proofs.FitsLemmas.{fits_same}
 use Rattle.depot.proofs.depot.Depot.get.Goals as goal
 
 pub invariant_of-self : goal.invariant_of-self
-invariant_of-self g c =
-    good_kept g.S.Shelf.contents g.S.Shelf.faults (record { store = c.self.inside.parts.store; state = c.self.inside.parts.state; unsettled = c.self.inside.parts.unsettled; running = None }) c.self.invariant c.get_object.new.store
-    (kept_status g.S.Shelf.contents c.self.inside.parts.store c.get_object.new.store c.get_object.ensures.stays) c.get_object.ensures.stays.objects
+invariant_of-self g c = record {
+  good =
+      good_kept g.S.Shelf.contents g.S.Shelf.faults (record { store = c.self.inside.parts.store; state = c.self.inside.parts.state; unsettled = c.self.inside.parts.unsettled; running = None }) c.self.invariant.good c.get_object.new.store
+      (kept_status g.S.Shelf.contents c.self.inside.parts.store c.get_object.new.store c.get_object.ensures.stays) c.get_object.ensures.stays.objects;
+  fits = fits_same g.S.Shelf.contents c.self.inside.parts.store c.get_object.new.store c.self.inside.known c.get_object.ensures.stays.objects c.self.invariant.fits;
+}
 
 pub returns : goal.returns
 returns g c = record {

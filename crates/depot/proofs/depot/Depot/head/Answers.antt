@@ -4,5 +4,5 @@ use Rattle.depot.proofs.depot.Depot.head.Goals as goal
 
 pub returns : goal.returns
 returns g c = record {
-  value = rw (← c.self.view_is, c.slice-kept.ensures.value) (head_at c.self.inside.parts.state.kept c.index-kept-kept.result c.self.invariant.head);
+  value = rw (← c.self.view_is, c.slice-kept.ensures.value) (head_at c.self.inside.parts.state.kept c.index-kept-kept.result c.self.invariant.good.head);
 }

@@ -6,6 +6,7 @@ use Rattle.library_state.specs.declared.reply.Reply.TheVariants as reply
 use Rattle.depot.specs.Answering.{Serves, ServesAct}
 use Rattle.depot.specs.DepotView.{DepotView}
 use Rattle.depot.proofs.ActLemmas.{days_serve, limit_good, limit_serves}
+use Rattle.depot.proofs.FitsLemmas.{fits_same}
 use Rattle.depot.proofs.depot.Depot.limit.Goals as goal
 
 pub returns-then-not-is_day_count : goal.returns-then-not-is_day_count
@@ -18,11 +19,14 @@ returns-then-not-is_day_count g c = record {
 }
 
 pub invariant_of-self : goal.invariant_of-self
-invariant_of-self g c =
-    limit_good g.S.Shelf.contents g.S.Shelf.texts g.S.Shelf.faults (record { store = c.self.inside.parts.store; state = c.self.inside.parts.state; unsettled = c.self.inside.parts.unsettled; running = None }) c.self.invariant c.args.days
-    (sym (simp (to_z-of_z, c.ranges.days) at c.is_day_count.ensures.value) ∙ c.if-not-is_day_count.false)
-    c.set_days-set.new.self.store c.set_days-set.new.self.state c.set_days-set.new.self.unsettled c.set_days-set.result
-    (simp (to_z-of_z, c.ranges.days) at c.set_days-set.ensures.ok) c.set_days-set.ensures.err (simp (to_z-of_z, c.ranges.days) at c.set_days-set.ensures.text) c.set_days-set.ensures.stays
+invariant_of-self g c = record {
+  good =
+      limit_good g.S.Shelf.contents g.S.Shelf.texts g.S.Shelf.faults (record { store = c.self.inside.parts.store; state = c.self.inside.parts.state; unsettled = c.self.inside.parts.unsettled; running = None }) c.self.invariant.good c.args.days
+      (sym (simp (to_z-of_z, c.ranges.days) at c.is_day_count.ensures.value) ∙ c.if-not-is_day_count.false)
+      c.set_days-set.new.self.store c.set_days-set.new.self.state c.set_days-set.new.self.unsettled c.set_days-set.result
+      (simp (to_z-of_z, c.ranges.days) at c.set_days-set.ensures.ok) c.set_days-set.ensures.err (simp (to_z-of_z, c.ranges.days) at c.set_days-set.ensures.text) c.set_days-set.ensures.stays;
+  fits = fits_same g.S.Shelf.contents c.self.inside.parts.store c.set_days-set.new.self.store c.self.inside.known c.set_days-set.ensures.stays c.self.invariant.fits;
+}
 
 pub returns : goal.returns
 returns g c = record {

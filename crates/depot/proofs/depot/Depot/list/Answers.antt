@@ -8,12 +8,16 @@ use Rattle.depot.specs.DepotView.{DepotView, library}
 use Rattle.depot.proofs.ActLemmas.{list_serves}
 use Rattle.depot.proofs.GoodLemmas.{sound_at}
 use Rattle.depot.proofs.GrownLemmas.{good_kept, kept_status}
+use Rattle.depot.proofs.FitsLemmas.{fits_same}
 use Rattle.depot.proofs.depot.Depot.list.Goals as goal
 
 pub invariant_of-self : goal.invariant_of-self
-invariant_of-self g c =
-    good_kept g.S.Shelf.contents g.S.Shelf.faults (record { store = c.self.inside.parts.store; state = c.self.inside.parts.state; unsettled = c.self.inside.parts.unsettled; running = None }) c.self.invariant c.list_ids.new.store
-    (kept_status g.S.Shelf.contents c.self.inside.parts.store c.list_ids.new.store c.list_ids.ensures.stays) c.list_ids.ensures.stays.objects
+invariant_of-self g c = record {
+  good =
+      good_kept g.S.Shelf.contents g.S.Shelf.faults (record { store = c.self.inside.parts.store; state = c.self.inside.parts.state; unsettled = c.self.inside.parts.unsettled; running = None }) c.self.invariant.good c.list_ids.new.store
+      (kept_status g.S.Shelf.contents c.self.inside.parts.store c.list_ids.new.store c.list_ids.ensures.stays) c.list_ids.ensures.stays.objects;
+  fits = fits_same g.S.Shelf.contents c.self.inside.parts.store c.list_ids.new.store c.list_ids.new.known c.list_ids.ensures.stays.objects c.list_ids.ensures.known;
+}
 
 pub returns : goal.returns
 returns g c = record {
@@ -23,7 +27,7 @@ returns g c = record {
       (λ call moment right asks. list_serves g.S.Shelf.contents g.S.Shelf.may_give g.S.Shelf.texts g.S.Shelf.faults (record { store = c.self.inside.parts.store; state = c.self.inside.parts.state; unsettled = c.self.inside.parts.unsettled; running = None }) call moment right c.args.server.now c.args.client.now asks
       c.list_ids.new.store c.list_ids.result c.list_ids.ensures.stays c.list_ids.ensures.written
       (λ objects told. c.list_ids.ensures.value (library c.self.inside.parts.state (g.S.Shelf.faults c.self.inside.parts.store.shelf) objects) told (sym c.slice.ensures.value)
-      (sound_at g.S.Shelf.contents g.S.Shelf.faults (record { store = c.self.inside.parts.store; state = c.self.inside.parts.state; unsettled = c.self.inside.parts.unsettled; running = None }) c.self.invariant objects (g.S.Shelf.faults c.self.inside.parts.store.shelf) told))
+      (sound_at g.S.Shelf.contents g.S.Shelf.faults (record { store = c.self.inside.parts.store; state = c.self.inside.parts.state; unsettled = c.self.inside.parts.unsettled; running = None }) c.self.invariant.good objects (g.S.Shelf.faults c.self.inside.parts.store.shelf) told))
       (subst (λ (kept : List Install). MayAnswer c.list_ids.new.store.index (g.S.Shelf.may_give c.list_ids.new.store.shelf) (act.Ids c.args.server.now c.args.client.now) (ids_decided kept c.args.server.now) c.list_ids.result)
       c.slice.ensures.value c.list_ids.ensures.cause) c.list_ids.ensures.damaged c.list_ids.ensures.faults);
 }

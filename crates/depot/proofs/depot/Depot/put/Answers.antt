@@ -5,12 +5,16 @@ use Rattle.depot.specs.Answering.{ServesAct}
 use Rattle.depot.specs.DepotView.{DepotView, library}
 use Rattle.depot.proofs.ActLemmas.{put_serves}
 use Rattle.depot.proofs.GrownLemmas.{good_put}
+use Rattle.depot.proofs.FitsLemmas.{fits_put}
 use Rattle.depot.proofs.depot.Depot.put.Goals as goal
 
 pub invariant_of-self : goal.invariant_of-self
-invariant_of-self g c =
-    good_put g.S.Shelf.contents g.S.Shelf.faults (record { store = c.self.inside.parts.store; state = c.self.inside.parts.state; unsettled = c.self.inside.parts.unsettled; running = None }) c.self.invariant c.put_object.new.store c.put_object.ensures.stays
-    (record { key = c.args.key.now; bytes = c.args.bytes.now }) c.put_object.ensures.stored
+invariant_of-self g c = record {
+  good =
+      good_put g.S.Shelf.contents g.S.Shelf.faults (record { store = c.self.inside.parts.store; state = c.self.inside.parts.state; unsettled = c.self.inside.parts.unsettled; running = None }) c.self.invariant.good c.put_object.new.store c.put_object.ensures.stays
+      (record { key = c.args.key.now; bytes = c.args.bytes.now }) c.put_object.ensures.stored;
+  fits = fits_put g.S.Shelf.contents c.self.inside.parts.store c.put_object.new.store c.self.inside.known (record { key = c.args.key.now; bytes = c.args.bytes.now }) c.put_object.ensures.stored c.self.invariant.fits;
+}
 
 pub returns : goal.returns
 returns g c = record {

@@ -5,6 +5,9 @@ use Rattle.depot.specs.Answering.{ServesAt}
 use Rattle.depot.specs.DepotView.{DepotView}
 use Rattle.depot.proofs.depot.Depot.update.Goals as goal
 
+pub invariant_of-self : goal.invariant_of-self
+invariant_of-self g c = record { good = c.update_library.ensures.stands; fits = c.update_library.ensures.known }
+
 pub returns : goal.returns
 returns g c = record {
   value = subst (λ (old : DepotView g.row.S.Denot). ServesAt g.S.Shelf.contents g.S.Shelf.may_give g.S.Shelf.texts g.S.Shelf.faults old c.args.place (act.Update c.args.pushed) c.args.moment c.update_library.result

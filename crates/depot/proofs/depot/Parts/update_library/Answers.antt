@@ -13,6 +13,7 @@ use Rattle.depot.specs.DepotView.{DepotView, library}
 use Rattle.depot.specs.UpdateInstall.{CarriesSo, held_in}
 use Rattle.depot.specs.UpdatePlan.{objects_in}
 use Rattle.depot.proofs.GoodLemmas.{sound_at}
+use Rattle.depot.proofs.FitsLemmas.{fits_carried, fits_same}
 use Rattle.depot.proofs.GrownLemmas.{good_kept, kept_status}
 use Rattle.depot.proofs.UpdateGoodLemmas.{good_done, good_failed, held_kept, serves_done, serves_failed, serves_kept, serves_refused}
 use Rattle.depot.proofs.UpdatePlanLemmas.{decides_at, plan_puttable, plans_at}
@@ -27,6 +28,24 @@ plan_of-requires-clause-sound g c = λ objects count told.
 
 pub plan_of-requires-clause-some_kept : goal.plan_of-requires-clause-some_kept
 plan_of-requires-clause-some_kept g c = c.requires.good.head
+
+pub returns-in-Err-clause-known : goal.returns-in-Err-clause-known
+returns-in-Err-clause-known g c = fits_same g.S.Shelf.contents c.args.self.now.store c.plan_of.new.store c.plan_of.new.known c.in-Err.ensures.stays.kept.objects c.in-Err.ensures.known
+
+pub returns-in-None-clause-known : goal.returns-in-None-clause-known
+returns-in-None-clause-known g c = fits_same g.S.Shelf.contents c.args.self.now.store c.plan_of.new.store c.plan_of.new.known c.in-Ok.ensures.stays.kept.objects c.in-Ok.ensures.known
+
+pub returns-in-Ok-carry_out-clause-known : goal.returns-in-Ok-carry_out-clause-known
+returns-in-Ok-carry_out-clause-known g c =
+    fits_carried c.args.self.now.unsettled c.carry_out.new.self.unsettled c.args.self.now.state (with_install c.in-Some.plan.head c.args.pushed c.args.moment c.args.self.now.state) (objects_in c.in-Some.plan)
+    (held_in g.S.Shelf.contents g.S.Shelf.texts c.plan_of.new.store) (held_in g.S.Shelf.contents g.S.Shelf.texts c.carry_out.new.self.store) (Ok tt) c.plan_of.new.known c.in-Ok-carry_out.ensures.value
+    (fits_same g.S.Shelf.contents c.args.self.now.store c.plan_of.new.store c.plan_of.new.known c.in-Ok.ensures.stays.kept.objects c.in-Ok.ensures.known)
+
+pub returns-clause-known : goal.returns-clause-known
+returns-clause-known g c =
+    fits_carried c.args.self.now.unsettled c.carry_out.new.self.unsettled c.args.self.now.state (with_install c.in-Some.plan.head c.args.pushed c.args.moment c.args.self.now.state) (objects_in c.in-Some.plan)
+    (held_in g.S.Shelf.contents g.S.Shelf.texts c.plan_of.new.store) (held_in g.S.Shelf.contents g.S.Shelf.texts c.carry_out.new.self.store) (Err c.in-Err-carry_out.fault) c.plan_of.new.known c.in-Err-carry_out.ensures.value
+    (fits_same g.S.Shelf.contents c.args.self.now.store c.plan_of.new.store c.plan_of.new.known c.in-Ok.ensures.stays.kept.objects c.in-Ok.ensures.known)
 
 pub returns-in-Err-clause-value : goal.returns-in-Err-clause-value
 returns-in-Err-clause-value g c = λ call asks updates.
