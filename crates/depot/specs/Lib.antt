@@ -15,3 +15,4 @@ pub mod UpdatePlan
 pub mod UpdateMerge
 pub mod UpdateInstall
 pub mod Standing
+pub mod FirstGet

@@ -71,7 +71,7 @@ impl<S: Shelf> Depot<S> {
 }
 
 /// The place of the first token of the secret, where its right is enough for the act.
-fn permitted_place(tokens: &[Token], secret: &Option<Secret>, act: &Act) -> Option<usize>
+pub(crate) fn permitted_place(tokens: &[Token], secret: &Option<Secret>, act: &Act) -> Option<usize>
     ensures found { IfSome result (MayAsk tokens.now secret.now act.now) }
     ensures absent { IfNone result (permits (token_of tokens.now secret.now) act.now ≡ false) }
 {

@@ -11,6 +11,7 @@ mod commit_put;
 mod complete;
 mod depot;
 mod error;
+mod first_get;
 mod history;
 mod history_limit;
 pub mod laws;

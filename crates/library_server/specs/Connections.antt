@@ -10,7 +10,7 @@ use Rattle.server_words.specs.Lines.{fault_status}
 use Rattle.server_words.specs.Spelling.{location_text}
 use Rattle.server_words.specs.declared.command.Location.{Location}
 use Rattle.worker_server.specs.Calls.{AtAMoment, Told, Ran}
-use Rattle.worker_server.specs.ServedConnection.{CountsEnd, SessionInTime}
+use Rattle.worker_server.specs.ServedConnection.{CountsEnd, EndsAsked, SessionInTime}
 use Rattle.worker_server.specs.declared.served.Served.{Served}
 use Rattle.worker_server.specs.declared.served.Served.TheVariants.{Ended, Limit, Cut, Refused, ReadFault, WriteFault, NoMemory}
 use Rattle.library_server.specs.Answering.{AnswersOn}
@@ -44,6 +44,7 @@ pub record ServesOpened {S : Type 0} (contents : S → Option Contents) (may_giv
       → SessionInTime (AtAMoment shows (AnswersOn contents may_give texts faults)) input before.tells now.tells depot after how
   pub ran : (calls : List (Told ⊤)) × Ran (AtAMoment shows (AnswersOn contents may_give texts faults)) depot calls after
   pub count : CountsEnd before.faults now.faults how
+  pub last : EndsAsked how now.tells
   pub status_is : status ≡ status_of how
 
 -- why no library was opened: the refusal, its cause in what the named library may give, and that the storage's count rose

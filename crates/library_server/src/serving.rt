@@ -1,15 +1,18 @@
 //! One connection with a library that answers alone.
-ghost use Rattle.std.specs.Prelude.{◌≡◌, ◌≢◌, ℕ, List, Some, ⊤, false};
+ghost use Rattle.std.specs.Prelude.{◌≡◌, ◌≢◌, ◌<◌, ℕ, List, Some, ⊤, true, false};
+ghost use Rattle.depot.specs.Answering.{permits};
+ghost use Rattle.depot.specs.FirstGet.{fs_call, fs_get, sizes_of};
+ghost use Rattle.library_rules.specs.Calls.{token_of};
 ghost use Rattle.ids.specs.FaultCount.{Rose};
 ghost use Rattle.worker_server.specs.Calls.{AtAMoment, Told, Ran};
 ghost use Rattle.http_front.specs.Link.{told_by};
-ghost use Rattle.worker_server.specs.ServedConnection.{CountsEnd, SessionInTime};
+ghost use Rattle.worker_server.specs.ServedConnection.{CountsEnd, EndsAsked, SessionInTime};
 ghost use Rattle.library_server.specs.Answering.{AnswersOn, IsAnswered, NamesIn, NeverFails, is_storage_reply};
 
 use depot::Depot;
 use http_front::Link;
-use ids::LibId;
-use library_state::{Call, Clock, Refusal, Reply};
+use ids::{LibId, ObjId};
+use library_state::{Call, Clock, Refusal, Reply, Secret};
 use object_store::Shelf;
 use std::alloc::Global;
 use std::marker::PhantomData;
@@ -50,6 +53,25 @@ impl<S: Shelf, C: Clock> Host for Alone<'_, S, C> {
             place: 0,
         }
     }
+
+    fn ask_first(
+        &self,
+        alloc: Global,
+        pass: &mut Depot<S>,
+        lib: LibId,
+        secret: Option<Secret>,
+        id: ObjId,
+        ids: &[ObjId],
+        most: u64,
+    ) -> Answer {
+        let _ = alloc;
+        let moment = self.clock.now();
+        Answer {
+            reply: answer_first(pass, lib, &secret, id, ids, most, moment),
+            opening: 0,
+            place: 0,
+        }
+    }
 }
 
 /// The reply to a call on a library. `NoLibrary` comes exactly where it is not the one that is served.
@@ -64,11 +86,36 @@ fn answer<S: Shelf>(depot: &mut Depot<S>, lib: LibId, call: &Call, moment: u64) 
     depot.answer(call, moment)
 }
 
+/// The reply to a call for a file or directory, the first of some. `NoLibrary` comes exactly where the library is not the one
+/// that is served.
+fn answer_first<S: Shelf>(
+    depot: &mut Depot<S>,
+    lib: LibId,
+    secret: &Option<Secret>,
+    id: ObjId,
+    ids: &[ObjId],
+    most: u64,
+    moment: u64,
+) -> Reply
+    ensures here { lib ≡ depot.old.state.lib → IsAnswered S.contents S.may_give S.texts S.faults depot.old (fs_call secret.now id) moment result depot.new }
+    ensures elsewhere { lib ≢ depot.old.state.lib → (result ≡ Reply.Refused Refusal.NoLibrary) × (depot.new ≡ depot.old) }
+    ensures steady { NeverFails S.faults → NamesIn S.contents depot.old → (is_storage_reply result ≡ false) × NamesIn S.contents depot.new }
+    ensures bound { lib ≡ depot.old.state.lib → permits (token_of depot.old.state.tokens secret.now) (fs_get id) ≡ true
+        → most < sizes_of depot.old.store.index ids.now → (result ≡ Reply.Refused Refusal.NoMemory) × (depot.new ≡ depot.old) }
+{
+    if lib == depot.lib() {
+        depot.get_first(secret, id, ids, most, moment)
+    } else {
+        Reply::Refused(Refusal::NoLibrary)
+    }
+}
+
 /// Serves one connection with a library, which is asked one call after another, each at a moment of the clock.
 ///
 /// Over a shelf that tells what it holds the replies are those of one library of a single thread, by the rules of
 /// library_rules; its tokens are asked for. Over every shelf each refusal has its cause. Ends, limits and what was given
-/// before an end are those of `worker_server::serve_session`.
+/// before an end are those of `worker_server::serve_session`. Where the index knows the files and directories that are asked
+/// for together to have more bytes than one reply packs, the reply is want of memory, and none is read.
 pub fn serve_link<S: Shelf, L: Link, C: Clock>(
     alloc: Global,
     depot: &mut Depot<S>,
@@ -88,6 +135,9 @@ pub fn serve_link<S: Shelf, L: Link, C: Clock>(
     ensures read_fault { result ≡ Served.ReadFault → Rose (L.faults link.old) (L.faults link.new) }
     ensures write_fault { result ≡ Served.WriteFault → Rose (L.faults link.old) (L.faults link.new) }
     ensures faults { CountsEnd (L.faults link.old) (L.faults link.new) result }
+
+    // Where the link tells what it was asked: a take that failed was the last of it.
+    ensures last { EndsAsked result (told_by L.taken L.given L.asked link.new) }
 {
     let host = Alone {
         clock,

@@ -1,5 +1,5 @@
--- What follows of a request and its outcome: Serves-refused_for_memory, Serves-ran.
-use Rattle.std.proofs.Common.{ℕ, List, [], ◌∷◌, ◌++◌, Option, None, Some, Result, Ok, Err, inl, inr, refl, subst}
+-- What follows of a request and its outcome: Serves-refused_for_memory, Serves-ran, Serves-fits.
+use Rattle.std.proofs.Common.{◌≡◌, ℕ, arith, List, [], ◌∷◌, ◌++◌, Option, None, Some, Result, Ok, Err, inl, inr, refl, subst}
 use Rattle.library_state.specs.declared.call.Call.{Call}
 use Rattle.library_state.specs.declared.refusal.Refusal.{Refusal}
 use Rattle.library_state.specs.declared.refusal.Refusal.TheVariants.{NoMemory}
@@ -10,11 +10,12 @@ use Rattle.http_front.specs.declared.order.OrderFault.TheVariants as fault
 use Rattle.http_front.specs.declared.order.What.{What}
 use Rattle.http_front.specs.declared.order.What.TheVariants as what
 use Rattle.http_front.specs.declared.outcome.Outcome.{Outcome}
-use Rattle.http_front.specs.declared.outcome.Outcome.TheVariants.{Refused}
+use Rattle.http_front.specs.declared.outcome.Outcome.TheVariants.{Packed, Refused}
 use Rattle.http_front.specs.declared.row.Row.{Row}
 use Rattle.http_front.specs.Rows.{row_with}
-use Rattle.worker_server.specs.Calls.{Told, Ran, ServedAt, ServedBy, ServedSo, ServesOrder, AskedSo, PutsEach, GetsEach, Serves, told, unwritten, unready, call_of, get_of, put_of, refusal_of}
+use Rattle.worker_server.specs.Calls.{FitReply, Told, Ran, ServedAt, ServedBy, ServedSo, ServesOrder, AskedSo, PutsEach, GetsEach, Serves, told, unwritten, unready, call_of, get_of, outcome_without_library, put_of, refusal_of}
 use Rattle.worker_server.specs.declared.host.Answer.{Answer}
+use Rattle.worker_server.proofs.EachLemmas.{GetsEach-fits}
 
 module _ {V Line : Type 0} (asks : V → List ℕ → Call → Answer → List Line → V → Type 0) where
   -- where no memory was for the text, the outcome is the refusal for want of memory
@@ -54,8 +55,11 @@ module _ {V Line : Type 0} (asks : V → List ℕ → Call → Answer → List L
   GetsEach-ran lib secret u (id ∷ ids) given o lines v h =
       let one : Told Line = record { lib = lib; call = call_of secret (get_of id); answer = h.0; lines = h.2 } in
       elim h.6 [
-        | inl on ↦ let rest = GetsEach-ran lib secret h.1 ids (given ++ row_with id on.0 ∷ []) o h.3 v on.2 in (one ∷ rest.0, (h.1, h.4, rest.1))
-        | inr end ↦ (one ∷ [], (h.1, h.4, end.3))
+        | inl on ↦ let rest = GetsEach-ran lib secret h.1 ids (given ++ row_with id on.0 ∷ []) o h.3 v on.3 in (one ∷ rest.0, (h.1, h.4, rest.1))
+        | inr end ↦ elim end [
+          | inl over ↦ (one ∷ [], (h.1, h.4, over.5))
+          | inr refused ↦ (one ∷ [], (h.1, h.4, refused.3))
+        ]
       ]
 
   ServedBy-ran : (lib : List ℕ) (secret : Option (List ℕ)) (w : What) (u : V) (o : Outcome) (lines : List Line) (v : V)
@@ -93,3 +97,58 @@ module _ {V Line : Type 0} (asks : V → List ℕ → Call → Answer → List L
       → (all : List (Told Line)) × Ran asks u all v
   Ran-append u w v [] more e r = (more, subst (λ (z : V). Ran asks z more v) e r)
   Ran-append u w v (t ∷ ts) more h r = let rest = Ran-append h.0 w v ts more h.2 r in (t ∷ rest.0, (h.0, h.1, rest.1))
+
+  -- ---- what a reply packs
+
+  ServedBy-fits : (lib : List ℕ) (secret : Option (List ℕ)) (w : What) (u : V) (rows : List Row) (lines : List Line) (v : V)
+      → ServedBy asks lib secret w u (Packed rows) lines v → FitReply rows
+  ServedBy-fits lib secret what.Version u rows lines v h = absurd (cc h.0)
+  ServedBy-fits lib secret (what.Check op) u rows lines v h = absurd (cc h.2)
+  ServedBy-fits lib secret what.Head u rows lines v h = absurd (cc h.2)
+  ServedBy-fits lib secret (what.Update commit) u rows lines v h = absurd (cc h.2)
+  ServedBy-fits lib secret (what.Get key) u rows lines v h = absurd (cc h.2)
+  ServedBy-fits lib secret (what.Put key bytes) u rows lines v h = absurd (cc h.2)
+  ServedBy-fits lib secret (what.Missing kind ids) u rows lines v h = absurd (cc h.2)
+  ServedBy-fits lib secret (what.PutFs puts) u rows lines v h = absurd (not_packed lib secret u puts rows lines v h)
+    where
+      not_packed : (lib : List ℕ) (secret : Option (List ℕ)) (u : V) (puts rows : List Row) (lines : List Line) (v : V)
+          → PutsEach asks lib secret u puts (Packed rows) lines v → ⊥
+      not_packed lib secret u [] rows lines v h = cc h.0
+      not_packed lib secret u (row ∷ puts) rows lines v h =
+          elim h.6 [
+            | inl on ↦ not_packed lib secret h.1 puts rows h.3 v on.1
+            | inr end ↦ cc end.1
+          ]
+  ServedBy-fits lib secret (what.Ids server client) u rows lines v h = absurd (cc h.2)
+  ServedBy-fits lib secret (what.GetFs ids) u rows lines v h = GetsEach-fits asks lib secret u v ids [] rows lines none_fits h
+    where
+      none_fits : FitReply []
+      none_fits = omega arith
+
+  ServedSo-fits : (u : V) (order : Result Order Refusal) (rows : List Row) (lines : List Line) (v : V)
+      → ServedSo asks u order (Packed rows) lines v → FitReply rows
+  ServedSo-fits u (Err refusal) rows lines v h = absurd (cc h.0)
+  ServedSo-fits u (Ok order) rows lines v h = by_library order.lib h
+    where
+      version_or_none : (w : What) → Packed rows ≡ outcome_without_library w → ⊥
+      version_or_none what.Version e = cc e
+      version_or_none (what.Check op) e = cc e
+      version_or_none what.Head e = cc e
+      version_or_none (what.Update commit) e = cc e
+      version_or_none (what.Get key) e = cc e
+      version_or_none (what.Put key bytes) e = cc e
+      version_or_none (what.Missing kind ids) e = cc e
+      version_or_none (what.PutFs puts) e = cc e
+      version_or_none (what.GetFs ids) e = cc e
+      version_or_none (what.Ids server client) e = cc e
+
+      by_library : (lib : Option (List ℕ)) → ServedAt asks lib order.secret order.what u (Packed rows) lines v → FitReply rows
+      by_library None h = absurd (version_or_none order.what h.0)
+      by_library (Some lib) h = ServedBy-fits lib order.secret order.what u rows lines v h
+
+  -- a reply that packs files and directories has no more than fit
+  pub Serves-fits : (u : V) (IsDue : Result Order Refusal → Type 0) (rows : List Row) (lines : List Line) (v : V)
+      → Serves asks u IsDue (Packed rows) lines v → FitReply rows
+  Serves-fits u IsDue rows lines v (told order due served) = ServedSo-fits u order rows lines v served
+  Serves-fits u IsDue rows lines v (unwritten order other due served is) = absurd (cc is)
+  Serves-fits u IsDue rows lines v (unready none) = absurd (cc none.0)

@@ -1,13 +1,17 @@
 -- Calls asked one after another: one more of them, and the last.
-use Rattle.std.proofs.Common.{◌≡◌, true, false, List, [], ◌∷◌, ◌++◌, Option, ℕ, inl, inr, refl, sym, ap, ◌∙◌, reverse, append-nil}
+use Rattle.std.proofs.Common.{◌≡◌, ◌+◌, ◌<◌, ◌≤◌, nat_le, true, false, List, [], ◌∷◌, ◌++◌, length, Option, ℕ, inl, inr, refl, sym, ap, subst, ◌∙◌, reverse, append-nil}
+use Rattle.std.proofs.lemmas.Bool.{leb-false, leb-true}
 use Rattle.std.proofs.lemmas.List.{reverse-append}
+use Rattle.std.proofs.lemmas.List.Sums.{sum_by_push}
 use Rattle.library_state.specs.declared.call.Call.{Call}
+use Rattle.library_state.specs.declared.refusal.Refusal.TheVariants.{NoMemory}
 use Rattle.library_state.specs.declared.reply.Reply.{Reply}
 use Rattle.library_state.specs.declared.reply.Reply.TheVariants as reply
 use Rattle.http_front.specs.Rows.{row_with}
 use Rattle.http_front.specs.declared.outcome.Outcome.{Outcome}
+use Rattle.http_front.specs.declared.outcome.Outcome.TheVariants.{Packed, Refused}
 use Rattle.http_front.specs.declared.row.Row.{Row}
-use Rattle.worker_server.specs.Calls.{GetsEach, PutsEach, call_of, get_of, is_got, is_stored, put_of, told_of}
+use Rattle.worker_server.specs.Calls.{FitReply, GetsEach, PutsEach, call_of, get_of, is_got, is_stored, most_packed, packed_size, put_of, told_of}
 use Rattle.worker_server.specs.declared.host.Answer.{Answer}
 
 -- ---- what is left, taken from the end of its reverse
@@ -30,6 +34,34 @@ not_got reply.Limited none = refl
 not_got (reply.Listed ids) none = refl
 not_got (reply.Refused refusal) none = refl
 
+-- ---- packed rows
+
+abbrev packed_of : Outcome → List Row
+packed_of (Packed rows) = rows
+packed_of _ = []
+
+packed_same : (rows given : List Row) → Packed rows ≡ Packed given → rows ≡ given
+packed_same rows given e = ap packed_of e
+
+-- one row more has its own bytes more
+pub packed_more : (rows : List Row) (id bytes : List ℕ) → packed_size (rows ++ row_with id bytes ∷ []) ≡ packed_size rows + length bytes
+packed_more rows id bytes = sum_by_push (λ row. length row.bytes) rows (row_with id bytes)
+
+-- so many are packed then
+pub packed_now : (rows : List Row) (id bytes slice : List ℕ) (packed : ℕ) → packed ≡ packed_size rows → slice ≡ bytes
+    → packed + length slice ≡ packed_size (rows ++ row_with id bytes ∷ [])
+packed_now rows id bytes slice packed is same = (λ i. is i + length (same i)) ∙ sym (packed_more rows id bytes)
+
+pub packed_fit : (rows : List Row) (id bytes slice : List ℕ) (packed : ℕ) → packed ≡ packed_size rows → slice ≡ bytes
+    → true ≡ nat_le (packed + length slice) most_packed → FitReply (rows ++ row_with id bytes ∷ [])
+packed_fit rows id bytes slice packed is same fits =
+    subst (λ n. n ≤ most_packed) (packed_now rows id bytes slice packed is same) (leb-true (packed + length slice) most_packed (sym fits))
+
+pub packed_over : (rows : List Row) (id bytes slice : List ℕ) (packed : ℕ) → packed ≡ packed_size rows → slice ≡ bytes
+    → false ≡ nat_le (packed + length slice) most_packed → most_packed < packed_size (rows ++ row_with id bytes ∷ [])
+packed_over rows id bytes slice packed is same over =
+    subst (λ n. most_packed < n) (packed_now rows id bytes slice packed is same) (leb-false (packed + length slice) most_packed (sym over))
+
 -- ---- calls
 
 module _ {V Line : Type 0} (asks : V → List ℕ → Call → Answer → List Line → V → Type 0) where
@@ -43,10 +75,29 @@ module _ {V Line : Type 0} (asks : V → List ℕ → Call → Answer → List L
   PutsEach-refused lib secret u mid row rows answer first asked refused = (answer, mid, first, [], asked, sym (append-nil first), inr (refused, refl, refl, refl))
 
   pub GetsEach-given : (lib : List ℕ) (secret : Option (List ℕ)) (u mid v : V) (id : List ℕ) (ids : List (List ℕ)) (given : List Row) (answer : Answer) (first more : List Line) (o : Outcome) (bytes : List ℕ)
-      → asks u lib (call_of secret (get_of id)) answer first mid → answer.reply ≡ reply.Got bytes → GetsEach asks lib secret mid ids (given ++ row_with id bytes ∷ []) o more v
+      → asks u lib (call_of secret (get_of id)) answer first mid → answer.reply ≡ reply.Got bytes → FitReply (given ++ row_with id bytes ∷ [])
+      → GetsEach asks lib secret mid ids (given ++ row_with id bytes ∷ []) o more v
       → GetsEach asks lib secret u (id ∷ ids) given o (first ++ more) v
-  GetsEach-given lib secret u mid v id ids given answer first more o bytes asked got rest = (answer, mid, first, more, asked, refl, inl (bytes, got, rest))
+  GetsEach-given lib secret u mid v id ids given answer first more o bytes asked got fits rest = (answer, mid, first, more, asked, refl, inl (bytes, got, fits, rest))
+
+  pub GetsEach-over : (lib : List ℕ) (secret : Option (List ℕ)) (u mid : V) (id : List ℕ) (ids : List (List ℕ)) (given : List Row) (answer : Answer) (first : List Line) (bytes : List ℕ)
+      → asks u lib (call_of secret (get_of id)) answer first mid → answer.reply ≡ reply.Got bytes → most_packed < packed_size (given ++ row_with id bytes ∷ [])
+      → GetsEach asks lib secret u (id ∷ ids) given (Refused NoMemory) first mid
+  GetsEach-over lib secret u mid id ids given answer first bytes asked got over = (answer, mid, first, [], asked, sym (append-nil first), inr (inl (bytes, got, over, refl, refl, refl)))
 
   pub GetsEach-refused : (lib : List ℕ) (secret : Option (List ℕ)) (u mid : V) (id : List ℕ) (ids : List (List ℕ)) (given : List Row) (answer : Answer) (first : List Line)
       → asks u lib (call_of secret (get_of id)) answer first mid → is_got answer.reply ≡ false → GetsEach asks lib secret u (id ∷ ids) given (told_of answer) first mid
-  GetsEach-refused lib secret u mid id ids given answer first asked refused = (answer, mid, first, [], asked, sym (append-nil first), inr (refused, refl, refl, refl))
+  GetsEach-refused lib secret u mid id ids given answer first asked refused = (answer, mid, first, [], asked, sym (append-nil first), inr (inr (refused, refl, refl, refl)))
+
+  -- what is packed fits, where what was given before does
+  pub GetsEach-fits : (lib : List ℕ) (secret : Option (List ℕ)) (u v : V) (ids : List (List ℕ)) (given rows : List Row) (lines : List Line)
+      → FitReply given → GetsEach asks lib secret u ids given (Packed rows) lines v → FitReply rows
+  GetsEach-fits lib secret u v [] given rows lines fits h = subst FitReply (sym (packed_same rows given h.0)) fits
+  GetsEach-fits lib secret u v (id ∷ ids) given rows lines fits h =
+      elim h.6 [
+        | inl on ↦ GetsEach-fits lib secret h.1 v ids (given ++ row_with id on.0 ∷ []) rows h.3 on.2 on.3
+        | inr end ↦ elim end [
+          | inl over ↦ absurd (cc over.3)
+          | inr refused ↦ absurd (cc refused.1)
+        ]
+      ]

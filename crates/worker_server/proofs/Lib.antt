@@ -1,5 +1,6 @@
 pub mod CallLemmas
 pub mod EachLemmas
+pub mod LookLemmas
 pub mod ReadingLemmas
 pub mod RequestLemmas
 pub mod SessionLemmas

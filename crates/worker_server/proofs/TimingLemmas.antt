@@ -8,6 +8,7 @@ use Rattle.std.proofs.lemmas.List.Elements.{All-nil, All-cons, All-head, All-tai
 use Rattle.std.specs.Io.KnownBytes.{append_known}
 use Rattle.http_front.specs.Buffer.{Fills}
 use Rattle.http_front.specs.Link.{Asked, LinkTells, asked_once_more}
+use Rattle.http_front.specs.Limits.{piece_limit}
 use Rattle.http_front.specs.NextHead.{IsHeadOf}
 use Rattle.http_front.specs.TargetFront.{MayBecomeHead}
 use Rattle.http_front.specs.RequestStream.{Request, IsHeadAt, IsLookedAt, IsUnfinished, Reads, head_open, body_open, front_of, interim_of}
@@ -77,7 +78,7 @@ AsksFor-none IsDue old new same = λ taken given before et eg ea. (
 )
 
 -- the link was asked once
-AsksFor-once : (IsDue : List ℕ → List ℕ → Type 0) (piece : List ℕ) (old new : LinkTells) → IsDue [] [] → length piece ≤ 65536
+AsksFor-once : (IsDue : List ℕ → List ℕ → Type 0) (piece : List ℕ) (old new : LinkTells) → IsDue [] [] → length piece ≤ piece_limit
     → new.asked ≡ asked_once_more old.asked old.taken old.given → AsksFor IsDue old new piece
 AsksFor-once IsDue piece old new due bound once = λ taken given before et eg ea.
     let a : Asked = (length taken, length given) in
@@ -165,38 +166,13 @@ AsksFor-later D old new after piece same asks = λ taken given before et eg ea.
 
 -- ---- a head and its body
 
--- where no head stands in the buffer yet
-pub wants_head : (buffer : List ℕ) → nat_le 16384 (length buffer) ≡ false → HasNoRequest (front_of buffer) → MayBecomeHead (front_of buffer)
-    → WantsHead buffer
-wants_head buffer short none may =
-    let lt : length buffer < 16384 = leb-false 16384 (length buffer) short in
-    let whole = take_all 16384 buffer (below (length buffer) lt) in
-    record { short = lt; none = subst HasNoRequest whole none; may = subst MayBecomeHead whole may }
-  where
-    below : (n : ℕ) → n < 16384 → n ≤ 16384
-    below n lt = omega (arith, lt)
-
 -- where the body isn't all there
 pub wants_bytes : (buffer : List ℕ) (used body : ℕ) → used ≤ length buffer → length buffer - used < body → WantsBytes (used + body) buffer
 wants_bytes buffer used body fits short = omega (arith, fits, short)
 
--- all that is there was looked at
-looked_at_all : (unread : List ℕ) → MayBecomeHead unread → IsLookedAt (length unread) unread
-looked_at_all unread may = record {
-  half = twice (length unread);
-  lines = subst (All (λ (byte : ℕ). byte ≢ 10)) (sym (drop_all (length unread) unread (same (length unread)))) (All-nil (λ (byte : ℕ). byte ≢ 10));
-  may = subst MayBecomeHead (sym (take_all (length unread) unread (same (length unread)))) may;
-}
-  where
-    twice : (n : ℕ) → n ≤ 2 * n
-    twice n = omega arith
-
-    same : (n : ℕ) → n ≤ n
-    same n = omega arith
-
 -- where a head is looked for, less than a request is there
 pub heads_unfinished : (buffer come gave : List ℕ) → HeldBefore WantsHead buffer come gave → IsUnfinished (buffer ++ come) gave
-heads_unfinished buffer come gave h = head_open (length (buffer ++ come)) h.1.short h.1.none (looked_at_all (buffer ++ come) h.1.may) h.0
+heads_unfinished buffer come gave h = head_open h.1.0 h.1.1.short h.1.1.none h.1.1.looked h.0
 
 -- where its body is not all there, and its interim reply was given
 pub body_unfinished : (buffer held piece : List ℕ) (head : Head) (request : RequestHead) → held ≡ buffer ++ piece

@@ -1,7 +1,7 @@
 -- What an order asks of a library, and how its outcome is made of the answers. Read Serves last: it is what stands
 -- between a request and its reply. `asks` is a host's relation: from what it shows before, a library and a call to
 -- an answer, the lines that the call left and what it shows after. Of a host with a clock it is AtAMoment.
-use Rattle.std.specs.Prelude.{ℕ, ◌≡◌, ◌⊎◌, Bool, true, false, List, [], ◌∷◌, ◌++◌, Option, None, Some, Result, Ok, Err}
+use Rattle.std.specs.Prelude.{ℕ, ◌≡◌, ◌<◌, ◌≤◌, ◌⊎◌, Bool, true, false, List, [], ◌∷◌, ◌++◌, length, sum_by, Option, None, Some, Result, Ok, Err}
 use Rattle.ids.specs.declared.key.Kind.TheVariants.{Fs}
 use Rattle.library_state.specs.declared.call.Act.{Act}
 use Rattle.library_state.specs.declared.call.Act.TheVariants as act
@@ -53,6 +53,18 @@ abbrev pub is_got : Reply → Bool
 is_got (reply.Got bytes) = true
 is_got _ = false
 
+-- the most bytes that the files and directories of one reply have together
+abbrev pub most_packed : ℕ
+most_packed = 268435456
+
+-- how many bytes these files and directories have together
+abbrev pub packed_size : List Row → ℕ
+packed_size rows = sum_by (λ row. length row.bytes) rows
+
+-- they fit in one reply
+abbrev pub FitReply : List Row → Type 0
+FitReply rows = packed_size rows ≤ most_packed
+
 -- a call that was asked, its answer, and the lines that it left
 pub record Told (Line : Type 0) : Type 0 where
   pub lib : List ℕ
@@ -99,15 +111,19 @@ module _ {V Line : Type 0} (asks : V → List ℕ → Call → Answer → List L
       × (((is_stored answer.reply ≡ true) × PutsEach lib secret mid rows o more v)
       ⊎ ((is_stored answer.reply ≡ false) × (o ≡ told_of answer) × (more ≡ []) × (v ≡ mid)))
 
-  -- the files and directories were asked for one after another, after these that were given, up to the first that was
-  -- not given, whose answer is the outcome; where all were, the outcome is all of them
+  -- the files and directories were asked for one after another, after these that were given: up to the first that was not
+  -- given, whose answer is the outcome, or with which they are more than fit in one reply, which is want of memory; where
+  -- all were given, the outcome is all of them
   abbrev pub GetsEach : List ℕ → Option (List ℕ) → V → List (List ℕ) → List Row → Outcome → List Line → V → Type 0
   GetsEach lib secret u [] given o lines v = NotAsked u (Packed given) o lines v
   GetsEach lib secret u (id ∷ ids) given o lines v =
       (answer : Answer) × (mid : V) × (first : List Line) × (more : List Line)
       × asks u lib (call_of secret (get_of id)) answer first mid × (lines ≡ first ++ more)
-      × (((bytes : List ℕ) × (answer.reply ≡ reply.Got bytes) × GetsEach lib secret mid ids (given ++ row_with id bytes ∷ []) o more v)
-      ⊎ ((is_got answer.reply ≡ false) × (o ≡ told_of answer) × (more ≡ []) × (v ≡ mid)))
+      × (((bytes : List ℕ) × (answer.reply ≡ reply.Got bytes) × FitReply (given ++ row_with id bytes ∷ [])
+      × GetsEach lib secret mid ids (given ++ row_with id bytes ∷ []) o more v)
+      ⊎ (((bytes : List ℕ) × (answer.reply ≡ reply.Got bytes) × (most_packed < packed_size (given ++ row_with id bytes ∷ []))
+      × (o ≡ Refused NoMemory) × (more ≡ []) × (v ≡ mid))
+      ⊎ ((is_got answer.reply ≡ false) × (o ≡ told_of answer) × (more ≡ []) × (v ≡ mid))))
 
   -- what was asked of a library has this outcome
   abbrev pub ServedBy : List ℕ → Option (List ℕ) → What → V → Outcome → List Line → V → Type 0

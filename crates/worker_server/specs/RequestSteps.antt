@@ -1,20 +1,26 @@
 -- What the steps of one request do: reading it, stopping in its place, and serving it.
 -- Read OneServed first, at the end.
-use Rattle.std.specs.Prelude.{ℕ, ◌≡◌, ◌+◌, ◌<◌, IsTrue, Bool, List, [], ◌∷◌, ◌++◌, length, All, Option, Some, Result, Ok, Err, ⊤}
+use Rattle.std.specs.Prelude.{ℕ, ◌≡◌, ◌≢◌, ◌==◌, ◌||◌, ◌+◌, ◌-◌, ◌*◌, nat_le, nat_lt, ◌<◌, ◌≤◌, IsTrue, Bool, List, [], ◌∷◌, ◌++◌, length, take, drop, All, Option, Some, Result, Ok, Err, ⊤}
 use Rattle.std.specs.Io.KnownBytes.{append_known}
+use Rattle.std.specs.List.{list_any}
 use Rattle.httparse.specs.Grammar.{HasNoRequest, print_request}
 use Rattle.library_state.specs.declared.call.Call.{Call}
 use Rattle.ids.specs.FaultCount.{Rose}
 use Rattle.http_front.specs.declared.head.Head.{Head}
-use Rattle.http_front.specs.Link.{Asked, GivesFront, LinkTells}
+use Rattle.http_front.specs.declared.head.Next.TheVariants as next
+use Rattle.http_front.specs.Limits.{head_limit}
+use Rattle.http_front.specs.NextHead.{IsNext}
+use Rattle.http_front.specs.Link.{Asked, AskedLast, GivesFront, LinkTells}
 use Rattle.http_front.specs.ReplyText.{bad_text, is_bad_status}
 use Rattle.http_front.specs.RequestHead.{closes, method_of}
 use Rattle.http_front.specs.TargetFront.{MayBecomeHead}
-use Rattle.http_front.specs.RequestStream.{Request, IsCutAfter, IsRefused, IsRequest, IsUnfinished}
+use Rattle.http_front.specs.RequestStream.{Request, IsCutAfter, IsLookedAt, IsRefused, IsRequest, IsUnfinished}
 use Rattle.worker_server.specs.ServedConnection.{Exchange, Shows, Answers, ComesInPieces, Stops, CountsEnd, closes_at, text_at}
 use Rattle.worker_server.specs.declared.host.Answer.{Answer}
 use Rattle.worker_server.specs.declared.reading.End.{End}
 use Rattle.worker_server.specs.declared.reading.End.TheVariants as end
+use Rattle.worker_server.specs.declared.reading.Look.{Look}
+use Rattle.worker_server.specs.declared.reading.Look.TheVariants as look
 use Rattle.worker_server.specs.declared.served.Served.{Served}
 use Rattle.worker_server.specs.declared.served.Served.TheVariants as served
 
@@ -52,6 +58,16 @@ IsBodyEnd wanted rest _ = ⊥
 abbrev pub HasBadStatus : End → Type 0
 HasBadStatus (end.Refused status) = IsTrue (is_bad_status status)
 HasBadStatus how = ⊤
+
+-- no take failed
+abbrev pub IsNoFault : End → Type 0
+IsNoFault end.ReadFault = ⊥
+IsNoFault how = ⊤
+
+-- a take that failed was the last thing that the link was asked
+abbrev pub EndAsked : End → LinkTells → Type 0
+EndAsked end.ReadFault now = AskedLast now
+EndAsked how now = ⊤
 
 -- the link's count rose where a take failed, and stayed otherwise
 abbrev pub CountsRead : {T : Type 0} → ℕ → ℕ → Result T End → Type 0
@@ -107,11 +123,44 @@ pub record AsksUnfinished (buffer now : List ℕ) (old new : LinkTells) : Type 0
   pub taken : new.taken ≡ append_known old.taken piece
   pub asks : AsksFor (λ come given. IsUnfinished (buffer ++ come) given) old new piece
 
--- no head stands there yet, and they may become one that ends within the bytes of which it is read
-pub record WantsHead (buffer : List ℕ) : Type 0 where
-  pub short : length buffer < 16384
+-- no head stands there yet, and they may become one that ends within the bytes of which it is read, as the first so many of
+-- them tell
+pub record IsOpenBy (seen : ℕ) (buffer : List ℕ) : Type 0 where
+  pub within : seen ≤ length buffer
+  pub short : length buffer < head_limit
   pub none : HasNoRequest buffer
-  pub may : MayBecomeHead buffer
+  pub looked : IsLookedAt seen buffer
+
+-- the same of some of them
+abbrev pub WantsHead : List ℕ → Type 0
+WantsHead buffer = (seen : ℕ) × IsOpenBy seen buffer
+
+-- what a look at these bytes tells
+abbrev pub IsLook : List ℕ → Look → Type 0
+IsLook front (look.Open seen) = IsOpenBy seen front
+IsLook front (look.Head head) = IsNext front (next.Head head)
+IsLook front (look.Bad status) = IsNext front (next.Bad status)
+
+-- the first so many bytes were looked at for a head, if any were: none stands there, and one may come. Of the first `known`
+-- it is known that no line ends after those
+pub record IsScanned (seen known : ℕ) (buffer : List ℕ) : Type 0 where
+  pub behind : seen ≤ known
+  pub within : known ≤ length buffer
+  pub none : seen ≢ 0 → HasNoRequest (take seen buffer)
+  pub may : seen ≢ 0 → MayBecomeHead (take seen buffer)
+  pub lines : All (λ byte. byte ≢ 10) (drop seen (take known buffer))
+
+-- whether a look is due: nothing was looked at, or less than half, or a head may be no longer, or a line ended
+abbrev pub is_due : ℕ → ℕ → List ℕ → Bool
+is_due seen known buffer =
+    (seen == 0) || (nat_lt seen (length buffer - seen) || (nat_le head_limit (length buffer) || list_any (λ byte. byte == 10) (drop known buffer)))
+
+-- no look is due: at least half was looked at, no line ended since, and a head may be longer
+pub record IsQuiet (seen known : ℕ) (buffer : List ℕ) : Type 0 where
+  pub some : seen ≢ 0
+  pub half : length buffer ≤ 2 * seen
+  pub short : length buffer < head_limit
+  pub lines : All (λ byte. byte ≢ 10) (drop known buffer)
 
 -- so many bytes are wanted, and fewer are there
 abbrev pub WantsBytes : ℕ → List ℕ → Type 0

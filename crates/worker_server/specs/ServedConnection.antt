@@ -1,6 +1,6 @@
 -- A served connection: the requests that the bytes read spell, their replies in order, and how it ended.
 -- Read Session first, at the end. Requests: http_front, RequestStream. Replies: http_front, ReplyText.
-use Rattle.std.specs.Prelude.{ℕ, ◌≡◌, ◌+◌, ◌<◌, ◌≤◌, ◌==◌, ◌⊎◌, Bool, true, false, ◌||◌, List, [], ◌∷◌, ◌++◌, length, map, take, All, Option, Some, Result, Ok, codes}
+use Rattle.std.specs.Prelude.{ℕ, ◌≡◌, ◌+◌, ◌<◌, ◌≤◌, ◌==◌, ◌⊎◌, Bool, true, false, ◌||◌, List, [], ◌∷◌, ◌++◌, length, map, take, All, Option, Some, Result, Ok, codes, ⊤}
 use Rattle.std.specs.Io.KnownBytes.{append_known}
 use Rattle.httparse.specs.Grammar.{RequestHead}
 use Rattle.ids.specs.FaultCount.{Rose}
@@ -9,7 +9,8 @@ use Rattle.library_state.specs.declared.refusal.Refusal.{Refusal}
 use Rattle.http_front.specs.declared.order.Order.{Order}
 use Rattle.http_front.specs.declared.outcome.Outcome.{Outcome}
 use Rattle.http_front.specs.Fields.{found, values_of}
-use Rattle.http_front.specs.Link.{Asked, GivesFront, LinkTells}
+use Rattle.http_front.specs.Link.{Asked, AskedLast, GivesFront, LinkTells}
+use Rattle.http_front.specs.Limits.{piece_limit}
 use Rattle.http_front.specs.NextHead.{IsTokenIn}
 use Rattle.http_front.specs.Order.{IsOrder}
 use Rattle.http_front.specs.ReplyText.{text, bad_text}
@@ -38,9 +39,16 @@ pub record Exchange (Line : Type 0) : Type 0 where
 abbrev pub requests : {Line : Type 0} → List (Exchange Line) → List Request
 requests xs = map (λ x. x.request) xs
 
--- the connection closes after the request of this number, counted from 0: it asks to close, or is the 10,000th
+-- the number of the last request that is answered on a connection, counted from 0, and how many they are then
+abbrev pub last_request : ℕ
+last_request = 9999
+
+abbrev pub request_limit : ℕ
+request_limit = last_request + 1
+
+-- the connection closes after the request of this number: it asks to close, or is the last that is answered
 abbrev pub closes_at : ℕ → Request → Bool
-closes_at n r = closes r.head || n == 9999
+closes_at n r = closes r.head || n == last_request
 
 -- what is given for the request of this number: the interim reply, where its head waits for one, and then its reply
 abbrev pub text_at : {Line : Type 0} → ℕ → Exchange Line → List ℕ
@@ -66,6 +74,11 @@ abbrev pub CountsEnd : ℕ → ℕ → Served → Type 0
 CountsEnd before now ReadFault = Rose before now
 CountsEnd before now WriteFault = Rose before now
 CountsEnd before now how = now ≡ before
+
+-- a take that failed was the last thing that the link was asked
+abbrev pub EndsAsked : Served → LinkTells → Type 0
+EndsAsked ReadFault now = AskedLast now
+EndsAsked how now = ⊤
 
 -- what may be given for what is left to read, before a request there is whole: nothing, or the interim reply of its head
 pub data IsBegun (rest given : List ℕ) : Type 0 where
@@ -126,10 +139,10 @@ module _ {V Line : Type 0} (asks : V → List ℕ → Call → Answer → List L
   -- asked to close, or none did and it stops in place of the next reply
   abbrev pub Ends :
       Served → List (Exchange Line) → List ℕ → V → V → Option (List ℕ) → Option (List ℕ) → Type 0
-  Ends Limit xs rest u v given now = (length xs ≡ 10000) × (v ≡ u) × (now ≡ given)
-  Ends Ended xs rest u v given now = (length xs < 10000)
+  Ends Limit xs rest u v given now = (length xs ≡ request_limit) × (v ≡ u) × (now ≡ given)
+  Ends Ended xs rest u v given now = (length xs < request_limit)
       × ((LastCloses xs × (v ≡ u) × (now ≡ given)) ⊎ (AllOpen xs × Stops Ended (length xs) rest u v given now))
-  Ends how xs rest u v given now = (length xs < 10000) × AllOpen xs × Stops how (length xs) rest u v given now
+  Ends how xs rest u v given now = (length xs < request_limit) × AllOpen xs × Stops how (length xs) rest u v given now
 
   -- a call on a link that had the input left: u and v are what the host showed before and after, and `given` and
   -- `now` what the link was given
@@ -151,7 +164,7 @@ module _ {Line : Type 0} where
     pub answered : List (Exchange Line)
     pub later : List (Exchange Line)
     pub split : xs ≡ answered ++ later
-    pub few : length answered < 10000
+    pub few : length answered < request_limit
     pub none_closes : AllOpen answered
     pub unread : List ℕ
     pub first : List ℕ
@@ -170,7 +183,7 @@ module _ {Line : Type 0} where
 -- as so many bytes had been taken, the link was asked these times; each time one piece came, and then no more
 abbrev pub ComesInPieces : ℕ → List Asked → ℕ → Type 0
 ComesInPieces taken [] now = now ≡ taken
-ComesInPieces taken (asked ∷ more) now = (asked.0 ≡ taken) × (size : ℕ) × (size ≤ 65536) × ComesInPieces (taken + size) more now
+ComesInPieces taken (asked ∷ more) now = (asked.0 ≡ taken) × (size : ℕ) × (size ≤ piece_limit) × ComesInPieces (taken + size) more now
 
 -- where the link tells what it was asked: a connection with these exchanges asked for more only as it had no whole request
 -- unanswered, and then for one piece

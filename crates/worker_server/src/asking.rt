@@ -1,6 +1,6 @@
 //! Asking the host: one call, or one for each file and directory of a body.
-ghost use Rattle.std.specs.Prelude.{◌≡◌, ◌⊎◌, false, List, [], IfOk, IfErr, OnErr};
-ghost use Rattle.worker_server.specs.Calls.{AskedSo, AtAMoment, GetsEach, NotAsked, PutsEach, call_of, get_of, is_got, is_stored, put_of, told_of};
+ghost use Rattle.std.specs.Prelude.{◌≡◌, ◌+◌, ◌≤◌, ◌⊎◌, nat_le, false, List, [], IfOk, IfErr, OnErr};
+ghost use Rattle.worker_server.specs.Calls.{AskedSo, AtAMoment, GetsEach, NotAsked, PutsEach, call_of, get_of, is_got, is_stored, most_packed, put_of, told_of};
 ghost use Rattle.http_front.specs.Rows.{row_with};
 
 use crate::host::{Answer, Host};
@@ -84,8 +84,12 @@ fn put_one<H: Host>(
     )
 }
 
-/// Asks for each file and directory in turn, up to the first that is not given, whose answer is the outcome. Where
-/// there is no room for as many rows, nothing is asked.
+/// The most bytes of files and directories that one reply packs.
+const MOST_PACKED: u64 = 268_435_456;
+
+/// Asks for each file and directory in turn, up to the first that is not given, whose answer is the outcome, or with
+/// which they are more than fit in one reply, which is want of memory. Where there is no room for as many rows, nothing
+/// is asked.
 pub fn get_each<H: Host>(
     alloc: Global,
     host: &H,
@@ -104,12 +108,18 @@ pub fn get_each<H: Host>(
         Ok(rows) => rows,
         Err(_) => return Outcome::Refused(Refusal::NoMemory),
     };
+    let mut packed = 0;
     for id in ids {
-        let answer = get_one(alloc, host, pass, &lib, &secret, *id);
+        let answer = get_next(alloc, host, pass, &lib, &secret, *id, ids, rows.is_empty());
         let row = match row_of(*id, answer) {
             Ok(row) => row,
             Err(outcome) => return outcome,
         };
+        let size = row.bytes.slice().len() as u64;
+        if !is_room(packed, size) {
+            return Outcome::Refused(Refusal::NoMemory);
+        }
+        packed += size;
         match rows.push(row) {
             Ok(()) => {}
             Err(_) => unreachable!(),
@@ -118,20 +128,33 @@ pub fn get_each<H: Host>(
     Outcome::Packed(Items::from_vec(rows))
 }
 
-/// Asks for one file or directory.
-fn get_one<H: Host>(
+/// Whether so many bytes more fit in a reply.
+fn is_room(packed: u64, size: u64) -> bool
+    requires within { packed ≤ most_packed }
+    ensures value { result ≡ nat_le (packed + size) most_packed }
+{
+    size <= MOST_PACKED - packed
+}
+
+/// Asks for one file or directory. The first of them is asked for with all ids.
+fn get_next<H: Host>(
     alloc: Global,
     host: &H,
     pass: &mut H::Pass,
     lib: &LibId,
     secret: &Option<Secret>,
     id: ObjId,
+    ids: &[ObjId],
+    is_first: bool,
 ) -> Answer
     requires ready { H.ready host.now pass.old }
     ensures ready { H.ready host.now pass.new }
     ensures asks { (lines : List H.Line)
         × (AtAMoment (H.shows host.now) H.asks) (H.view pass.old) lib.now (call_of secret.now (get_of id)) result lines (H.view pass.new) }
 {
+    if is_first {
+        return host.ask_first(alloc, pass, *lib, *secret, id, ids, MOST_PACKED);
+    }
     let key = Key { kind: Kind::Fs, id };
     host.ask(
         alloc,

@@ -1,11 +1,11 @@
 //! A connection: one request after another is read, answered and replied to.
-ghost use Rattle.std.specs.Prelude.{◌≡◌, ◌==◌, ◌||◌, ℕ, List, Some, OnErr};
+ghost use Rattle.std.specs.Prelude.{◌≡◌, ◌==◌, ◌||◌, ℕ, List, Some, IfErr, OnErr};
 ghost use Rattle.ids.specs.FaultCount.{Rose};
 ghost use Rattle.http_front.specs.Buffer.{to_read};
 ghost use Rattle.http_front.specs.Link.{told_by};
 ghost use Rattle.worker_server.specs.Calls.{AtAMoment, Told, Ran};
 ghost use Rattle.worker_server.specs.RequestSteps.{CountsServed, OneServed};
-ghost use Rattle.worker_server.specs.ServedConnection.{CountsEnd, SessionInTime};
+ghost use Rattle.worker_server.specs.ServedConnection.{CountsEnd, EndsAsked, SessionInTime, last_request};
 
 use crate::answering::reply_to;
 use crate::host::Host;
@@ -22,8 +22,8 @@ const MOST_REQUESTS: u64 = 10_000;
 ///
 /// The interim reply of a head that waits for one is given before its reply, also where its body is then cut short. What is
 /// no request is refused with its status: 400, 413, 431 or 501. No reply waits for more input. One request, its reply and a
-/// piece of 65,536 bytes are in memory at a time; a reply that packs objects is as long as all that were asked for, each as
-/// often as it was asked. After a write fault a front of the last reply was given, and every other was given whole.
+/// piece of 65,536 bytes are in memory at a time; a reply packs files and directories of at most 268,435,456 bytes. After a
+/// write fault a front of the last reply was given, and every other was given whole.
 pub fn serve_session<H: Host, L: Link>(
     alloc: Global,
     host: &H,
@@ -46,6 +46,9 @@ pub fn serve_session<H: Host, L: Link>(
     ensures read_fault { result ≡ Served.ReadFault → Rose (L.faults link.old) (L.faults link.new) }
     ensures write_fault { result ≡ Served.WriteFault → Rose (L.faults link.old) (L.faults link.new) }
     ensures faults { CountsEnd (L.faults link.old) (L.faults link.new) result }
+
+    // Where the link tells what it was asked: a take that failed was the last of it.
+    ensures last { EndsAsked result (told_by L.taken L.given L.asked link.new) }
 {
     let mut buffer = match Buffer::new(alloc) {
         Ok(buffer) => buffer,
@@ -80,6 +83,7 @@ fn serve_one<H: Host, L: Link>(
         (H.view pass.old) (H.view pass.new) (told_by L.taken L.given L.asked link.old) (told_by L.taken L.given L.asked link.new) result }
     ensures still { OnErr result (to_read buffer.new (L.left link.new) ≡ to_read buffer.old (L.left link.old)) }
     ensures ran { (calls : List (Told H.Line)) × Ran (AtAMoment (H.shows host.now) H.asks) (H.view pass.old) calls (H.view pass.new) }
+    ensures last { IfErr result (λ how. EndsAsked how (told_by L.taken L.given L.asked link.new)) }
     ensures faults { CountsServed (L.faults link.old) (L.faults link.new) result }
 {
     let head = match next_request(alloc, link, buffer) {
@@ -104,7 +108,7 @@ fn serve_one<H: Host, L: Link>(
 
 /// Whether the connection closes after the request of this number.
 fn closes_at(head: &Head, number: u64) -> bool
-    ensures value { result ≡ (head.now.closes || number == 9999) }
+    ensures value { result ≡ (head.now.closes || number == last_request) }
 {
     head.closes || number == MOST_REQUESTS - 1
 }

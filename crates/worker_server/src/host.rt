@@ -1,6 +1,6 @@
 //! What calls are asked of: one library, or a participant in the history of many.
-use ids::LibId;
-use library_state::{Call, Reply};
+use ids::{LibId, ObjId};
+use library_state::{Call, Reply, Secret};
 use std::alloc::Global;
 
 /// A library's answer to a call.
@@ -23,7 +23,7 @@ pub struct Answer {
 /// operations, empty where none is kept) and the view after.
 pub trait Host {
     ghost use Rattle.std.specs.Prelude.{List, ℕ};
-    ghost use Rattle.worker_server.specs.Calls.{AtAMoment};
+    ghost use Rattle.worker_server.specs.Calls.{AtAMoment, call_of, get_of};
     ghost use Rattle.library_state.specs.declared.call.Call.{Call};
     ghost use Rattle.worker_server.specs.declared.host.Answer.{Answer};
 
@@ -52,4 +52,22 @@ pub trait Host {
         ensures ready { ready self.now pass.new }
         ensures asks { (lines : List Line)
             × AtAMoment (shows self.now) asks (view pass.old) lib call result lines (view pass.new) };
+
+    /// Asks a library for a file or directory, the first of `ids`, which will be asked for one after another.
+    ///
+    /// A host that can tell that they have together more than `most` bytes answers with want of memory, and reads none.
+    fn ask_first(
+        &self,
+        alloc: Global,
+        pass: &mut Self::Pass,
+        lib: LibId,
+        secret: Option<Secret>,
+        id: ObjId,
+        ids: &[ObjId],
+        most: u64,
+    ) -> Answer
+        requires ready { ready self.now pass.old }
+        ensures ready { ready self.now pass.new }
+        ensures asks { (lines : List Line)
+            × AtAMoment (shows self.now) asks (view pass.old) lib (call_of secret (get_of id)) result lines (view pass.new) };
 }

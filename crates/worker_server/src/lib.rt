@@ -1,6 +1,6 @@
 //! A served connection: requests are read from a link, asked of a host and answered, in their order.
 //!
-//! Shown upward: `Served`, `Host` with its `Answer`, and `serve_session`.
+//! Shown upward: `Served`, `Host` with its `Answer`, `serve_session`, and laws.rt.
 //! Definition: specs/ServedConnection.antt. Promise: the clauses of `serve_session`.
 //! It keeps no library: what answers the calls is the host's.
 #![tactic(auto)]
@@ -9,6 +9,7 @@ mod answering;
 mod asking;
 mod connection;
 mod host;
+pub mod laws;
 mod reading;
 mod requesting;
 mod served;

@@ -6,10 +6,10 @@ ghost use Rattle.http_front.specs.Buffer.{Fills, to_read};
 ghost use Rattle.http_front.specs.Link.{told_by};
 ghost use Rattle.http_front.specs.NextHead.{IsHeadOf};
 ghost use Rattle.http_front.specs.RequestStream.{front_of};
-ghost use Rattle.worker_server.specs.RequestSteps.{CountsRead, HasBadStatus, IsBodyEnd, IsEnd, ReadsOn, WantsBytes, WantsHead, end_at};
+ghost use Rattle.worker_server.specs.RequestSteps.{CountsRead, EndAsked, HasBadStatus, IsBodyEnd, IsEnd, IsLook, IsNoFault, IsScanned, ReadsOn, WantsBytes, WantsHead, end_at, is_due};
 
-use http_front::{Buffer, FillFault, Head, Link, Next, next_head};
-use std::alloc::Global;
+use http_front::{Buffer, FillFault, HEAD_LIMIT, Head, Link, Next, next_head};
+use std::alloc::{AllocError, Global};
 
 /// Why no further head, or its body, was read.
 #[derive(Clone, Copy, Debug, PartialEq, Eq)]
@@ -25,7 +25,19 @@ pub enum End {
     NoMemory,
 }
 
+/// What was told of some bytes.
+enum Look {
+    /// They begin no head, and may become one, as the first so many of them tell.
+    Open(usize),
+    Head(Head),
+    /// They are refused, with this status.
+    Bad(u16),
+}
+
 /// Reads until a head stands at the front of the buffer.
+///
+/// The bytes are looked at anew where a line ends, and where half of them were not looked at: so a head that comes byte by
+/// byte is looked at no more often than it has lines, and in time in proportion to its length between them.
 pub fn read_head<L: Link>(alloc: Global, link: &mut L, buffer: &mut Buffer) -> Result<Head, End>
     ensures ok { IfOk result (λ head. (request : RequestHead) × IsHeadOf (front_of buffer.new) head request) }
     ensures err { IfErr result (λ end. (rest : List ℕ) → to_read buffer.old (L.left link.old) ≡ Some rest
@@ -33,20 +45,68 @@ pub fn read_head<L: Link>(alloc: Global, link: &mut L, buffer: &mut Buffer) -> R
     ensures status { IfErr result HasBadStatus }
     ensures to_read { to_read buffer.new (L.left link.new) ≡ to_read buffer.old (L.left link.old) }
     ensures reads { ReadsOn WantsHead buffer.old buffer.new (told_by L.taken L.given L.asked link.old) (told_by L.taken L.given L.asked link.new) }
+    ensures last { IfErr result (λ end. EndAsked end (told_by L.taken L.given L.asked link.new)) }
     ensures faults { CountsRead (L.faults link.old) (L.faults link.new) result }
 {
+    let mut seen = 0;
+    let mut known = 0;
     loop {
-        match next_head(alloc, buffer.front()) {
-            Ok(Next::Need) => {}
-            Ok(Next::Head(head)) => return Ok(head),
-            Ok(Next::Bad(status)) => return Err(End::Refused(status)),
+        match look_for_head(alloc, buffer.front(), seen, known) {
+            Ok(Look::Open(now)) => seen = now,
+            Ok(Look::Head(head)) => return Ok(head),
+            Ok(Look::Bad(status)) => return Err(End::Refused(status)),
             Err(_) => return Err(End::NoMemory),
         }
+        known = buffer.len();
         match fill(link, buffer) {
-            Ok(0) => return Err(end_at(buffer)),
+            Ok(0) => return last_head(alloc, buffer),
             Ok(_) => {}
             Err(end) => return Err(end),
         }
+    }
+}
+
+/// Looks for a head, where it is time to. The first `seen` bytes were looked at, and up to `known` no line ended after them.
+fn look_for_head(alloc: Global, front: &[u8], seen: usize, known: usize) -> Result<Look, AllocError>
+    requires known { IsScanned seen known front.now }
+    ensures value { IfOk result (IsLook front.now) }
+{
+    if !is_due(front, seen, known) {
+        return Ok(Look::Open(seen));
+    }
+    match next_head(alloc, front) {
+        Ok(Next::Need) => Ok(Look::Open(front.len())),
+        Ok(Next::Head(head)) => Ok(Look::Head(head)),
+        Ok(Next::Bad(status)) => Ok(Look::Bad(status)),
+        Err(error) => Err(error),
+    }
+}
+
+/// Whether it is time to look for a head again: nothing was looked at, or less than half of what is there, or a line ended, or
+/// there are as many bytes as a head may have.
+fn is_due(front: &[u8], seen: usize, known: usize) -> bool
+    requires behind { seen ≤ length front.now }
+    requires within { known ≤ length front.now }
+    ensures value { result ≡ is_due seen known front.now }
+{
+    seen == 0
+        || front.len() - seen > seen
+        || front.len() >= HEAD_LIMIT
+        || front[known..].contains(&b'\n')
+}
+
+/// What is told where the input ends with the buffer so: a last look, at all of it.
+fn last_head(alloc: Global, buffer: &Buffer) -> Result<Head, End>
+    ensures ok { IfOk result (λ head. (request : RequestHead) × IsHeadOf (front_of buffer.now) head request) }
+    ensures err { IfErr result (IsEnd buffer.now) }
+    ensures status { IfErr result HasBadStatus }
+    ensures faults { IfErr result IsNoFault }
+{
+    match next_head(alloc, buffer.front()) {
+        Ok(Next::Need) => Err(end_at(buffer)),
+        Ok(Next::Head(head)) => Ok(head),
+        Ok(Next::Bad(status)) => Err(End::Refused(status)),
+        Err(_) => Err(End::NoMemory),
     }
 }
 
@@ -64,6 +124,7 @@ pub fn read_body<L: Link>(
     ensures status { IfErr result HasBadStatus }
     ensures to_read { to_read buffer.new (L.left link.new) ≡ to_read buffer.old (L.left link.old) }
     ensures reads { ReadsOn (WantsBytes (used + body)) buffer.old buffer.new (told_by L.taken L.given L.asked link.old) (told_by L.taken L.given L.asked link.new) }
+    ensures last { IfErr result (λ end. EndAsked end (told_by L.taken L.given L.asked link.new)) }
     ensures faults { CountsRead (L.faults link.old) (L.faults link.new) result }
 {
     while buffer.len() - used < body {
@@ -84,6 +145,7 @@ fn fill<L: Link>(link: &mut L, buffer: &mut Buffer) -> Result<usize, End>
     ensures status { IfErr result HasBadStatus }
     ensures fills { Fills buffer.old buffer.new (told_by L.taken L.given L.asked link.old) (told_by L.taken L.given L.asked link.new) }
     ensures to_read { to_read buffer.new (L.left link.new) ≡ to_read buffer.old (L.left link.old) }
+    ensures last { IfErr result (λ end. EndAsked end (told_by L.taken L.given L.asked link.new)) }
     ensures faults { CountsRead (L.faults link.old) (L.faults link.new) result }
 {
     match buffer.fill(link) {
@@ -97,6 +159,7 @@ fn fill<L: Link>(link: &mut L, buffer: &mut Buffer) -> Result<usize, End>
 fn end_at(buffer: &Buffer) -> End
     ensures value { result ≡ end_at buffer.now }
     ensures status { HasBadStatus result }
+    ensures faults { IsNoFault result }
 {
     if buffer.is_empty() {
         End::Over

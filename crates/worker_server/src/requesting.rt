@@ -6,7 +6,7 @@ ghost use Rattle.http_front.specs.Link.{CountsFaults, Gives, told_by};
 ghost use Rattle.http_front.specs.ReplyText.{interim_due, is_bad_status};
 ghost use Rattle.http_front.specs.RequestStream.{Request, interim_of};
 ghost use Rattle.worker_server.specs.RequestSteps.{AsksUnfinished, CountsGive, CountsServed, HasBadStatus, RefusesSo, StandsAt, StopsSo};
-ghost use Rattle.worker_server.specs.ServedConnection.{StopsUnasked};
+ghost use Rattle.worker_server.specs.ServedConnection.{EndsAsked, StopsUnasked};
 
 use crate::reading::{End, read_body, read_head};
 use crate::served::Served;
@@ -27,6 +27,7 @@ pub fn next_request<L: Link>(
         → StopsUnasked how rest (L.given link.old) (L.given link.new)) }
     ensures reading { AsksUnfinished buffer.old buffer.new (told_by L.taken L.given L.asked link.old) (told_by L.taken L.given L.asked link.new) }
     ensures to_read { to_read buffer.new (L.left link.new) ≡ to_read buffer.old (L.left link.old) }
+    ensures last { IfErr result (λ how. EndsAsked how (told_by L.taken L.given L.asked link.new)) }
     ensures faults { CountsServed (L.faults link.old) (L.faults link.new) result }
 {
     let head = match read_head(alloc, link, buffer) {

@@ -8,6 +8,7 @@ returns g c = record {
     session = c.serve_link.ensures.session;
     ran = c.serve_link.ensures.ran;
     count = c.serve_link.ensures.faults;
+    last = c.serve_link.ensures.last;
     status_is = c.status_of.ensures.value;
   };
 }

@@ -1,40 +1,61 @@
 -- One row more was given, or the first that was not ends it.
-use Rattle.std.proofs.Common.{◌≡◌, ◌+◌, ℕ, List, [], ◌∷◌, ◌++◌, ◌∙◌, drop, inl, refl, sym, ap, subst, arith}
+use Rattle.std.proofs.Common.{◌≡◌, ◌+◌, ◌<◌, ℕ, List, [], ◌∷◌, ◌++◌, ◌∙◌, drop, length, inl, refl, sym, ap, subst, arith}
+use Rattle.std.proofs.lemmas.Bool.{leb-true}
 use Rattle.std.proofs.lemmas.List.{drop_more, drop_all}
+use Rattle.library_state.specs.declared.refusal.Refusal.TheVariants.{NoMemory}
 use Rattle.http_front.specs.declared.outcome.Outcome.{Outcome}
-use Rattle.http_front.specs.declared.outcome.Outcome.TheVariants.{Packed}
+use Rattle.http_front.specs.declared.outcome.Outcome.TheVariants.{Packed, Refused}
 use Rattle.http_front.specs.declared.row.Row.{Row}
 use Rattle.http_front.specs.Rows.{row_with}
-use Rattle.worker_server.specs.Calls.{AtAMoment, GetsEach, told_of}
-use Rattle.worker_server.proofs.EachLemmas.{GetsEach-refused, GetsEach-given}
+use Rattle.worker_server.specs.Calls.{AtAMoment, GetsEach, most_packed, packed_size, told_of}
+use Rattle.worker_server.proofs.EachLemmas.{GetsEach-given, GetsEach-over, GetsEach-refused, packed_fit, packed_now, packed_over}
 use Rattle.worker_server.proofs.asking.get_each.Goals as goal
 
 pub returns-in-Err-row_of-clause-asked : goal.returns-in-Err-row_of-clause-asked
 returns-in-Err-row_of-clause-asked g c =
-    let asked = c.get_one-answer.ensures.asks in
+    let asked = c.get_next-answer.ensures.asks in
     let id = c.id-item.result in
     let rest = drop (c.loop-id.id-index + 1) c.args.ids.now in
     let left : drop c.loop-id.id-index c.args.ids.now ≡ id ∷ rest = drop_more c.args.ids.now c.loop-id.id-index id c.loop-id-test.true ∙ ap (λ (x : List ℕ). x ∷ rest) (sym c.id-item.is) in
-    let whole = c.loop-id.invariant.goes_on (told_of c.get_one-answer.result) asked.0 (g.H.Host.view c.get_one-answer.new.pass)
-    (subst (λ (ids : List (List ℕ)). GetsEach (AtAMoment (g.H.Host.shows c.args.host.now) g.H.Host.asks) c.args.lib c.args.secret (g.H.Host.view c.loop-id.pass) ids c.loop-id.rows.items (told_of c.get_one-answer.result) asked.0 (g.H.Host.view c.get_one-answer.new.pass)) (sym left)
-    (GetsEach-refused (AtAMoment (g.H.Host.shows c.args.host.now) g.H.Host.asks) c.args.lib c.args.secret _ _ id rest c.loop-id.rows.items c.get_one-answer.result asked.0 asked.1 c.in-Err-row_of.ensures.not_got)) in
-    (whole.0, inl (subst (λ (o : Outcome). GetsEach (AtAMoment (g.H.Host.shows c.args.host.now) g.H.Host.asks) c.args.lib c.args.secret (g.H.Host.view c.args.pass.now) c.args.ids.now [] o whole.0 (g.H.Host.view c.get_one-answer.new.pass)) (sym c.in-Err-row_of.ensures.refused) whole.1))
+    let whole = c.loop-id.invariant.goes_on (told_of c.get_next-answer.result) asked.0 (g.H.Host.view c.get_next-answer.new.pass)
+    (subst (λ (ids : List (List ℕ)). GetsEach (AtAMoment (g.H.Host.shows c.args.host.now) g.H.Host.asks) c.args.lib c.args.secret (g.H.Host.view c.loop-id.pass) ids c.loop-id.rows.items (told_of c.get_next-answer.result) asked.0 (g.H.Host.view c.get_next-answer.new.pass)) (sym left)
+    (GetsEach-refused (AtAMoment (g.H.Host.shows c.args.host.now) g.H.Host.asks) c.args.lib c.args.secret _ _ id rest c.loop-id.rows.items c.get_next-answer.result asked.0 asked.1 c.in-Err-row_of.ensures.not_got)) in
+    (whole.0, inl (subst (λ (o : Outcome). GetsEach (AtAMoment (g.H.Host.shows c.args.host.now) g.H.Host.asks) c.args.lib c.args.secret (g.H.Host.view c.args.pass.now) c.args.ids.now [] o whole.0 (g.H.Host.view c.get_next-answer.new.pass)) (sym c.in-Err-row_of.ensures.refused) whole.1))
+
+-- with this row they are more than fit: the outcome is want of memory
+pub returns-then-not-is_room-clause-asked : goal.returns-then-not-is_room-clause-asked
+returns-then-not-is_room-clause-asked g c =
+    let asked = c.get_next-answer.ensures.asks in
+    let id = c.id-item.result in
+    let bytes = c.in-Ok-row_of.row.bytes in
+    let rest = drop (c.loop-id.id-index + 1) c.args.ids.now in
+    let left : drop c.loop-id.id-index c.args.ids.now ≡ id ∷ rest = drop_more c.args.ids.now c.loop-id.id-index id c.loop-id-test.true ∙ ap (λ (x : List ℕ). x ∷ rest) (sym c.id-item.is) in
+    let over : most_packed < packed_size (c.loop-id.rows.items ++ row_with id bytes ∷ []) = packed_over c.loop-id.rows.items id bytes c.slice.result.now c.loop-id.packed c.loop-id.invariant.size c.slice.ensures.value c.if-not-is_room.ensures.value in
+    let whole = c.loop-id.invariant.goes_on (Refused NoMemory) asked.0 (g.H.Host.view c.get_next-answer.new.pass)
+    (subst (λ (ids : List (List ℕ)). GetsEach (AtAMoment (g.H.Host.shows c.args.host.now) g.H.Host.asks) c.args.lib c.args.secret (g.H.Host.view c.loop-id.pass) ids c.loop-id.rows.items (Refused NoMemory) asked.0 (g.H.Host.view c.get_next-answer.new.pass)) (sym left)
+    (GetsEach-over (AtAMoment (g.H.Host.shows c.args.host.now) g.H.Host.asks) c.args.lib c.args.secret _ _ id rest c.loop-id.rows.items c.get_next-answer.result asked.0 bytes asked.1 c.in-Ok-row_of.ensures.got over)) in
+    (whole.0, inl whole.1)
 
 pub loop-id-preserved : goal.loop-id-preserved
 loop-id-preserved g c = record {
-  is_ready = c.get_one-answer.ensures.ready;
+  is_ready = c.get_next-answer.ensures.ready;
   goes_on = λ o more v later.
-      let asked = c.get_one-answer.ensures.asks in
+      let asked = c.get_next-answer.ensures.asks in
       let id = c.id-item.result in
       let bytes = c.in-Ok-row_of.row.bytes in
       let rest = drop (c.loop-id.id-index + 1) c.args.ids.now in
       let left : drop c.loop-id.id-index c.args.ids.now ≡ id ∷ rest = drop_more c.args.ids.now c.loop-id.id-index id c.loop-id-test.true ∙ ap (λ (x : List ℕ). x ∷ rest) (sym c.id-item.is) in
       let pushed : c.push.new.self.items ≡ c.loop-id.rows.items ++ row_with id bytes ∷ [] = c.in-Ok-push.ensures.items ∙ ap (λ (r : Row). c.loop-id.rows.items ++ r ∷ []) c.in-Ok-row_of.ensures.named in
-      let next = subst (λ (rows : List Row). GetsEach (AtAMoment (g.H.Host.shows c.args.host.now) g.H.Host.asks) c.args.lib c.args.secret (g.H.Host.view c.get_one-answer.new.pass) rest rows o more v) pushed later in
+      let next = subst (λ (rows : List Row). GetsEach (AtAMoment (g.H.Host.shows c.args.host.now) g.H.Host.asks) c.args.lib c.args.secret (g.H.Host.view c.get_next-answer.new.pass) rest rows o more v) pushed later in
       c.loop-id.invariant.goes_on o (asked.0 ++ more) v
       (subst (λ (ids : List (List ℕ)). GetsEach (AtAMoment (g.H.Host.shows c.args.host.now) g.H.Host.asks) c.args.lib c.args.secret (g.H.Host.view c.loop-id.pass) ids c.loop-id.rows.items o (asked.0 ++ more) v) (sym left)
-      (GetsEach-given (AtAMoment (g.H.Host.shows c.args.host.now) g.H.Host.asks) c.args.lib c.args.secret _ _ v id rest c.loop-id.rows.items c.get_one-answer.result asked.0 more o bytes asked.1 c.in-Ok-row_of.ensures.got next));
+      (GetsEach-given (AtAMoment (g.H.Host.shows c.args.host.now) g.H.Host.asks) c.args.lib c.args.secret _ _ v id rest c.loop-id.rows.items c.get_next-answer.result asked.0 more o bytes asked.1 c.in-Ok-row_of.ensures.got
+      (packed_fit c.loop-id.rows.items id bytes c.slice.result.now c.loop-id.packed c.loop-id.invariant.size c.slice.ensures.value c.if-not-is_room.ensures.value) next));
   room = let grown = c.in-Ok-push.ensures.capacity in omega (arith, grown, c.loop-id.invariant.room);
+  size =
+      packed_now c.loop-id.rows.items c.id-item.result c.in-Ok-row_of.row.bytes c.slice.result.now c.loop-id.packed c.loop-id.invariant.size c.slice.ensures.value
+      ∙ sym (ap packed_size (c.in-Ok-push.ensures.items ∙ ap (λ (r : Row). c.loop-id.rows.items ++ r ∷ []) c.in-Ok-row_of.ensures.named));
+  within = leb-true (c.loop-id.packed + length c.slice.result.now) most_packed (sym c.if-not-is_room.ensures.value);
   count = let one = c.in-Ok-push.ensures.len in omega (arith, one, c.loop-id.invariant.count);
 }
 

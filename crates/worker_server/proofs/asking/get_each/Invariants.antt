@@ -1,7 +1,7 @@
--- What was given so far, and then what is left, make the whole; there is room for each row.
+-- What was given so far, and then what is left, make the whole; there is room for each row; they fit so far.
 use Rattle.std.proofs.Common.{◌≡◌, ◌≤◌, List, [], drop, length, vec_len, vec_capacity}
 use Rattle.http_front.specs.declared.outcome.Outcome.{Outcome}
-use Rattle.worker_server.specs.Calls.{AtAMoment, GetsEach}
+use Rattle.worker_server.specs.Calls.{AtAMoment, GetsEach, most_packed, packed_size}
 use Rattle.worker_server.proofs.asking.get_each.Given as goal
 
 abbrev pub invariant-loop-id : goal.invariant-loop-id
@@ -11,4 +11,6 @@ invariant-loop-id g l = record {
       → (lines : List g.H.Host.Line) × GetsEach (AtAMoment (g.H.Host.shows l.host) g.H.Host.asks) l.fn.lib l.fn.secret (g.H.Host.view l.fn.pass) l.ids [] o lines v;
   room : length l.ids ≤ vec_capacity l.rows;
   count : vec_len l.rows ≡ l.id-index;
+  size : l.packed ≡ packed_size l.rows.items;
+  within : l.packed ≤ most_packed;
 }

@@ -1,43 +1,49 @@
 -- The head at the front of the buffer, or the end that the input makes there.
-use Rattle.std.proofs.Common.{◌≡◌, ℕ, ◌+◌, List, length, nat_le, subst, sym, ◌∙◌}
-use Rattle.http_front.specs.declared.head.Next.{Next}
+use Rattle.std.proofs.Common.{◌≡◌, ℕ, ◌+◌, List, length, nat_le, refl, subst, sym, ◌∙◌}
+use Rattle.std.proofs.lemmas.Result.{IfErr-weaker}
+use Rattle.http_front.specs.Limits.{head_limit}
 use Rattle.http_front.specs.declared.head.Next.TheVariants as next
-use Rattle.http_front.specs.NextHead.{IsNext}
 use Rattle.http_front.specs.RequestStream.{front_of}
 use Rattle.http_front.proofs.StreamLemmas.{bad_status}
 use Rattle.worker_server.specs.declared.reading.End.{End}
-use Rattle.worker_server.specs.RequestSteps.{IsEnd, WantsHead, end_at}
-use Rattle.worker_server.proofs.TimingLemmas.{ReadsOn-more, wants_head}
-use Rattle.worker_server.proofs.ReadingLemmas.{bad_end, open_end, same_grown, to_read-at_end}
+use Rattle.worker_server.specs.declared.reading.Look.{Look}
+use Rattle.worker_server.specs.declared.reading.Look.TheVariants as look
+use Rattle.worker_server.specs.RequestSteps.{IsEnd, IsLook, IsScanned, WantsHead}
+use Rattle.worker_server.proofs.LookLemmas.{look_first, look_later}
+use Rattle.worker_server.proofs.TimingLemmas.{ReadsOn-more, ReadsOn-none}
+use Rattle.worker_server.proofs.ReadingLemmas.{bad_end, counts_no_fault, last_ends, no_fault_asked}
 use Rattle.worker_server.proofs.reading.read_head.Goals as goal
 
--- what was read of the front is so of the buffer
-told_of : (front buffer : List ℕ) (told is : Next) → front ≡ buffer → told ≡ is → IsNext front told → IsNext buffer is
-told_of front buffer told is same e h = subst (λ (z : List ℕ). IsNext z is) same (subst (λ (z : Next). IsNext front z) e h)
+-- what was told of the front is so of the buffer
+told_of : (front buffer : List ℕ) (told is : Look) → front ≡ buffer → told ≡ is → IsLook front told → IsLook buffer is
+told_of front buffer told is same e h = subst (λ (z : List ℕ). IsLook z is) same (subst (λ (z : Look). IsLook front z) e h)
+
+pub look_for_head-requires : goal.look_for_head-requires
+look_for_head-requires g c = record { known = subst (λ (z : List ℕ). IsScanned c.loop-now.seen c.loop-now.known z) (sym c.front.ensures) c.loop-now.invariant.scanned }
 
 pub returns-in-Ok-Head-clause-ok : goal.returns-in-Ok-Head-clause-ok
 returns-in-Ok-Head-clause-ok g c =
-    told_of _ _ _ (next.Head c.in-Ok-Head.head) c.front.ensures c.in-Ok-Head.field-0-is c.in-Ok-Head.ensures.value
+    told_of _ _ _ (look.Head c.in-Ok-Head.head) c.front.ensures c.in-Ok-Head.field-0-is c.in-Ok-Head.ensures.value
 
 pub returns-in-Ok-Bad-clause-err : goal.returns-in-Ok-Bad-clause-err
 returns-in-Ok-Bad-clause-err g c = λ rest e.
-    let bad = told_of _ _ _ (next.Bad c.in-Ok-Bad.status) c.front.ensures c.in-Ok-Bad.field-0-is c.in-Ok-Bad.ensures.value in
-    bad_end c.loop-head.buffer _ rest c.in-Ok-Bad.status (c.loop-head.invariant.same ∙ e) bad
+    let bad = told_of _ _ _ (look.Bad c.in-Ok-Bad.status) c.front.ensures c.in-Ok-Bad.field-0-is c.in-Ok-Bad.ensures.value in
+    bad_end c.loop-now.buffer _ rest c.in-Ok-Bad.status (c.loop-now.invariant.same ∙ e) bad
 
 pub returns-in-Ok-Bad-clause-status : goal.returns-in-Ok-Bad-clause-status
 returns-in-Ok-Bad-clause-status g c =
-    let bad = told_of _ _ _ (next.Bad c.in-Ok-Bad.status) c.front.ensures c.in-Ok-Bad.field-0-is c.in-Ok-Bad.ensures.value in
-    bad_status (front_of c.loop-head.buffer) (nat_le 16384 (length c.loop-head.buffer)) c.in-Ok-Bad.status bad
+    let bad = told_of _ _ _ (look.Bad c.in-Ok-Bad.status) c.front.ensures c.in-Ok-Bad.field-0-is c.in-Ok-Bad.ensures.value in
+    bad_status (front_of c.loop-now.buffer) (nat_le head_limit (length c.loop-now.buffer)) c.in-Ok-Bad.status bad
 
 pub returns-in-Ok-eq0-clause-err : goal.returns-in-Ok-eq0-clause-err
-returns-in-Ok-eq0-clause-err g c = λ rest e.
-    let need = told_of _ _ _ next.Need c.front.ensures c.in-Ok-Need.field-0-is c.in-Ok-Need.ensures.value in
-    let fill = c.in-Ok-eq0.ensures in
-    let size = subst (λ (n : ℕ). length c.fill.new.buffer ≡ length c.loop-head.buffer + n) c.in-Ok-eq0.field-0-test fill.value in
-    let same = same_grown c.loop-head.buffer c.fill.new.buffer fill.fills.piece fill.fills.grown size in
-    let ends = to_read-at_end c.fill.new.buffer _ rest (fill.to_read ∙ c.loop-head.invariant.same ∙ e) (fill.end c.in-Ok-eq0.field-0-test) in
-    let told = open_end c.loop-head.buffer rest (ends ∙ same) need.0 need.1 need.2 in
-    subst (λ (z : End). IsEnd rest z) (sym c.end_at.ensures.value) (subst (λ (z : List ℕ). IsEnd rest (end_at z)) (sym same) told)
+returns-in-Ok-eq0-clause-err g c = IfErr-weaker c.last_head.result _ _ (λ how is rest e.
+    last_ends c.fill.new.buffer _ rest how (c.in-Ok-eq0.ensures.to_read ∙ c.loop-now.invariant.same ∙ e) (c.in-Ok-eq0.ensures.end c.in-Ok-eq0.field-0-test) is) c.last_head.ensures.err
+
+pub returns-in-Ok-eq0-clause-last : goal.returns-in-Ok-eq0-clause-last
+returns-in-Ok-eq0-clause-last g c = IfErr-weaker c.last_head.result _ _ (λ how none. no_fault_asked how _ none) c.last_head.ensures.faults
+
+pub returns-in-Ok-eq0-clause-faults : goal.returns-in-Ok-eq0-clause-faults
+returns-in-Ok-eq0-clause-faults g c = counts_no_fault c.last_head.result _ _ (c.in-Ok-eq0.ensures.faults ∙ c.loop-now.invariant.faults) c.last_head.ensures.faults
 
 pub returns-in-Err-fill-clause-err : goal.returns-in-Err-fill-clause-err
 returns-in-Err-fill-clause-err g c = λ rest e. (c.in-Err-fill.ensures.err rest 0).0
@@ -45,20 +51,31 @@ returns-in-Err-fill-clause-err g c = λ rest e. (c.in-Err-fill.ensures.err rest 
 -- each fill comes where no head stands in the buffer yet
 pub returns-in-Ok-eq0-clause-reads : goal.returns-in-Ok-eq0-clause-reads
 returns-in-Ok-eq0-clause-reads g c =
-    let need = told_of _ _ _ next.Need c.front.ensures c.in-Ok-Need.field-0-is c.in-Ok-Need.ensures.value in
-    ReadsOn-more WantsHead _ _ _ _ _ _ c.loop-head.invariant.reads (wants_head c.loop-head.buffer need.0 need.1 need.2) c.in-Ok-eq0.ensures.fills
+    let begun = told_of _ _ _ (look.Open c.in-Ok-Open.now) c.front.ensures c.in-Ok-Open.field-0-is c.in-Ok-Open.ensures.value in
+    ReadsOn-more WantsHead _ _ _ _ _ _ c.loop-now.invariant.reads (c.in-Ok-Open.now, begun) c.in-Ok-eq0.ensures.fills
 
 pub returns-in-Err-fill-clause-reads : goal.returns-in-Err-fill-clause-reads
 returns-in-Err-fill-clause-reads g c =
-    let need = told_of _ _ _ next.Need c.front.ensures c.in-Ok-Need.field-0-is c.in-Ok-Need.ensures.value in
-    ReadsOn-more WantsHead _ _ _ _ _ _ c.loop-head.invariant.reads (wants_head c.loop-head.buffer need.0 need.1 need.2) c.in-Err-fill.ensures.fills
+    let begun = told_of _ _ _ (look.Open c.in-Ok-Open.now) c.front.ensures c.in-Ok-Open.field-0-is c.in-Ok-Open.ensures.value in
+    ReadsOn-more WantsHead _ _ _ _ _ _ c.loop-now.invariant.reads (c.in-Ok-Open.now, begun) c.in-Err-fill.ensures.fills
 
-pub loop-head-preserved : goal.loop-head-preserved
-loop-head-preserved g c =
-    let need = told_of _ _ _ next.Need c.front.ensures c.in-Ok-Need.field-0-is c.in-Ok-Need.ensures.value in
-    let s = c.loop-head.invariant in
+pub loop-now-init : goal.loop-now-init
+loop-now-init g c = record {
+  same = refl;
+  reads = ReadsOn-none WantsHead _ _;
+  faults = refl;
+  scanned = look_first _;
+}
+
+pub loop-now-preserved : goal.loop-now-preserved
+loop-now-preserved g c =
+    let begun = told_of _ _ _ (look.Open c.in-Ok-Open.now) c.front.ensures c.in-Ok-Open.field-0-is c.in-Ok-Open.ensures.value in
+    let s = c.loop-now.invariant in
+    let fills = c.in-Ok.ensures.fills in
     record {
       same = c.in-Ok.ensures.to_read ∙ s.same;
-      reads = ReadsOn-more WantsHead _ _ _ _ _ _ s.reads (wants_head c.loop-head.buffer need.0 need.1 need.2) c.in-Ok.ensures.fills;
+      reads = ReadsOn-more WantsHead _ _ _ _ _ _ s.reads (c.in-Ok-Open.now, begun) fills;
       faults = c.in-Ok.ensures.faults ∙ s.faults;
+      scanned = subst (λ (n : ℕ). IsScanned c.in-Ok-Open.now n c.fill.new.buffer) (sym c.len-known.ensures)
+          (subst (λ (z : List ℕ). IsScanned c.in-Ok-Open.now (length c.loop-now.buffer) z) (sym fills.grown) (look_later c.in-Ok-Open.now c.loop-now.buffer fills.piece begun));
     }

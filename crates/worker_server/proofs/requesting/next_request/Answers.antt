@@ -2,11 +2,11 @@
 use Rattle.std.proofs.Common.{◌≡◌, refl, subst, sym, ◌∙◌, ap, List, ℕ, ◌+◌, ◌≤◌, length, Option}
 use Rattle.std.specs.Io.KnownBytes.{append_known}
 use Rattle.http_front.specs.Buffer.{to_read}
-use Rattle.http_front.specs.Link.{GivesFront}
+use Rattle.http_front.specs.Link.{GivesFront, told_by}
 use Rattle.http_front.specs.ReplyText.{interim_due}
 use Rattle.http_front.specs.RequestStream.{Request, interim_of}
 use Rattle.worker_server.specs.RequestSteps.{StandsAt, StopsSo}
-use Rattle.worker_server.proofs.ReadingLemmas.{body_stops, head_fits, head_stops, interim_is, interim_stops, StandsAt-from_head}
+use Rattle.worker_server.proofs.ReadingLemmas.{body_stops, head_fits, head_stops, interim_is, interim_stops, StandsAt-from_head, stop_asked}
 use Rattle.worker_server.proofs.TimingLemmas.{Unfinished-from_body, Unfinished-from_head}
 use Rattle.worker_server.proofs.requesting.next_request.Goals as goal
 
@@ -65,3 +65,16 @@ returns-in-Err-read_body-clause-reading g c =
     let interim = c.in-Ok-give_interim.ensures in
     let gave = interim.given ∙ ap (append_known (g.L.Link.given c.read_head.new.link)) (interim_is _ c.in-Ok.head is.0 is.1) in
     Unfinished-from_body _ _ _ c.in-Ok.head is.0 _ _ _ _ _ c.in-Ok.ensures.reads is.1 interim.taken interim.asked gave c.in-Err-read_body.ensures.reads c.stop-in-Err-read_body.ensures.taken c.stop-in-Err-read_body.ensures.asked
+
+-- ---- what was asked last
+
+pub returns-in-Err-clause-last : goal.returns-in-Err-clause-last
+returns-in-Err-clause-last g c =
+    stop_asked c.in-Err.end c.stop.result (told_by g.L.Link.taken g.L.Link.given g.L.Link.asked c.read_head.new.link) (told_by g.L.Link.taken g.L.Link.given g.L.Link.asked c.stop.new.link)
+    c.in-Err.ensures.last c.stop.ensures.value c.stop.ensures.taken c.stop.ensures.asked
+
+pub returns-in-Err-read_body-clause-last : goal.returns-in-Err-read_body-clause-last
+returns-in-Err-read_body-clause-last g c =
+    stop_asked c.in-Err-read_body.end c.stop-in-Err-read_body.result (told_by g.L.Link.taken g.L.Link.given g.L.Link.asked c.read_body.new.link)
+    (told_by g.L.Link.taken g.L.Link.given g.L.Link.asked c.stop-in-Err-read_body.new.link)
+    c.in-Err-read_body.ensures.last c.stop-in-Err-read_body.ensures.value c.stop-in-Err-read_body.ensures.taken c.stop-in-Err-read_body.ensures.asked

@@ -1,0 +1,10 @@
+-- What was added up is what the index knows of the ids so far, and no more than may be.
+use Rattle.std.proofs.Common.{◌≡◌, ◌≤◌, take}
+use Rattle.depot.specs.FirstGet.{sizes_of}
+use Rattle.depot.proofs.first_get.fit.Given as goal
+
+abbrev pub invariant-loop-id : goal.invariant-loop-id
+invariant-loop-id g l = record {
+  added : l.total ≡ sizes_of l.store.index (take l.id-index l.ids);
+  within : l.total ≤ l.most;
+}

@@ -1,0 +1,98 @@
+//! The first of several files and directories that are asked for one after another.
+ghost use Rattle.std.specs.Prelude.{true, false, ◌≡◌, ◌<◌, ◌&&◌, not, nat_le};
+ghost use Rattle.library_rules.specs.Calls.{token_of};
+ghost use Rattle.library_state.specs.declared.call.Act.TheVariants as act;
+ghost use Rattle.depot.specs.Answering.{Serves, ServesAct, permits};
+ghost use Rattle.depot.specs.DepotView.{IsGood};
+ghost use Rattle.depot.specs.FirstGet.{fs_call, fs_get, size_of, sizes_of};
+
+use crate::answering::permitted_place;
+use crate::depot::Depot;
+use ids::{Key, Kind, ObjId};
+use library_state::{Act, Call, Refusal, Reply, Secret};
+use object_store::{Shelf, Store};
+
+impl<S: Shelf> Depot<S> {
+    /// Answers a call for a file or directory, the first of `ids`, which will be asked for one after another.
+    ///
+    /// Where the index knows that they have together more than `most` bytes, each as often as it is named, one who may
+    /// ask is answered with want of memory, and nothing is read. Else the answer is that of `answer`.
+    pub fn get_first(
+        &mut self,
+        secret: &Option<Secret>,
+        id: ObjId,
+        ids: &[ObjId],
+        most: u64,
+        moment: u64,
+    ) -> Reply
+        ensures serves { Serves S.contents S.may_give S.texts S.faults self.old (fs_call secret.now id) moment result self.new }
+        ensures stands { IsGood S.contents S.faults self.new }
+        ensures denied { permits (token_of self.old.state.tokens secret.now) (fs_get id) ≡ false → result ≡ Reply.Refused Refusal.Denied }
+        ensures bound { permits (token_of self.old.state.tokens secret.now) (fs_get id) ≡ true → most < sizes_of self.old.store.index ids.now
+            → result ≡ Reply.Refused Refusal.NoMemory }
+        ensures untouched { permits (token_of self.old.state.tokens secret.now) (fs_get id) ≡ true → most < sizes_of self.old.store.index ids.now
+            → self.new ≡ self.old }
+    {
+        let key = Key { kind: Kind::Fs, id };
+        let call = Call {
+            secret: *secret,
+            act: Act::Get(key),
+        };
+        if self.wants_too_much(&call, ids, most) {
+            return self.want_memory(&key);
+        }
+        self.answer(&call, moment)
+    }
+
+    /// Whether one who may ask this wants more than `most` bytes by it and those that follow.
+    fn wants_too_much(&self, call: &Call, ids: &[ObjId], most: u64) -> bool
+        ensures value { result ≡ (permits (token_of self.now.state.tokens call.now.secret) call.now.act && not (nat_le (sizes_of self.now.store.index ids.now) most)) }
+    {
+        match permitted_place(self.parts.state.tokens.slice(), &call.secret, &call.act) {
+            Some(_) => !fit(&self.parts.store, ids, most),
+            None => false,
+        }
+    }
+
+    /// Want of memory, in the place of what is stored under a key.
+    fn want_memory(&mut self, key: &Key) -> Reply
+        ensures value { ServesAct S.contents S.may_give S.texts S.faults self.old (act.Get key.now) result self.new }
+        ensures refused { result ≡ Reply.Refused Refusal.NoMemory }
+        ensures untouched { self.new ≡ self.old }
+        ensures stands { IsGood S.contents S.faults self.new }
+    {
+        let _ = key;
+        // Tells the proof that the library is good.
+        let _ = &self.parts;
+        Reply::Refused(Refusal::NoMemory)
+    }
+}
+
+/// Whether the index knows these files and directories to have at most so many bytes together.
+fn fit<S: Shelf>(store: &Store<S>, ids: &[ObjId], most: u64) -> bool
+    ensures value { result ≡ nat_le (sizes_of store.now.index ids.now) most }
+{
+    let mut total = 0;
+    for id in ids {
+        let size = size_of(store, id);
+        if size > most - total {
+            return false;
+        }
+        total += size;
+    }
+    true
+}
+
+/// How many bytes the index knows a file or directory to have: none where it doesn't know it.
+fn size_of<S: Shelf>(store: &Store<S>, id: &ObjId) -> u64
+    ensures value { result ≡ size_of store.now.index id.now }
+{
+    let key = Key {
+        kind: Kind::Fs,
+        id: *id,
+    };
+    match store.has(key) {
+        Some(size) => size,
+        None => 0,
+    }
+}

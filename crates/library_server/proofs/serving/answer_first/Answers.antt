@@ -1,0 +1,8 @@
+-- A library whose objects lie under their names answers with no refusal by storage that never fails.
+use Rattle.library_server.proofs.WholeLemmas.{answers_whole}
+use Rattle.library_server.proofs.serving.answer_first.Goals as goal
+
+pub returns-then-eq-clause-steady : goal.returns-then-eq-clause-steady
+returns-then-eq-clause-steady g c =
+    let serves = c.get_first.ensures.serves in
+    answers_whole g.S.Shelf.contents g.S.Shelf.faults c.args.depot.now c.get_first.new.self _ c.args.moment c.get_first.result serves.told serves.damage serves.count
