@@ -1,4 +1,4 @@
-"""Writes pipelined requests to a file: `requests.py many FILE` has 5,000 puts and 5,000 gets of distinct blocks of 1,000 bytes, `requests.py large FILE` one put and one get of 16 MiB."""
+"""Writes pipelined requests to a file: `requests.py many FILE` has 5,000 puts and 5,000 gets of distinct blocks of 1,000 bytes, `requests.py large FILE` one put and one get of 16 MiB, `requests.py none FILE` no request."""
 import hashlib
 import sys
 
@@ -20,7 +20,7 @@ def block(number, size):
 
 
 kind, path = sys.argv[1:]
-count, size = (5000, 1000) if kind == "many" else (1, 16 * 1024 * 1024)
+count, size = {"many": (5000, 1000), "large": (1, 16 * 1024 * 1024), "none": (0, 0)}[kind]
 with open(path, "wb") as out:
     blocks = [block(number, size) for number in range(count)]
     names = [hashlib.sha1(b).hexdigest() for b in blocks]
