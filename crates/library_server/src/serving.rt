@@ -32,7 +32,7 @@ impl<S: Shelf, C: Clock> Host for Alone<'_, S, C> {
 
     type Pass = Depot<S>;
 
-    ghost Line = { ⊤ };
+    ghost Operation = { ⊤ };
 
     ghost View = { DepotView S };
 

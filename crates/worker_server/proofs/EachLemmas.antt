@@ -64,36 +64,36 @@ packed_over rows id bytes slice packed is same over =
 
 -- ---- calls
 
-module _ {V Line : Type 0} (asks : V → List ℕ → Call → Answer → List Line → V → Type 0) where
-  pub PutsEach-stored : (lib : List ℕ) (secret : Option (List ℕ)) (u mid v : V) (row : Row) (rows : List Row) (answer : Answer) (first more : List Line) (o : Outcome)
+module _ {V Operation : Type 0} (asks : V → List ℕ → Call → Answer → List Operation → V → Type 0) where
+  pub PutsEach-stored : (lib : List ℕ) (secret : Option (List ℕ)) (u mid v : V) (row : Row) (rows : List Row) (answer : Answer) (first more : List Operation) (o : Outcome)
       → asks u lib (call_of secret (put_of row)) answer first mid → is_stored answer.reply ≡ true → PutsEach asks lib secret mid rows o more v
       → PutsEach asks lib secret u (row ∷ rows) o (first ++ more) v
   PutsEach-stored lib secret u mid v row rows answer first more o asked stored rest = (answer, mid, first, more, asked, refl, inl (stored, rest))
 
-  pub PutsEach-refused : (lib : List ℕ) (secret : Option (List ℕ)) (u mid : V) (row : Row) (rows : List Row) (answer : Answer) (first : List Line)
+  pub PutsEach-refused : (lib : List ℕ) (secret : Option (List ℕ)) (u mid : V) (row : Row) (rows : List Row) (answer : Answer) (first : List Operation)
       → asks u lib (call_of secret (put_of row)) answer first mid → is_stored answer.reply ≡ false → PutsEach asks lib secret u (row ∷ rows) (told_of answer) first mid
   PutsEach-refused lib secret u mid row rows answer first asked refused = (answer, mid, first, [], asked, sym (append-nil first), inr (refused, refl, refl, refl))
 
-  pub GetsEach-given : (lib : List ℕ) (secret : Option (List ℕ)) (u mid v : V) (id : List ℕ) (ids : List (List ℕ)) (given : List Row) (answer : Answer) (first more : List Line) (o : Outcome) (bytes : List ℕ)
+  pub GetsEach-given : (lib : List ℕ) (secret : Option (List ℕ)) (u mid v : V) (id : List ℕ) (ids : List (List ℕ)) (given : List Row) (answer : Answer) (first more : List Operation) (o : Outcome) (bytes : List ℕ)
       → asks u lib (call_of secret (get_of id)) answer first mid → answer.reply ≡ reply.Got bytes → FitReply (given ++ row_with id bytes ∷ [])
       → GetsEach asks lib secret mid ids (given ++ row_with id bytes ∷ []) o more v
       → GetsEach asks lib secret u (id ∷ ids) given o (first ++ more) v
   GetsEach-given lib secret u mid v id ids given answer first more o bytes asked got fits rest = (answer, mid, first, more, asked, refl, inl (bytes, got, fits, rest))
 
-  pub GetsEach-over : (lib : List ℕ) (secret : Option (List ℕ)) (u mid : V) (id : List ℕ) (ids : List (List ℕ)) (given : List Row) (answer : Answer) (first : List Line) (bytes : List ℕ)
+  pub GetsEach-over : (lib : List ℕ) (secret : Option (List ℕ)) (u mid : V) (id : List ℕ) (ids : List (List ℕ)) (given : List Row) (answer : Answer) (first : List Operation) (bytes : List ℕ)
       → asks u lib (call_of secret (get_of id)) answer first mid → answer.reply ≡ reply.Got bytes → most_packed < packed_size (given ++ row_with id bytes ∷ [])
       → GetsEach asks lib secret u (id ∷ ids) given (Refused NoMemory) first mid
   GetsEach-over lib secret u mid id ids given answer first bytes asked got over = (answer, mid, first, [], asked, sym (append-nil first), inr (inl (bytes, got, over, refl, refl, refl)))
 
-  pub GetsEach-refused : (lib : List ℕ) (secret : Option (List ℕ)) (u mid : V) (id : List ℕ) (ids : List (List ℕ)) (given : List Row) (answer : Answer) (first : List Line)
+  pub GetsEach-refused : (lib : List ℕ) (secret : Option (List ℕ)) (u mid : V) (id : List ℕ) (ids : List (List ℕ)) (given : List Row) (answer : Answer) (first : List Operation)
       → asks u lib (call_of secret (get_of id)) answer first mid → is_got answer.reply ≡ false → GetsEach asks lib secret u (id ∷ ids) given (told_of answer) first mid
   GetsEach-refused lib secret u mid id ids given answer first asked refused = (answer, mid, first, [], asked, sym (append-nil first), inr (inr (refused, refl, refl, refl)))
 
   -- what is packed fits, where what was given before does
-  pub GetsEach-fits : (lib : List ℕ) (secret : Option (List ℕ)) (u v : V) (ids : List (List ℕ)) (given rows : List Row) (lines : List Line)
-      → FitReply given → GetsEach asks lib secret u ids given (Packed rows) lines v → FitReply rows
-  GetsEach-fits lib secret u v [] given rows lines fits h = subst FitReply (sym (packed_same rows given h.0)) fits
-  GetsEach-fits lib secret u v (id ∷ ids) given rows lines fits h =
+  pub GetsEach-fits : (lib : List ℕ) (secret : Option (List ℕ)) (u v : V) (ids : List (List ℕ)) (given rows : List Row) (operations : List Operation)
+      → FitReply given → GetsEach asks lib secret u ids given (Packed rows) operations v → FitReply rows
+  GetsEach-fits lib secret u v [] given rows operations fits h = subst FitReply (sym (packed_same rows given h.0)) fits
+  GetsEach-fits lib secret u v (id ∷ ids) given rows operations fits h =
       elim h.6 [
         | inl on ↦ GetsEach-fits lib secret h.1 v ids (given ++ row_with id on.0 ∷ []) rows h.3 on.2 on.3
         | inr end ↦ elim end [

@@ -54,43 +54,43 @@ closes_as n bytes h r after s closed is = is ∙ ap (λ b. b || n == 9999) s.clo
 
 -- ---- a request, asked and answered
 
-module _ {V Line : Type 0} (asks : V → List ℕ → Call → Answer → List Line → V → Type 0) where
+module _ {V Operation : Type 0} (asks : V → List ℕ → Call → Answer → List Operation → V → Type 0) where
   pub Answers-from_head : (bytes : List ℕ) (h : Head) (r : Request) (after : List ℕ) → StandsAt bytes h r after
-      → (u v : V) (o : Outcome) (lines : List Line)
-      → Serves asks u (IsOrder h.method h.target h.token (slice_range bytes h.used (h.used + h.body))) o lines v
-      → Answers asks u (record { request = r; outcome = o; lines = lines }) v
-  Answers-from_head bytes h r after s u v o lines served =
+      → (u v : V) (o : Outcome) (operations : List Operation)
+      → Serves asks u (IsOrder h.method h.target h.token (slice_range bytes h.used (h.used + h.body))) o operations v
+      → Answers asks u (record { request = r; outcome = o; operations = operations }) v
+  Answers-from_head bytes h r after s u v o operations served =
       let body = body_is bytes h r after s in (
         h.token,
         s.shows,
-        subst (λ z. Serves asks u (IsOrder z r.head.target h.token r.body) o lines v) s.method
-            (subst (λ z. Serves asks u (IsOrder h.method z h.token r.body) o lines v) s.target
-            (subst (λ z. Serves asks u (IsOrder h.method h.target h.token z) o lines v) body served)),
+        subst (λ z. Serves asks u (IsOrder z r.head.target h.token r.body) o operations v) s.method
+            (subst (λ z. Serves asks u (IsOrder h.method z h.token r.body) o operations v) s.target
+            (subst (λ z. Serves asks u (IsOrder h.method h.target h.token z) o operations v) body served)),
       )
 
   -- the call was made of what the buffer told
-  pub Serves-at : (front bytes : List ℕ) (h : Head) (u v : V) (o : Outcome) (lines : List Line) → front ≡ bytes
-      → Serves asks u (IsOrder h.method h.target h.token (slice_range front h.used (h.used + h.body))) o lines v
-      → Serves asks u (IsOrder h.method h.target h.token (slice_range bytes h.used (h.used + h.body))) o lines v
-  Serves-at front bytes h u v o lines same served =
-      subst (λ z. Serves asks u (IsOrder h.method h.target h.token (slice_range z h.used (h.used + h.body))) o lines v) same served
+  pub Serves-at : (front bytes : List ℕ) (h : Head) (u v : V) (o : Outcome) (operations : List Operation) → front ≡ bytes
+      → Serves asks u (IsOrder h.method h.target h.token (slice_range front h.used (h.used + h.body))) o operations v
+      → Serves asks u (IsOrder h.method h.target h.token (slice_range bytes h.used (h.used + h.body))) o operations v
+  Serves-at front bytes h u v o operations same served =
+      subst (λ z. Serves asks u (IsOrder h.method h.target h.token (slice_range z h.used (h.used + h.body))) o operations v) same served
 
   -- the request whose reply was made
   unfoldable pub AnswersNext-from_reply : (bytes : List ℕ) (left : Option (List ℕ)) (rest : List ℕ) (h : Head) (r : Request) (after : List ℕ)
       → StandsAt bytes h r after → to_read bytes left ≡ Some rest
-      → (u v : V) (o : Outcome) (lines : List Line)
-      → Serves asks u (IsOrder h.method h.target h.token (slice_range bytes h.used (h.used + h.body))) o lines v
-      → AnswersNext asks rest u (record { request = r; outcome = o; lines = lines }) v
-  AnswersNext-from_reply bytes left rest h r after s e u v o lines served =
+      → (u v : V) (o : Outcome) (operations : List Operation)
+      → Serves asks u (IsOrder h.method h.target h.token (slice_range bytes h.used (h.used + h.body))) o operations v
+      → AnswersNext asks rest u (record { request = r; outcome = o; operations = operations }) v
+  AnswersNext-from_reply bytes left rest h r after s e u v o operations served =
       let ahead = to_read-some bytes left rest e in
       record {
         after = after ++ ahead.0;
         is = subst (λ z. IsRequest z r (after ++ ahead.0)) (sym ahead.2) (IsRequest-append bytes ahead.0 r after s.is);
-        answers = Answers-from_head bytes h r after s u v o lines served;
+        answers = Answers-from_head bytes h r after s u v o operations served;
       }
 
   -- a front of the reply was given, after the interim reply
-  pub StopsAsked-from_front : (n : ℕ) (rest : List ℕ) (u v : V) (x : Exchange Line) → AnswersNext asks rest u x v
+  pub StopsAsked-from_front : (n : ℕ) (rest : List ℕ) (u v : V) (x : Exchange Operation) → AnswersNext asks rest u x v
       → (closed : Bool) → closed ≡ closes_at n x.request
       → (given before now : Option (List ℕ)) → before ≡ append_known given (interim_of x.request.head)
       → GivesFront before now (text x.outcome closed) → StopsAsked asks served.WriteFault n rest u v given now
@@ -101,18 +101,18 @@ module _ {V Line : Type 0} (asks : V → List ℕ → Call → Answer → List L
   -- the request of a reply that was given whole, and the buffer after it
   pub OneMore-from_reply : (n : ℕ) (buffer bytes skipped : List ℕ) (left still : Option (List ℕ)) (rest : List ℕ) (h : Head) (r : Request) (after : List ℕ)
       → StandsAt bytes h r after → to_read bytes left ≡ Some rest → skipped ≡ drop (h.used + h.body) bytes → still ≡ left
-      → (u v : V) (o : Outcome) (lines : List Line)
-      → Serves asks u (IsOrder h.method h.target h.token (slice_range bytes h.used (h.used + h.body))) o lines v
+      → (u v : V) (o : Outcome) (operations : List Operation)
+      → Serves asks u (IsOrder h.method h.target h.token (slice_range bytes h.used (h.used + h.body))) o operations v
       → (closed : Bool) → closed ≡ (h.closes || n == 9999)
       → (old mid new : LinkTells) → mid.given ≡ append_known old.given (interim_of r.head) → new.given ≡ append_known mid.given (text o closed)
       → new.taken ≡ mid.taken → new.asked ≡ mid.asked → AsksUnfinished buffer bytes old mid
       → OneMore asks n rest buffer skipped (to_read skipped still) u v old new closed
   unfolding AnswersNext-from_reply
-  OneMore-from_reply n buffer bytes skipped left still rest h r after s e skip kept u v o lines served closed is old mid new began gave same_taken same_asked reading =
+  OneMore-from_reply n buffer bytes skipped left still rest h r after s e skip kept u v o operations served closed is old mid new began gave same_taken same_asked reading =
       let ahead = to_read-some bytes left rest e in
-      let x : Exchange Line = record { request = r; outcome = o; lines = lines } in
+      let x : Exchange Operation = record { request = r; outcome = o; operations = operations } in
       let same = closes_as n bytes h r after s closed is in
-      let next = AnswersNext-from_reply bytes left rest h r after s e u v o lines served in
+      let next = AnswersNext-from_reply bytes left rest h r after s e u v o operations served in
       let held : skipped ≡ after = skip ∙ after_is bytes h r after s in
       let whole : (print_request r.head ++ r.body) ++ skipped ≡ bytes =
       ap (λ z. (print_request r.head ++ r.body) ++ z) held ∙ append_assoc (print_request r.head) r.body after ∙ sym s.is.head.reads.1 in

@@ -22,17 +22,17 @@ use Rattle.worker_server.proofs.TimingLemmas.{AsksFor-none, AsksFor-turn, InTime
 
 -- ---- one exchange more
 
-module _ {Line : Type 0} where
-  abbrev IsOpenAfter : Exchange Line → Type 0
+module _ {Operation : Type 0} where
+  abbrev IsOpenAfter : Exchange Operation → Type 0
   IsOpenAfter x = closes x.request.head ≡ false
 
   -- a request follows one that doesn't close
-  follows : (y : Exchange Line) (ys : List (Exchange Line)) (x : Exchange Line) → closes y.request.head ≡ false
+  follows : (y : Exchange Operation) (ys : List (Exchange Operation)) (x : Exchange Operation) → closes y.request.head ≡ false
       → MayFollow y.request (requests (ys ++ x ∷ []))
   follows y [] x open_y = open_y
   follows y (z ∷ zs) x open_y = open_y
 
-  Reads-more : (input : List ℕ) (xs : List (Exchange Line)) (mid : List ℕ) (x : Exchange Line) (rest : List ℕ)
+  Reads-more : (input : List ℕ) (xs : List (Exchange Operation)) (mid : List ℕ) (x : Exchange Operation) (rest : List ℕ)
       → Reads input (requests xs) mid → AllOpen xs → IsRequest mid x.request rest
       → Reads input (requests (xs ++ x ∷ [])) rest
   Reads-more input [] mid x rest e opens is =
@@ -40,7 +40,7 @@ module _ {Line : Type 0} where
   Reads-more input (y ∷ ys) mid x rest reads opens is =
       (reads.0, reads.1, follows y ys x (All-head IsOpenAfter y ys opens), Reads-more reads.0 ys mid x rest reads.3 (All-tail IsOpenAfter y ys opens) is)
 
-  texts-more : (n : ℕ) (xs : List (Exchange Line)) (x : Exchange Line)
+  texts-more : (n : ℕ) (xs : List (Exchange Operation)) (x : Exchange Operation)
       → texts n (xs ++ x ∷ []) ≡ texts n xs ++ text_at (n + length xs) x
   texts-more n [] x = append-nil (text_at n x) ∙ ap (λ k. text_at k x) (sym (add-zero n))
   texts-more n (y ∷ ys) x =
@@ -49,12 +49,12 @@ module _ {Line : Type 0} where
       ∙ sym (append_assoc (text_at n y) (texts (n + 1) ys) (text_at ((n + 1) + length ys) x))
       ∙ ap (λ k. (text_at n y ++ texts (n + 1) ys) ++ text_at k x) place
 
-  LastCloses-more : (xs : List (Exchange Line)) (x : Exchange Line) → closes x.request.head ≡ true → LastCloses (xs ++ x ∷ [])
+  LastCloses-more : (xs : List (Exchange Operation)) (x : Exchange Operation) → closes x.request.head ≡ true → LastCloses (xs ++ x ∷ [])
   LastCloses-more [] x is = is
   LastCloses-more (y ∷ []) x is = is
   LastCloses-more (y ∷ (z ∷ zs)) x is = LastCloses-more (z ∷ zs) x is
 
-  AllOpen-more : (xs : List (Exchange Line)) (x : Exchange Line) → AllOpen xs → closes x.request.head ≡ false → AllOpen (xs ++ x ∷ [])
+  AllOpen-more : (xs : List (Exchange Operation)) (x : Exchange Operation) → AllOpen xs → closes x.request.head ≡ false → AllOpen (xs ++ x ∷ [])
   AllOpen-more xs x opens is = All-append IsOpenAfter xs (x ∷ []) opens (All-cons IsOpenAfter x [] is (All-nil IsOpenAfter))
 
 length-more : {X : Type 0} (xs : List X) (x : X) → length (xs ++ x ∷ []) ≡ length xs + 1
@@ -91,14 +91,14 @@ request_of bytes rest r after input is same = record {
   accepted = is.accepted;
 }
 
-module _ {V Line : Type 0} (asks : V → List ℕ → Call → Answer → List Line → V → Type 0) where
-  Run-more : (u v w : V) (xs : List (Exchange Line)) (x : Exchange Line) → Run asks u xs v → Answers asks v x w
+module _ {V Operation : Type 0} (asks : V → List ℕ → Call → Answer → List Operation → V → Type 0) where
+  Run-more : (u v w : V) (xs : List (Exchange Operation)) (x : Exchange Operation) → Run asks u xs v → Answers asks v x w
       → Run asks u (xs ++ x ∷ []) w
   Run-more u v w [] x e answers = (w, subst (λ z. Answers asks z x w) e answers, refl)
   Run-more u v w (y ∷ ys) x run answers = (run.0, run.1, Run-more run.0 v w ys x run.2 answers)
 
   -- what was taken so far: the requests that were answered, and then what the buffer holds; and it was asked for in time
-  pub record TakenSoFar (input rest buffer : List ℕ) (old now : LinkTells) (xs : List (Exchange Line)) : Type 0 where
+  pub record TakenSoFar (input rest buffer : List ℕ) (old now : LinkTells) (xs : List (Exchange Operation)) : Type 0 where
     pub taken : List ℕ
     pub taken_is : now.taken ≡ append_known old.taken taken
     pub holds : Reads taken (requests xs) buffer
@@ -109,7 +109,7 @@ module _ {V Line : Type 0} (asks : V → List ℕ → Call → Answer → List L
 
   -- after n requests, none of which closed: `ahead` is what is left to read
   pub record SoFar (n : ℕ) (input buffer : List ℕ) (old now : LinkTells) (ahead : Option (List ℕ)) (u v : V) : Type 0 where
-    pub exchanges : List (Exchange Line)
+    pub exchanges : List (Exchange Operation)
     pub count : length exchanges ≡ n
     pub all_open : AllOpen exchanges
     pub rest : List ℕ
@@ -237,7 +237,7 @@ module _ {V Line : Type 0} (asks : V → List ℕ → Call → Answer → List L
       never_waits,
     )
 
-  Ends-stopped : (how : Served) (xs : List (Exchange Line)) (rest : List ℕ) (u v : V) (given now : Option (List ℕ))
+  Ends-stopped : (how : Served) (xs : List (Exchange Operation)) (rest : List ℕ) (u v : V) (given now : Option (List ℕ))
       → length xs < 10000 → AllOpen xs → Stops asks how (length xs) rest u v given now → Ends asks how xs rest u v given now
   Ends-stopped served.Ended xs rest u v given now few opens stops = (few, inr (opens, stops))
   Ends-stopped served.Limit xs rest u v given now few opens stops = absurd (elim stops [ inl first ↦ first.1 | inr later ↦ later ])
@@ -268,7 +268,7 @@ module _ {V Line : Type 0} (asks : V → List ℕ → Call → Answer → List L
       let in_time = AsksFor-turn input t.taken buffer held ahead_now.0 so_far.exchanges [] old now later t.taken_is so_far.text fits so_far.all_open
       t.holds t.asked r (t.whole ∙ ap (λ l. t.taken ++ l) split) in
       let never : NeverWaits input so_far.exchanges old later = NeverWaits-from_asks input so_far.exchanges old later (t.taken ++ r.piece) taken_is
-      (subst (λ (ys : List (Exchange Line)). AsksFor (InTimeFor input ys) old later (t.taken ++ r.piece)) (append-nil so_far.exchanges) in_time) in (
+      (subst (λ (ys : List (Exchange Operation)). AsksFor (InTimeFor input ys) old later (t.taken ++ r.piece)) (append-nil so_far.exchanges) in_time) in (
         record {
           exchanges = so_far.exchanges;
           rest = so_far.rest;

@@ -236,12 +236,12 @@ Reads-append taken more [] rest reads = ap (λ t. t ++ more) reads
 Reads-append taken more (r ∷ rs) rest reads =
     (reads.0 ++ more, IsRequest-append taken more r reads.0 reads.1, reads.2, Reads-append reads.0 more rs rest reads.3)
 
-module _ {Line : Type 0} where
+module _ {Operation : Type 0} where
   -- as these bytes had come and these had been given, the link was asked in time
-  abbrev pub InTimeFor : List ℕ → List (Exchange Line) → List ℕ → List ℕ → Type 0
+  abbrev pub InTimeFor : List ℕ → List (Exchange Operation) → List ℕ → List ℕ → Type 0
   InTimeFor input xs come gave = IsInTime input xs (length come) (length gave)
 
-  pub InTimeFor-more : (input : List ℕ) (xs later : List (Exchange Line)) (come gave : List ℕ) → InTimeFor input xs come gave
+  pub InTimeFor-more : (input : List ℕ) (xs later : List (Exchange Operation)) (come gave : List ℕ) → InTimeFor input xs come gave
       → InTimeFor input (xs ++ later) come gave
   InTimeFor-more input xs later come gave is = record {
     answered = is.answered;
@@ -257,7 +257,7 @@ module _ {Line : Type 0} where
   }
 
   -- one turn more: what it asked for was asked in time
-  pub AsksFor-turn : (input taken buffer held left : List ℕ) (xs later : List (Exchange Line)) (old mid new : LinkTells)
+  pub AsksFor-turn : (input taken buffer held left : List ℕ) (xs later : List (Exchange Operation)) (old mid new : LinkTells)
       → mid.taken ≡ append_known old.taken taken → mid.given ≡ append_known old.given (texts 0 xs)
       → length xs < 10000 → AllOpen xs → Reads taken (requests xs) buffer → AsksFor (InTimeFor input xs) old mid taken
       → (reading : AsksUnfinished buffer held mid new) → input ≡ taken ++ (reading.piece ++ left)
@@ -285,7 +285,7 @@ module _ {Line : Type 0} where
       AsksFor-more D E taken (texts 0 xs) reading.piece old mid mid new taken_is refl refl given_is turn
       (AsksFor-weaker D (InTimeFor input xs) old mid taken (λ come gave is. InTimeFor-more input xs later come gave is) asks) reading.asks
 
-  asked_in_time : (input : List ℕ) (xs : List (Exchange Line)) (taken given piece : List ℕ) (asked : List Asked)
+  asked_in_time : (input : List ℕ) (xs : List (Exchange Operation)) (taken given piece : List ℕ) (asked : List Asked)
       → All (WasDue (InTimeFor input xs) taken given piece) asked → All (IsAskedInTime input xs (length taken) (length given)) asked
   asked_in_time input xs taken given piece [] due = All-nil (IsAskedInTime input xs (length taken) (length given))
   asked_in_time input xs taken given piece (a ∷ asked) due =
@@ -300,7 +300,7 @@ module _ {Line : Type 0} where
       All-cons (IsAskedInTime input xs (length taken) (length given)) a asked here
       (asked_in_time input xs taken given piece asked (All-tail (WasDue (InTimeFor input xs) taken given piece) a asked due))
 
-  pub NeverWaits-from_asks : (input : List ℕ) (xs : List (Exchange Line)) (old new : LinkTells) (taken : List ℕ)
+  pub NeverWaits-from_asks : (input : List ℕ) (xs : List (Exchange Operation)) (old new : LinkTells) (taken : List ℕ)
       → new.taken ≡ append_known old.taken taken → AsksFor (InTimeFor input xs) old new taken → NeverWaits input xs old new
   NeverWaits-from_asks input xs old new came taken_is asks = λ taken given before et eg ea.
       let h = asks taken given before et eg ea in

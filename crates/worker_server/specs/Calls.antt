@@ -1,6 +1,6 @@
 -- What an order asks of a library, and how its outcome is made of the answers. Read Serves last: it is what stands
 -- between a request and its reply. `asks` is a host's relation: from what it shows before, a library and a call to
--- an answer, the lines that the call left and what it shows after. Of a host with a clock it is AtAMoment.
+-- an answer, the operations that the call left and what it shows after. Of a host with a clock it is AtAMoment.
 use Rattle.std.specs.Prelude.{ℕ, ◌≡◌, ◌<◌, ◌≤◌, ◌⊎◌, Bool, true, false, List, [], ◌∷◌, ◌++◌, length, sum_by, Option, None, Some, Result, Ok, Err}
 use Rattle.ids.specs.declared.key.Kind.TheVariants.{Fs}
 use Rattle.library_state.specs.declared.call.Act.{Act}
@@ -65,12 +65,12 @@ packed_size rows = sum_by (λ row. length row.bytes) rows
 abbrev pub FitReply : List Row → Type 0
 FitReply rows = packed_size rows ≤ most_packed
 
--- a call that was asked, its answer, and the lines that it left
-pub record Told (Line : Type 0) : Type 0 where
+-- a call that was asked, its answer, and the operations that it left
+pub record Told (Operation : Type 0) : Type 0 where
   pub lib : List ℕ
   pub call : Call
   pub answer : Answer
-  pub lines : List Line
+  pub operations : List Operation
 
 -- what is replied where no library is named: no order but that for the version is without one
 abbrev pub outcome_without_library : What → Outcome
@@ -83,42 +83,42 @@ refusal_of (fault.Refused refusal) = refusal
 refusal_of fault.NoMemory = NoMemory
 
 -- the call is asked at a moment that the clock shows
-abbrev pub AtAMoment : {V Line : Type 0} → (ℕ → Type 0) → (V → List ℕ → Call → ℕ → Answer → List Line → V → Type 0)
-    → V → List ℕ → Call → Answer → List Line → V → Type 0
-AtAMoment shows asks u lib call answer lines v = (moment : ℕ) × shows moment × asks u lib call moment answer lines v
+abbrev pub AtAMoment : {V Operation : Type 0} → (ℕ → Type 0) → (V → List ℕ → Call → ℕ → Answer → List Operation → V → Type 0)
+    → V → List ℕ → Call → Answer → List Operation → V → Type 0
+AtAMoment shows asks u lib call answer operations v = (moment : ℕ) × shows moment × asks u lib call moment answer operations v
 
 -- no call was asked, and this is the outcome
-abbrev pub NotAsked : {V Line : Type 0} → V → Outcome → Outcome → List Line → V → Type 0
-NotAsked u due o lines v = (o ≡ due) × (lines ≡ []) × (v ≡ u)
+abbrev pub NotAsked : {V Operation : Type 0} → V → Outcome → Outcome → List Operation → V → Type 0
+NotAsked u due o operations v = (o ≡ due) × (operations ≡ []) × (v ≡ u)
 
-module _ {V Line : Type 0} (asks : V → List ℕ → Call → Answer → List Line → V → Type 0) where
+module _ {V Operation : Type 0} (asks : V → List ℕ → Call → Answer → List Operation → V → Type 0) where
   -- these calls were asked, one after another
-  abbrev pub Ran : V → List (Told Line) → V → Type 0
+  abbrev pub Ran : V → List (Told Operation) → V → Type 0
   Ran u [] v = v ≡ u
-  Ran u (t ∷ ts) v = (mid : V) × asks u t.lib t.call t.answer t.lines mid × Ran mid ts v
+  Ran u (t ∷ ts) v = (mid : V) × asks u t.lib t.call t.answer t.operations mid × Ran mid ts v
 
   -- the call was asked of that library, and the outcome is the answer
-  abbrev pub AskedSo : V → List ℕ → Call → Outcome → List Line → V → Type 0
-  AskedSo u lib call o lines v = (answer : Answer) × asks u lib call answer lines v × (o ≡ told_of answer)
+  abbrev pub AskedSo : V → List ℕ → Call → Outcome → List Operation → V → Type 0
+  AskedSo u lib call o operations v = (answer : Answer) × asks u lib call answer operations v × (o ≡ told_of answer)
 
   -- the files and directories were put one after another, up to the first that was not stored, whose answer is the
   -- outcome
-  abbrev pub PutsEach : List ℕ → Option (List ℕ) → V → List Row → Outcome → List Line → V → Type 0
-  PutsEach lib secret u [] o lines v = NotAsked u all_stored o lines v
-  PutsEach lib secret u (row ∷ rows) o lines v =
-      (answer : Answer) × (mid : V) × (first : List Line) × (more : List Line)
-      × asks u lib (call_of secret (put_of row)) answer first mid × (lines ≡ first ++ more)
+  abbrev pub PutsEach : List ℕ → Option (List ℕ) → V → List Row → Outcome → List Operation → V → Type 0
+  PutsEach lib secret u [] o operations v = NotAsked u all_stored o operations v
+  PutsEach lib secret u (row ∷ rows) o operations v =
+      (answer : Answer) × (mid : V) × (first : List Operation) × (more : List Operation)
+      × asks u lib (call_of secret (put_of row)) answer first mid × (operations ≡ first ++ more)
       × (((is_stored answer.reply ≡ true) × PutsEach lib secret mid rows o more v)
       ⊎ ((is_stored answer.reply ≡ false) × (o ≡ told_of answer) × (more ≡ []) × (v ≡ mid)))
 
   -- the files and directories were asked for one after another, after these that were given: up to the first that was not
   -- given, whose answer is the outcome, or with which they are more than fit in one reply, which is want of memory; where
   -- all were given, the outcome is all of them
-  abbrev pub GetsEach : List ℕ → Option (List ℕ) → V → List (List ℕ) → List Row → Outcome → List Line → V → Type 0
-  GetsEach lib secret u [] given o lines v = NotAsked u (Packed given) o lines v
-  GetsEach lib secret u (id ∷ ids) given o lines v =
-      (answer : Answer) × (mid : V) × (first : List Line) × (more : List Line)
-      × asks u lib (call_of secret (get_of id)) answer first mid × (lines ≡ first ++ more)
+  abbrev pub GetsEach : List ℕ → Option (List ℕ) → V → List (List ℕ) → List Row → Outcome → List Operation → V → Type 0
+  GetsEach lib secret u [] given o operations v = NotAsked u (Packed given) o operations v
+  GetsEach lib secret u (id ∷ ids) given o operations v =
+      (answer : Answer) × (mid : V) × (first : List Operation) × (more : List Operation)
+      × asks u lib (call_of secret (get_of id)) answer first mid × (operations ≡ first ++ more)
       × (((bytes : List ℕ) × (answer.reply ≡ reply.Got bytes) × FitReply (given ++ row_with id bytes ∷ [])
       × GetsEach lib secret mid ids (given ++ row_with id bytes ∷ []) o more v)
       ⊎ (((bytes : List ℕ) × (answer.reply ≡ reply.Got bytes) × (most_packed < packed_size (given ++ row_with id bytes ∷ []))
@@ -126,36 +126,36 @@ module _ {V Line : Type 0} (asks : V → List ℕ → Call → Answer → List L
       ⊎ ((is_got answer.reply ≡ false) × (o ≡ told_of answer) × (more ≡ []) × (v ≡ mid))))
 
   -- what was asked of a library has this outcome
-  abbrev pub ServedBy : List ℕ → Option (List ℕ) → What → V → Outcome → List Line → V → Type 0
-  ServedBy lib secret what.Version u o lines v = NotAsked u Version o lines v
-  ServedBy lib secret (what.Check op) u o lines v = AskedSo u lib (call_of secret (act.Check op)) o lines v
-  ServedBy lib secret what.Head u o lines v = AskedSo u lib (call_of secret act.Head) o lines v
-  ServedBy lib secret (what.Update commit) u o lines v = AskedSo u lib (call_of secret (act.Update commit)) o lines v
-  ServedBy lib secret (what.Get key) u o lines v = AskedSo u lib (call_of secret (act.Get key)) o lines v
-  ServedBy lib secret (what.Put key bytes) u o lines v = AskedSo u lib (call_of secret (act.Put key bytes)) o lines v
-  ServedBy lib secret (what.Missing kind ids) u o lines v = AskedSo u lib (call_of secret (act.Missing kind ids)) o lines v
-  ServedBy lib secret (what.PutFs rows) u o lines v = PutsEach lib secret u rows o lines v
-  ServedBy lib secret (what.GetFs ids) u o lines v = GetsEach lib secret u ids [] o lines v
-  ServedBy lib secret (what.Ids server client) u o lines v = AskedSo u lib (call_of secret (act.Ids server client)) o lines v
+  abbrev pub ServedBy : List ℕ → Option (List ℕ) → What → V → Outcome → List Operation → V → Type 0
+  ServedBy lib secret what.Version u o operations v = NotAsked u Version o operations v
+  ServedBy lib secret (what.Check op) u o operations v = AskedSo u lib (call_of secret (act.Check op)) o operations v
+  ServedBy lib secret what.Head u o operations v = AskedSo u lib (call_of secret act.Head) o operations v
+  ServedBy lib secret (what.Update commit) u o operations v = AskedSo u lib (call_of secret (act.Update commit)) o operations v
+  ServedBy lib secret (what.Get key) u o operations v = AskedSo u lib (call_of secret (act.Get key)) o operations v
+  ServedBy lib secret (what.Put key bytes) u o operations v = AskedSo u lib (call_of secret (act.Put key bytes)) o operations v
+  ServedBy lib secret (what.Missing kind ids) u o operations v = AskedSo u lib (call_of secret (act.Missing kind ids)) o operations v
+  ServedBy lib secret (what.PutFs rows) u o operations v = PutsEach lib secret u rows o operations v
+  ServedBy lib secret (what.GetFs ids) u o operations v = GetsEach lib secret u ids [] o operations v
+  ServedBy lib secret (what.Ids server client) u o operations v = AskedSo u lib (call_of secret (act.Ids server client)) o operations v
 
-  abbrev pub ServedAt : Option (List ℕ) → Option (List ℕ) → What → V → Outcome → List Line → V → Type 0
-  ServedAt None secret w u o lines v = NotAsked u (outcome_without_library w) o lines v
-  ServedAt (Some lib) secret w u o lines v = ServedBy lib secret w u o lines v
+  abbrev pub ServedAt : Option (List ℕ) → Option (List ℕ) → What → V → Outcome → List Operation → V → Type 0
+  ServedAt None secret w u o operations v = NotAsked u (outcome_without_library w) o operations v
+  ServedAt (Some lib) secret w u o operations v = ServedBy lib secret w u o operations v
 
   -- a request whose reading is this has this outcome: the refusal that it was read as, without a call, or what the
   -- answers to its calls make
-  abbrev pub ServedSo : V → Result Order Refusal → Outcome → List Line → V → Type 0
-  ServedSo u (Err refusal) o lines v = NotAsked u (Refused refusal) o lines v
-  ServedSo u (Ok order) o lines v = ServedAt order.lib order.secret order.what u o lines v
+  abbrev pub ServedSo : V → Result Order Refusal → Outcome → List Operation → V → Type 0
+  ServedSo u (Err refusal) o operations v = NotAsked u (Refused refusal) o operations v
+  ServedSo u (Ok order) o operations v = ServedAt order.lib order.secret order.what u o operations v
 
   -- the same of a request that may be read as such, or want of memory: for the text of the outcome, after the calls,
   -- or for the order or the outcome, and then without a call
-  pub data Serves (u : V) (IsDue : Result Order Refusal → Type 0) (o : Outcome) (lines : List Line) (v : V) : Type 0 where
-    told : (order : Result Order Refusal) → IsDue order → ServedSo u order o lines v → Serves u IsDue o lines v
-    unwritten : (order : Result Order Refusal) (due : Outcome) → IsDue order → ServedSo u order due lines v → o ≡ Refused NoMemory
-        → Serves u IsDue o lines v
-    unready : NotAsked u (Refused NoMemory) o lines v → Serves u IsDue o lines v
+  pub data Serves (u : V) (IsDue : Result Order Refusal → Type 0) (o : Outcome) (operations : List Operation) (v : V) : Type 0 where
+    told : (order : Result Order Refusal) → IsDue order → ServedSo u order o operations v → Serves u IsDue o operations v
+    unwritten : (order : Result Order Refusal) (due : Outcome) → IsDue order → ServedSo u order due operations v → o ≡ Refused NoMemory
+        → Serves u IsDue o operations v
+    unready : NotAsked u (Refused NoMemory) o operations v → Serves u IsDue o operations v
 
   -- an order that was read has its outcome, or there was no memory for it, and then no call
-  abbrev pub ServesOrder : V → Order → Outcome → List Line → V → Type 0
-  ServesOrder u order o lines v = ServedSo u (Ok order) o lines v ⊎ NotAsked u (Refused NoMemory) o lines v
+  abbrev pub ServesOrder : V → Order → Outcome → List Operation → V → Type 0
+  ServesOrder u order o operations v = ServedSo u (Ok order) o operations v ⊎ NotAsked u (Refused NoMemory) o operations v

@@ -174,11 +174,11 @@ StopsSo (end.Refused status) given now how = RefusesSo status given now how
 StopsSo end.ReadFault given now how = (how ≡ served.ReadFault) × (now ≡ given)
 StopsSo end.NoMemory given now how = (how ≡ served.NoMemory) × (now ≡ given)
 
-module _ {V Line : Type 0} (asks : V → List ℕ → Call → Answer → List Line → V → Type 0) where
+module _ {V Operation : Type 0} (asks : V → List ℕ → Call → Answer → List Operation → V → Type 0) where
   -- the request of this number was read from `rest` and answered, and its reply was given whole. `buffer` and `held` are
   -- what had been taken and not yet used, before and after
   pub record OneMore (n : ℕ) (rest buffer held : List ℕ) (left : Option (List ℕ)) (u v : V) (old new : LinkTells) (closed : Bool) : Type 0 where
-    pub exchange : Exchange Line
+    pub exchange : Exchange Operation
     pub after : List ℕ
     pub is : IsRequest rest exchange.request after
     pub ahead : left ≡ Some after

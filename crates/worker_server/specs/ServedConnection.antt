@@ -29,14 +29,14 @@ Shows r secret = IsTokenIn (found (values_of (codes "seafile-repo-token") (field
 abbrev pub IsOrderFor : Request → Option (List ℕ) → Result Order Refusal → Type 0
 IsOrderFor r secret = IsOrder (method_of r.head.method) r.head.target secret r.body
 
--- a request that was answered, its outcome, and the lines that its calls left
-pub record Exchange (Line : Type 0) : Type 0 where
+-- a request that was answered, its outcome, and the operations that its calls left
+pub record Exchange (Operation : Type 0) : Type 0 where
   pub request : Request
   pub outcome : Outcome
-  pub lines : List Line
+  pub operations : List Operation
 
 -- the requests that were answered
-abbrev pub requests : {Line : Type 0} → List (Exchange Line) → List Request
+abbrev pub requests : {Operation : Type 0} → List (Exchange Operation) → List Request
 requests xs = map (λ x. x.request) xs
 
 -- the number of the last request that is answered on a connection, counted from 0, and how many they are then
@@ -51,20 +51,20 @@ abbrev pub closes_at : ℕ → Request → Bool
 closes_at n r = closes r.head || n == last_request
 
 -- what is given for the request of this number: the interim reply, where its head waits for one, and then its reply
-abbrev pub text_at : {Line : Type 0} → ℕ → Exchange Line → List ℕ
+abbrev pub text_at : {Operation : Type 0} → ℕ → Exchange Operation → List ℕ
 text_at n x = interim_of x.request.head ++ text x.outcome (closes_at n x.request)
 
 -- the same of the requests from that number on
-abbrev pub texts : {Line : Type 0} → ℕ → List (Exchange Line) → List ℕ
+abbrev pub texts : {Operation : Type 0} → ℕ → List (Exchange Operation) → List ℕ
 texts n [] = []
 texts n (x ∷ xs) = text_at n x ++ texts (n + 1) xs
 
 -- no request asks to close
-abbrev pub AllOpen : {Line : Type 0} → List (Exchange Line) → Type 0
+abbrev pub AllOpen : {Operation : Type 0} → List (Exchange Operation) → Type 0
 AllOpen xs = All (λ x. closes x.request.head ≡ false) xs
 
 -- the last request asks to close
-abbrev pub LastCloses : {Line : Type 0} → List (Exchange Line) → Type 0
+abbrev pub LastCloses : {Operation : Type 0} → List (Exchange Operation) → Type 0
 LastCloses [] = ⊥
 LastCloses (x ∷ []) = closes x.request.head ≡ true
 LastCloses (x ∷ (y ∷ more)) = LastCloses (y ∷ more)
@@ -105,20 +105,20 @@ StopsUnasked ReadFault rest given now = (bytes : List ℕ) × IsBegun rest bytes
 StopsUnasked WriteFault rest given now = (bytes : List ℕ) × IsDueFirst rest bytes × GivesFront given now bytes
 StopsUnasked NoMemory rest given now = (bytes : List ℕ) × IsBegun rest bytes × (now ≡ append_known given bytes)
 
-module _ {V Line : Type 0} (asks : V → List ℕ → Call → Answer → List Line → V → Type 0) where
+module _ {V Operation : Type 0} (asks : V → List ℕ → Call → Answer → List Operation → V → Type 0) where
   -- a request and its outcome
-  abbrev pub Answers : V → Exchange Line → V → Type 0
+  abbrev pub Answers : V → Exchange Operation → V → Type 0
   Answers u x v =
       (secret : Option (List ℕ)) × Shows x.request secret
-      × Serves asks u (IsOrderFor x.request secret) x.outcome x.lines v
+      × Serves asks u (IsOrderFor x.request secret) x.outcome x.operations v
 
   -- each request in its turn
-  abbrev pub Run : V → List (Exchange Line) → V → Type 0
+  abbrev pub Run : V → List (Exchange Operation) → V → Type 0
   Run u [] v = v ≡ u
   Run u (x ∷ xs) v = (mid : V) × Answers u x mid × Run mid xs v
 
   -- a request that stands at the front of what is left to read, asked and with its outcome
-  pub record AnswersNext (rest : List ℕ) (u : V) (x : Exchange Line) (v : V) : Type 0 where
+  pub record AnswersNext (rest : List ℕ) (u : V) (x : Exchange Operation) (v : V) : Type 0 where
     pub after : List ℕ
     pub is : IsRequest rest x.request after
     pub answers : Answers u x v
@@ -126,9 +126,9 @@ module _ {V Line : Type 0} (asks : V → List ℕ → Call → Answer → List L
   -- how the connection stops after a further request was asked, of which n were answered before: its reply was given in
   -- part alone, or there was no memory for it
   abbrev pub StopsAsked : Served → ℕ → List ℕ → V → V → Option (List ℕ) → Option (List ℕ) → Type 0
-  StopsAsked WriteFault n rest u v given now = (x : Exchange Line) × AnswersNext rest u x v × GivesFront given now (text_at n x)
+  StopsAsked WriteFault n rest u v given now = (x : Exchange Operation) × AnswersNext rest u x v × GivesFront given now (text_at n x)
   StopsAsked NoMemory n rest u v given now =
-      (x : Exchange Line) × AnswersNext rest u x v × (now ≡ append_known given (interim_of x.request.head))
+      (x : Exchange Operation) × AnswersNext rest u x v × (now ≡ append_known given (interim_of x.request.head))
   StopsAsked how n rest u v given now = ⊥
 
   -- how the connection stops in place of a next reply, as n replies were given and this is left to read
@@ -138,7 +138,7 @@ module _ {V Line : Type 0} (asks : V → List ℕ → Call → Answer → List L
   -- how the connection ends after these requests, of which each reply was given whole: they were 10,000, or the last
   -- asked to close, or none did and it stops in place of the next reply
   abbrev pub Ends :
-      Served → List (Exchange Line) → List ℕ → V → V → Option (List ℕ) → Option (List ℕ) → Type 0
+      Served → List (Exchange Operation) → List ℕ → V → V → Option (List ℕ) → Option (List ℕ) → Type 0
   Ends Limit xs rest u v given now = (length xs ≡ request_limit) × (v ≡ u) × (now ≡ given)
   Ends Ended xs rest u v given now = (length xs < request_limit)
       × ((LastCloses xs × (v ≡ u) × (now ≡ given)) ⊎ (AllOpen xs × Stops Ended (length xs) rest u v given now))
@@ -147,7 +147,7 @@ module _ {V Line : Type 0} (asks : V → List ℕ → Call → Answer → List L
   -- a call on a link that had the input left: u and v are what the host showed before and after, and `given` and
   -- `now` what the link was given
   pub record Session (input : List ℕ) (given now : Option (List ℕ)) (u v : V) (result : Served) : Type 0 where
-    pub exchanges : List (Exchange Line)
+    pub exchanges : List (Exchange Operation)
     pub rest : List ℕ
     pub mid : V
     pub read : Reads input (requests exchanges) rest
@@ -156,13 +156,13 @@ module _ {V Line : Type 0} (asks : V → List ℕ → Call → Answer → List L
 
 -- ---- a reply never waits for more input
 
-module _ {Line : Type 0} where
+module _ {Operation : Type 0} where
   -- the link was asked for more as so many bytes of the input had been taken, and so many given. What was taken is less than
   -- 10,000 requests, none of which closes, and then less than a request. To each of them its reply was given, and to what follows the
   -- interim reply that it waits for; nothing is held back, and nothing comes early
-  pub record IsInTime (input : List ℕ) (xs : List (Exchange Line)) (taken given : ℕ) : Type 0 where
-    pub answered : List (Exchange Line)
-    pub later : List (Exchange Line)
+  pub record IsInTime (input : List ℕ) (xs : List (Exchange Operation)) (taken given : ℕ) : Type 0 where
+    pub answered : List (Exchange Operation)
+    pub later : List (Exchange Operation)
     pub split : xs ≡ answered ++ later
     pub few : length answered < request_limit
     pub none_closes : AllOpen answered
@@ -173,7 +173,7 @@ module _ {Line : Type 0} where
     pub replied : given ≡ length (texts 0 answered ++ first)
 
   -- the same, where the connection began as these counts stood
-  pub record IsAskedInTime (input : List ℕ) (xs : List (Exchange Line)) (taken given : ℕ) (asked : Asked) : Type 0 where
+  pub record IsAskedInTime (input : List ℕ) (xs : List (Exchange Operation)) (taken given : ℕ) (asked : Asked) : Type 0 where
     pub more_taken : ℕ
     pub more_given : ℕ
     pub taken_is : asked.0 ≡ taken + more_taken
@@ -187,14 +187,14 @@ ComesInPieces taken (asked ∷ more) now = (asked.0 ≡ taken) × (size : ℕ) �
 
 -- where the link tells what it was asked: a connection with these exchanges asked for more only as it had no whole request
 -- unanswered, and then for one piece
-abbrev pub NeverWaits : {Line : Type 0} → List ℕ → List (Exchange Line) → LinkTells → LinkTells → Type 0
+abbrev pub NeverWaits : {Operation : Type 0} → List ℕ → List (Exchange Operation) → LinkTells → LinkTells → Type 0
 NeverWaits input xs old new =
     (taken given : List ℕ) (before : List Asked) → old.taken ≡ Some taken → old.given ≡ Some given → old.asked ≡ Some before
     → (asked : List Asked) × (now : List ℕ) × (new.asked ≡ Some (before ++ asked)) × (new.taken ≡ Some now)
     × All (IsAskedInTime input xs (length taken) (length given)) asked × ComesInPieces (length taken) asked (length now)
 
 -- a connection whose replies never wait: the clause of a call on a link that had the input left
-abbrev pub SessionInTime : {V Line : Type 0} → (V → List ℕ → Call → Answer → List Line → V → Type 0) → List ℕ → LinkTells → LinkTells
+abbrev pub SessionInTime : {V Operation : Type 0} → (V → List ℕ → Call → Answer → List Operation → V → Type 0) → List ℕ → LinkTells → LinkTells
     → V → V → Served → Type 0
 SessionInTime asks input old new u v result =
     (done : Session asks input old.given new.given u v result) × NeverWaits input done.exchanges old new

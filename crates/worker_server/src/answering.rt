@@ -23,8 +23,8 @@ pub fn reply_to<H: Host>(
 ) -> Option<Bytes>
     requires ready { H.ready host.now pass.old }
     ensures ready { H.ready host.now pass.new }
-    ensures serves { (outcome : Outcome) × (lines : List H.Line)
-        × Serves (AtAMoment (H.shows host.now) H.asks) (H.view pass.old) (IsOrder head.now.method head.now.target head.now.token body.now) outcome lines (H.view pass.new)
+    ensures serves { (outcome : Outcome) × (operations : List H.Operation)
+        × Serves (AtAMoment (H.shows host.now) H.asks) (H.view pass.old) (IsOrder head.now.method head.now.target head.now.token body.now) outcome operations (H.view pass.new)
         × IfSome result (λ bytes. bytes ≡ text outcome closes) }
 {
     let outcome = outcome_of(alloc, host, pass, head, body);
@@ -54,8 +54,8 @@ fn outcome_of<H: Host>(
 ) -> Outcome
     requires ready { H.ready host.now pass.old }
     ensures ready { H.ready host.now pass.new }
-    ensures serves { (lines : List H.Line)
-        × Serves (AtAMoment (H.shows host.now) H.asks) (H.view pass.old) (IsOrder head.now.method head.now.target head.now.token body.now) result lines (H.view pass.new) }
+    ensures serves { (operations : List H.Operation)
+        × Serves (AtAMoment (H.shows host.now) H.asks) (H.view pass.old) (IsOrder head.now.method head.now.target head.now.token body.now) result operations (H.view pass.new) }
 {
     match order_of(alloc, head, body) {
         Ok(order) => outcome_in(alloc, host, pass, order),
@@ -77,7 +77,7 @@ fn refusal_of(fault: OrderFault) -> Refusal
 fn outcome_in<H: Host>(alloc: Global, host: &H, pass: &mut H::Pass, order: Order) -> Outcome
     requires ready { H.ready host.now pass.old }
     ensures ready { H.ready host.now pass.new }
-    ensures serves { (lines : List H.Line) × ServesOrder (AtAMoment (H.shows host.now) H.asks) (H.view pass.old) order result lines (H.view pass.new) }
+    ensures serves { (operations : List H.Operation) × ServesOrder (AtAMoment (H.shows host.now) H.asks) (H.view pass.old) order result operations (H.view pass.new) }
 {
     let Order { lib, secret, what } = order;
     match lib {
@@ -107,8 +107,8 @@ fn outcome_by<H: Host>(
 ) -> Outcome
     requires ready { H.ready host.now pass.old }
     ensures ready { H.ready host.now pass.new }
-    ensures serves { (lines : List H.Line)
-        × ServesOrder (AtAMoment (H.shows host.now) H.asks) (H.view pass.old) (record { lib = Some lib; secret = secret; what = what }) result lines (H.view pass.new) }
+    ensures serves { (operations : List H.Operation)
+        × ServesOrder (AtAMoment (H.shows host.now) H.asks) (H.view pass.old) (record { lib = Some lib; secret = secret; what = what }) result operations (H.view pass.new) }
 {
     match what {
         What::Version => Outcome::Version,

@@ -20,8 +20,8 @@ pub fn ask_one<H: Host>(
 ) -> Outcome
     requires ready { H.ready host.now pass.old }
     ensures ready { H.ready host.now pass.new }
-    ensures asked { (lines : List H.Line)
-        × AskedSo (AtAMoment (H.shows host.now) H.asks) (H.view pass.old) lib (call_of secret act) result lines (H.view pass.new) }
+    ensures asked { (operations : List H.Operation)
+        × AskedSo (AtAMoment (H.shows host.now) H.asks) (H.view pass.old) lib (call_of secret act) result operations (H.view pass.new) }
 {
     told_of(host.ask(alloc, pass, lib, Call { secret, act }))
 }
@@ -37,8 +37,8 @@ pub fn put_each<H: Host>(
 ) -> Outcome
     requires ready { H.ready host.now pass.old }
     ensures ready { H.ready host.now pass.new }
-    ensures asked { (lines : List H.Line)
-        × PutsEach (AtAMoment (H.shows host.now) H.asks) lib secret (H.view pass.old) rows result lines (H.view pass.new) }
+    ensures asked { (operations : List H.Operation)
+        × PutsEach (AtAMoment (H.shows host.now) H.asks) lib secret (H.view pass.old) rows result operations (H.view pass.new) }
 {
     let mut left = rows.into_vec();
     left.reverse();
@@ -68,8 +68,8 @@ fn put_one<H: Host>(
 ) -> Answer
     requires ready { H.ready host.now pass.old }
     ensures ready { H.ready host.now pass.new }
-    ensures asks { (lines : List H.Line)
-        × (AtAMoment (H.shows host.now) H.asks) (H.view pass.old) lib.now (call_of secret.now (put_of row)) result lines (H.view pass.new) }
+    ensures asks { (operations : List H.Operation)
+        × (AtAMoment (H.shows host.now) H.asks) (H.view pass.old) lib.now (call_of secret.now (put_of row)) result operations (H.view pass.new) }
 {
     let Row { id, bytes } = row;
     let key = Key { kind: Kind::Fs, id };
@@ -100,9 +100,9 @@ pub fn get_each<H: Host>(
 ) -> Outcome
     requires ready { H.ready host.now pass.old }
     ensures ready { H.ready host.now pass.new }
-    ensures asked { (lines : List H.Line)
-        × (GetsEach (AtAMoment (H.shows host.now) H.asks) lib secret (H.view pass.old) ids.now [] result lines (H.view pass.new)
-        ⊎ NotAsked (H.view pass.old) (Outcome.Refused Refusal.NoMemory) result lines (H.view pass.new)) }
+    ensures asked { (operations : List H.Operation)
+        × (GetsEach (AtAMoment (H.shows host.now) H.asks) lib secret (H.view pass.old) ids.now [] result operations (H.view pass.new)
+        ⊎ NotAsked (H.view pass.old) (Outcome.Refused Refusal.NoMemory) result operations (H.view pass.new)) }
 {
     let mut rows = match Vec::with_capacity(alloc, ids.len()) {
         Ok(rows) => rows,
@@ -149,8 +149,8 @@ fn get_next<H: Host>(
 ) -> Answer
     requires ready { H.ready host.now pass.old }
     ensures ready { H.ready host.now pass.new }
-    ensures asks { (lines : List H.Line)
-        × (AtAMoment (H.shows host.now) H.asks) (H.view pass.old) lib.now (call_of secret.now (get_of id)) result lines (H.view pass.new) }
+    ensures asks { (operations : List H.Operation)
+        × (AtAMoment (H.shows host.now) H.asks) (H.view pass.old) lib.now (call_of secret.now (get_of id)) result operations (H.view pass.new) }
 {
     if is_first {
         return host.ask_first(alloc, pass, *lib, *secret, id, ids, MOST_PACKED);

@@ -40,7 +40,7 @@ pub fn serve_session<H: Host, L: Link>(
         (told_by L.taken L.given L.asked link.new) (H.view pass.old) (H.view pass.new) result }
 
     // Of every link: the calls that were asked.
-    ensures ran { (calls : List (Told H.Line)) × Ran (AtAMoment (H.shows host.now) H.asks) (H.view pass.old) calls (H.view pass.new) }
+    ensures ran { (calls : List (Told H.Operation)) × Ran (AtAMoment (H.shows host.now) H.asks) (H.view pass.old) calls (H.view pass.new) }
 
     // The link's count of faults rose in the first two cases, and stayed in every other.
     ensures read_fault { result ≡ Served.ReadFault → Rose (L.faults link.old) (L.faults link.new) }
@@ -82,7 +82,7 @@ fn serve_one<H: Host, L: Link>(
         → OneServed (AtAMoment (H.shows host.now) H.asks) number rest buffer.old buffer.new (to_read buffer.new (L.left link.new))
         (H.view pass.old) (H.view pass.new) (told_by L.taken L.given L.asked link.old) (told_by L.taken L.given L.asked link.new) result }
     ensures still { OnErr result (to_read buffer.new (L.left link.new) ≡ to_read buffer.old (L.left link.old)) }
-    ensures ran { (calls : List (Told H.Line)) × Ran (AtAMoment (H.shows host.now) H.asks) (H.view pass.old) calls (H.view pass.new) }
+    ensures ran { (calls : List (Told H.Operation)) × Ran (AtAMoment (H.shows host.now) H.asks) (H.view pass.old) calls (H.view pass.new) }
     ensures last { IfErr result (λ how. EndsAsked how (told_by L.taken L.given L.asked link.new)) }
     ensures faults { CountsServed (L.faults link.old) (L.faults link.new) result }
 {

@@ -19,7 +19,7 @@ pub struct Answer {
 /// A host is shared, and what changes as it answers is the pass that it is lent at each call: the
 /// library itself, or a participant that has seen a part of a history. A host keeps the clock, and
 /// looks at it as it is asked. Contracts see a pass by a view, and a call by a relation between the
-/// view before, the moment at which it is asked, the answer, the lines that it left (a record of
+/// view before, the moment at which it is asked, the answer, the operations that it left (a record of
 /// operations, empty where none is kept) and the view after.
 pub trait Host {
     ghost use Rattle.std.specs.Prelude.{List, ℕ};
@@ -30,7 +30,7 @@ pub trait Host {
     type Pass;
 
     // What a call leaves in the record of operations.
-    ghost Line: { Type 0 };
+    ghost Operation: { Type 0 };
 
     // What contracts see of a pass.
     ghost View: { Type 0 };
@@ -44,14 +44,14 @@ pub trait Host {
     ghost shows: { Self → ℕ → Type 0 };
 
     // A call on a library, asked at this moment, may be answered so.
-    ghost asks: { View → List ℕ → Call → ℕ → Answer → List Line → View → Type 0 };
+    ghost asks: { View → List ℕ → Call → ℕ → Answer → List Operation → View → Type 0 };
 
     /// Asks a call of a library, at a moment that the clock shows.
     fn ask(&self, alloc: Global, pass: &mut Self::Pass, lib: LibId, call: Call) -> Answer
         requires ready { ready self.now pass.old }
         ensures ready { ready self.now pass.new }
-        ensures asks { (lines : List Line)
-            × AtAMoment (shows self.now) asks (view pass.old) lib call result lines (view pass.new) };
+        ensures asks { (operations : List Operation)
+            × AtAMoment (shows self.now) asks (view pass.old) lib call result operations (view pass.new) };
 
     /// Asks a library for a file or directory, the first of `ids`, which will be asked for one after another.
     ///
@@ -68,6 +68,6 @@ pub trait Host {
     ) -> Answer
         requires ready { ready self.now pass.old }
         ensures ready { ready self.now pass.new }
-        ensures asks { (lines : List Line)
-            × AtAMoment (shows self.now) asks (view pass.old) lib (call_of secret (get_of id)) result lines (view pass.new) };
+        ensures asks { (operations : List Operation)
+            × AtAMoment (shows self.now) asks (view pass.old) lib (call_of secret (get_of id)) result operations (view pass.new) };
 }

@@ -17,6 +17,6 @@ pub fn the_limits_are_these()
 /// The files and directories that one reply packs have together no more bytes than fit, whatever was asked for and whatever
 /// the host holds.
 pub fn a_packed_reply_has_a_bound<H: Host>()
-    ensures { (host : H) (u v : H.View) (order : Result Order Refusal) (rows : List Row) (lines : List H.Line)
-        → Serves (AtAMoment (H.shows host) H.asks) u (λ due. due ≡ order) (Packed rows) lines v → packed_size rows ≤ most_packed }
+    ensures { (host : H) (u v : H.View) (order : Result Order Refusal) (rows : List Row) (operations : List H.Operation)
+        → Serves (AtAMoment (H.shows host) H.asks) u (λ due. due ≡ order) (Packed rows) operations v → packed_size rows ≤ most_packed }
 {}

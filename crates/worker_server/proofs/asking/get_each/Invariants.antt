@@ -7,8 +7,8 @@ use Rattle.worker_server.proofs.asking.get_each.Given as goal
 abbrev pub invariant-loop-id : goal.invariant-loop-id
 invariant-loop-id g l = record {
   is_ready : g.H.Host.ready l.host l.pass;
-  goes_on : (o : Outcome) (more : List g.H.Host.Line) (v : g.H.Host.View) → GetsEach (AtAMoment (g.H.Host.shows l.host) g.H.Host.asks) l.lib l.secret (g.H.Host.view l.pass) (drop l.id-index l.ids) l.rows.items o more v
-      → (lines : List g.H.Host.Line) × GetsEach (AtAMoment (g.H.Host.shows l.host) g.H.Host.asks) l.fn.lib l.fn.secret (g.H.Host.view l.fn.pass) l.ids [] o lines v;
+  goes_on : (o : Outcome) (more : List g.H.Host.Operation) (v : g.H.Host.View) → GetsEach (AtAMoment (g.H.Host.shows l.host) g.H.Host.asks) l.lib l.secret (g.H.Host.view l.pass) (drop l.id-index l.ids) l.rows.items o more v
+      → (operations : List g.H.Host.Operation) × GetsEach (AtAMoment (g.H.Host.shows l.host) g.H.Host.asks) l.fn.lib l.fn.secret (g.H.Host.view l.fn.pass) l.ids [] o operations v;
   room : length l.ids ≤ vec_capacity l.rows;
   count : vec_len l.rows ≡ l.id-index;
   size : l.packed ≡ packed_size l.rows.items;

@@ -7,8 +7,8 @@ use Rattle.worker_server.proofs.asking.put_each.Given as goal
 abbrev pub invariant-loop-row : goal.invariant-loop-row
 invariant-loop-row g l = record {
   is_ready : g.H.Host.ready l.host l.pass;
-  goes_on : (o : Outcome) (more : List g.H.Host.Line) (v : g.H.Host.View) → PutsEach (AtAMoment (g.H.Host.shows l.host) g.H.Host.asks) l.lib l.secret (g.H.Host.view l.pass) (reverse l.left.items) o more v
-      → (lines : List g.H.Host.Line) × PutsEach (AtAMoment (g.H.Host.shows l.host) g.H.Host.asks) l.fn.lib l.fn.secret (g.H.Host.view l.fn.pass) l.fn.rows o lines v;
+  goes_on : (o : Outcome) (more : List g.H.Host.Operation) (v : g.H.Host.View) → PutsEach (AtAMoment (g.H.Host.shows l.host) g.H.Host.asks) l.lib l.secret (g.H.Host.view l.pass) (reverse l.left.items) o more v
+      → (operations : List g.H.Host.Operation) × PutsEach (AtAMoment (g.H.Host.shows l.host) g.H.Host.asks) l.fn.lib l.fn.secret (g.H.Host.view l.fn.pass) l.fn.rows o operations v;
 }
 
 abbrev pub decreases-loop-row : goal.decreases-loop-row

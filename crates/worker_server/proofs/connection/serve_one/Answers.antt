@@ -20,7 +20,7 @@ returns-in-None-clause-one g c = λ rest e.
     let here = Serves-at asks _ _ c.in-Ok.head _ _ _ _ c.front-front.ensures served.2 in
     let next = AnswersNext-from_reply asks c.next_request.new.buffer (g.L.Link.left c.next_request.new.link) rest c.in-Ok.head stands.0 stands.1 stands.2 (c.in-Ok.ensures.to_read ∙ e)
     _ _ served.0 served.1 here in
-    record { stops = inr (record { request = stands.0; outcome = served.0; lines = served.1 }, next, stands.3); reading = c.in-Ok.ensures.reading }
+    record { stops = inr (record { request = stands.0; outcome = served.0; operations = served.1 }, next, stands.3); reading = c.in-Ok.ensures.reading }
 
 pub returns-in-None-clause-ran : goal.returns-in-None-clause-ran
 returns-in-None-clause-ran g c = Serves-ran _ _ _ _ _ _ c.in-None.ensures.serves.2

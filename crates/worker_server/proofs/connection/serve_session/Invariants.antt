@@ -12,6 +12,6 @@ invariant-loop-number g l = record {
   so_far : (input : List ℕ) → g.L.Link.left l.fn.link ≡ Some input
       → SoFar (AtAMoment (g.H.Host.shows l.host) g.H.Host.asks) l.number input l.buffer (told_by g.L.Link.taken g.L.Link.given g.L.Link.asked l.fn.link) (told_by g.L.Link.taken g.L.Link.given g.L.Link.asked l.link)
       (to_read l.buffer (g.L.Link.left l.link)) (g.H.Host.view l.fn.pass) (g.H.Host.view l.pass);
-  ran : (calls : List (Told g.H.Host.Line)) × Ran (AtAMoment (g.H.Host.shows l.host) g.H.Host.asks) (g.H.Host.view l.fn.pass) calls (g.H.Host.view l.pass);
+  ran : (calls : List (Told g.H.Host.Operation)) × Ran (AtAMoment (g.H.Host.shows l.host) g.H.Host.asks) (g.H.Host.view l.fn.pass) calls (g.H.Host.view l.pass);
   faults : g.L.Link.faults l.link ≡ g.L.Link.faults l.fn.link;
 }

@@ -4,4 +4,4 @@ use Rattle.worker_server.proofs.CallLemmas.{Serves-fits}
 use Rattle.worker_server.proofs.laws.a_packed_reply_has_a_bound.Goals as goal
 
 pub returns : goal.returns
-returns g c = λ host u v order rows lines served. Serves-fits (AtAMoment (g.H.Host.shows host) g.H.Host.asks) u _ rows lines v served
+returns g c = λ host u v order rows operations served. Serves-fits (AtAMoment (g.H.Host.shows host) g.H.Host.asks) u _ rows operations v served
