@@ -1,11 +1,12 @@
 -- The head of a reply, as a client reads it: where one stands at the front of some bytes, where one may still come, and
 -- what is told by one. The grammar of heads is httparse's (RFC 9112, sections 2 to 5); that a head is of HTTP/1.1 and has
--- at most 64 fields is our own, as are the statuses. Read IsHeadAt first, then IsRight.
+-- at most so many fields (Limits of `http_front`) is our own, as are the statuses. Read IsHeadAt first, then IsRight.
 use Rattle.std.specs.Prelude.{ℕ, ◌≡◌, ◌≤◌, Bool, true, false, Option, None, Some, List, ◌++◌, [], length, map, option_map, codes, ⊤}
 use Rattle.httparse.specs.Grammar.{ReadsResponse, ResponseHead, status_code}
 use Rattle.httparse.specs.Spans.{name_and_value}
 use Rattle.library_state.specs.declared.tag.Tag.{Tag}
 use Rattle.http_front.specs.Fields.{FieldList, Found, absent, once, again, found, values_of}
+use Rattle.http_front.specs.Limits.{field_limit}
 use Rattle.http_front.specs.NextHead.{IsTagIn}
 use Rattle.http_front.specs.RequestHead.{number_in, wants_close}
 use Rattle.http_front.specs.declared.order.What.{What}
@@ -18,7 +19,7 @@ use Rattle.http_front.specs.declared.status.Status.TheVariants.{Success, NotModi
 pub record IsHeadAt (bytes : List ℕ) (head : ResponseHead) (rest : List ℕ) : Type 0 where
   pub reads : ReadsResponse bytes head rest
   pub newest : head.minor ≡ 1
-  pub few : length head.fields ≤ 64
+  pub few : length head.fields ≤ field_limit
 
 -- no such head stands at the front
 abbrev pub HasNoHead : List ℕ → Type 0

@@ -1,6 +1,7 @@
 -- The reply that stands at the front of some bytes, for one who gave an order. Read IsResponse first, at the end.
 use Rattle.std.specs.Prelude.{ℕ, ◌≡◌, ◌+◌, ◌<◌, ◌≤◌, Bool, None, Some, List, length, take, drop}
 use Rattle.httparse.specs.Grammar.{HasNoResponse, ResponseHead, print_response}
+use Rattle.http_front.specs.Limits.{head_limit}
 use Rattle.http_front.specs.declared.order.What.{What}
 use Rattle.http_front.specs.declared.outcome.Outcome.{Outcome}
 use Rattle.http_front.specs.declared.status.Status.{Status}
@@ -11,7 +12,7 @@ use Rattle.http_client.specs.declared.response.Response.TheVariants.{Need, Whole
 
 -- the bytes of which a head is read
 abbrev pub front_of : List ℕ → List ℕ
-front_of buffer = take 16384 buffer
+front_of buffer = take head_limit buffer
 
 -- a head that is right stands at the front
 pub record HasHead (order : What) (buffer : List ℕ) (head : ResponseHead) (status : Status) (size : ℕ) : Type 0 where
@@ -30,7 +31,7 @@ pub record IsOpen (buffer : List ℕ) : Type 0 where
 
 -- the reply is not all there: its head may still come, or a right one is there without all of the body
 pub data IsCut (order : What) (buffer : List ℕ) : Type 0 where
-  in_head : length buffer < 16384 → IsOpen buffer → IsCut order buffer
+  in_head : length buffer < head_limit → IsOpen buffer → IsCut order buffer
   in_body : (head : ResponseHead) (status : Status) (size : ℕ) → HasHead order buffer head status size
       → length buffer < length (print_response head) + size → IsCut order buffer
 
@@ -50,7 +51,7 @@ pub record IsWhole (order : What) (buffer : List ℕ) (outcome : Outcome) (used 
 pub data IsBad (order : What) (buffer : List ℕ) (at : ℕ) : Type 0 where
   in_bytes : HasNoHead (front_of buffer) → at < length (front_of buffer) → MayBecomeHead (take at (front_of buffer))
       → NeverHasHead (take (at + 1) (front_of buffer)) → IsBad order buffer at
-  in_length : at ≡ 16384 → 16384 ≤ length buffer → IsOpen buffer → IsBad order buffer at
+  in_length : at ≡ head_limit → head_limit ≤ length buffer → IsOpen buffer → IsBad order buffer at
   in_head : (head : ResponseHead) (rest : List ℕ) → IsHeadAt (front_of buffer) head rest → IsWrong order head
       → at ≡ length (print_response head) → IsBad order buffer at
   in_body : (head : ResponseHead) (status : Status) (size : ℕ) → HasHead order buffer head status size

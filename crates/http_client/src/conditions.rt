@@ -4,6 +4,7 @@ ghost use Rattle.std.specs.List.{list_all};
 ghost use Rattle.hex.specs.Hex.{encode_lower};
 ghost use Rattle.http_front.specs.CallQuery.{IsObjectId};
 ghost use Rattle.http_front.specs.IdArray.{array_text};
+ghost use Rattle.http_front.specs.Limits.{body_limit};
 ghost use Rattle.http_front.specs.Rows.{rows_text};
 ghost use Rattle.http_front.specs.Route.{object_limit, route_limit};
 ghost use Rattle.http_client.specs.Conditions.{is_asked, is_listed_kind, is_path_kind, names_library};
@@ -120,7 +121,7 @@ pub fn is_within_limit(order: &Order) -> bool
 /// The most bytes that the server takes as the body of the order's request.
 pub fn body_limit(order: &Order) -> u64
     ensures value { result ≡ limit_in order.now }
-    ensures bound { result ≤ 67108864 }
+    ensures bound { result ≤ body_limit }
 {
     match &order.lib {
         Some(_) => library_limit(&order.what),
@@ -131,7 +132,7 @@ pub fn body_limit(order: &Order) -> u64
 /// The same of what a library is asked for.
 fn library_limit(what: &What) -> u64
     ensures value { (lib : List ℕ) → result ≡ route_limit (library_route lib what.now) }
-    ensures bound { result ≤ 67108864 }
+    ensures bound { result ≤ body_limit }
 {
     match what {
         What::Put(key, _) => object_limit(key.kind),
@@ -149,7 +150,7 @@ fn library_limit(what: &What) -> u64
 
 fn object_limit(kind: Kind) -> u64
     ensures value { result ≡ object_limit kind }
-    ensures bound { result ≤ 67108864 }
+    ensures bound { result ≤ body_limit }
 {
     match kind {
         Kind::Commit => 1_048_576,
@@ -160,7 +161,7 @@ fn object_limit(kind: Kind) -> u64
 
 fn missing_limit(kind: Kind) -> u64
     ensures value { (lib : List ℕ) → result ≡ route_limit (missing_route lib kind) }
-    ensures bound { result ≤ 67108864 }
+    ensures bound { result ≤ body_limit }
 {
     match kind {
         Kind::Commit | Kind::Fs | Kind::Block => 33_554_432,

@@ -4,17 +4,16 @@ ghost use Rattle.httparse.specs.Grammar.{HasNoResponse};
 ghost use Rattle.http_client.specs.HeadReading.{after_blank, is_old};
 ghost use Rattle.http_client.specs.ReplyHead.{HasNoHead, MayBecomeHead, NeverHasHead};
 
+use crate::reply_head::FIELD_ROOM;
 use httparse::Status;
 use httparse::spans::{EMPTY_HEADER_SPAN, parse_response};
-
-const FIELD_ROOM: usize = 64;
 
 /// Whether some bytes can follow that make these, which hold no head, a head of HTTP/1.1.
 pub(crate) fn may_become_head(front: &[u8]) -> bool
     requires none { HasNoHead front.now }
     ensures may { IsTrue result → MayBecomeHead front.now }
-    ensures absent { IsTrue result → HasNoResponse front.now }
-    ensures never { result ≡ false → NeverHasHead front.now }
+    ensures none { IsTrue result → HasNoResponse front.now }
+    ensures broken { result ≡ false → NeverHasHead front.now }
 {
     let mut headers = [EMPTY_HEADER_SPAN; FIELD_ROOM];
     match parse_response(front, &mut headers) {
@@ -49,10 +48,10 @@ fn after_blank(bytes: &[u8]) -> &[u8]
 /// The length of the longest beginning of these bytes that begins a head, where all of them do not.
 pub(crate) fn bad_place(front: &[u8]) -> usize
     requires none { HasNoHead front.now }
-    requires never { NeverHasHead front.now }
+    requires broken { NeverHasHead front.now }
     ensures within { result < length front.now }
     ensures may { MayBecomeHead (take result front.now) }
-    ensures never { NeverHasHead (take (result + 1) front.now) }
+    ensures broken { NeverHasHead (take (result + 1) front.now) }
 {
     let mut low = 0;
     let mut high = front.len();

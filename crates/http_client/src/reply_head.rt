@@ -12,7 +12,7 @@ use httparse::spans::{EMPTY_HEADER_SPAN, HeaderSpan, ResponseSpans, parse_respon
 use library_state::Tag;
 
 /// The most fields that a head may have.
-const FIELD_ROOM: usize = 64;
+pub(crate) const FIELD_ROOM: usize = 64;
 
 /// What the head of a reply tells.
 #[derive(Clone, Copy)]
@@ -48,7 +48,7 @@ fn seen_head(order: &What, front: &[u8], spans: ResponseSpans, headers: &[Header
     requires fields { All (IsHeaderWithin (length front.now)) headers.now }
     ensures size { result.size ≡ spans.len }
     ensures told { IsJudgedBy order.now spans.code (fields_at front.now headers.now) result.told }
-    ensures end { result.closes ≡ wants_close (fields_at front.now headers.now) }
+    ensures value { result.closes ≡ wants_close (fields_at front.now headers.now) }
 {
     SeenHead {
         size: spans.len,
@@ -90,7 +90,7 @@ fn size_in(status: Status, front: &[u8], headers: &[HeaderSpan]) -> Option<u64>
 /// Whether the tag that has to be there is there.
 fn is_tagged(order: &What, status: Status, front: &[u8], headers: &[HeaderSpan]) -> bool
     requires fields { All (IsHeaderWithin (length front.now)) headers.now }
-    ensures there { IsTrue result → IsTagged (tag_due order.now status) (fields_at front.now headers.now) }
+    ensures found { IsTrue result → IsTagged (tag_due order.now status) (fields_at front.now headers.now) }
     ensures absent { result ≡ false → IsTagged (tag_due order.now status) (fields_at front.now headers.now) → ⊥ }
 {
     if !tag_due(order, status) {

@@ -79,7 +79,7 @@ fn reply_behind(
     buffer: &[u8],
     head: SeenHead,
 ) -> Result<Response, AllocError>
-    requires seen { IsSeen order.now (front_of buffer.now) head }
+    requires part { IsSeen order.now (front_of buffer.now) head }
     ensures value { IfOk result (IsResponse order.now buffer.now) }
 {
     match head.told {
@@ -97,7 +97,7 @@ fn reply_with(
     status: Status,
     size: u64,
 ) -> Result<Response, AllocError>
-    requires seen { IsSeen order.now (front_of buffer.now) head }
+    requires part { IsSeen order.now (front_of buffer.now) head }
     requires told { head.told ≡ Some (status, size) }
     ensures value { IfOk result (IsResponse order.now buffer.now) }
 {

@@ -15,7 +15,7 @@ returns-in_default-size_in c = record {
 pub returns-then-is_tagged : goal.returns-then-is_tagged
 returns-then-is_tagged c = record {
   value = right_by c.args.order.now c.args.code (fields_at c.args.front.now c.args.headers.now) c.in-Some.status c.in-Some-size_in.size
-      (sym c.status_of.ensures.value ∙ c.in-Some.is) (sym c.size_in.ensures.value ∙ c.in-Some-size_in.is) (c.is_tagged.ensures.there c.if-is_tagged.true);
+      (sym c.status_of.ensures.value ∙ c.in-Some.is) (sym c.size_in.ensures.value ∙ c.in-Some-size_in.is) (c.is_tagged.ensures.found c.if-is_tagged.true);
 }
 
 pub returns-else-is_tagged : goal.returns-else-is_tagged
