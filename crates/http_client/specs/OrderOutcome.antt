@@ -55,6 +55,15 @@ abbrev pub is_update : What → Bool
 is_update (what.Update commit) = true
 is_update _ = false
 
+-- what one commit needs and another does not is asked for
+abbrev pub asks_list : What → Bool
+asks_list (what.Ids server client) = true
+asks_list _ = false
+
+-- stored trees are walked: those of the commits of an update, or of a list
+abbrev pub walks : What → Bool
+walks order = is_update order || asks_list order
+
 -- whether an order can be refused so
 abbrev pub can_refuse : What → Refusal → Bool
 can_refuse order refusal.NoLibrary = asks_library order
@@ -70,13 +79,13 @@ can_refuse order (refusal.BadCommit code) = stores_commit order
 can_refuse order (refusal.OtherLibrary lib) = stores_commit order
 can_refuse order (refusal.Taken id) = stores order || is_update order
 can_refuse order (refusal.Stale last now) = is_update order
-can_refuse order (refusal.Incomplete key) = is_update order
+can_refuse order (refusal.Incomplete key) = walks order
 can_refuse order (refusal.Unrelated count) = is_update order
-can_refuse order (refusal.Unreadable key) = is_update order
-can_refuse order (refusal.WrongKind id) = is_update order
-can_refuse order (refusal.WrongSize id) = is_update order
-can_refuse order (refusal.TooDeep path) = is_update order
-can_refuse order (refusal.TooMany count) = is_update order
+can_refuse order (refusal.Unreadable key) = walks order
+can_refuse order (refusal.WrongKind id) = walks order
+can_refuse order (refusal.WrongSize id) = walks order
+can_refuse order (refusal.TooDeep path) = walks order
+can_refuse order (refusal.TooMany count) = walks order
 can_refuse order (refusal.TooLong path size) = is_update order
 can_refuse order (refusal.BadDays days) = false
 can_refuse order (refusal.Damaged want got) = asks_library order
@@ -114,10 +123,6 @@ asks_head _ = false
 abbrev pub asks_object : What → Bool
 asks_object (what.Get key) = true
 asks_object _ = false
-
-abbrev pub asks_list : What → Bool
-asks_list (what.Ids server client) = true
-asks_list _ = false
 
 -- the ids that name nothing were asked for
 abbrev pub CanMiss : What → List (List ℕ) → Type 0

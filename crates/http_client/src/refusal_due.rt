@@ -1,8 +1,8 @@
 //! The refusal that a body tells, where the order can be refused so.
-ghost use Rattle.std.specs.Prelude.{◌≡◌, ◌==◌, ◌&&◌, IfOk};
+ghost use Rattle.std.specs.Prelude.{◌≡◌, ◌==◌, ◌&&◌, ◌||◌, IfOk};
 ghost use Rattle.serde_json.specs.View.{view};
 ghost use Rattle.http_front.specs.RefusalText.{refused_status};
-ghost use Rattle.http_client.specs.OrderOutcome.{asks_library, can_refuse, is_commit, is_update, seeks, stores, stores_commit, stores_fs};
+ghost use Rattle.http_client.specs.OrderOutcome.{asks_library, asks_list, can_refuse, is_commit, is_update, seeks, stores, stores_commit, stores_fs, walks};
 ghost use Rattle.http_client.specs.OutcomeReading.{IsRefusal, told_in};
 ghost use Rattle.http_client.specs.RefusalWords.{if_due, refusal_in as refusal_told};
 ghost use Rattle.http_client.specs.ReplyHead.{status_number};
@@ -71,9 +71,9 @@ fn can_refuse(order: &What, refusal: &Refusal) -> bool
         Refusal::BadFs(_) => stores_fs(order),
         Refusal::BadCommit(_) | Refusal::OtherLibrary(_) => stores_commit(order),
         Refusal::Taken(_) => stores(order) || is_update(order),
-        Refusal::Stale { .. } | Refusal::Incomplete(_) | Refusal::Unrelated(_) => is_update(order),
-        Refusal::Unreadable(_) | Refusal::WrongKind(_) | Refusal::WrongSize(_) => is_update(order),
-        Refusal::TooDeep(_) | Refusal::TooMany(_) | Refusal::TooLong(_, _) => is_update(order),
+        Refusal::Stale { .. } | Refusal::Unrelated(_) | Refusal::TooLong(_, _) => is_update(order),
+        Refusal::Incomplete(_) | Refusal::Unreadable(_) | Refusal::WrongKind(_) => walks(order),
+        Refusal::WrongSize(_) | Refusal::TooDeep(_) | Refusal::TooMany(_) => walks(order),
         Refusal::BadDays(_) => false,
     }
 }
@@ -145,4 +145,21 @@ fn is_update(order: &What) -> bool
         What::Update(_) => true,
         _ => false,
     }
+}
+
+/// Whether it is asked what one commit needs and another does not.
+fn asks_list(order: &What) -> bool
+    ensures value { result ≡ asks_list order.now }
+{
+    match order {
+        What::Ids(_, _) => true,
+        _ => false,
+    }
+}
+
+/// Whether stored trees are walked.
+fn walks(order: &What) -> bool
+    ensures value { result ≡ walks order.now }
+{
+    is_update(order) || asks_list(order)
 }
