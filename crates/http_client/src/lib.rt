@@ -1,7 +1,8 @@
 //! HTTP/1.1 as a client of this server speaks it: the bytes of a request, and the outcome that a reply tells.
 //!
-//! Shown upward: `request_bytes`, `next_response` and its `Response`; and laws.rt. What orders and outcomes are stands in
-//! `http_front`.
+//! Shown upward: `request_bytes`, and `has_request`, `is_within_limit` and `is_host`, which tell its premises; `body_size` and
+//! `body_limit`; `next_response` and its `Response`; and laws.rt. What orders and outcomes are stands in `http_front`. It
+//! holds no state between calls and opens no connection. Each error is want of memory.
 #![tactic(auto)]
 
 mod asked_ids;

@@ -130,8 +130,7 @@ fn told_size(front: &[u8], seen: Seen) -> Option<u64>
 {
     match seen {
         Seen::Once(span) => number_in(span.of(front)),
-        Seen::Never => None,
-        Seen::Again => None,
+        Seen::Never | Seen::Again => None,
     }
 }
 

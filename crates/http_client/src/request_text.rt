@@ -21,10 +21,12 @@ use std::alloc::{AllocError, Global};
 const HEAD_ROOM: usize = 512;
 
 /// The bytes of the request that an order is written as, with `Connection: close` where the connection is to end after
-/// it. A server reads it as this order.
+/// it: one request of HTTP/1.1 (RFC 9112) with the secret of the order as `Seafile-Repo-Token` and its path and query by the
+/// table of calls. That a server reads it as this order, whatever follows, says the law
+/// `what_is_written_for_an_order_is_read_as_the_order`.
 ///
 /// Whether the order has a request and its body is within the limit, `has_request` and `is_within_limit` tell; whether the
-/// host is a name, `is_host`. An object is copied once, one among rows twice.
+/// host is a name, `is_host`. An object is copied once, one among rows twice. The only error is want of memory.
 pub fn request_bytes(
     alloc: Global,
     order: &Order,

@@ -1,5 +1,5 @@
 //! The reply at the front of some bytes.
-ghost use Rattle.std.specs.Prelude.{◌≡◌, ◌≤◌, drop, length, take, IfOk};
+ghost use Rattle.std.specs.Prelude.{◌≡◌, ◌<◌, ◌≤◌, drop, length, take, false, IfOk, IsTrue};
 ghost use Rattle.http_client.specs.HeadReading.{IsSeen};
 ghost use Rattle.http_client.specs.ReplyHead.{HasNoHead};
 ghost use Rattle.http_client.specs.Response.{IsResponse, front_of};
@@ -22,12 +22,13 @@ pub enum Response {
     Whole {
         /// What became of the order.
         outcome: Outcome,
-        /// How many bytes the reply has.
+        /// How many bytes of the buffer the reply has, head and body. What is behind them belongs to the next.
         used: u64,
         /// Whether the connection ends after it.
         closes: bool,
     },
-    /// No reply to the order: the first place at which none goes on, or the length of a head that tells of none.
+    /// No reply to the order. In bytes from the front of the buffer, at most 16,384: the first place at which no head goes on, 16,384 where a head has not ended by then, or the
+    /// length of a head that isn't right or whose body tells no outcome of the order.
     Bad(u64),
 }
 
@@ -37,7 +38,10 @@ pub enum Response {
 /// none, `Need` says that one may still come, and `Bad` tells how many bytes of it go on as one. A head that is there has
 /// to be right: a status of ours, a `Content-Length` once, of 1 to 19 digits, and with 304 a tag; else `Bad` tells its
 /// length. Then the body has to be there (`Need`), and to tell an outcome that the order can have (`Bad`, with the
-/// length of the head). An object is copied once.
+/// length of the head). A refusal has to come with its own status. An object is copied once. The buffer stays as it is, and
+/// nothing is kept from one call to the next, so that after `Need` the same bytes are read again, with more behind them. The
+/// only error is want of memory. That what a server writes as status and body is read as the outcome says the law
+/// `the_body_that_is_written_for_an_outcome_is_read_as_the_outcome`; of the head's text there is no such law yet.
 ///
 /// One freedom is left. Bytes that only heads of more than 64 fields continue may count as such that go on as none.
 pub fn next_response(alloc: Global, order: &Order, buffer: &[u8]) -> Result<Response, AllocError>
@@ -102,7 +106,7 @@ fn reply_with(
     ensures value { IfOk result (IsResponse order.now buffer.now) }
 {
     let behind = behind(buffer, head.size);
-    if size > behind.len() as u64 {
+    if is_cut(behind, size) {
         return Ok(Response::Need);
     }
     let body = in_front(behind, size as usize);
@@ -114,6 +118,14 @@ fn reply_with(
         }),
         None => Ok(Response::Bad(head.size as u64)),
     }
+}
+
+/// Whether less stands there than a body of this length.
+fn is_cut(behind: &[u8], size: u64) -> bool
+    ensures short { IsTrue result → length behind.now < size }
+    ensures whole { result ≡ false → size ≤ length behind.now }
+{
+    size > behind.len() as u64
 }
 
 /// What stands behind a place.
