@@ -1,7 +1,7 @@
 //! Replies as a client reads them: each outcome once, and beginnings that are no reply, with their places.
 use http_client::next_response;
 use http_front::{Order, What};
-use ids::{IdList, Key, Kind, LibId, ObjId};
+use ids::{Bytes, IdList, Items, Key, Kind, LibId, ObjId};
 use library_state::{Op, Secret};
 use std::alloc::Global;
 use std::process::Abort;
@@ -43,6 +43,8 @@ fn order(alloc: Global, word: &str) -> Result<What, Fail> {
         "missing" => What::Missing(Kind::Block, one(alloc)?),
         "objects" => What::GetFs(one(alloc)?),
         "list" => What::Ids(id, None),
+        "put" => What::Put(block()?, Bytes::copy(alloc, b"abc")?),
+        "send" => What::PutFs(Items::new(alloc)),
         _ => What::Head,
     })
 }
@@ -168,5 +170,119 @@ fn what_is_no_reply_is_told_with_its_place(rt: HostRuntime) -> Result<(), Fail> 
     for (front, wanted) in FRONTS {
         assert!(rt; holds(rt.alloc(), "head", front, wanted)?, "{front}");
     }
+    Ok(())
+}
+
+/// Orders, replies that tell an id, a row or a path, and what is told.
+const THINGS: [(&str, &str, &str); 16] = [
+    (
+        "head",
+        "HTTP/1.1 200 OK\r\nContent-Length: 78\r\n\r\n{\"is_corrupted\":0,\"head_commit_id\":\"a9993e364706816aba3e25717850c26c9cd0d89d\"}",
+        "Whole { outcome: Plain(HeadIs(ObjId([169, 153, 62, 54, 71, 6, 129, 106, 186, 62, 37, 113, 120, 80, 194, 108, 156, 208, 216, 157])), Tag { opening: 0, count: 0 }), used: 117, closes: false }",
+    ),
+    (
+        "head",
+        "HTTP/1.1 200 OK\r\nContent-Length: 82\r\n\r\n{\"is_corrupted\":false,\"head_commit_id\":\"a9993e364706816aba3e25717850c26c9cd0d89d\"}",
+        "Whole { outcome: Plain(HeadIs(ObjId([169, 153, 62, 54, 71, 6, 129, 106, 186, 62, 37, 113, 120, 80, 194, 108, 156, 208, 216, 157])), Tag { opening: 0, count: 0 }), used: 121, closes: false }",
+    ),
+    (
+        "head",
+        "HTTP/1.1 200 OK\r\nContent-Length: 61\r\n\r\n{\"head_commit_id\":\"a9993e364706816aba3e25717850c26c9cd0d89d\"}",
+        "Bad(39)",
+    ),
+    (
+        "update",
+        "HTTP/1.1 200 OK\r\nContent-Length: 78\r\n\r\n{\"is_corrupted\":0,\"head_commit_id\":\"a9993e364706816aba3e25717850c26c9cd0d89d\"}",
+        "Whole { outcome: Plain(Updated(ObjId([169, 153, 62, 54, 71, 6, 129, 106, 186, 62, 37, 113, 120, 80, 194, 108, 156, 208, 216, 157])), Tag { opening: 0, count: 0 }), used: 117, closes: false }",
+    ),
+    (
+        "put",
+        "HTTP/1.1 200 OK\r\nContent-Length: 0\r\n\r\n",
+        "Whole { outcome: Plain(Stored(true), Tag { opening: 0, count: 0 }), used: 38, closes: false }",
+    ),
+    (
+        "send",
+        "HTTP/1.1 200 OK\r\nContent-Length: 0\r\n\r\n",
+        "Whole { outcome: Plain(Stored(true), Tag { opening: 0, count: 0 }), used: 38, closes: false }",
+    ),
+    (
+        "objects",
+        "HTTP/1.1 200 OK\r\nContent-Length: 46\r\n\r\na9993e364706816aba3e25717850c26c9cd0d89d\0\0\0\u{2}{}",
+        "Whole { outcome: Packed(Items { inner: [Row { id: ObjId([169, 153, 62, 54, 71, 6, 129, 106, 186, 62, 37, 113, 120, 80, 194, 108, 156, 208, 216, 157]), bytes: Items { inner: [123, 125] } }] }), used: 85, closes: false }",
+    ),
+    (
+        "get",
+        "HTTP/1.1 404 Not Found\r\nContent-Length: 85\r\n\r\n{\"id\":\"a9993e364706816aba3e25717850c26c9cd0d89d\",\"kind\":\"block\",\"reason\":\"no-object\"}",
+        "Whole { outcome: Refused(NoObject(Key { kind: Block, id: ObjId([169, 153, 62, 54, 71, 6, 129, 106, 186, 62, 37, 113, 120, 80, 194, 108, 156, 208, 216, 157]) })), used: 131, closes: false }",
+    ),
+    (
+        "put",
+        "HTTP/1.1 409 Conflict\r\nContent-Length: 66\r\n\r\n{\"id\":\"a9993e364706816aba3e25717850c26c9cd0d89d\",\"reason\":\"taken\"}",
+        "Whole { outcome: Refused(Taken(ObjId([169, 153, 62, 54, 71, 6, 129, 106, 186, 62, 37, 113, 120, 80, 194, 108, 156, 208, 216, 157]))), used: 111, closes: false }",
+    ),
+    (
+        "update",
+        "HTTP/1.1 442 Too Large\r\nContent-Length: 34\r\n\r\n{\"path\":\"a/b\",\"reason\":\"too-deep\"}",
+        "Whole { outcome: Refused(TooDeep(Path { names: [Name { text: \"a\" }, Name { text: \"b\" }] })), used: 80, closes: false }",
+    ),
+    (
+        "list",
+        "HTTP/1.1 446 Incomplete\r\nContent-Length: 83\r\n\r\n{\"id\":\"a9993e364706816aba3e25717850c26c9cd0d89d\",\"kind\":\"fs\",\"reason\":\"incomplete\"}",
+        "Whole { outcome: Refused(Incomplete(Key { kind: Fs, id: ObjId([169, 153, 62, 54, 71, 6, 129, 106, 186, 62, 37, 113, 120, 80, 194, 108, 156, 208, 216, 157]) })), used: 130, closes: false }",
+    ),
+    (
+        "get",
+        "HTTP/1.1 446 Incomplete\r\nContent-Length: 83\r\n\r\n{\"id\":\"a9993e364706816aba3e25717850c26c9cd0d89d\",\"kind\":\"fs\",\"reason\":\"incomplete\"}",
+        "Bad(47)",
+    ),
+    (
+        "update",
+        "HTTP/1.1 442 Too Large\r\nContent-Length: 45\r\n\r\n{\"length\":300,\"path\":\"a\",\"reason\":\"too-long\"}",
+        "Whole { outcome: Refused(TooLong(Path { names: [Name { text: \"a\" }] }, 300)), used: 91, closes: false }",
+    ),
+    (
+        "get",
+        "HTTP/1.1 400 Bad Request\r\nContent-Length: 22\r\n\r\n{\"reason\":\"malformed\"}",
+        "Bad(48)",
+    ),
+    (
+        "get",
+        "HTTP/1.1 501 Not Implemented\r\nContent-Length: 19\r\n\r\n{\"reason\":\"coding\"}",
+        "Bad(52)",
+    ),
+    (
+        "get",
+        "HTTP/1.1 304 Not Modified\r\nETag: \"1-2\"\r\nContent-Length: x\r\n\r\n",
+        "Bad(61)",
+    ),
+];
+
+#[test]
+fn each_id_row_and_path_is_told(rt: HostRuntime) -> Result<(), Fail> {
+    for (word, reply, wanted) in THINGS {
+        assert!(rt; holds(rt.alloc(), word, reply, wanted)?, "{word}: {wanted}");
+    }
+    Ok(())
+}
+
+#[test]
+fn a_head_has_its_limits(rt: HostRuntime) -> Result<(), Fail> {
+    let short = told(rt.alloc(), What::Head, &[b'\n'; 16_383])?;
+    assert!(rt; short.as_str() == "Need");
+    let long = told(rt.alloc(), What::Head, &[b'\n'; 16_400])?;
+    assert!(rt; long.as_str() == "Bad(16384)");
+    Ok(())
+}
+
+#[test]
+fn a_head_of_more_fields_is_none(rt: HostRuntime) -> Result<(), Fail> {
+    let mut text = String::new(rt.alloc());
+    text.push_str("HTTP/1.1 200 OK\r\n")?;
+    for _ in 0..65 {
+        text.push_str("A:b\r\n")?;
+    }
+    text.push_str("\r\n")?;
+    let found = told(rt.alloc(), What::Head, text.as_bytes())?;
+    assert!(rt; found.as_str() == "Bad(341)");
     Ok(())
 }

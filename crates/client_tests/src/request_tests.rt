@@ -90,6 +90,8 @@ fn what_has_no_body_is_asked_for_by_path_and_query(rt: HostRuntime) -> Result<()
     )?;
     let both = format!(in rt.alloc(); "GET {lib}/fs-id-list?server-head={ABC}&client-head={ABC}")?;
     expect_asked(&rt, What::Ids(id()?, Some(id()?)), &both, "\r\n")?;
+    let alone = format!(in rt.alloc(); "GET {lib}/fs-id-list?server-head={ABC}")?;
+    expect_asked(&rt, What::Ids(id()?, None), &alone, "\r\n")?;
     Ok(())
 }
 
@@ -101,6 +103,12 @@ fn what_has_a_body_is_sent_with_its_length(rt: HostRuntime) -> Result<(), Fail> 
     let blocks = format!(in rt.alloc(); "POST {lib}/check-blocks")?;
     let body = format!(in rt.alloc(); "Content-Length: 44\r\n\r\n[\"{ABC}\"]")?;
     expect_asked(&rt, What::Missing(Kind::Block, ids), &blocks, &body)?;
+    let none = "Content-Length: 2\r\n\r\n[]";
+    let trees = format!(in rt.alloc(); "POST {lib}/check-fs")?;
+    let empty = IdList::new(rt.alloc());
+    expect_asked(&rt, What::Missing(Kind::Fs, empty), &trees, none)?;
+    let packed = format!(in rt.alloc(); "POST {lib}/pack-fs")?;
+    expect_asked(&rt, What::GetFs(IdList::new(rt.alloc())), &packed, none)?;
     let key = Key {
         kind: Kind::Commit,
         id: id()?,
@@ -137,5 +145,23 @@ fn the_length_of_a_body_is_known_before_it_is_written(rt: HostRuntime) -> Result
     ids.push(id()?)?;
     let order = ordered(What::Missing(Kind::Block, ids))?;
     assert!(rt; body_size(&order) == 44);
+    Ok(())
+}
+
+#[test]
+fn the_version_is_asked_of_no_library(rt: HostRuntime) -> Result<(), Fail> {
+    let order = Order {
+        lib: None,
+        secret: None,
+        what: What::Version,
+    };
+    let host = Text::copy(rt.alloc(), "x")?;
+    if has_request(&order) && is_within_limit(&order) && is_host(&host) {
+        let bytes = request_bytes(rt.alloc(), &order, &host, false)?;
+        let text = b"GET /protocol-version HTTP/1.1\r\nHost: x\r\n\r\n";
+        assert!(rt; bytes.slice() == text.as_slice());
+        return Ok(());
+    }
+    assert!(rt; false);
     Ok(())
 }
