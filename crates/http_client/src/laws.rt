@@ -1,12 +1,16 @@
 //! Theorems about what a client writes and reads.
-ghost use Rattle.std.specs.Prelude.{◌++◌, ℕ, Bool, Some, List};
+ghost use Rattle.std.specs.Prelude.{◌≡◌, ◌++◌, ℕ, Bool, Some, List, take};
 ghost use Rattle.http_front.specs.ReplyText.{parts_of};
+ghost use Rattle.http_front.specs.RequestHead.{number_in};
+ghost use Rattle.http_front.specs.Status.{status_words};
 ghost use Rattle.http_front.specs.declared.order.Order.{Order};
 ghost use Rattle.http_front.specs.declared.order.What.{What};
 ghost use Rattle.http_front.specs.declared.outcome.Outcome.{Outcome};
+ghost use Rattle.http_front.specs.declared.status.Status.{Status};
 ghost use Rattle.http_client.specs.OrderOutcome.{CanHave};
 ghost use Rattle.http_client.specs.OutcomeReading.{IsOutcome, TellsThings, as_read};
 ghost use Rattle.http_client.specs.ReadOrder.{IsTyped, SpellsOrder};
+ghost use Rattle.http_client.specs.ReplyHead.{status_number};
 ghost use Rattle.http_client.specs.RequestText.{HasRequest, IsHost, IsWithinLimit, request_text};
 ghost use Rattle.http_client.specs.Response.{IsWhole};
 
@@ -27,4 +31,9 @@ pub fn what_is_written_for_an_order_is_read_as_the_order()
 pub fn the_body_that_is_written_for_an_outcome_is_read_as_the_outcome()
     ensures { (order : What) (outcome : Outcome) → CanHave order outcome → TellsThings outcome
         → IsOutcome order (parts_of outcome).status (parts_of outcome).body (Some (as_read outcome)) }
+{}
+
+/// The number by which a client knows a status is the one that the words of a server for it begin with.
+pub fn the_number_of_a_status_is_the_one_that_its_words_begin_with()
+    ensures { (status : Status) → number_in (take 3 (status_words status)) ≡ Some (status_number status) }
 {}
