@@ -93,7 +93,10 @@ fn directories_of(alloc: Global, keys: &[Key]) -> Result<Vec<Directory>, AllocEr
 {
     let mut directories = Vec::new(alloc);
     for key in keys {
-        add(&mut directories, Directory::Objects(key.kind, first_byte(key)))?;
+        add(
+            &mut directories,
+            Directory::Objects(key.kind, first_byte(key)),
+        )?;
         add(&mut directories, Directory::OfKind(key.kind))?;
     }
     Ok(directories)

@@ -1,5 +1,5 @@
 //! How a library's folder makes durable what was put, and the state text after it.
-use crate::durability::{Disk, Directory, first_byte, put_durably};
+use crate::durability::{Directory, Disk, first_byte, put_durably};
 use crate::file_system::FileSystem;
 use crate::library_folder::LibraryFolder;
 use crate::paths::{kind_path, listed_folder, moved_path, named_path, object_path};

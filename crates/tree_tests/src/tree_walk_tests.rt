@@ -225,6 +225,7 @@ fn the_bytes_of_a_file_are_those_of_its_blocks_in_order(rt: HostRuntime) -> Resu
 
 /// How many ids a client without a commit needs.
 fn listed(alloc: Global, store: &mut Shelved, commit: ObjId) -> Result<usize, Fail> {
+    laws::what_is_known_is_right_at_first();
     let mut known = Known::new(alloc);
     match fs_ids(alloc, store, &mut known, commit, None) {
         Ok(ids) => Ok(ids.len()),
