@@ -16,9 +16,9 @@ use tree_walk::Known;
 /// holds the present state or the one that the refused call would have made, and the present one is written again before
 /// any other text.
 ///
-/// It keeps which directories and files it found whole, so that an update reads what it changes and no more. That is no part
-/// of what contracts see; it takes at most an entry for each object that is stored, and where there is no memory for it less
-/// is kept.
+/// It keeps which directories and files it found whole, so that the check of a pushed commit reads what wasn't found whole
+/// before. A merge reads its three trees all the same. No clause says how much is read: what is kept is no part of what
+/// contracts see, but of the invariant. Where there is no memory for it less is kept.
 #[derive(Drop)]
 pub struct Depot<S: Shelf> {
     pub(crate) parts: Parts<S>,

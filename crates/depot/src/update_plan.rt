@@ -133,7 +133,8 @@ fn plan_unknown<S: Shelf>(
     plan_based(alloc, store, known, state, user, base, pushed, moment)
 }
 
-/// The plan of an update over a merge base. What was found whole before isn't read again.
+/// The plan of an update over a merge base. The check doesn't read again what was found whole and fits at its place; a merge
+/// does.
 fn plan_based<S: Shelf>(
     alloc: Global,
     store: &mut Store<S>,

@@ -30,6 +30,7 @@ fn read_secret(text: &[u8]) -> Option<Secret>
     }
 }
 
+/// The secret that this text spells, if it is one.
 fn secret_in(text: &str) -> Option<Secret>
     ensures { IsSecretText text.now result }
 {

@@ -114,8 +114,8 @@ fn answer_first<S: Shelf>(
 ///
 /// Over a shelf that tells what it holds the replies are those of one library of a single thread, by the rules of
 /// library_rules; its tokens are asked for. Over every shelf each refusal has its cause. Ends, limits and what was given
-/// before an end are those of `worker_server::serve_session`. Where the index knows the files and directories that are asked
-/// for together to have more bytes than one reply packs, the reply is want of memory, and none is read.
+/// before an end are those of `worker_server::serve_session`. A list of files and directories is asked first by the sizes that
+/// the index knows, by the form of the code.
 pub fn serve_link<S: Shelf, L: Link, C: Clock>(
     alloc: Global,
     depot: &mut Depot<S>,

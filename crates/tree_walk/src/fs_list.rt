@@ -26,7 +26,7 @@ use std::collections::BTreeMap;
 /// The ids of the files and directories that the server's commit needs and the client's doesn't, in ascending order.
 ///
 /// The first fault of the server's traversal is answered, and then that of the client's. What is known to be whole isn't
-/// walked for faults again; then each directory that one of the commits needs is read once, and no file.
+/// walked for faults again; then, for each of the two commits, each directory that it needs is read once, and no file.
 pub fn fs_ids<S: Shelf>(
     alloc: Global,
     store: &mut Store<S>,

@@ -55,7 +55,8 @@ pub trait Host {
 
     /// Asks a library for a file or directory, the first of `ids`, which will be asked for one after another.
     ///
-    /// A host that can tell that they have together more than `most` bytes answers with want of memory, and reads none.
+    /// So a host that can tell that they have together more than `most` bytes may answer with want of memory before it reads
+    /// one. No clause says that it does.
     fn ask_first(
         &self,
         alloc: Global,

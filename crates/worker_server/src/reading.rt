@@ -36,8 +36,8 @@ enum Look {
 
 /// Reads until a head stands at the front of the buffer.
 ///
-/// The bytes are looked at anew where a line ends, and where half of them were not looked at: so a head that comes byte by
-/// byte is looked at no more often than it has lines, and in time in proportion to its length between them.
+/// It is looked at again where a line ends (empty lines in front of it too), and where less than half of what is there was
+/// looked at, each time from its first byte. No clause speaks of time.
 pub fn read_head<L: Link>(alloc: Global, link: &mut L, buffer: &mut Buffer) -> Result<Head, End>
     ensures ok { IfOk result (λ head. (request : RequestHead) × IsHeadOf (front_of buffer.new) head request) }
     ensures err { IfErr result (λ end. (rest : List ℕ) → to_read buffer.old (L.left link.old) ≡ Some rest
