@@ -149,7 +149,7 @@ fn the_length_of_a_body_is_known_before_it_is_written(rt: HostRuntime) -> Result
 }
 
 #[test]
-fn the_version_is_asked_of_no_library(rt: HostRuntime) -> Result<(), Fail> {
+fn the_version_is_written_for_no_library(rt: HostRuntime) -> Result<(), Fail> {
     let order = Order {
         lib: None,
         secret: None,

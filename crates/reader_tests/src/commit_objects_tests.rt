@@ -40,7 +40,7 @@ const REFUSED: [(&str, &str, u64); 7] = [
 ];
 
 #[test]
-fn the_first_failing_check_is_answered(rt: HostRuntime) -> Result<(), AllocError> {
+fn the_first_failing_check_of_a_commit_is_answered(rt: HostRuntime) -> Result<(), AllocError> {
     for (text, wanted, code) in REFUSED {
         assert!(rt; is_refused(rt.alloc(), text, wanted, code)?, "{text}");
     }

@@ -61,7 +61,7 @@ const REFUSED: [(&str, &str, u64); 10] = [
 ];
 
 #[test]
-fn the_first_failing_check_is_answered(rt: HostRuntime) -> Result<(), AllocError> {
+fn the_first_failing_check_of_an_object_is_answered(rt: HostRuntime) -> Result<(), AllocError> {
     for (text, wanted, code) in REFUSED {
         assert!(rt; is_refused(rt.alloc(), text, wanted, code)?, "{text}");
     }
