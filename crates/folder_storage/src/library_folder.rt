@@ -116,7 +116,7 @@ impl<F: FileSystem + Drop> LibraryFolder<F> {
         let spare = self.spare()?;
         let written = self.files.write(spare.as_str(), bytes, is_durable);
         if written.is_err() {
-            let _ = self.files.remove_file(spare.as_str());
+            self.clear_spare();
         }
         written
     }
@@ -126,9 +126,16 @@ impl<F: FileSystem + Drop> LibraryFolder<F> {
         let spare = self.spare()?;
         let moved = self.files.rename(spare.as_str(), path);
         if moved.is_err() {
-            let _ = self.files.remove_file(spare.as_str());
+            self.clear_spare();
         }
         moved
+    }
+
+    /// Takes the spare file away, if it is there.
+    fn clear_spare(&mut self) {
+        if let Ok(spare) = self.spare() {
+            let _ = self.files.remove_file(spare.as_str());
+        }
     }
 
     /// Where bytes are written first.
@@ -136,12 +143,15 @@ impl<F: FileSystem + Drop> LibraryFolder<F> {
         named_path(self.files.alloc(), self.path.as_str(), "tmp/spare")
     }
 
-    /// Moves the object that was written beside into its slot. Its folder is listed anew, since a move that fails may
-    /// have been done.
+    /// Moves the object that was written beside into its slot. Where that fails nothing is left of the spare file. The
+    /// object's folder is listed anew, since a move that fails may have been done.
     pub(crate) fn move_in(&mut self, key: &Key, bytes: &[u8]) -> io::Result<()>
         ensures forgotten { IsForgotten self.new.listing key.now }
     {
         let moved = self.move_object(key, bytes);
+        if moved.is_err() {
+            self.clear_spare();
+        }
         self.forget_listing(key);
         moved
     }
