@@ -36,7 +36,7 @@ fn shown_moment(mtime: i64) -> i64
 
 fn civil_time(moment: i64) -> DateTime
     requires from_epoch { pos 0 ≤ℤ moment }
-    requires shown { moment ≤ℤ pos 253_370_764_800 }
+    requires bounded { moment ≤ℤ pos 253_370_764_800 }
     ensures value { civil_nanos result ≡ moment *ℤ pos 1_000_000_000 }
 {
     match Timestamp::from_second(moment) {

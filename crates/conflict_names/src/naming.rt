@@ -136,7 +136,7 @@ fn push_number(made: &mut Vec<u8>, k: u32) -> Result<(), AllocError>
 
 /// The name with these bytes.
 fn name_of(alloc: Global, bytes: &[u8]) -> Result<Name, ConflictFault>
-    requires text { IsUtf8 bytes.now }
+    requires utf8 { IsUtf8 bytes.now }
     requires name { IsName bytes.now }
     ensures value { IfOk result (λ name. name ≡ bytes.now) }
     ensures refused { (length : ℕ) → result ≢ Err (ConflictFault.TooLong length) }

@@ -57,7 +57,7 @@ fn take_piece(
     piece: &[u8],
 ) -> Result<(), AllocError>
     ensures ok { OnOk result (chunker.new ≡ after_piece chunker.old piece.now) }
-    ensures named { OnOk result (names.new ≡ names.old ++ map sha1 (finished_by chunker.old piece.now)) }
+    ensures blocks { OnOk result (names.new ≡ names.old ++ map sha1 (finished_by chunker.old piece.now)) }
 {
     let mut chunks = Items::new(alloc);
     chunker.feed(piece, &mut chunks)?;
@@ -148,7 +148,7 @@ pub(crate) fn read_rest<F: Folder>(
     requires some { 0 < length buffer.old }
     requires fits { length buffer.old ≤ PIECE }
     requires ready { reading.chunker.failed ≡ false }
-    requires ordered { reading.place ≤ MAX_FILE }
+    requires bound { reading.place ≤ MAX_FILE }
     ensures value { (c : Contents) (bytes : List ℕ) → F.told folder.old ≡ Some c → at c file.now ≡ Some (File bytes) →
         IsBehind reading.chunker.cuts bytes reading → IfOk result (ReadsFile reading.chunker.cuts bytes) }
     ensures refused { (c : Contents) (bytes : List ℕ) → F.told folder.old ≡ Some c → at c file.now ≡ Some (File bytes) →

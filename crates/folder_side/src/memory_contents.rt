@@ -99,7 +99,7 @@ impl MemoryContents {
     /// Whether an entry may stand at the path: it has a directory to stand in.
     pub fn can_stand(&self, alloc: Global, path: &Path) -> Result<bool, AllocError>
         ensures value { IfOk result (λ can. IsTrue can ↔ CanStand self.now path.now) }
-        ensures named { OnOk result (IsPath path.now) }
+        ensures path { OnOk result (IsPath path.now) }
     {
         let dir = path.parent(alloc)?;
         Ok(!path.names().is_empty() && self.is_dir(&dir))
@@ -108,7 +108,7 @@ impl MemoryContents {
     /// Whether nothing stands at the path yet, and an entry may stand there.
     pub fn is_free(&self, alloc: Global, path: &Path) -> Result<bool, AllocError>
         ensures value { IfOk result (λ can. IsTrue can ↔ IsFree self.now path.now) }
-        ensures named { OnOk result (IsPath path.now) }
+        ensures path { OnOk result (IsPath path.now) }
     {
         let stands = self.can_stand(alloc, path)?;
         Ok(stands && !self.paths.has(path))
@@ -117,7 +117,7 @@ impl MemoryContents {
     /// Whether a file may be moved to the path.
     pub fn takes_file(&self, alloc: Global, path: &Path) -> Result<bool, AllocError>
         ensures value { IfOk result (λ can. IsTrue can ↔ TakesFile self.now path.now) }
-        ensures named { OnOk result (IsPath path.now) }
+        ensures path { OnOk result (IsPath path.now) }
     {
         let stands = self.can_stand(alloc, path)?;
         Ok(stands && has_none_but_file(self.paths.get(path)))
@@ -145,7 +145,7 @@ impl MemoryContents {
 
     /// Puts an entry at a path where it may stand and no directory is.
     pub fn put(&mut self, path: Path, holding: Holding) -> Result<(), AllocError>
-        requires named { IsPath path }
+        requires path { IsPath path }
         requires stands { CanStand self.old path }
         requires plain { at self.old path ≢ Some Dir }
         ensures ok { OnOk result (self.new ≡ with_holding path holding self.old) }

@@ -20,7 +20,7 @@ pub fn index_value(alloc: Global, index: &Index) -> Result<Value, AllocError>
     ensures value { IfOk result (λ value. view value ≡ index_data index.now) }
     ensures typed { OnOk result (AllByRecursion IsTyped (map.entries index.now.entries)) }
     ensures library { OnOk result (library_id_of (hyphenated_text lower index.now.lib) ≡ Some index.now.lib) }
-    ensures base { OnOk result (IsTypedBase index.now.base) }
+    ensures commit { OnOk result (IsTypedBase index.now.base) }
 {
     let base = base_value(alloc, &index.base)?;
     let entries = entry_values(alloc, &index.entries)?;

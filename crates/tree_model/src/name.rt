@@ -79,7 +79,7 @@ impl Name {
 
     /// Tells whether a text is a name. It takes no memory.
     pub fn check(text: &str) -> Result<(), BadName>
-        ensures fault { result_err result ≡ name_fault text.now }
+        ensures refused { result_err result ≡ name_fault text.now }
     {
         let bytes = text.as_bytes();
         if bytes.is_empty() {

@@ -48,7 +48,7 @@ impl Path {
     /// The names from the root on.
     pub fn names(&self) -> &[Name]
         ensures value { result.now ≡ self.now }
-        ensures named { IsPath self.now }
+        ensures path { IsPath self.now }
     {
         self.names.as_slice()
     }
@@ -96,7 +96,7 @@ impl Path {
     /// The names joined by `/`; the empty text for the root.
     pub fn text(&self, alloc: Global) -> Result<Text, AllocError>
         ensures value { IfOk result (λ text. text ≡ path_text self.now) }
-        ensures named { IsPath self.now }
+        ensures path { IsPath self.now }
     {
         let mut text = String::new(alloc);
         for (place, name) in self.names().iter().enumerate() {

@@ -28,7 +28,7 @@ impl<V: Story> Turnstile<V> {
         ensures same { IsSamePass pass.old pass.new }
         ensures ticket { IfOk result (λ t. (t < most_turns) × (participant_of pass.new ≡ (record (view_of pass.old) { ticket = Some t; turns = turns_of pass.old + 1; drawn = t }, []))) }
         ensures behind { IfOk result (λ t. (drawn_of pass.old ≤ t) × (first_of pass.old + turns_of pass.old ≤ t)) }
-        ensures spent { OnErr result (participant_of pass.new ≡ (record (view_of pass.old) { drawn = most_turns }, [])) }
+        ensures err { OnErr result (participant_of pass.new ≡ (record (view_of pass.old) { drawn = most_turns }, [])) }
     {
         let mut guess = 0;
         for _ in rt.forever() {
@@ -47,8 +47,8 @@ impl<V: Story> Turnstile<V> {
     // Waits until the ticket is served.
     fn await_turn<R: Wait>(&self, rt: &R, pass: &mut Pass<V>, ticket: u64)
         requires own { WasMadeBy self.now pass.old }
-        requires free { (view_of pass.old).turn ≡ false }
-        requires part { 0 < (view_of pass.old).parts }
+        requires ready { (view_of pass.old).turn ≡ false }
+        requires parts { 0 < (view_of pass.old).parts }
         requires ticket { (view_of pass.old).ticket ≡ Some ticket }
         ensures same { IsSamePass pass.old pass.new }
         ensures gains { Gains V.stands (participant_of pass.old) (participant_of pass.new) }
@@ -70,7 +70,7 @@ impl<V: Story> Turnstile<V> {
         ensures view { OnOk result (Catches (view_of pass.old) (view_of pass.new)) }
         ensures told { OnOk result (told_of pass.new ≡ 0) }
         ensures below { OnOk result (drawn_of pass.new < most_turns) }
-        ensures spent { OnErr result (IsSpentAt pass.old pass.new) }
+        ensures err { OnErr result (IsSpentAt pass.old pass.new) }
     {
         let ticket = self.ticket(rt, pass)?;
         self.await_turn(rt, pass, ticket);
@@ -91,7 +91,7 @@ impl<V: Story> Pass<V> {
         turnstile: &'a Turnstile<V>,
     ) -> Result<Held<'a, V>, Spent>
         requires ready { IsPassOf turnstile.now self.old }
-        ensures* spent { sem 𝓛 (RestsIfErr (seated_row (parcel_row V.row V.Entry.row) (view_row V.row V.Entry.row)) self.entry name_of result (IsSpentAt self.old)) }
+        ensures* err { sem 𝓛 (RestsIfErr (seated_row (parcel_row V.row V.Entry.row) (view_row V.row V.Entry.row)) self.entry name_of result (IsSpentAt self.old)) }
         ensures same_reference { IfOk result (λ h. name_of h ≡ self.entry.ghost_name) }
         ensures turnstile { IfOk result (λ h. turnstile_of h ≡ turnstile.now) }
         ensures ready { IfOk result (λ h. IsHeld h × (told_of (pass_of h) ≡ 0) × (parts_of (pass_of h) ≡ parts_of self.old)) }

@@ -44,8 +44,8 @@ impl<V: Story> Turnstile<V> {
         from: Seat<Parcel<V, V::Entry>, View<V, V::Entry>>,
     )
         requires own { WasMadeBy self.now into.old × (from.table_id ≡ self.now.table.shared.table_id) }
-        requires free { ((view_of into.old).turn ≡ false) × (from.me.0.turn ≡ false) × (from.me.0.ticket ≡ None) × (from.me.1 ≡ []) }
-        requires part { 0 < (view_of into.old).parts }
+        requires ready { ((view_of into.old).turn ≡ false) × (from.me.0.turn ≡ false) × (from.me.0.ticket ≡ None) × (from.me.1 ≡ []) }
+        requires parts { 0 < (view_of into.old).parts }
         ensures same { IsSamePass into.old into.new }
         ensures stays { participant_of into.new ≡ (both_of (view_of into.old) from.me.0, (participant_of into.old).1) }
     {
@@ -55,8 +55,8 @@ impl<V: Story> Turnstile<V> {
     // Draw: the ticket is `guess` if that was the next one. Gives the next ticket as it was.
     pub(crate) fn draw(&self, pass: &mut Pass<V>, guess: u64) -> u64
         requires own { WasMadeBy self.now pass.old }
-        requires free { ((view_of pass.old).ticket ≡ None) × ((view_of pass.old).turn ≡ false) }
-        requires part { 0 < (view_of pass.old).parts }
+        requires ready { ((view_of pass.old).ticket ≡ None) × ((view_of pass.old).turn ≡ false) }
+        requires parts { 0 < (view_of pass.old).parts }
         requires below { guess < most_turns }
         ensures same { IsSamePass pass.old pass.new }
         ensures drew { Drew guess (participant_of pass.old) result (participant_of pass.new) }
@@ -69,8 +69,8 @@ impl<V: Story> Turnstile<V> {
     // Look: the turn comes with the slot where the ticket is served. Gives the ticket that is served.
     pub(crate) fn look(&self, pass: &mut Pass<V>) -> u64
         requires own { WasMadeBy self.now pass.old }
-        requires free { (view_of pass.old).turn ≡ false }
-        requires part { 0 < (view_of pass.old).parts }
+        requires ready { (view_of pass.old).turn ≡ false }
+        requires parts { 0 < (view_of pass.old).parts }
         ensures same { IsSamePass pass.old pass.new }
         ensures looked { Looked V.stands (participant_of pass.old) result (participant_of pass.new) }
     {
@@ -161,7 +161,7 @@ impl<V: Story> Turnstile<V> {
     // Close: how many passes were made. It also tells what the last join taught.
     pub(crate) fn total(&self, pass: &mut Pass<V>) -> u64
         requires own { WasMadeBy self.now pass.old }
-        requires part { 0 < (view_of pass.old).parts }
+        requires parts { 0 < (view_of pass.old).parts }
         ensures same { IsSamePass pass.old pass.new }
         ensures total { Totalled (participant_of pass.old) result (participant_of pass.new) }
     {

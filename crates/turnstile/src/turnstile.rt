@@ -25,7 +25,7 @@ impl<V: Story> Turnstile<V> {
         passes: u32,
         drawn: u64,
     ) -> Result<(Turnstile<V>, Vec<Pass<V>>), (V, AllocError)>
-        requires ordered { 1 ≤ passes }
+        requires from_one { 1 ≤ passes }
         requires fits { drawn ≤ most_turns }
         ensures bound { IfOk result (λ t. vec_len t.1 ≡ passes) }
         ensures ok { IfOk result (λ t. All (IsNewPass t.0 (Some value) passes drawn) t.1.items) }
@@ -74,7 +74,7 @@ impl<V: Story> Turnstile<V> {
     // Cuts a pass into passes that stand for one each.
     fn deal(&self, made: &mut Vec<Pass<V>>, mut first: Pass<V>)
         requires own { WasMadeBy self.now first }
-        requires stored { (vec_len made.old ≡ 0) × (first.parts ≤ vec_capacity made.old) × (1 ≤ first.parts) }
+        requires fits { (vec_len made.old ≡ 0) × (first.parts ≤ vec_capacity made.old) × (1 ≤ first.parts) }
         requires ready { participant_of first ≡ (newcomer (start_of first) first.parts (first_of first) first.parts, []) }
         ensures bound { vec_len made.new ≡ first.parts }
         ensures ok { All (IsNewPass self.now (start_of first) first.parts (first_of first)) made.new.items }

@@ -5,8 +5,8 @@ use Rattle.conflict_names.proofs.GoodNameLemmas.{naming-good}
 use Rattle.conflict_names.proofs.Utf8NameLemmas.{naming-utf8}
 use Rattle.conflict_names.proofs.naming.conflict_name.Goals as goal
 
-pub name_of-requires-clause-text : goal.name_of-requires-clause-text
-name_of-requires-clause-text c =
+pub name_of-requires-clause-utf8 : goal.name_of-requires-clause-utf8
+name_of-requires-clause-utf8 c =
     let fits : FitsSigned w64 c.args.mtime = c.ranges.mtime in
     let made : c.as_slice.result.now ≡ naming c.as_bytes.result.now c.as_bytes-2.result.now c.args.mtime c.args.k =
     c.as_slice.ensures.value ∙ (simp to_z-of_z at c.in_ok-made.ensures.value) in

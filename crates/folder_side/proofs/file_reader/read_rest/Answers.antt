@@ -21,7 +21,7 @@ loop-place-preserved g c = record {
   bound = omega (arith, c.in-Ok.ensures.bound, c.requires.fits);
   behind = λ c' bytes t a h.
       let part = IsPart-at _ bytes c.read.new.into c.loop-place.place c.in-Ok.count a (c.in-Ok.ensures.value c' (c.loop-place.invariant.told ∙ t)) in
-      IsBehind-more c.args.reading.chunker.cuts bytes c.read.new.into c.loop-place.place c.in-Ok.count c.loop-place.chunker _ c.loop-place.names _ (c.loop-place.invariant.behind c' bytes t a h) part c.in-Ok-take_piece.ensures.ok c.in-Ok-take_piece.ensures.named;
+      IsBehind-more c.args.reading.chunker.cuts bytes c.read.new.into c.loop-place.place c.in-Ok.count c.loop-place.chunker _ c.loop-place.names _ (c.loop-place.invariant.behind c' bytes t a h) part c.in-Ok-take_piece.ensures.ok c.in-Ok-take_piece.ensures.blocks;
 }
 
 pub returns-in-Err-clause-refused : goal.returns-in-Err-clause-refused

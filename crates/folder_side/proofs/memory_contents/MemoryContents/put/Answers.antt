@@ -8,4 +8,4 @@ invariant_of-self-2 c =
     let whole : Contents = record { paths = c.self.inside.paths; nameless = c.self.inside.nameless } in
     let stands : CanStand whole c.args.path = subst (λ (x : Contents). CanStand x c.args.path) (sym c.self.view_is) c.requires.stands in
     rw c.in_ok-insert.ensures.ok
-    (IsFolder-with whole c.args.path c.args.holding c.self.invariant c.requires.named stands (λ e. c.requires.plain (ap (λ (x : Contents). at x c.args.path) (sym c.self.view_is) ∙ e)))
+    (IsFolder-with whole c.args.path c.args.holding c.self.invariant c.requires.path stands (λ e. c.requires.plain (ap (λ (x : Contents). at x c.args.path) (sym c.self.view_is) ∙ e)))

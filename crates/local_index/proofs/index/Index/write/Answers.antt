@@ -29,5 +29,5 @@ returns-clause-reads_back c =
     IfOk-weaker c.write.result P Q
     (λ text h proper.
     index_of-known text (index_data index) (h (subst IsShallow (sym is) (depth-index_data index)) ∙ ap Some is) (is_object-index_data index)
-    ∙ index_in-data index proper c.in_ok-value.ensures.typed c.in_ok-value.ensures.library c.in_ok-value.ensures.base)
+    ∙ index_in-data index proper c.in_ok-value.ensures.typed c.in_ok-value.ensures.library c.in_ok-value.ensures.commit)
     c.write.ensures.reads_back
