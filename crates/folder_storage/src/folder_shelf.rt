@@ -69,9 +69,9 @@ impl<F: FileSystem + Drop> Shelf for FolderShelf<F> {
         self.texts.count_put(&slot);
         match slot {
             Slot::Object(key) => {
-                let written = self.folder.write_beside(bytes);
-                answer(&mut self.faults, written)?;
-                let moved = self.folder.move_in(&key, bytes);
+                let written = self.folder.write_beside(&key, bytes);
+                let way = answer(&mut self.faults, written)?;
+                let moved = self.folder.move_in(&key, bytes, &way);
                 counted(&mut self.faults, moved)
             }
             Slot::Status => {

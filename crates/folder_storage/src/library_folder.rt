@@ -101,41 +101,44 @@ impl<F: FileSystem + Drop> LibraryFolder<F> {
         }
     }
 
-    /// Writes the bytes of an object beside its slot, and makes room to note it. No slot changes.
-    pub(crate) fn write_beside(&mut self, bytes: &[u8]) -> io::Result<()> {
+    /// Writes the bytes of an object beside its slot, and makes room to note it and the paths that its move needs. No slot
+    /// changes.
+    pub(crate) fn write_beside(&mut self, key: &Key, bytes: &[u8]) -> io::Result<Way> {
         if self.is_adrift {
             return Err(io::Error::from(ErrorKind::Other));
         }
         self.unsynced.reserve(1)?;
         self.commits.reserve(1)?;
-        self.write_spare(bytes, false)
+        let way = Way {
+            spare: self.spare()?,
+            folder: self.folder_of(key)?,
+            path: object_path(self.files.alloc(), self.path.as_str(), key)?,
+        };
+        self.write_spare(way.spare.as_str(), bytes, false)?;
+        Ok(way)
     }
 
     /// Writes the spare file. Where that fails nothing is left of it.
-    pub(crate) fn write_spare(&mut self, bytes: &[u8], is_durable: bool) -> io::Result<()> {
-        let spare = self.spare()?;
-        let written = self.files.write(spare.as_str(), bytes, is_durable);
+    pub(crate) fn write_spare(
+        &mut self,
+        spare: &str,
+        bytes: &[u8],
+        is_durable: bool,
+    ) -> io::Result<()> {
+        let written = self.files.write(spare, bytes, is_durable);
         if written.is_err() {
-            self.clear_spare();
+            let _ = self.files.remove_file(spare);
         }
         written
     }
 
     /// Moves the spare file to this path. Where that fails nothing is left of it.
-    pub(crate) fn move_spare(&mut self, path: &str) -> io::Result<()> {
-        let spare = self.spare()?;
-        let moved = self.files.rename(spare.as_str(), path);
+    pub(crate) fn move_spare(&mut self, spare: &str, path: &str) -> io::Result<()> {
+        let moved = self.files.rename(spare, path);
         if moved.is_err() {
-            self.clear_spare();
+            let _ = self.files.remove_file(spare);
         }
         moved
-    }
-
-    /// Takes the spare file away, if it is there.
-    fn clear_spare(&mut self) {
-        if let Ok(spare) = self.spare() {
-            let _ = self.files.remove_file(spare.as_str());
-        }
     }
 
     /// Where bytes are written first.
@@ -145,26 +148,24 @@ impl<F: FileSystem + Drop> LibraryFolder<F> {
 
     /// Moves the object that was written beside into its slot. Where that fails nothing is left of the spare file. The
     /// object's folder is listed anew, since a move that fails may have been done.
-    pub(crate) fn move_in(&mut self, key: &Key, bytes: &[u8]) -> io::Result<()>
+    pub(crate) fn move_in(&mut self, key: &Key, bytes: &[u8], way: &Way) -> io::Result<()>
         ensures forgotten { IsForgotten self.new.listing key.now }
     {
-        let moved = self.move_object(key, bytes);
+        let moved = self.move_object(key, bytes, way);
         if moved.is_err() {
-            self.clear_spare();
+            let _ = self.files.remove_file(way.spare.as_str());
         }
         self.forget_listing(key);
         moved
     }
 
     /// Moves the object that was written beside into its slot, whose folder is made where it isn't there.
-    fn move_object(&mut self, key: &Key, bytes: &[u8]) -> io::Result<()> {
+    fn move_object(&mut self, key: &Key, bytes: &[u8], way: &Way) -> io::Result<()> {
         self.note_put(key, bytes)?;
-        let path = object_path(self.files.alloc(), self.path.as_str(), key)?;
-        let folder = self.folder_of(key)?;
-        if self.files.look(folder.as_str())?.is_none() {
-            self.files.make_folder(folder.as_str())?;
+        if self.files.look(way.folder.as_str())?.is_none() {
+            self.files.make_folder(way.folder.as_str())?;
         }
-        self.move_spare(path.as_str())?;
+        self.move_spare(way.spare.as_str(), way.path.as_str())?;
         take_out(&mut self.earlier.torn, key);
         Ok(())
     }
@@ -265,6 +266,14 @@ impl<F: FileSystem + Drop> LibraryFolder<F> {
         self.listing = Some(listing);
         Ok(found)
     }
+}
+
+/// The paths that an object is moved along, from the spare file to its own in its folder.
+#[derive(Drop)]
+pub(crate) struct Way {
+    spare: String,
+    folder: String,
+    path: String,
 }
 
 /// The first byte of an id, and 0 where there is none.

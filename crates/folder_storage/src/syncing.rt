@@ -109,8 +109,9 @@ impl<F: FileSystem + Drop> LibraryFolder<F> {
         if !self.is_as_put(key, bytes.as_slice()) {
             return self.unless_near(key);
         }
-        self.write_spare(bytes.as_slice(), true)?;
-        self.move_spare(path)
+        let spare = self.spare()?;
+        self.write_spare(spare.as_str(), bytes.as_slice(), true)?;
+        self.move_spare(spare.as_str(), path)
     }
 
     /// An object that a state text vouches for stays as it is where it is damaged: whoever asks for it is told.
@@ -265,8 +266,9 @@ impl<F: FileSystem + Drop> Disk for LibraryFolder<F> {
     fn put_text(&mut self, text: &[u8]) -> io::Result<()> {
         self.is_synced = true;
         let status = named_path(self.files.alloc(), self.path.as_str(), "status")?;
-        self.write_spare(text, true)?;
-        let moved = self.move_spare(status.as_str());
+        let spare = self.spare()?;
+        self.write_spare(spare.as_str(), text, true)?;
+        let moved = self.move_spare(spare.as_str(), status.as_str());
         if let Err(failure) = moved {
             return Err(after_a_change(failure));
         }
