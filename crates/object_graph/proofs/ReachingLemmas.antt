@@ -1,4 +1,5 @@
--- What a traversal visits and what objects name. The key lemmas are commit_within, commit_closes and reached_within.
+-- What a traversal visits and what objects name. The key lemmas are object_stays, commit_within, commit_closes and
+-- reached_within.
 use Rattle.std.proofs.Common.{◌≡◌, ◌||◌, ◌==◌, ◌⊎◌, ℕ, zero, suc, Bool, true, false, if◌then◌else◌, is_some, List, [], ◌∷◌, ◌++◌, length, refl, sym, ap, ◌∙◌, subst, Option, None, Some, Result, Ok, Err, inl, inr}
 use Rattle.std.specs.FinMap as map
 use Rattle.ids.specs.Key.{Objects}
@@ -30,100 +31,107 @@ in_parts xs ys key is = or_cases (is_in xs key) (is_in ys key) (sym (in_append x
 behind : (xs ys : List Key) → Within ys (xs ++ ys)
 behind xs ys = record { there = λ key is. in_append xs ys key ∙ or_right (is_in xs key) (is_in ys key) is }
 
--- ---- what is closed under naming has all that is visited
+-- ---- where a set is closed under naming, what each visit of its keys keeps holds of all that is visited
 
 module _ (A : Objects) (P : Key → Type 0) (closed : (above key : Key) → P above → is_in (named A above) key ≡ true → P key) where
-  abbrev Every : List Key → Type 0
+  abbrev pub Every : List Key → Type 0
   Every keys = (key : Key) → is_in keys key ≡ true → P key
 
-  -- a step that visits no others
-  abbrev Stays : Step → Type 0
-  Stays step = (w : Walk) → Every w.visits → Every (step w).visits
+  module _ (Holds : List Key → Type 0) (push : (key : Key) → P key → (keys : List Key) → Holds keys → Holds (keys ++ key ∷ [])) where
+    abbrev pub Stays : Step → Type 0
+    Stays step = (w : Walk) → Holds w.visits → Holds (step w).visits
 
-  every_visited : (key : Key) → P key → (w : Walk) → Every w.visits → Every (visited key w).visits
-  every_visited key has w all k is = elim (in_pushed w.visits key k is) [ inl old ↦ all k old | inr own ↦ subst P (sym own) has ]
+    stays_then : (w : Walk) (step : Step) → Stays step → Holds w.visits → Holds (then_walk w step).visits
+    stays_then w step stays all = by w.fault
+      where
+        by : (o : Option TreeFault) → Holds (next_by o step w).visits
+        by None = stays w all
+        by (Some fault) = all
 
-  stays_then : (w : Walk) (step : Step) → Stays step → Every w.visits → Every (then_walk w step).visits
-  stays_then w step stays all = by w.fault
-    where
-      by : (o : Option TreeFault) → Every (next_by o step w).visits
-      by None = stays w all
-      by (Some fault) = all
+    stays_counted : Stays counted
+    stays_counted w all = subst Holds (sym (counted-visits w)) all
 
-  stays_counted : Stays counted
-  stays_counted w all = subst Every (sym (counted-visits w)) all
+    stays_block : (id : List ℕ) → P (block_key id) → Stays (walk_block true A id)
+    stays_block id has w all = by (is_some (map.get A (block_key id)))
+      where
+        by : (b : Bool) → Holds (if b then visited (block_key id) w else failed (Incomplete (block_key id)) (visited (block_key id) w)).visits
+        by true = push (block_key id) has w.visits all
+        by false = push (block_key id) has w.visits all
 
-  stays_block : (id : List ℕ) → P (block_key id) → Stays (walk_block true A id)
-  stays_block id has w all = by (is_some (map.get A (block_key id)))
-    where
-      by : (b : Bool) → Every (if b then visited (block_key id) w else failed (Incomplete (block_key id)) (visited (block_key id) w)).visits
-      by true = every_visited (block_key id) has w all
-      by false = every_visited (block_key id) has w all
+    stays_blocks : (ids : List (List ℕ)) → Every (block_keys ids) → Stays (walk_blocks true A ids)
+    stays_blocks [] has w all = all
+    stays_blocks (id ∷ ids) has w all =
+        stays_then (walk_block true A id w) (walk_blocks true A ids)
+        (stays_blocks ids (λ key is. has key ((behind (block_key id ∷ []) (block_keys ids)).there key is)))
+        (stays_block id (has (block_key id) (in_first (block_key id) (block_keys ids))) w all)
 
-  stays_blocks : (ids : List (List ℕ)) → Every (block_keys ids) → Stays (walk_blocks true A ids)
-  stays_blocks [] has w all = all
-  stays_blocks (id ∷ ids) has w all =
-      stays_then (walk_block true A id w) (walk_blocks true A ids)
-      (stays_blocks ids (λ key is. has key ((behind (block_key id ∷ []) (block_keys ids)).there key is)))
-      (stays_block id (has (block_key id) (in_first (block_key id) (block_keys ids))) w all)
+    stays_sized : (id : List ℕ) (file : FileObject) → Stays (sized true A id file)
+    stays_sized id file w all = by (file.size == length (joined A file.blocks))
+      where
+        by : (b : Bool) → Holds (if b then w else failed (WrongSize id) w).visits
+        by true = all
+        by false = all
 
-  stays_sized : (id : List ℕ) (file : FileObject) → Stays (sized true A id file)
-  stays_sized id file w all = by (file.size == length (joined A file.blocks))
-    where
-      by : (b : Bool) → Every (if b then w else failed (WrongSize id) w).visits
-      by true = all
-      by false = all
+    -- the traversal of an object that is named
+    abbrev StaysBelow : Below → Type 0
+    StaysBelow below = (wants : Bool) (path : PathV) (id : List ℕ) → Every (own_keys id) → Stays (below wants path id)
 
-  -- the traversal of an object that is named
-  abbrev StaysBelow : Below → Type 0
-  StaysBelow below = (wants : Bool) (path : PathV) (id : List ℕ) → Every (own_keys id) → Stays (below wants path id)
+    stays_entries : (below : Below) → StaysBelow below → (path : PathV) (entries : List Dirent) → Every (entry_keys entries) → Stays (walk_entries true A below path entries)
+    stays_entries below inner path [] has w all = all
+    stays_entries below inner path (e ∷ entries) has w all =
+        stays_then (then_walk (counted w) (below (is_directory_mode e.mode) (path ++ e.name ∷ []) e.id)) (walk_entries true A below path entries)
+        (stays_entries below inner path entries (λ key is. has key ((behind (own_keys e.id) (entry_keys entries)).there key is)))
+        (stays_then (counted w) (below (is_directory_mode e.mode) (path ++ e.name ∷ []) e.id)
+        (inner (is_directory_mode e.mode) (path ++ e.name ∷ []) e.id (λ key is. has key ((within_front (own_keys e.id) (entry_keys entries)).there key is)))
+        (stays_counted w all))
 
-  stays_entries : (below : Below) → StaysBelow below → (path : PathV) (entries : List Dirent) → Every (entry_keys entries) → Stays (walk_entries true A below path entries)
-  stays_entries below inner path [] has w all = all
-  stays_entries below inner path (e ∷ entries) has w all =
-      stays_then (then_walk (counted w) (below (is_directory_mode e.mode) (path ++ e.name ∷ []) e.id)) (walk_entries true A below path entries)
-      (stays_entries below inner path entries (λ key is. has key ((behind (own_keys e.id) (entry_keys entries)).there key is)))
-      (stays_then (counted w) (below (is_directory_mode e.mode) (path ++ e.name ∷ []) e.id)
-      (inner (is_directory_mode e.mode) (path ++ e.name ∷ []) e.id (λ key is. has key ((within_front (own_keys e.id) (entry_keys entries)).there key is)))
-      (stays_counted w all))
+    stays_found : (below : Below) → StaysBelow below → (wants : Bool) (path : PathV) (id : List ℕ) (object : FsObject) → Every (named_in object)
+        → Stays (walk_found true A below wants path id object)
+    stays_found below inner true path id (fs.File file) has w all = all
+    stays_found below inner false path id (fs.File file) has w all =
+        stays_then (walk_blocks true A file.blocks w) (sized true A id file) (stays_sized id file) (stays_blocks file.blocks has w all)
+    stays_found below inner true path id (fs.Dir entries) has w all = stays_entries below inner path (in_name_order entries) has w all
+    stays_found below inner false path id (fs.Dir entries) has w all = all
 
-  stays_found : (below : Below) → StaysBelow below → (wants : Bool) (path : PathV) (id : List ℕ) (object : FsObject) → Every (named_in object)
-      → Stays (walk_found true A below wants path id object)
-  stays_found below inner true path id (fs.File file) has w all = all
-  stays_found below inner false path id (fs.File file) has w all =
-      stays_then (walk_blocks true A file.blocks w) (sized true A id file) (stays_sized id file) (stays_blocks file.blocks has w all)
-  stays_found below inner true path id (fs.Dir entries) has w all = stays_entries below inner path (in_name_order entries) has w all
-  stays_found below inner false path id (fs.Dir entries) has w all = all
+    stays_object : (below : Below) → StaysBelow below → StaysBelow (walk_object true A below)
+    stays_object below inner wants path id own w all = by (is_nil id) own
+      where
+        read : (r : Result FsObject TreeFault) → Every (named_by_fs r) → (v : Walk) → Holds v.visits → Holds (then_read r (walk_found true A below wants path id) v).visits
+        read (Ok object) has v there = stays_found below inner wants path id object has v there
+        read (Err fault) has v there = there
 
-  stays_object : (below : Below) → StaysBelow below → StaysBelow (walk_object true A below)
-  stays_object below inner wants path id own w all = by (is_nil id) own
-    where
-      read : (r : Result FsObject TreeFault) → Every (named_by_fs r) → (v : Walk) → Every v.visits → Every (then_read r (walk_found true A below wants path id) v).visits
-      read (Ok object) has v there = stays_found below inner wants path id object has v there
-      read (Err fault) has v there = there
+        by : (n : Bool) → Every (if n then [] else fs_key id ∷ [])
+            → Holds (if n then w else then_read (fs_at A id) (walk_found true A below wants path id) (visited (fs_key id) w)).visits
+        by true has = all
+        by false has =
+            let here : P (fs_key id) = has (fs_key id) (in_first (fs_key id) []) in
+            read (fs_at A id) (λ key is. closed (fs_key id) key here is) (visited (fs_key id) w) (push (fs_key id) here w.visits all)
 
-      by : (n : Bool) → Every (if n then [] else fs_key id ∷ [])
-          → Every (if n then w else then_read (fs_at A id) (walk_found true A below wants path id) (visited (fs_key id) w)).visits
-      by true has = all
-      by false has =
-          let here : P (fs_key id) = has (fs_key id) (in_first (fs_key id) []) in
-          read (fs_at A id) (λ key is. closed (fs_key id) key here is) (visited (fs_key id) w) (every_visited (fs_key id) here w all)
+    stays_below : (room : ℕ) → StaysBelow (walk_below true A room)
+    unfolding walk_below
+    stays_below zero wants path id own w all = all
+    stays_below (suc room) wants path id own w all = stays_object (walk_below true A room) (stays_below room) wants path id own w all
 
-  stays_below : (room : ℕ) → StaysBelow (walk_below true A room)
-  unfolding walk_below
-  stays_below zero wants path id own w all = all
-  stays_below (suc room) wants path id own w all = stays_object (walk_below true A room) (stays_below room) wants path id own w all
+    pub object_stays : (room : ℕ) (wants : Bool) (path : PathV) (id : List ℕ) → Every (own_keys id) → Stays (walk_object true A (walk_below true A room) wants path id)
+    object_stays room = stays_object (walk_below true A room) (stays_below room)
+
+    commit_stays : (id : List ℕ) → P (commit_key id) → Holds [] → Holds (walk_commit A id).visits
+    unfolding walk_commit
+    commit_stays id has nothing = by (commit_at A id) (λ key is. closed (commit_key id) key has is)
+      where
+        first : Holds (visited (commit_key id) start).visits
+        first = push (commit_key id) has [] nothing
+
+        by : (r : Result Commit TreeFault) → Every (named_by_commit r) → Holds (then_read r (λ commit. walk_root true A commit.root) (visited (commit_key id) start)).visits
+        by (Ok commit) own = object_stays MAX_NAMES true [] commit.root own (visited (commit_key id) start) first
+        by (Err fault) own = first
+
+  -- so all that is visited is of the set
+  every_push : (key : Key) → P key → (keys : List Key) → Every keys → Every (keys ++ key ∷ [])
+  every_push key has keys all k is = elim (in_pushed keys key k is) [ inl old ↦ all k old | inr own ↦ subst P (sym own) has ]
 
   pub commit_within : (id : List ℕ) → P (commit_key id) → Every (walk_commit A id).visits
-  unfolding walk_commit
-  commit_within id has = by (commit_at A id) (λ key is. closed (commit_key id) key has is)
-    where
-      first : Every (visited (commit_key id) start).visits
-      first = every_visited (commit_key id) has start (λ key is. cc is)
-
-      by : (r : Result Commit TreeFault) → Every (named_by_commit r) → Every (then_read r (λ commit. walk_root true A commit.root) (visited (commit_key id) start)).visits
-      by (Ok commit) own = stays_object (walk_below true A MAX_NAMES) (stays_below MAX_NAMES) true [] commit.root own (visited (commit_key id) start) first
-      by (Err fault) own = first
+  commit_within id has = commit_stays Every every_push id has (λ key is. cc is)
 
 -- ---- what a traversal without a fault visits names nothing else
 

@@ -136,10 +136,10 @@ fn a_path_of_a_hundred_names_is_complete_and_one_of_a_name_more_is_too_deep(
     Ok(())
 }
 
-/// Puts twelve levels that name the next twice, and gives the root.
-fn put_levels(alloc: Global, store: &mut Shelved) -> Result<ObjId, Fail> {
+/// Puts so many levels that name the next twice, and gives the root.
+fn put_levels(alloc: Global, store: &mut Shelved, levels: u64) -> Result<ObjId, Fail> {
     let mut root = ObjId::NIL;
-    for _ in 0..12 {
+    for _ in 0..levels {
         root = put_twice(alloc, store, &root)?;
     }
     Ok(root)
@@ -156,7 +156,7 @@ fn paths(alloc: Global, store: &mut Shelved, root: &ObjId) -> Result<usize, Fail
 #[test]
 fn twelve_levels_that_name_the_next_twice_have_8190_paths(rt: HostRuntime) -> Result<(), Fail> {
     let mut store = empty(rt.alloc())?;
-    let root = put_levels(rt.alloc(), &mut store)?;
+    let root = put_levels(rt.alloc(), &mut store, 12)?;
     let root = &root;
     assert!(rt; paths(rt.alloc(), &mut store, root)? == 8190);
     assert!(rt; needed(rt.alloc(), &mut store, root)? == Some(13));
@@ -166,11 +166,8 @@ fn twelve_levels_that_name_the_next_twice_have_8190_paths(rt: HostRuntime) -> Re
 /// What a check tells of so many levels of which each names the next twice: none where all is whole, and the number of paths
 /// where there are too many.
 fn checked(alloc: Global, levels: u64) -> Result<Option<u64>, Fail> {
-    let mut store = store_that_fails(alloc, Items::new(alloc))?;
-    let mut root = ObjId::NIL;
-    for _ in 0..levels {
-        root = put_twice(alloc, &mut store, &root)?;
-    }
+    let mut store = empty(alloc)?;
+    let root = put_levels(alloc, &mut store, levels)?;
     let commit = put_commit(alloc, &mut store, &root)?;
     laws::what_is_known_is_right_at_first();
     let mut known = Known::new(alloc);
@@ -187,6 +184,22 @@ fn levels_that_name_the_next_twice_are_counted_by_what_is_known(
 ) -> Result<(), Fail> {
     assert_eq!(rt; checked(rt.alloc(), 18)?, None);
     assert_eq!(rt; checked(rt.alloc(), 40)?, Some(1_000_001));
+    Ok(())
+}
+
+/// How many keys are needed by so many levels of which each names the next twice.
+fn needed_by_levels(alloc: Global, levels: u64) -> Result<Option<usize>, Fail> {
+    let mut store = empty(alloc)?;
+    let root = put_levels(alloc, &mut store, levels)?;
+    needed(alloc, &mut store, &root)
+}
+
+// A walk of each path would read half a million directories.
+#[test]
+fn eighteen_levels_that_name_the_next_twice_need_each_object_once(
+    rt: HostRuntime,
+) -> Result<(), Fail> {
+    assert!(rt; needed_by_levels(rt.alloc(), 18)? == Some(19));
     Ok(())
 }
 

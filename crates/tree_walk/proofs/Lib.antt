@@ -8,5 +8,6 @@ pub mod ListingLemmas
 pub mod OrderedLemmas
 pub mod ReachingLemmas
 pub mod ReadsLemmas
+pub mod SeenLemmas
 pub mod StepsLemmas
 pub mod VisitLemmas

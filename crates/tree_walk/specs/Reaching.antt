@@ -1,66 +1,77 @@
--- For private clauses: which files and directories are reached from a directory, each object once. Read AreReached, then
--- ReachesSo.
-use Rattle.std.specs.Prelude.{◌≡◌, ℕ, true, if◌then◌else◌, List, [], ◌∷◌, ◌++◌, None, Result, Ok, Err, ⊤}
+-- For private clauses: what is reached object by object, in the order of first visit. Read IsSeen, then Reaches.
+use Rattle.std.specs.Prelude.{◌≡◌, ℕ, Bool, true, if◌then◌else◌, List, [], ◌∷◌, None, Result, Ok, Err}
 use Rattle.ids.specs.Key.{Objects}
 use Rattle.ids.specs.declared.key.Key.{Key}
-use Rattle.tree_model.specs.Path.{PathV}
-use Rattle.fs_objects.specs.Mode.{is_directory_mode}
-use Rattle.fs_objects.specs.declared.dirent.Dirent.{Dirent}
-use Rattle.object_graph.specs.FsIds.{is_fs}
-use Rattle.object_graph.specs.Objects.{fs_key, is_nil}
+use Rattle.ids.specs.declared.key.Kind.{Kind}
+use Rattle.ids.specs.declared.key.Kind.TheVariants.{Commit, Fs, Block}
+use Rattle.fs_objects.specs.declared.file_object.FileObject.{FileObject}
+use Rattle.object_graph.specs.Objects.{fs_key}
 use Rattle.object_graph.specs.Reached.{named}
-use Rattle.object_graph.specs.Traversal.{Walk, is_in, needs, walk_below}
+use Rattle.object_graph.specs.Traversal.{Walk, distinct_from, is_in, walk_commit}
+use Rattle.tree_walk.specs.Files.{file_at}
 use Rattle.tree_walk.specs.Reading.{IsDue}
-use Rattle.tree_walk.specs.Visits.{MetView, with_key_met}
+use Rattle.tree_walk.specs.Visits.{MetView, is_done, with_blocks_met}
 use Rattle.tree_walk.specs.declared.fault.WalkFault.{WalkFault}
 
--- each of these keys is one of those
-abbrev pub AreIn : List Key → List Key → Type 0
-AreIn keys more = (key : Key) → is_in keys key ≡ true → is_in more key ≡ true
+-- `blocks` tells whether blocks are gone over, as everything else is
+abbrev pub goes_over : Bool → Kind → Bool
+goes_over blocks Commit = true
+goes_over blocks Fs = true
+goes_over blocks Block = blocks
 
--- a step came without a fault in some traversal, and visited no others than these
-pub record Ran (step : Walk → Walk) (visits : List Key) : Type 0 where
-  pub from : Walk
-  pub none : (step from).fault ≡ None
-  pub within : AreIn (step from).visits visits
+abbrev pub chosen : Bool → List Key → List Key
+chosen blocks [] = []
+chosen blocks (key ∷ keys) = if goes_over blocks key.kind then key ∷ chosen blocks keys else chosen blocks keys
 
--- the object of an entry, and what lies below it
-abbrev pub below_step : Objects → (room : ℕ) → PathV → Dirent → Walk → Walk
-below_step objects room path e = walk_below true objects room (is_directory_mode e.mode) (path ++ e.name ∷ []) e.id
+-- a file or directory that is finished, and a block that was met, where blocks are gone over
+abbrev pub IsDoneOf : Kind → Bool → MetView → Key → Type 0
+IsDoneOf Commit blocks met key = ⊥
+IsDoneOf Fs blocks met key = is_done met key ≡ true
+IsDoneOf Block blocks met key = blocks ≡ true → is_in met.keys key ≡ true
 
-abbrev pub EachRan : Objects → (room : ℕ) → PathV → List Dirent → List Key → Type 0
-EachRan objects room path [] visits = ⊤
-EachRan objects room path (e ∷ entries) visits = Ran (below_step objects room path e) visits × EachRan objects room path entries visits
+abbrev pub IsDone : Bool → MetView → Key → Type 0
+IsDone blocks met key = IsDoneOf key.kind blocks met key
 
--- these keys were visited, and the files and directories that one of them names are among them
-pub record AreReached (objects : Objects) (visits keys : List Key) : Type 0 where
-  pub visited : AreIn keys visits
-  pub closed : (above key : Key) → is_in keys above ≡ true → is_in (named objects above) key ≡ true → is_fs key.kind ≡ true → is_in keys key ≡ true
+-- where a traversal made these visits, those that are gone over were met in their order; what is finished was met, and
+-- what it names is done
+pub record IsSeen (blocks : Bool) (objects : Objects) (visits : List Key) (met : MetView) : Type 0 where
+  pub keys : distinct_from [] (chosen blocks visits) ≡ distinct_from [] met.keys
+  pub there : (key : Key) → is_done met key ≡ true → is_in met.keys key ≡ true
+  pub closed : (above key : Key) → is_done met above ≡ true → is_in (named objects above) key ≡ true → IsDone blocks met key
 
--- none of those reached before is lost, and what was to be reached is there
-pub record IsReached (objects : Objects) (visits names old new : List Key) : Type 0 where
-  pub reached : AreReached objects visits new
-  pub kept : AreIn old new
-  pub there : AreIn names new
+-- what was met and what was finished stay so
+pub record Grows (old new : MetView) : Type 0 where
+  pub met : (key : Key) → is_in old.keys key ≡ true → is_in new.keys key ≡ true
+  pub done : (key : Key) → is_done old key ≡ true → is_done new key ≡ true
+
+-- after these visits, and what is named here is done
+pub record IsReached (blocks : Bool) (objects : Objects) (visits names : List Key) (old new : MetView) : Type 0 where
+  pub seen : IsSeen blocks objects visits new
+  pub grows : Grows old new
+  pub there : (key : Key) → is_in names key ≡ true → IsDone blocks new key
 
 -- so much was reached; or the store failed, since nothing else is wrong
-abbrev pub ReachesSo : Objects → (visits names old : List Key) → Result MetView WalkFault → Type 0
-ReachesSo objects visits names old (Ok new) = IsReached objects visits names old new.keys
-ReachesSo objects visits names old (Err fault) = IsDue objects None fault
+abbrev pub ReachesSo : Bool → Objects → (visits names : List Key) → MetView → Result MetView WalkFault → Type 0
+ReachesSo blocks objects visits names old (Ok new) = IsReached blocks objects visits names old new
+ReachesSo blocks objects visits names old (Err fault) = IsDue objects None fault
 
--- the same within each traversal of which this is a part
-abbrev pub Reaches : Objects → (List Key → Type 0) → (names : List Key) → MetView → Result MetView WalkFault → Type 0
-Reaches objects part names old result = (visits : List Key) → part visits → AreReached objects visits old.keys → ReachesSo objects visits names old.keys result
+-- wherever a traversal that saw what was met comes by the step without a fault, it is seen after it
+abbrev pub Reaches : Bool → Objects → (Walk → Walk) → (names : List Key) → MetView → Result MetView WalkFault → Type 0
+Reaches blocks objects step names old result = (w : Walk) → IsSeen blocks objects w.visits old → (step w).fault ≡ None → ReachesSo blocks objects (step w).visits names old result
 
--- with a file, of which forty zeros are none
-abbrev pub with_own : List ℕ → MetView → MetView
-with_own id met = if is_nil id then met else with_key_met (fs_key id) met
+-- the blocks of a file are met, where blocks are gone over; or the store failed
+abbrev pub MeetsSo : Bool → Objects → List (List ℕ) → MetView → Result MetView WalkFault → Type 0
+MeetsSo blocks objects ids old (Ok new) = new ≡ (if blocks then with_blocks_met ids old else old)
+MeetsSo blocks objects ids old (Err fault) = IsDue objects None fault
+
+abbrev pub MeetsBlocks : Bool → Objects → List ℕ → MetView → Result MetView WalkFault → Type 0
+MeetsBlocks blocks objects id old result = (file : FileObject) → file_at objects id ≡ Ok file → MeetsSo blocks objects file.blocks old result
+
+-- all that a commit's traversal visits, or all but blocks, each key once; or the store failed
+abbrev pub ReachesAll : Bool → Objects → List ℕ → Result (List Key) WalkFault → Type 0
+ReachesAll blocks objects commit (Ok keys) = keys ≡ distinct_from [] (chosen blocks (walk_commit objects commit).visits)
+ReachesAll blocks objects commit (Err fault) = IsDue objects None fault
 
 -- these are, of files and directories, the same keys as those
 abbrev pub HasFsOf : List Key → List Key → Type 0
 HasFsOf keys others = (id : List ℕ) → is_in keys (fs_key id) ≡ is_in others (fs_key id)
-
--- the files and directories that a commit needs; or the store failed
-abbrev pub ReachesAll : Objects → List ℕ → Result (List Key) WalkFault → Type 0
-ReachesAll objects commit (Ok keys) = HasFsOf keys (needs objects commit)
-ReachesAll objects commit (Err fault) = IsDue objects None fault

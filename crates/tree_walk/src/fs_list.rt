@@ -44,7 +44,7 @@ pub fn fs_ids<S: Shelf>(
         Ok(()) => {}
         Err(fault) => return Err(fault),
     }
-    let wanted = match reached(alloc, store, server) {
+    let wanted = match reached(alloc, store, false, server) {
         Ok(wanted) => wanted,
         Err(fault) => return Err(fault),
     };
@@ -77,7 +77,7 @@ fn reached_if<S: Shelf>(
         Ok(()) => {}
         Err(fault) => return Err(fault),
     }
-    match reached(alloc, store, commit) {
+    match reached(alloc, store, false, commit) {
         Ok(keys) => Ok(keys),
         Err(fault) => Err(fault),
     }

@@ -19,7 +19,6 @@ mod reaching;
 mod reading;
 mod trail;
 mod unread;
-mod visiting;
 
 pub use crate::checking::check;
 pub use crate::contents::{file_bytes, same_file};
@@ -28,5 +27,5 @@ pub use crate::fault::WalkFault;
 pub use crate::fs_list::fs_ids;
 pub use crate::known_trees::Known;
 pub use crate::listing::tree;
+pub use crate::reaching::needs;
 pub use crate::reading::commit_at;
-pub use crate::visiting::needs;

@@ -1,15 +1,17 @@
 //! What a traversal met.
-use crate::known::insert;
+ghost use Rattle.std.specs.Prelude.{◌≡◌, OnErr, OnOk};
+ghost use Rattle.std.specs.FinMap as map;
+
 use ids::{Key, KeyList, KeyTable};
 use std::alloc::{AllocError, Global};
 use std::marker::Model;
 
-/// The keys that a traversal visited, each once, in the order of first visit; and the number of paths that it counted.
+/// The keys that a traversal visited, each once, in the order of first visit; and of each whether it is finished: all that
+/// lies below it was gone over.
 #[derive(Drop)]
 pub struct Met {
     order: KeyList,
-    known: KeyTable<()>,
-    paths: u64,
+    marks: KeyTable<bool>,
 }
 
 impl Model for Met {
@@ -19,81 +21,60 @@ impl Model for Met {
 
     ghost coded = { met_code };
 
-    ghost view = { λ a. record { keys = a.order; paths = a.paths } };
+    ghost view = { λ a. record { keys = a.order; marks = a.marks } };
 
-    ghost invariant = { λ a. IsMet a.order a.known a.paths };
+    ghost invariant = { λ a. IsMet a.order a.marks };
 }
 
 impl Met {
-    ghost use Rattle.std.specs.Prelude.{◌≡◌, ◌+◌, ◌<◌, ◌≤◌, [], IfOk};
-    ghost use Rattle.object_graph.specs.Traversal.{distinct_from, is_in};
-    ghost use Rattle.tree_model.specs.declared.limits.TheConstants.{MAX_PATHS};
-    ghost use Rattle.tree_walk.specs.Visits.{with_key_met};
+    ghost use Rattle.std.specs.Prelude.{◌≡◌, [], IfOk};
+    ghost use Rattle.object_graph.specs.Traversal.{distinct_from};
+    ghost use Rattle.tree_walk.specs.Visits.{finished, is_done, nothing_met, with_key_met};
 
     /// Nothing. It takes no memory.
     pub fn new(alloc: Global) -> Met
-        ensures value { result ≡ record { keys = []; paths = 0 } }
+        ensures value { result ≡ nothing_met }
     {
         Met {
             order: KeyList::new(alloc),
-            known: KeyTable::new(alloc),
-            paths: 0,
+            marks: KeyTable::new(alloc),
         }
     }
 
-    /// Whether a key was met.
-    pub fn has(&self, key: &Key) -> bool
-        ensures value { result ≡ is_in self.now.keys key.now }
+    /// Whether a key is finished.
+    pub fn is_done(&self, key: &Key) -> bool
+        ensures value { result ≡ is_done self.now key.now }
     {
-        self.known.has(key)
+        match self.marks.get(key) {
+            Some(done) => *done,
+            None => false,
+        }
     }
 
-    /// The same with one key more, if it wasn't met before.
+    /// The same with one key more, which isn't finished, if it wasn't met before.
     pub fn visit(self, key: &Key) -> Result<Met, AllocError>
         ensures value { IfOk result (λ met. met ≡ with_key_met key.now self) }
     {
-        if self.known.has(key) {
+        if self.marks.has(key) {
             return Ok(self);
         }
-        let Met {
-            order,
-            known,
-            paths,
-        } = self;
+        let Met { order, marks } = self;
         let mut order = order;
-        let mut known = known;
-        insert(&mut known, key)?;
+        let mut marks = marks;
+        mark(&mut marks, key, false)?;
         order.push(*key)?;
-        Ok(Met {
-            order,
-            known,
-            paths,
-        })
+        Ok(Met { order, marks })
     }
 
-    /// The number of paths, at most MAX_PATHS.
-    pub fn paths(&self) -> u64
-        ensures value { result ≡ self.now.paths }
-        ensures bound { self.now.paths ≤ MAX_PATHS }
+    /// The same with this key finished.
+    pub fn finish(self, key: &Key) -> Result<Met, AllocError>
+        ensures value { IfOk result (λ met. met ≡ finished key.now self) }
     {
-        self.paths
-    }
-
-    /// The same with one path more.
-    pub fn counted(self) -> Met
-        requires fits { self.paths < MAX_PATHS }
-        ensures value { result ≡ record self { paths = self.paths + 1 } }
-    {
-        let Met {
-            order,
-            known,
-            paths,
-        } = self;
-        Met {
-            order,
-            known,
-            paths: paths + 1,
-        }
+        let met = self.visit(key)?;
+        let Met { order, marks } = met;
+        let mut marks = marks;
+        mark(&mut marks, key, true)?;
+        Ok(Met { order, marks })
     }
 
     /// The keys, in the order of first visit.
@@ -101,11 +82,18 @@ impl Met {
         ensures value { result ≡ self.keys }
         ensures once { distinct_from [] result ≡ result }
     {
-        let Met {
-            order,
-            known: _,
-            paths: _,
-        } = self;
+        let Met { order, marks: _ } = self;
         order
+    }
+}
+
+/// Marks a key. After an error the table is as it was.
+fn mark(marks: &mut KeyTable<bool>, key: &Key, done: bool) -> Result<(), AllocError>
+    ensures ok { OnOk result (marks.new ≡ map.insert marks.old key.now done) }
+    ensures err { OnErr result (marks.new ≡ marks.old) }
+{
+    match marks.insert(*key, done) {
+        Ok(_) => Ok(()),
+        Err(failed) => Err(failed),
     }
 }
