@@ -1,4 +1,5 @@
-"""head.py SERVER LIBRARY: processor time of one head that comes byte by byte, for heads of growing length, and for as many bytes in two pieces."""
+"""head.py SERVER LIBRARY: processor time of one head that comes byte by byte, for heads of growing length (after empty lines, of
+one long field and of many short ones), and for as many bytes in two pieces."""
 import os
 import resource
 import subprocess
@@ -9,9 +10,11 @@ server, library = sys.argv[1:]
 
 
 def head(size, lines):
-    """A head of so many bytes, of one long field or of many short ones, that closes."""
+    """A head of so many bytes, of one long field or of many short ones, or after empty lines where it has no such field, that closes."""
     front = "GET /protocol-version HTTP/1.1\r\nHost: x\r\nConnection: close\r\n"
     left = size - len(front) - 2
+    if lines == 0:
+        return ("\n" * left + front + "\r\n").encode()
     each = left // lines
     text = front
     for number in range(lines):
@@ -51,7 +54,7 @@ def pending(pipe):
     return size[0]
 
 
-for lines in (1, 60):
+for lines in (0, 1, 60):
     for size in (2000, 4000, 8000, 16000):
         data = head(size, lines)
         each = [sum(spent(data, pieces) for _ in range(10)) / 10 for pieces in (len(data), 2)]

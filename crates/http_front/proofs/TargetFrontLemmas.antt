@@ -23,7 +23,7 @@ no_space-end : (end : LineEnd) → NoSpace (print_end end)
 no_space-end crlf = (λ e. omega (arith, e), (λ e. omega (arith, e), tt))
 no_space-end lf = (λ e. omega (arith, e), tt)
 
-no_space-blank : (ends : List LineEnd) → NoSpace (print_blank ends)
+pub no_space-blank : (ends : List LineEnd) → NoSpace (print_blank ends)
 no_space-blank [] = tt
 no_space-blank (end ∷ ends) = no_space-append (print_end end) (print_blank ends) (no_space-end end) (no_space-blank ends)
 

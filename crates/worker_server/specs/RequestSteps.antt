@@ -1,9 +1,9 @@
 -- What the steps of one request do: reading it, stopping in its place, and serving it.
 -- Read OneServed first, at the end.
-use Rattle.std.specs.Prelude.{ℕ, ◌≡◌, ◌≢◌, ◌==◌, ◌||◌, ◌+◌, ◌-◌, ◌*◌, nat_le, nat_lt, ◌<◌, ◌≤◌, IsTrue, Bool, List, [], ◌∷◌, ◌++◌, length, take, drop, All, Option, Some, Result, Ok, Err, ⊤}
+use Rattle.std.specs.Prelude.{ℕ, ◌≡◌, ◌≢◌, ◌==◌, ◌||◌, ◌&&◌, ◌⊎◌, ◌+◌, ◌-◌, ◌*◌, nat_le, nat_lt, ◌<◌, ◌≤◌, IsTrue, Bool, List, [], ◌∷◌, ◌++◌, length, take, drop, All, Option, Some, Result, Ok, Err, ⊤}
 use Rattle.std.specs.Io.KnownBytes.{append_known}
 use Rattle.std.specs.List.{list_any}
-use Rattle.httparse.specs.Grammar.{HasNoRequest, print_request}
+use Rattle.httparse.specs.Grammar.{HasNoRequest, LineEnd, print_blank, print_end, print_request}
 use Rattle.library_state.specs.declared.call.Call.{Call}
 use Rattle.ids.specs.FaultCount.{Rose}
 use Rattle.http_front.specs.declared.head.Head.{Head}
@@ -161,6 +161,22 @@ pub record IsQuiet (seen known : ℕ) (buffer : List ℕ) : Type 0 where
   pub half : length buffer ≤ 2 * seen
   pub short : length buffer < head_limit
   pub lines : All (λ byte. byte ≢ 10) (drop known buffer)
+
+-- the first so many bytes are empty lines
+pub record BeginsBlank (blank : ℕ) (bytes : List ℕ) : Type 0 where
+  pub ends : List LineEnd
+  pub more : List ℕ
+  pub is : bytes ≡ print_blank ends ++ more
+  pub size : blank ≡ length (print_blank ends)
+
+-- so many bytes has the line end at the front, if that is told
+abbrev pub IsEndSize : List ℕ → ℕ → Type 0
+IsEndSize bytes size =
+    (size ≡ 0) ⊎ ((end : LineEnd) × (more : List ℕ) × (bytes ≡ print_end end ++ more) × (size ≡ length (print_end end)))
+
+-- whether empty lines are all that is there, and a head may be longer
+abbrev pub is_open_blank : ℕ → List ℕ → Bool
+is_open_blank blank bytes = blank == length bytes && nat_lt (length bytes) head_limit
 
 -- so many bytes are wanted, and fewer are there
 abbrev pub WantsBytes : ℕ → List ℕ → Type 0

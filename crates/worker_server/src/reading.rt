@@ -6,7 +6,7 @@ ghost use Rattle.http_front.specs.Buffer.{Fills, to_read};
 ghost use Rattle.http_front.specs.Link.{told_by};
 ghost use Rattle.http_front.specs.NextHead.{IsHeadOf};
 ghost use Rattle.http_front.specs.RequestStream.{front_of};
-ghost use Rattle.worker_server.specs.RequestSteps.{CountsRead, EndAsked, HasBadStatus, IsBodyEnd, IsEnd, IsLook, IsNoFault, IsScanned, ReadsOn, WantsBytes, WantsHead, end_at, is_due};
+ghost use Rattle.worker_server.specs.RequestSteps.{BeginsBlank, CountsRead, EndAsked, HasBadStatus, IsBodyEnd, IsEnd, IsEndSize, IsLook, IsNoFault, IsScanned, ReadsOn, WantsBytes, WantsHead, end_at, is_due, is_open_blank};
 
 use http_front::{Buffer, FillFault, HEAD_LIMIT, Head, Link, Next, next_head};
 use std::alloc::{AllocError, Global};
@@ -36,8 +36,8 @@ enum Look {
 
 /// Reads until a head stands at the front of the buffer.
 ///
-/// It is looked at again where a line ends (empty lines in front of it too), and where less than half of what is there was
-/// looked at, each time from its first byte. No clause speaks of time.
+/// It is looked at again where a line of it ends, and where less than half of what is there was looked at, each time from its
+/// first byte. Of empty lines in front of it each is looked at once, until more follows. No clause speaks of time.
 pub fn read_head<L: Link>(alloc: Global, link: &mut L, buffer: &mut Buffer) -> Result<Head, End>
     ensures ok { IfOk result (λ head. (request : RequestHead) × IsHeadOf (front_of buffer.new) head request) }
     ensures err { IfErr result (λ end. (rest : List ℕ) → to_read buffer.old (L.left link.old) ≡ Some rest
@@ -50,8 +50,11 @@ pub fn read_head<L: Link>(alloc: Global, link: &mut L, buffer: &mut Buffer) -> R
 {
     let mut seen = 0;
     let mut known = 0;
+    let mut blank = 0;
     loop {
-        match look_for_head(alloc, buffer.front(), seen, known) {
+        let front = buffer.front();
+        blank = blank_lines(front, blank);
+        match look_for_head(alloc, front, seen, known, blank) {
             Ok(Look::Open(now)) => seen = now,
             Ok(Look::Head(head)) => return Ok(head),
             Ok(Look::Bad(status)) => return Err(End::Refused(status)),
@@ -67,10 +70,21 @@ pub fn read_head<L: Link>(alloc: Global, link: &mut L, buffer: &mut Buffer) -> R
 }
 
 /// Looks for a head, where it is time to. The first `seen` bytes were looked at, and up to `known` no line ended after them.
-fn look_for_head(alloc: Global, front: &[u8], seen: usize, known: usize) -> Result<Look, AllocError>
+/// The first `blank` bytes are empty lines.
+fn look_for_head(
+    alloc: Global,
+    front: &[u8],
+    seen: usize,
+    known: usize,
+    blank: usize,
+) -> Result<Look, AllocError>
     requires known { IsScanned seen known front.now }
+    requires part { BeginsBlank blank front.now }
     ensures value { IfOk result (IsLook front.now) }
 {
+    if is_open_blank(front, blank) {
+        return Ok(Look::Open(front.len()));
+    }
     if !is_due(front, seen, known) {
         return Ok(Look::Open(seen));
     }
@@ -93,6 +107,39 @@ fn is_due(front: &[u8], seen: usize, known: usize) -> bool
         || front.len() - seen > seen
         || front.len() >= HEAD_LIMIT
         || front[known..].contains(&b'\n')
+}
+
+/// Whether empty lines are all that is there, and a head may be longer.
+fn is_open_blank(front: &[u8], blank: usize) -> bool
+    ensures value { result ≡ is_open_blank blank front.now }
+{
+    blank == front.len() && front.len() < HEAD_LIMIT
+}
+
+/// How many bytes at the front are empty lines: the first `from` are, and so are those of the whole lines that follow.
+fn blank_lines(front: &[u8], from: usize) -> usize
+    requires part { BeginsBlank from front.now }
+    ensures value { BeginsBlank result front.now }
+{
+    let mut at = from;
+    loop {
+        let size = end_size(&front[at..]);
+        if size == 0 {
+            return at;
+        }
+        at += size;
+    }
+}
+
+/// How many bytes the line end at the front has, or 0 where none stands there.
+fn end_size(bytes: &[u8]) -> usize
+    ensures value { IsEndSize bytes.now result }
+{
+    match bytes {
+        [b'\n', ..] => 1,
+        [b'\r', b'\n', ..] => 2,
+        _ => 0,
+    }
 }
 
 /// What is told where the input ends with the buffer so: a last look, at all of it.

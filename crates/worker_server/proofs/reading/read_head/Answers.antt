@@ -8,7 +8,8 @@ use Rattle.http_front.proofs.StreamLemmas.{bad_status}
 use Rattle.worker_server.specs.declared.reading.End.{End}
 use Rattle.worker_server.specs.declared.reading.Look.{Look}
 use Rattle.worker_server.specs.declared.reading.Look.TheVariants as look
-use Rattle.worker_server.specs.RequestSteps.{IsEnd, IsLook, IsScanned, WantsHead}
+use Rattle.worker_server.specs.RequestSteps.{BeginsBlank, IsEnd, IsLook, IsScanned, WantsHead}
+use Rattle.worker_server.proofs.BlankLemmas.{blank_first, blank_longer}
 use Rattle.worker_server.proofs.LookLemmas.{look_first, look_later}
 use Rattle.worker_server.proofs.TimingLemmas.{ReadsOn-more, ReadsOn-none}
 use Rattle.worker_server.proofs.ReadingLemmas.{bad_end, counts_no_fault, last_ends, no_fault_asked}
@@ -18,21 +19,27 @@ use Rattle.worker_server.proofs.reading.read_head.Goals as goal
 told_of : (front buffer : List ℕ) (told is : Look) → front ≡ buffer → told ≡ is → IsLook front told → IsLook buffer is
 told_of front buffer told is same e h = subst (λ (z : List ℕ). IsLook z is) same (subst (λ (z : Look). IsLook front z) e h)
 
+pub blank_lines-blank-requires : goal.blank_lines-blank-requires
+blank_lines-blank-requires g c = record { part = subst (λ (z : List ℕ). BeginsBlank c.loop-now.blank z) (sym c.front-front.ensures) c.loop-now.invariant.blank }
+
 pub look_for_head-requires : goal.look_for_head-requires
-look_for_head-requires g c = record { known = subst (λ (z : List ℕ). IsScanned c.loop-now.seen c.loop-now.known z) (sym c.front.ensures) c.loop-now.invariant.scanned }
+look_for_head-requires g c = record {
+  known = subst (λ (z : List ℕ). IsScanned c.loop-now.seen c.loop-now.known z) (sym c.front-front.ensures) c.loop-now.invariant.scanned;
+  part = c.blank_lines-blank.ensures.value;
+}
 
 pub returns-in-Ok-Head-clause-ok : goal.returns-in-Ok-Head-clause-ok
 returns-in-Ok-Head-clause-ok g c =
-    told_of _ _ _ (look.Head c.in-Ok-Head.head) c.front.ensures c.in-Ok-Head.field-0-is c.in-Ok-Head.ensures.value
+    told_of _ _ _ (look.Head c.in-Ok-Head.head) c.front-front.ensures c.in-Ok-Head.field-0-is c.in-Ok-Head.ensures.value
 
 pub returns-in-Ok-Bad-clause-err : goal.returns-in-Ok-Bad-clause-err
 returns-in-Ok-Bad-clause-err g c = λ rest e.
-    let bad = told_of _ _ _ (look.Bad c.in-Ok-Bad.status) c.front.ensures c.in-Ok-Bad.field-0-is c.in-Ok-Bad.ensures.value in
+    let bad = told_of _ _ _ (look.Bad c.in-Ok-Bad.status) c.front-front.ensures c.in-Ok-Bad.field-0-is c.in-Ok-Bad.ensures.value in
     bad_end c.loop-now.buffer _ rest c.in-Ok-Bad.status (c.loop-now.invariant.same ∙ e) bad
 
 pub returns-in-Ok-Bad-clause-status : goal.returns-in-Ok-Bad-clause-status
 returns-in-Ok-Bad-clause-status g c =
-    let bad = told_of _ _ _ (look.Bad c.in-Ok-Bad.status) c.front.ensures c.in-Ok-Bad.field-0-is c.in-Ok-Bad.ensures.value in
+    let bad = told_of _ _ _ (look.Bad c.in-Ok-Bad.status) c.front-front.ensures c.in-Ok-Bad.field-0-is c.in-Ok-Bad.ensures.value in
     bad_status (front_of c.loop-now.buffer) (nat_le head_limit (length c.loop-now.buffer)) c.in-Ok-Bad.status bad
 
 pub returns-in-Ok-eq0-clause-err : goal.returns-in-Ok-eq0-clause-err
@@ -51,12 +58,12 @@ returns-in-Err-fill-clause-err g c = λ rest e. (c.in-Err-fill.ensures.err rest 
 -- each fill comes where no head stands in the buffer yet
 pub returns-in-Ok-eq0-clause-reads : goal.returns-in-Ok-eq0-clause-reads
 returns-in-Ok-eq0-clause-reads g c =
-    let begun = told_of _ _ _ (look.Open c.in-Ok-Open.now) c.front.ensures c.in-Ok-Open.field-0-is c.in-Ok-Open.ensures.value in
+    let begun = told_of _ _ _ (look.Open c.in-Ok-Open.now) c.front-front.ensures c.in-Ok-Open.field-0-is c.in-Ok-Open.ensures.value in
     ReadsOn-more WantsHead _ _ _ _ _ _ c.loop-now.invariant.reads (c.in-Ok-Open.now, begun) c.in-Ok-eq0.ensures.fills
 
 pub returns-in-Err-fill-clause-reads : goal.returns-in-Err-fill-clause-reads
 returns-in-Err-fill-clause-reads g c =
-    let begun = told_of _ _ _ (look.Open c.in-Ok-Open.now) c.front.ensures c.in-Ok-Open.field-0-is c.in-Ok-Open.ensures.value in
+    let begun = told_of _ _ _ (look.Open c.in-Ok-Open.now) c.front-front.ensures c.in-Ok-Open.field-0-is c.in-Ok-Open.ensures.value in
     ReadsOn-more WantsHead _ _ _ _ _ _ c.loop-now.invariant.reads (c.in-Ok-Open.now, begun) c.in-Err-fill.ensures.fills
 
 pub loop-now-init : goal.loop-now-init
@@ -65,11 +72,12 @@ loop-now-init g c = record {
   reads = ReadsOn-none WantsHead _ _;
   faults = refl;
   scanned = look_first _;
+  blank = blank_first _;
 }
 
 pub loop-now-preserved : goal.loop-now-preserved
 loop-now-preserved g c =
-    let begun = told_of _ _ _ (look.Open c.in-Ok-Open.now) c.front.ensures c.in-Ok-Open.field-0-is c.in-Ok-Open.ensures.value in
+    let begun = told_of _ _ _ (look.Open c.in-Ok-Open.now) c.front-front.ensures c.in-Ok-Open.field-0-is c.in-Ok-Open.ensures.value in
     let s = c.loop-now.invariant in
     let fills = c.in-Ok.ensures.fills in
     record {
@@ -78,4 +86,6 @@ loop-now-preserved g c =
       faults = c.in-Ok.ensures.faults ∙ s.faults;
       scanned = subst (λ (n : ℕ). IsScanned c.in-Ok-Open.now n c.fill.new.buffer) (sym c.len-known.ensures)
           (subst (λ (z : List ℕ). IsScanned c.in-Ok-Open.now (length c.loop-now.buffer) z) (sym fills.grown) (look_later c.in-Ok-Open.now c.loop-now.buffer fills.piece begun));
+      blank = subst (λ (z : List ℕ). BeginsBlank c.blank_lines-blank.result z) (sym fills.grown)
+          (blank_longer c.blank_lines-blank.result c.loop-now.buffer fills.piece (subst (λ (z : List ℕ). BeginsBlank c.blank_lines-blank.result z) c.front-front.ensures c.blank_lines-blank.ensures.value));
     }
