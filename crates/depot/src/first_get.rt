@@ -1,5 +1,5 @@
 //! The first of several files and directories that are asked for one after another.
-ghost use Rattle.std.specs.Prelude.{true, false, ◌≡◌, ◌<◌, ◌&&◌, not, nat_le};
+ghost use Rattle.std.specs.Prelude.{true, false, ◌≡◌, ◌<◌, ◌&&◌, ◌∷◌, not, nat_le};
 ghost use Rattle.library_rules.specs.Calls.{token_of};
 ghost use Rattle.library_state.specs.declared.call.Act.TheVariants as act;
 ghost use Rattle.depot.specs.Answering.{Serves, ServesAct, permits};
@@ -13,24 +13,24 @@ use library_state::{Act, Call, Refusal, Reply, Secret};
 use object_store::{Shelf, Store};
 
 impl<S: Shelf> Depot<S> {
-    /// Answers a call for a file or directory, the first of `ids`, which will be asked for one after another.
+    /// Answers a call for a file or directory, after which `more` will be asked for, one after another.
     ///
     /// Where the index knows that they have together more than `most` bytes, each as often as it is named, one who may
-    /// ask is answered with want of memory, and nothing is read. Else the answer is that of `answer`.
+    /// ask is answered with want of memory, and the library is as it was. Else the answer is that of `answer`.
     pub fn get_first(
         &mut self,
         secret: &Option<Secret>,
         id: ObjId,
-        ids: &[ObjId],
+        more: &[ObjId],
         most: u64,
         moment: u64,
     ) -> Reply
         ensures serves { Serves S.contents S.may_give S.texts S.faults self.old (fs_call secret.now id) moment result self.new }
         ensures stands { IsGood S.contents S.faults self.new }
         ensures denied { permits (token_of self.old.state.tokens secret.now) (fs_get id) ≡ false → result ≡ Reply.Refused Refusal.Denied }
-        ensures bound { permits (token_of self.old.state.tokens secret.now) (fs_get id) ≡ true → most < sizes_of self.old.store.index ids.now
+        ensures bound { permits (token_of self.old.state.tokens secret.now) (fs_get id) ≡ true → most < sizes_of self.old.store.index (id ∷ more.now)
             → result ≡ Reply.Refused Refusal.NoMemory }
-        ensures untouched { permits (token_of self.old.state.tokens secret.now) (fs_get id) ≡ true → most < sizes_of self.old.store.index ids.now
+        ensures untouched { permits (token_of self.old.state.tokens secret.now) (fs_get id) ≡ true → most < sizes_of self.old.store.index (id ∷ more.now)
             → self.new ≡ self.old }
     {
         let key = Key { kind: Kind::Fs, id };
@@ -38,18 +38,18 @@ impl<S: Shelf> Depot<S> {
             secret: *secret,
             act: Act::Get(key),
         };
-        if self.wants_too_much(&call, ids, most) {
+        if self.wants_too_much(&call, &id, more, most) {
             return self.want_memory(&key);
         }
         self.answer(&call, moment)
     }
 
     /// Whether one who may ask this wants more than `most` bytes by it and those that follow.
-    fn wants_too_much(&self, call: &Call, ids: &[ObjId], most: u64) -> bool
-        ensures value { result ≡ (permits (token_of self.now.state.tokens call.now.secret) call.now.act && not (nat_le (sizes_of self.now.store.index ids.now) most)) }
+    fn wants_too_much(&self, call: &Call, id: &ObjId, more: &[ObjId], most: u64) -> bool
+        ensures value { result ≡ (permits (token_of self.now.state.tokens call.now.secret) call.now.act && not (nat_le (sizes_of self.now.store.index (id.now ∷ more.now)) most)) }
     {
         match permitted_place(self.parts.state.tokens.slice(), &call.secret, &call.act) {
-            Some(_) => !fit(&self.parts.store, ids, most),
+            Some(_) => !fit(&self.parts.store, id, more, most),
             None => false,
         }
     }
@@ -68,13 +68,16 @@ impl<S: Shelf> Depot<S> {
     }
 }
 
-/// Whether the index knows these files and directories to have at most so many bytes together.
-fn fit<S: Shelf>(store: &Store<S>, ids: &[ObjId], most: u64) -> bool
-    ensures value { result ≡ nat_le (sizes_of store.now.index ids.now) most }
+/// Whether the index knows a file or directory and more of them to have at most so many bytes together.
+fn fit<S: Shelf>(store: &Store<S>, id: &ObjId, more: &[ObjId], most: u64) -> bool
+    ensures value { result ≡ nat_le (sizes_of store.now.index (id.now ∷ more.now)) most }
 {
-    let mut total = 0;
-    for id in ids {
-        let size = size_of(store, id);
+    let mut total = size_of(store, id);
+    if total > most {
+        return false;
+    }
+    for next in more {
+        let size = size_of(store, next);
         if size > most - total {
             return false;
         }

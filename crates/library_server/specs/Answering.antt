@@ -1,8 +1,9 @@
--- What the library that is served alone answers to a call. Our own. Read AnswersOn first.
-use Rattle.std.specs.Prelude.{◌≡◌, ◌≢◌, ℕ, Bool, true, false, List, [], Option, Some, ⊤}
+-- What the library that is served alone answers to a call. Our own. Read AnswersOn first, and AsksTooMuch at the end.
+use Rattle.std.specs.Prelude.{◌≡◌, ◌≢◌, ◌<◌, ℕ, Bool, true, false, List, [], ◌∷◌, Option, Some, ⊤}
 use Rattle.ids.specs.Key.{Objects}
 use Rattle.depot.specs.Answering.{Serves, permits}
 use Rattle.depot.specs.DepotView.{DepotView, IsGood}
+use Rattle.depot.specs.FirstGet.{fs_get, sizes_of}
 use Rattle.library_rules.specs.Calls.{token_of}
 use Rattle.library_state.specs.declared.call.Call.{Call}
 use Rattle.library_state.specs.declared.refusal.Refusal.{Refusal}
@@ -56,3 +57,10 @@ pub record AnswersOn {S : Type 0} (contents : S → Option Contents) (may_give :
   pub no_lines : lines ≡ []
   pub opening : answer.opening ≡ 0
   pub place : answer.place ≡ 0
+
+-- the library is served, one who may ask asks it for these files and directories, and its index knows them to have together
+-- more than so many bytes
+abbrev pub AsksTooMuch : {S : Type 0} → DepotView S → List ℕ → Option (List ℕ) → List (List ℕ) → ℕ → Type 0
+AsksTooMuch depot lib secret [] most = ⊥
+AsksTooMuch depot lib secret (id ∷ ids) most =
+    (lib ≡ depot.state.lib) × (permits (token_of depot.state.tokens secret) (fs_get id) ≡ true) × (most < sizes_of depot.store.index (id ∷ ids))

@@ -1,13 +1,11 @@
 //! One connection with a library that answers alone.
-ghost use Rattle.std.specs.Prelude.{◌≡◌, ◌≢◌, ◌<◌, ℕ, List, Some, ⊤, true, false};
-ghost use Rattle.depot.specs.Answering.{permits};
-ghost use Rattle.depot.specs.FirstGet.{fs_call, fs_get, sizes_of};
-ghost use Rattle.library_rules.specs.Calls.{token_of};
+ghost use Rattle.std.specs.Prelude.{◌≡◌, ◌≢◌, ◌∷◌, ℕ, List, Some, ⊤, false};
+ghost use Rattle.depot.specs.FirstGet.{fs_call};
 ghost use Rattle.ids.specs.FaultCount.{Rose};
-ghost use Rattle.worker_server.specs.Calls.{AtAMoment, Told, Ran};
+ghost use Rattle.worker_server.specs.Calls.{AtAMoment, Told, Ran, rules_at};
 ghost use Rattle.http_front.specs.Link.{told_by};
 ghost use Rattle.worker_server.specs.ServedConnection.{CountsEnd, EndsAsked, SessionInTime};
-ghost use Rattle.library_server.specs.Answering.{AnswersOn, IsAnswered, NamesIn, NeverFails, is_storage_reply};
+ghost use Rattle.library_server.specs.Answering.{AnswersOn, AsksTooMuch, IsAnswered, NamesIn, NeverFails, is_storage_reply};
 
 use depot::Depot;
 use http_front::Link;
@@ -28,7 +26,7 @@ struct Alone<'a, S, C> {
 impl<S: Shelf, C: Clock> Host for Alone<'_, S, C> {
     ghost use Rattle.std.specs.Prelude.{⊤};
     ghost use Rattle.depot.specs.DepotView.{DepotView};
-    ghost use Rattle.library_server.specs.Answering.{AnswersOn};
+    ghost use Rattle.library_server.specs.Answering.{AnswersOn, AsksTooMuch};
 
     type Pass = Depot<S>;
 
@@ -43,6 +41,8 @@ impl<S: Shelf, C: Clock> Host for Alone<'_, S, C> {
     ghost shows = { λ host moment. C.shows host.clock.now moment };
 
     ghost asks = { AnswersOn S.contents S.may_give S.texts S.faults };
+
+    ghost too_much = { AsksTooMuch };
 
     fn ask(&self, alloc: Global, pass: &mut Depot<S>, lib: LibId, call: Call) -> Answer {
         let _ = alloc;
@@ -61,13 +61,13 @@ impl<S: Shelf, C: Clock> Host for Alone<'_, S, C> {
         lib: LibId,
         secret: Option<Secret>,
         id: ObjId,
-        ids: &[ObjId],
+        more: &[ObjId],
         most: u64,
     ) -> Answer {
         let _ = alloc;
         let moment = self.clock.now();
         Answer {
-            reply: answer_first(pass, lib, &secret, id, ids, most, moment),
+            reply: answer_first(pass, lib, &secret, id, more, most, moment),
             opening: 0,
             place: 0,
         }
@@ -86,25 +86,24 @@ fn answer<S: Shelf>(depot: &mut Depot<S>, lib: LibId, call: &Call, moment: u64) 
     depot.answer(call, moment)
 }
 
-/// The reply to a call for a file or directory, the first of some. `NoLibrary` comes exactly where the library is not the one
+/// The reply to a call for a file or directory, after which more will be asked for. `NoLibrary` comes exactly where the library is not the one
 /// that is served.
 fn answer_first<S: Shelf>(
     depot: &mut Depot<S>,
     lib: LibId,
     secret: &Option<Secret>,
     id: ObjId,
-    ids: &[ObjId],
+    more: &[ObjId],
     most: u64,
     moment: u64,
 ) -> Reply
     ensures here { lib ≡ depot.old.state.lib → IsAnswered S.contents S.may_give S.texts S.faults depot.old (fs_call secret.now id) moment result depot.new }
     ensures elsewhere { lib ≢ depot.old.state.lib → (result ≡ Reply.Refused Refusal.NoLibrary) × (depot.new ≡ depot.old) }
     ensures steady { NeverFails S.faults → NamesIn S.contents depot.old → (is_storage_reply result ≡ false) × NamesIn S.contents depot.new }
-    ensures bound { lib ≡ depot.old.state.lib → permits (token_of depot.old.state.tokens secret.now) (fs_get id) ≡ true
-        → most < sizes_of depot.old.store.index ids.now → (result ≡ Reply.Refused Refusal.NoMemory) × (depot.new ≡ depot.old) }
+    ensures bound { AsksTooMuch depot.old lib secret.now (id ∷ more.now) most → (result ≡ Reply.Refused Refusal.NoMemory) × (depot.new ≡ depot.old) }
 {
     if lib == depot.lib() {
-        depot.get_first(secret, id, ids, most, moment)
+        depot.get_first(secret, id, more, most, moment)
     } else {
         Reply::Refused(Refusal::NoLibrary)
     }
@@ -114,8 +113,8 @@ fn answer_first<S: Shelf>(
 ///
 /// Over a shelf that tells what it holds the replies are those of one library of a single thread, by the rules of
 /// library_rules; its tokens are asked for. Over every shelf each refusal has its cause. Ends, limits and what was given
-/// before an end are those of `worker_server::serve_session`. A list of files and directories is asked first by the sizes that
-/// the index knows, by the form of the code.
+/// before an end are those of `worker_server::serve_session`. Where the index knows files and directories that are asked for
+/// together to have more bytes than one reply packs, the reply is want of memory, and the library is as it was.
 pub fn serve_link<S: Shelf, L: Link, C: Clock>(
     alloc: Global,
     depot: &mut Depot<S>,
@@ -125,7 +124,7 @@ pub fn serve_link<S: Shelf, L: Link, C: Clock>(
     // Where the link tells what it has left: the bytes given are the texts of the library's replies to the requests
     // that those bytes spell. Where it tells what it was asked besides: no reply waited for more input.
     ensures session { (input : List ℕ) → L.left link.old ≡ Some input
-        → SessionInTime (AtAMoment (C.shows clock.now) (AnswersOn S.contents S.may_give S.texts S.faults)) input
+        → SessionInTime (rules_at (C.shows clock.now) (AnswersOn S.contents S.may_give S.texts S.faults) AsksTooMuch) input
         (told_by L.taken L.given L.asked link.old) (told_by L.taken L.given L.asked link.new) depot.old depot.new result }
 
     // Of every link: the calls that were asked.

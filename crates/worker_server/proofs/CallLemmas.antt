@@ -1,5 +1,5 @@
--- What follows of a request and its outcome: Serves-refused_for_memory, Serves-ran, Serves-fits.
-use Rattle.std.proofs.Common.{◌≡◌, ℕ, arith, List, [], ◌∷◌, ◌++◌, Option, None, Some, Result, Ok, Err, inl, inr, refl, subst}
+-- What follows of a request and its outcome: Serves-refused_for_memory, Serves-ran, Serves-fits, ServesOrder-packs.
+use Rattle.std.proofs.Common.{◌≡◌, ◌⊎◌, ℕ, arith, List, [], ◌∷◌, ◌++◌, Option, None, Some, Result, Ok, Err, inl, inr, refl, subst}
 use Rattle.library_state.specs.declared.call.Call.{Call}
 use Rattle.library_state.specs.declared.refusal.Refusal.{Refusal}
 use Rattle.library_state.specs.declared.refusal.Refusal.TheVariants.{NoMemory}
@@ -13,34 +13,33 @@ use Rattle.http_front.specs.declared.outcome.Outcome.{Outcome}
 use Rattle.http_front.specs.declared.outcome.Outcome.TheVariants.{Packed, Refused}
 use Rattle.http_front.specs.declared.row.Row.{Row}
 use Rattle.http_front.specs.Rows.{row_with}
-use Rattle.worker_server.specs.Calls.{FitReply, Told, Ran, ServedAt, ServedBy, ServedSo, ServesOrder, AskedSo, PutsEach, GetsEach, Serves, told, unwritten, unready, call_of, get_of, outcome_without_library, put_of, refusal_of}
-use Rattle.worker_server.specs.declared.host.Answer.{Answer}
+use Rattle.worker_server.specs.Calls.{FitReply, HostRules, Told, Ran, ServedAt, ServedBy, ServedSo, ServesOrder, AskedSo, PutsEach, GetsEach, NotAsked, Serves, SparesReading, told, unwritten, unready, call_of, get_of, outcome_without_library, put_of, refusal_of}
 use Rattle.worker_server.proofs.EachLemmas.{GetsEach-fits}
 
-module _ {V Operation : Type 0} (asks : V → List ℕ → Call → Answer → List Operation → V → Type 0) where
+module _ {V Operation : Type 0} (rules : HostRules V Operation) where
   -- where no memory was for the text, the outcome is the refusal for want of memory
   pub Serves-refused_for_memory : (u : V) (IsDue : Result Order Refusal → Type 0) (o : Outcome) (operations : List Operation) (v : V)
-      → Serves asks u IsDue o operations v → Serves asks u IsDue (Refused NoMemory) operations v
+      → Serves rules u IsDue o operations v → Serves rules u IsDue (Refused NoMemory) operations v
   Serves-refused_for_memory u IsDue o operations v (told order due served) = unwritten order o due served refl
   Serves-refused_for_memory u IsDue o operations v (unwritten order other due served is) = unwritten order other due served refl
   Serves-refused_for_memory u IsDue o operations v (unready none) = unready (refl, none.1, none.2)
 
   -- an order that was read is served as such
   pub Serves-from_order : (u : V) (IsDue : Result Order Refusal → Type 0) (order : Order) (o : Outcome) (operations : List Operation) (v : V) → IsDue (Ok order)
-      → ServesOrder asks u order o operations v → Serves asks u IsDue o operations v
+      → ServesOrder rules u order o operations v → Serves rules u IsDue o operations v
   Serves-from_order u IsDue order o operations v due (inl served) = told (Ok order) due served
   Serves-from_order u IsDue order o operations v due (inr none) = unready none
 
   -- a request that has no order has no call
-  pub Serves-from_fault : (u : V) (IsDue : Result Order Refusal → Type 0) (fault : OrderFault) → OrdersAs (Err fault) IsDue → Serves asks u IsDue (Refused (refusal_of fault)) [] u
+  pub Serves-from_fault : (u : V) (IsDue : Result Order Refusal → Type 0) (fault : OrderFault) → OrdersAs (Err fault) IsDue → Serves rules u IsDue (Refused (refusal_of fault)) [] u
   Serves-from_fault u IsDue (fault.Refused refusal) due = told (Err refusal) due (refl, refl, refl)
   Serves-from_fault u IsDue fault.NoMemory due = unready (refl, refl, refl)
 
-  AskedSo-ran : (u : V) (lib : List ℕ) (call : Call) (o : Outcome) (operations : List Operation) (v : V) → AskedSo asks u lib call o operations v → (calls : List (Told Operation)) × Ran asks u calls v
+  AskedSo-ran : (u : V) (lib : List ℕ) (call : Call) (o : Outcome) (operations : List Operation) (v : V) → AskedSo rules.asks u lib call o operations v → (calls : List (Told Operation)) × Ran rules.asks u calls v
   AskedSo-ran u lib call o operations v h = (record { lib = lib; call = call; answer = h.0; operations = operations } ∷ [], (v, h.1, refl))
 
   PutsEach-ran : (lib : List ℕ) (secret : Option (List ℕ)) (u : V) (rows : List Row) (o : Outcome) (operations : List Operation) (v : V)
-      → PutsEach asks lib secret u rows o operations v → (calls : List (Told Operation)) × Ran asks u calls v
+      → PutsEach rules.asks lib secret u rows o operations v → (calls : List (Told Operation)) × Ran rules.asks u calls v
   PutsEach-ran lib secret u [] o operations v h = ([], h.2)
   PutsEach-ran lib secret u (row ∷ rows) o operations v h =
       let one : Told Operation = record { lib = lib; call = call_of secret (put_of row); answer = h.0; operations = h.2 } in
@@ -50,7 +49,7 @@ module _ {V Operation : Type 0} (asks : V → List ℕ → Call → Answer → L
       ]
 
   GetsEach-ran : (lib : List ℕ) (secret : Option (List ℕ)) (u : V) (ids : List (List ℕ)) (given : List Row) (o : Outcome) (operations : List Operation) (v : V)
-      → GetsEach asks lib secret u ids given o operations v → (calls : List (Told Operation)) × Ran asks u calls v
+      → GetsEach rules.asks lib secret u ids given o operations v → (calls : List (Told Operation)) × Ran rules.asks u calls v
   GetsEach-ran lib secret u [] given o operations v h = ([], h.2)
   GetsEach-ran lib secret u (id ∷ ids) given o operations v h =
       let one : Told Operation = record { lib = lib; call = call_of secret (get_of id); answer = h.0; operations = h.2 } in
@@ -63,7 +62,7 @@ module _ {V Operation : Type 0} (asks : V → List ℕ → Call → Answer → L
       ]
 
   ServedBy-ran : (lib : List ℕ) (secret : Option (List ℕ)) (w : What) (u : V) (o : Outcome) (operations : List Operation) (v : V)
-      → ServedBy asks lib secret w u o operations v → (calls : List (Told Operation)) × Ran asks u calls v
+      → ServedBy rules lib secret w u o operations v → (calls : List (Told Operation)) × Ran rules.asks u calls v
   ServedBy-ran lib secret what.Version u o operations v h = ([], h.2)
   ServedBy-ran lib secret (what.Check op) u o operations v h = AskedSo-ran u lib _ o operations v h
   ServedBy-ran lib secret what.Head u o operations v h = AskedSo-ran u lib _ o operations v h
@@ -73,35 +72,35 @@ module _ {V Operation : Type 0} (asks : V → List ℕ → Call → Answer → L
   ServedBy-ran lib secret (what.Missing kind ids) u o operations v h = AskedSo-ran u lib _ o operations v h
   ServedBy-ran lib secret (what.PutFs rows) u o operations v h = PutsEach-ran lib secret u rows o operations v h
   ServedBy-ran lib secret (what.Ids server client) u o operations v h = AskedSo-ran u lib _ o operations v h
-  ServedBy-ran lib secret (what.GetFs ids) u o operations v h = GetsEach-ran lib secret u ids [] o operations v h
+  ServedBy-ran lib secret (what.GetFs ids) u o operations v h = GetsEach-ran lib secret u ids [] o operations v h.0
 
   ServedAt-ran : (lib secret : Option (List ℕ)) (w : What) (u : V) (o : Outcome) (operations : List Operation) (v : V)
-      → ServedAt asks lib secret w u o operations v → (calls : List (Told Operation)) × Ran asks u calls v
+      → ServedAt rules lib secret w u o operations v → (calls : List (Told Operation)) × Ran rules.asks u calls v
   ServedAt-ran None secret w u o operations v h = ([], h.2)
   ServedAt-ran (Some lib) secret w u o operations v h = ServedBy-ran lib secret w u o operations v h
 
   ServedSo-ran : (u : V) (order : Result Order Refusal) (o : Outcome) (operations : List Operation) (v : V)
-      → ServedSo asks u order o operations v → (calls : List (Told Operation)) × Ran asks u calls v
+      → ServedSo rules u order o operations v → (calls : List (Told Operation)) × Ran rules.asks u calls v
   ServedSo-ran u (Err refusal) o operations v h = ([], h.2)
   ServedSo-ran u (Ok order) o operations v h = ServedAt-ran order.lib order.secret order.what u o operations v h
 
   -- the calls of a request
   pub Serves-ran : (u : V) (IsDue : Result Order Refusal → Type 0) (o : Outcome) (operations : List Operation) (v : V)
-      → Serves asks u IsDue o operations v → (calls : List (Told Operation)) × Ran asks u calls v
+      → Serves rules u IsDue o operations v → (calls : List (Told Operation)) × Ran rules.asks u calls v
   Serves-ran u IsDue o operations v (told order due served) = ServedSo-ran u order o operations v served
   Serves-ran u IsDue o operations v (unwritten order other due served is) = ServedSo-ran u order other operations v served
   Serves-ran u IsDue o operations v (unready none) = ([], none.2)
 
   -- some calls, and then more
-  pub Ran-append : (u w v : V) (calls more : List (Told Operation)) → Ran asks u calls w → Ran asks w more v
-      → (all : List (Told Operation)) × Ran asks u all v
-  Ran-append u w v [] more e r = (more, subst (λ (z : V). Ran asks z more v) e r)
+  pub Ran-append : (u w v : V) (calls more : List (Told Operation)) → Ran rules.asks u calls w → Ran rules.asks w more v
+      → (all : List (Told Operation)) × Ran rules.asks u all v
+  Ran-append u w v [] more e r = (more, subst (λ (z : V). Ran rules.asks z more v) e r)
   Ran-append u w v (t ∷ ts) more h r = let rest = Ran-append h.0 w v ts more h.2 r in (t ∷ rest.0, (h.0, h.1, rest.1))
 
   -- ---- what a reply packs
 
   ServedBy-fits : (lib : List ℕ) (secret : Option (List ℕ)) (w : What) (u : V) (rows : List Row) (operations : List Operation) (v : V)
-      → ServedBy asks lib secret w u (Packed rows) operations v → FitReply rows
+      → ServedBy rules lib secret w u (Packed rows) operations v → FitReply rows
   ServedBy-fits lib secret what.Version u rows operations v h = absurd (cc h.0)
   ServedBy-fits lib secret (what.Check op) u rows operations v h = absurd (cc h.2)
   ServedBy-fits lib secret what.Head u rows operations v h = absurd (cc h.2)
@@ -112,7 +111,7 @@ module _ {V Operation : Type 0} (asks : V → List ℕ → Call → Answer → L
   ServedBy-fits lib secret (what.PutFs puts) u rows operations v h = absurd (not_packed lib secret u puts rows operations v h)
     where
       not_packed : (lib : List ℕ) (secret : Option (List ℕ)) (u : V) (puts rows : List Row) (operations : List Operation) (v : V)
-          → PutsEach asks lib secret u puts (Packed rows) operations v → ⊥
+          → PutsEach rules.asks lib secret u puts (Packed rows) operations v → ⊥
       not_packed lib secret u [] rows operations v h = cc h.0
       not_packed lib secret u (row ∷ puts) rows operations v h =
           elim h.6 [
@@ -120,13 +119,13 @@ module _ {V Operation : Type 0} (asks : V → List ℕ → Call → Answer → L
             | inr end ↦ cc end.1
           ]
   ServedBy-fits lib secret (what.Ids server client) u rows operations v h = absurd (cc h.2)
-  ServedBy-fits lib secret (what.GetFs ids) u rows operations v h = GetsEach-fits asks lib secret u v ids [] rows operations none_fits h
+  ServedBy-fits lib secret (what.GetFs ids) u rows operations v h = GetsEach-fits rules.asks lib secret u v ids [] rows operations none_fits h.0
     where
       none_fits : FitReply []
       none_fits = omega arith
 
   ServedSo-fits : (u : V) (order : Result Order Refusal) (rows : List Row) (operations : List Operation) (v : V)
-      → ServedSo asks u order (Packed rows) operations v → FitReply rows
+      → ServedSo rules u order (Packed rows) operations v → FitReply rows
   ServedSo-fits u (Err refusal) rows operations v h = absurd (cc h.0)
   ServedSo-fits u (Ok order) rows operations v h = by_library order.lib h
     where
@@ -142,13 +141,20 @@ module _ {V Operation : Type 0} (asks : V → List ℕ → Call → Answer → L
       version_or_none (what.GetFs ids) e = cc e
       version_or_none (what.Ids server client) e = cc e
 
-      by_library : (lib : Option (List ℕ)) → ServedAt asks lib order.secret order.what u (Packed rows) operations v → FitReply rows
+      by_library : (lib : Option (List ℕ)) → ServedAt rules lib order.secret order.what u (Packed rows) operations v → FitReply rows
       by_library None h = absurd (version_or_none order.what h.0)
       by_library (Some lib) h = ServedBy-fits lib order.secret order.what u rows operations v h
 
   -- a reply that packs files and directories has no more than fit
   pub Serves-fits : (u : V) (IsDue : Result Order Refusal → Type 0) (rows : List Row) (operations : List Operation) (v : V)
-      → Serves asks u IsDue (Packed rows) operations v → FitReply rows
+      → Serves rules u IsDue (Packed rows) operations v → FitReply rows
   Serves-fits u IsDue rows operations v (told order due served) = ServedSo-fits u order rows operations v served
   Serves-fits u IsDue rows operations v (unwritten order other due served is) = absurd (cc is)
   Serves-fits u IsDue rows operations v (unready none) = absurd (cc none.0)
+
+  -- files and directories that are asked for, or no memory for them
+  pub ServesOrder-packs : (lib : List ℕ) (secret : Option (List ℕ)) (ids : List (List ℕ)) (u : V) (o : Outcome) (operations : List Operation) (v : V)
+      → GetsEach rules.asks lib secret u ids [] o operations v ⊎ NotAsked u (Refused NoMemory) o operations v → SparesReading rules.too_much u lib secret ids o v
+      → ServesOrder rules u (record { lib = Some lib; secret = secret; what = what.GetFs ids }) o operations v
+  ServesOrder-packs lib secret ids u o operations v (inl gets) spares = inl (gets, spares)
+  ServesOrder-packs lib secret ids u o operations v (inr none) spares = inr none

@@ -1,6 +1,6 @@
 -- Calls asked one after another: one more of them, and the last.
-use Rattle.std.proofs.Common.{◌≡◌, ◌+◌, ◌<◌, ◌≤◌, nat_le, true, false, List, [], ◌∷◌, ◌++◌, length, Option, ℕ, inl, inr, refl, sym, ap, subst, ◌∙◌, reverse, append-nil}
-use Rattle.std.proofs.lemmas.Bool.{leb-false, leb-true}
+use Rattle.std.proofs.Common.{◌≡◌, ◌⊎◌, ◌+◌, ◌==◌, ◌<◌, ◌≤◌, nat_le, Bool, true, false, drop, List, [], ◌∷◌, ◌++◌, length, Option, ℕ, inl, inr, refl, sym, ap, subst, ◌∙◌, reverse, append-nil}
+use Rattle.std.proofs.lemmas.Bool.{eqb-true, leb-false, leb-true}
 use Rattle.std.proofs.lemmas.List.{reverse-append}
 use Rattle.std.proofs.lemmas.List.Sums.{sum_by_push}
 use Rattle.library_state.specs.declared.call.Call.{Call}
@@ -11,7 +11,7 @@ use Rattle.http_front.specs.Rows.{row_with}
 use Rattle.http_front.specs.declared.outcome.Outcome.{Outcome}
 use Rattle.http_front.specs.declared.outcome.Outcome.TheVariants.{Packed, Refused}
 use Rattle.http_front.specs.declared.row.Row.{Row}
-use Rattle.worker_server.specs.Calls.{FitReply, GetsEach, PutsEach, call_of, get_of, is_got, is_stored, most_packed, packed_size, put_of, told_of}
+use Rattle.worker_server.specs.Calls.{FitReply, GetsEach, PutsEach, call_of, get_of, is_got, is_stored, most_packed, packed_size, put_of, told_of, IsWant, SparesReading}
 use Rattle.worker_server.specs.declared.host.Answer.{Answer}
 
 -- ---- what is left, taken from the end of its reverse
@@ -33,6 +33,45 @@ not_got (reply.Updated id) none = refl
 not_got reply.Limited none = refl
 not_got (reply.Listed ids) none = refl
 not_got (reply.Refused refusal) none = refl
+
+-- what was given is no want of memory
+pub got_no_want : (r : Reply) (bytes : List ℕ) → r ≡ reply.Got bytes → r ≡ reply.Refused NoMemory → ⊥
+got_no_want r bytes got want = cc (got, want)
+
+-- ---- what is not read
+
+module _ {V : Type 0} (too_much : V → List ℕ → Option (List ℕ) → List (List ℕ) → ℕ → Type 0) where
+  -- by what holds of any list
+  pub spares_by : (u : V) (lib : List ℕ) (secret : Option (List ℕ)) (ids : List (List ℕ)) (o : Outcome) (v : V)
+      → (too_much u lib secret ids most_packed → IsWant o × (v ≡ u)) → SparesReading too_much u lib secret ids o v
+  spares_by u lib secret [] o v spares = tt
+  spares_by u lib secret (id ∷ ids) o v spares = spares
+
+  -- nothing is asked for
+  pub spares_none : (u : V) (lib : List ℕ) (secret : Option (List ℕ)) (ids : List (List ℕ)) (o : Outcome) (v : V) → ids ≡ []
+      → SparesReading too_much u lib secret ids o v
+  spares_none u lib secret ids o v none = subst (λ z. SparesReading too_much u lib secret z o v) (sym none) tt
+
+  -- what the first answer tells, where none was asked for before it or the host doesn't know them to be too much
+  pub first_spared : (u mid v : V) (lib : List ℕ) (secret : Option (List ℕ)) (ids : List (List ℕ)) (i : ℕ) (r : Reply)
+      → ((i ≡ 0) × (mid ≡ u)) ⊎ (too_much u lib secret ids most_packed → ⊥)
+      → (i ≡ 0 → too_much mid lib secret ids most_packed → (r ≡ reply.Refused NoMemory) × (v ≡ mid))
+      → too_much u lib secret ids most_packed → (r ≡ reply.Refused NoMemory) × (v ≡ u)
+  first_spared u mid v lib secret ids i r (inl begun) bound much =
+      let told = bound begun.0 (subst (λ z. too_much z lib secret ids most_packed) (sym begun.1) much) in
+      (told.0, told.1 ∙ begun.1)
+  first_spared u mid v lib secret ids i r (inr none) bound much = absurd (none much)
+
+-- none was given so far
+pub none_so_far : (count i : ℕ) (is_empty : Bool) → is_empty ≡ (count == 0) → count ≡ i → i ≡ 0 → is_empty ≡ true
+none_so_far count i is_empty is same zero = is ∙ ap (λ n. n == 0) (same ∙ zero)
+
+-- what is asked for first stands in front of those that follow
+pub first_of : (ids : List (List ℕ)) (id : List ℕ) (count i : ℕ) (is_empty : Bool) → is_empty ≡ (count == 0) → count ≡ i → drop i ids ≡ id ∷ drop (i + 1) ids
+    → is_empty ≡ true → ids ≡ id ∷ drop 1 ids
+first_of ids id count i is_empty is same left begun =
+    let zero : i ≡ 0 = sym same ∙ eqb-true count 0 (sym is ∙ begun) in
+    subst (λ n. drop n ids ≡ id ∷ drop (n + 1) ids) zero left
 
 -- ---- packed rows
 

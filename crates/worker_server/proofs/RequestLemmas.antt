@@ -5,7 +5,6 @@ use Rattle.std.proofs.lemmas.List.{drop_at, take_at}
 use Rattle.std.specs.List.{slice_range}
 use Rattle.std.specs.Io.KnownBytes.{append_known}
 use Rattle.httparse.specs.Grammar.{print_request}
-use Rattle.library_state.specs.declared.call.Call.{Call}
 use Rattle.http_front.specs.Buffer.{to_read}
 use Rattle.http_front.specs.declared.head.Head.{Head}
 use Rattle.http_front.specs.declared.outcome.Outcome.{Outcome}
@@ -13,10 +12,9 @@ use Rattle.http_front.specs.Link.{GivesFront, LinkTells}
 use Rattle.http_front.specs.Order.{IsOrder}
 use Rattle.http_front.specs.ReplyText.{text}
 use Rattle.http_front.specs.RequestStream.{Request, IsRequest, interim_of}
-use Rattle.worker_server.specs.Calls.{Serves}
+use Rattle.worker_server.specs.Calls.{HostRules, Serves}
 use Rattle.worker_server.specs.ServedConnection.{Exchange, Answers, AnswersNext, StopsAsked, closes_at}
 use Rattle.worker_server.specs.RequestSteps.{AsksUnfinished, StandsAt, OneMore}
-use Rattle.worker_server.specs.declared.host.Answer.{Answer}
 use Rattle.worker_server.specs.declared.served.Served.TheVariants as served
 use Rattle.worker_server.proofs.ReadingLemmas.{to_read-some, append_known-more, GivesFront-after, IsRequest-append}
 use Rattle.worker_server.proofs.TimingLemmas.{Unfinished-later}
@@ -54,33 +52,33 @@ closes_as n bytes h r after s closed is = is ∙ ap (λ b. b || n == 9999) s.clo
 
 -- ---- a request, asked and answered
 
-module _ {V Operation : Type 0} (asks : V → List ℕ → Call → Answer → List Operation → V → Type 0) where
+module _ {V Operation : Type 0} (rules : HostRules V Operation) where
   pub Answers-from_head : (bytes : List ℕ) (h : Head) (r : Request) (after : List ℕ) → StandsAt bytes h r after
       → (u v : V) (o : Outcome) (operations : List Operation)
-      → Serves asks u (IsOrder h.method h.target h.token (slice_range bytes h.used (h.used + h.body))) o operations v
-      → Answers asks u (record { request = r; outcome = o; operations = operations }) v
+      → Serves rules u (IsOrder h.method h.target h.token (slice_range bytes h.used (h.used + h.body))) o operations v
+      → Answers rules u (record { request = r; outcome = o; operations = operations }) v
   Answers-from_head bytes h r after s u v o operations served =
       let body = body_is bytes h r after s in (
         h.token,
         s.shows,
-        subst (λ z. Serves asks u (IsOrder z r.head.target h.token r.body) o operations v) s.method
-            (subst (λ z. Serves asks u (IsOrder h.method z h.token r.body) o operations v) s.target
-            (subst (λ z. Serves asks u (IsOrder h.method h.target h.token z) o operations v) body served)),
+        subst (λ z. Serves rules u (IsOrder z r.head.target h.token r.body) o operations v) s.method
+            (subst (λ z. Serves rules u (IsOrder h.method z h.token r.body) o operations v) s.target
+            (subst (λ z. Serves rules u (IsOrder h.method h.target h.token z) o operations v) body served)),
       )
 
   -- the call was made of what the buffer told
   pub Serves-at : (front bytes : List ℕ) (h : Head) (u v : V) (o : Outcome) (operations : List Operation) → front ≡ bytes
-      → Serves asks u (IsOrder h.method h.target h.token (slice_range front h.used (h.used + h.body))) o operations v
-      → Serves asks u (IsOrder h.method h.target h.token (slice_range bytes h.used (h.used + h.body))) o operations v
+      → Serves rules u (IsOrder h.method h.target h.token (slice_range front h.used (h.used + h.body))) o operations v
+      → Serves rules u (IsOrder h.method h.target h.token (slice_range bytes h.used (h.used + h.body))) o operations v
   Serves-at front bytes h u v o operations same served =
-      subst (λ z. Serves asks u (IsOrder h.method h.target h.token (slice_range z h.used (h.used + h.body))) o operations v) same served
+      subst (λ z. Serves rules u (IsOrder h.method h.target h.token (slice_range z h.used (h.used + h.body))) o operations v) same served
 
   -- the request whose reply was made
   unfoldable pub AnswersNext-from_reply : (bytes : List ℕ) (left : Option (List ℕ)) (rest : List ℕ) (h : Head) (r : Request) (after : List ℕ)
       → StandsAt bytes h r after → to_read bytes left ≡ Some rest
       → (u v : V) (o : Outcome) (operations : List Operation)
-      → Serves asks u (IsOrder h.method h.target h.token (slice_range bytes h.used (h.used + h.body))) o operations v
-      → AnswersNext asks rest u (record { request = r; outcome = o; operations = operations }) v
+      → Serves rules u (IsOrder h.method h.target h.token (slice_range bytes h.used (h.used + h.body))) o operations v
+      → AnswersNext rules rest u (record { request = r; outcome = o; operations = operations }) v
   AnswersNext-from_reply bytes left rest h r after s e u v o operations served =
       let ahead = to_read-some bytes left rest e in
       record {
@@ -90,10 +88,10 @@ module _ {V Operation : Type 0} (asks : V → List ℕ → Call → Answer → L
       }
 
   -- a front of the reply was given, after the interim reply
-  pub StopsAsked-from_front : (n : ℕ) (rest : List ℕ) (u v : V) (x : Exchange Operation) → AnswersNext asks rest u x v
+  pub StopsAsked-from_front : (n : ℕ) (rest : List ℕ) (u v : V) (x : Exchange Operation) → AnswersNext rules rest u x v
       → (closed : Bool) → closed ≡ closes_at n x.request
       → (given before now : Option (List ℕ)) → before ≡ append_known given (interim_of x.request.head)
-      → GivesFront before now (text x.outcome closed) → StopsAsked asks served.WriteFault n rest u v given now
+      → GivesFront before now (text x.outcome closed) → StopsAsked rules served.WriteFault n rest u v given now
   StopsAsked-from_front n rest u v x next closed is given before now began gives =
       let whole = GivesFront-after given now (interim_of x.request.head) (text x.outcome closed) (subst (λ z. GivesFront z now (text x.outcome closed)) began gives) in
       (x, next, subst (λ b. GivesFront given now (interim_of x.request.head ++ text x.outcome b)) is whole)
@@ -102,11 +100,11 @@ module _ {V Operation : Type 0} (asks : V → List ℕ → Call → Answer → L
   pub OneMore-from_reply : (n : ℕ) (buffer bytes skipped : List ℕ) (left still : Option (List ℕ)) (rest : List ℕ) (h : Head) (r : Request) (after : List ℕ)
       → StandsAt bytes h r after → to_read bytes left ≡ Some rest → skipped ≡ drop (h.used + h.body) bytes → still ≡ left
       → (u v : V) (o : Outcome) (operations : List Operation)
-      → Serves asks u (IsOrder h.method h.target h.token (slice_range bytes h.used (h.used + h.body))) o operations v
+      → Serves rules u (IsOrder h.method h.target h.token (slice_range bytes h.used (h.used + h.body))) o operations v
       → (closed : Bool) → closed ≡ (h.closes || n == 9999)
       → (old mid new : LinkTells) → mid.given ≡ append_known old.given (interim_of r.head) → new.given ≡ append_known mid.given (text o closed)
       → new.taken ≡ mid.taken → new.asked ≡ mid.asked → AsksUnfinished buffer bytes old mid
-      → OneMore asks n rest buffer skipped (to_read skipped still) u v old new closed
+      → OneMore rules n rest buffer skipped (to_read skipped still) u v old new closed
   unfolding AnswersNext-from_reply
   OneMore-from_reply n buffer bytes skipped left still rest h r after s e skip kept u v o operations served closed is old mid new began gave same_taken same_asked reading =
       let ahead = to_read-some bytes left rest e in

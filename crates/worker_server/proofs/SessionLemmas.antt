@@ -6,15 +6,14 @@ use Rattle.std.proofs.lemmas.List.{drop_at}
 use Rattle.std.proofs.lemmas.Bool.Decides.{nat_tests}
 use Rattle.std.proofs.lemmas.List.Elements.{All-nil, All-cons, All-head, All-tail, All-append}
 use Rattle.std.specs.Io.KnownBytes.{append_known}
-use Rattle.library_state.specs.declared.call.Call.{Call}
 use Rattle.httparse.specs.Grammar.{print_request}
 use Rattle.http_front.specs.Buffer.{to_read}
 use Rattle.http_front.specs.Link.{LinkTells}
 use Rattle.http_front.specs.RequestHead.{closes}
 use Rattle.http_front.specs.RequestStream.{Request, Reads, IsRequest, IsUnfinished, MayFollow}
+use Rattle.worker_server.specs.Calls.{HostRules}
 use Rattle.worker_server.specs.ServedConnection.{Exchange, requests, texts, text_at, closes_at, AllOpen, LastCloses, Answers, Run, Stops, Ends, NeverWaits, SessionInTime, not_yet}
 use Rattle.worker_server.specs.RequestSteps.{AsksFor, OneMore, OneStop}
-use Rattle.worker_server.specs.declared.host.Answer.{Answer}
 use Rattle.worker_server.specs.declared.served.Served.{Served}
 use Rattle.worker_server.specs.declared.served.Served.TheVariants as served
 use Rattle.worker_server.proofs.ReadingLemmas.{append_known-more, append_known-nil, to_read-some}
@@ -91,10 +90,10 @@ request_of bytes rest r after input is same = record {
   accepted = is.accepted;
 }
 
-module _ {V Operation : Type 0} (asks : V → List ℕ → Call → Answer → List Operation → V → Type 0) where
-  Run-more : (u v w : V) (xs : List (Exchange Operation)) (x : Exchange Operation) → Run asks u xs v → Answers asks v x w
-      → Run asks u (xs ++ x ∷ []) w
-  Run-more u v w [] x e answers = (w, subst (λ z. Answers asks z x w) e answers, refl)
+module _ {V Operation : Type 0} (rules : HostRules V Operation) where
+  Run-more : (u v w : V) (xs : List (Exchange Operation)) (x : Exchange Operation) → Run rules u xs v → Answers rules v x w
+      → Run rules u (xs ++ x ∷ []) w
+  Run-more u v w [] x e answers = (w, subst (λ z. Answers rules z x w) e answers, refl)
   Run-more u v w (y ∷ ys) x run answers = (run.0, run.1, Run-more run.0 v w ys x run.2 answers)
 
   -- what was taken so far: the requests that were answered, and then what the buffer holds; and it was asked for in time
@@ -115,7 +114,7 @@ module _ {V Operation : Type 0} (asks : V → List ℕ → Call → Answer → L
     pub rest : List ℕ
     pub ahead_is : ahead ≡ Some rest
     pub read : Reads input (requests exchanges) rest
-    pub run : Run asks u exchanges v
+    pub run : Run rules u exchanges v
     pub text : now.given ≡ append_known old.given (texts 0 exchanges)
     pub so_taken : TakenSoFar input rest buffer old now exchanges
 
@@ -147,11 +146,11 @@ module _ {V Operation : Type 0} (asks : V → List ℕ → Call → Answer → L
   -- the exchanges with one more
   module _ (n : ℕ) (input buffer : List ℕ) (old now : LinkTells) (ahead : Option (List ℕ)) (u v : V) (so_far : SoFar n input buffer old now ahead u v)
       (held : List ℕ) (later : LinkTells) (left : Option (List ℕ)) (w : V) (closed : Bool)
-      (more : OneMore asks n so_far.rest buffer held (to_read held left) v w now later closed) (few : n < 10000) where
+      (more : OneMore rules n so_far.rest buffer held (to_read held left) v w now later closed) (few : n < 10000) where
     all_read : Reads input (requests (so_far.exchanges ++ more.exchange ∷ [])) more.after
     all_read = Reads-more input so_far.exchanges so_far.rest more.exchange more.after so_far.read so_far.all_open more.is
 
-    all_run : Run asks u (so_far.exchanges ++ more.exchange ∷ []) w
+    all_run : Run rules u (so_far.exchanges ++ more.exchange ∷ []) w
     all_run = Run-more u v w so_far.exchanges more.exchange so_far.run more.answers
 
     all_count : length (so_far.exchanges ++ more.exchange ∷ []) ≡ n + 1
@@ -211,7 +210,7 @@ module _ {V Operation : Type 0} (asks : V → List ℕ → Call → Answer → L
       so_taken = all_taken;
     }
 
-    pub Session-closed : closed ≡ true → n < 9999 → SessionInTime asks input old later u w served.Ended
+    pub Session-closed : closed ≡ true → n < 9999 → SessionInTime rules input old later u w served.Ended
     Session-closed is before = (
       record {
         exchanges = so_far.exchanges ++ more.exchange ∷ [];
@@ -224,7 +223,7 @@ module _ {V Operation : Type 0} (asks : V → List ℕ → Call → Answer → L
       never_waits,
     )
 
-    pub Session-limit : n ≡ 9999 → SessionInTime asks input old later u w served.Limit
+    pub Session-limit : n ≡ 9999 → SessionInTime rules input old later u w served.Limit
     Session-limit last = (
       record {
         exchanges = so_far.exchanges ++ more.exchange ∷ [];
@@ -238,7 +237,7 @@ module _ {V Operation : Type 0} (asks : V → List ℕ → Call → Answer → L
     )
 
   Ends-stopped : (how : Served) (xs : List (Exchange Operation)) (rest : List ℕ) (u v : V) (given now : Option (List ℕ))
-      → length xs < 10000 → AllOpen xs → Stops asks how (length xs) rest u v given now → Ends asks how xs rest u v given now
+      → length xs < 10000 → AllOpen xs → Stops rules how (length xs) rest u v given now → Ends rules how xs rest u v given now
   Ends-stopped served.Ended xs rest u v given now few opens stops = (few, inr (opens, stops))
   Ends-stopped served.Limit xs rest u v given now few opens stops = absurd (elim stops [ inl first ↦ first.1 | inr later ↦ later ])
   Ends-stopped (served.Cut read) xs rest u v given now few opens stops = (few, opens, stops)
@@ -250,12 +249,12 @@ module _ {V Operation : Type 0} (asks : V → List ℕ → Call → Answer → L
   -- the connection stops in place of a next reply
   pub Session-stopped : (how : Served) (n : ℕ) (input buffer : List ℕ) (old now : LinkTells) (ahead : Option (List ℕ)) (u v : V)
       → (so_far : SoFar n input buffer old now ahead u v) → n < 10000 → (held : List ℕ) (later : LinkTells) (left : Option (List ℕ)) (w : V)
-      → to_read held left ≡ Some so_far.rest → OneStop asks n so_far.rest buffer held v w now later how → SessionInTime asks input old later u w how
+      → to_read held left ≡ Some so_far.rest → OneStop rules n so_far.rest buffer held v w now later how → SessionInTime rules input old later u w how
   Session-stopped how n input buffer old now ahead u v so_far few held later left w still stop =
-      let counted : Stops asks how (length so_far.exchanges) so_far.rest v w now.given later.given =
-      subst (λ k. Stops asks how k so_far.rest v w now.given later.given) (sym so_far.count) stop.stops in
-      let placed : Stops asks how (length so_far.exchanges) so_far.rest v w (append_known old.given (texts 0 so_far.exchanges)) later.given =
-      subst (λ z. Stops asks how (length so_far.exchanges) so_far.rest v w z later.given) so_far.text counted in
+      let counted : Stops rules how (length so_far.exchanges) so_far.rest v w now.given later.given =
+      subst (λ k. Stops rules how k so_far.rest v w now.given later.given) (sym so_far.count) stop.stops in
+      let placed : Stops rules how (length so_far.exchanges) so_far.rest v w (append_known old.given (texts 0 so_far.exchanges)) later.given =
+      subst (λ z. Stops rules how (length so_far.exchanges) so_far.rest v w z later.given) so_far.text counted in
       let fits : length so_far.exchanges < 10000 = omega (arith, so_far.count, few) in
       let t = so_far.so_taken in
       let r = stop.reading in
@@ -282,11 +281,11 @@ module _ {V Operation : Type 0} (asks : V → List ℕ → Call → Answer → L
 
   -- there was no memory for a buffer
   pub Session-unbegun : (input : List ℕ) (old : LinkTells) (left : Option (List ℕ)) (u : V) → left ≡ Some input
-      → SessionInTime asks input old old u u served.NoMemory
+      → SessionInTime rules input old old u u served.NoMemory
   unfolding SoFar-begin
   Session-unbegun input old left u is =
       let ahead : to_read [] left ≡ Some input = ap (to_read []) is in
-      let stop : OneStop asks 0 input [] [] u u old old served.NoMemory = record {
+      let stop : OneStop rules 0 input [] [] u u old old served.NoMemory = record {
         stops = inl (refl, ([], not_yet refl, sym (append_known-nil old.given)));
         reading = record {
           piece = [];

@@ -1,7 +1,8 @@
 -- What an order asks of a library, and how its outcome is made of the answers. Read Serves last: it is what stands
 -- between a request and its reply. `asks` is a host's relation: from what it shows before, a library and a call to
--- an answer, the operations that the call left and what it shows after. Of a host with a clock it is AtAMoment.
-use Rattle.std.specs.Prelude.{ℕ, ◌≡◌, ◌<◌, ◌≤◌, ◌⊎◌, Bool, true, false, List, [], ◌∷◌, ◌++◌, length, sum_by, Option, None, Some, Result, Ok, Err}
+-- an answer, the operations that the call left and what it shows after. Of a host with a clock it is AtAMoment. `too_much` says
+-- of what a host shows which files and directories it knows to have together more than so many bytes. Both are its rules.
+use Rattle.std.specs.Prelude.{ℕ, ◌≡◌, ◌<◌, ◌≤◌, ◌⊎◌, Bool, true, false, List, [], ◌∷◌, ◌++◌, length, sum_by, ⊤, Option, None, Some, Result, Ok, Err}
 use Rattle.ids.specs.declared.key.Kind.TheVariants.{Fs}
 use Rattle.library_state.specs.declared.call.Act.{Act}
 use Rattle.library_state.specs.declared.call.Act.TheVariants as act
@@ -87,6 +88,29 @@ abbrev pub AtAMoment : {V Operation : Type 0} → (ℕ → Type 0) → (V → Li
     → V → List ℕ → Call → Answer → List Operation → V → Type 0
 AtAMoment shows asks u lib call answer operations v = (moment : ℕ) × shows moment × asks u lib call moment answer operations v
 
+-- by what rules a host answers
+pub record HostRules (V Operation : Type 0) : Type 1 where
+  pub asks : V → List ℕ → Call → Answer → List Operation → V → Type 0
+  pub too_much : V → List ℕ → Option (List ℕ) → List (List ℕ) → ℕ → Type 0
+
+-- the same of a host with a clock
+abbrev pub rules_at : {V Operation : Type 0} → (ℕ → Type 0) → (V → List ℕ → Call → ℕ → Answer → List Operation → V → Type 0)
+    → (V → List ℕ → Option (List ℕ) → List (List ℕ) → ℕ → Type 0) → HostRules V Operation
+rules_at shows asks too_much = record { asks = AtAMoment shows asks; too_much = too_much }
+
+-- the outcome is want of memory
+abbrev pub IsWant : Outcome → Type 0
+IsWant (Plain r tag) = r ≡ reply.Refused NoMemory
+IsWant (Refused why) = why ≡ NoMemory
+IsWant other = ⊥
+
+-- where the host knows the files and directories that are asked for to have together more than one reply packs, the outcome is
+-- want of memory, and all is as it was
+abbrev pub SparesReading : {V : Type 0} → (V → List ℕ → Option (List ℕ) → List (List ℕ) → ℕ → Type 0) → V → List ℕ → Option (List ℕ) → List (List ℕ)
+    → Outcome → V → Type 0
+SparesReading too_much u lib secret [] o v = ⊤
+SparesReading too_much u lib secret (id ∷ ids) o v = too_much u lib secret (id ∷ ids) most_packed → IsWant o × (v ≡ u)
+
 -- no call was asked, and this is the outcome
 abbrev pub NotAsked : {V Operation : Type 0} → V → Outcome → Outcome → List Operation → V → Type 0
 NotAsked u due o operations v = (o ≡ due) × (operations ≡ []) × (v ≡ u)
@@ -125,18 +149,20 @@ module _ {V Operation : Type 0} (asks : V → List ℕ → Call → Answer → L
       × (o ≡ Refused NoMemory) × (more ≡ []) × (v ≡ mid))
       ⊎ ((is_got answer.reply ≡ false) × (o ≡ told_of answer) × (more ≡ []) × (v ≡ mid))))
 
+module _ {V Operation : Type 0} (rules : HostRules V Operation) where
   -- what was asked of a library has this outcome
   abbrev pub ServedBy : List ℕ → Option (List ℕ) → What → V → Outcome → List Operation → V → Type 0
   ServedBy lib secret what.Version u o operations v = NotAsked u Version o operations v
-  ServedBy lib secret (what.Check op) u o operations v = AskedSo u lib (call_of secret (act.Check op)) o operations v
-  ServedBy lib secret what.Head u o operations v = AskedSo u lib (call_of secret act.Head) o operations v
-  ServedBy lib secret (what.Update commit) u o operations v = AskedSo u lib (call_of secret (act.Update commit)) o operations v
-  ServedBy lib secret (what.Get key) u o operations v = AskedSo u lib (call_of secret (act.Get key)) o operations v
-  ServedBy lib secret (what.Put key bytes) u o operations v = AskedSo u lib (call_of secret (act.Put key bytes)) o operations v
-  ServedBy lib secret (what.Missing kind ids) u o operations v = AskedSo u lib (call_of secret (act.Missing kind ids)) o operations v
-  ServedBy lib secret (what.PutFs rows) u o operations v = PutsEach lib secret u rows o operations v
-  ServedBy lib secret (what.GetFs ids) u o operations v = GetsEach lib secret u ids [] o operations v
-  ServedBy lib secret (what.Ids server client) u o operations v = AskedSo u lib (call_of secret (act.Ids server client)) o operations v
+  ServedBy lib secret (what.Check op) u o operations v = AskedSo rules.asks u lib (call_of secret (act.Check op)) o operations v
+  ServedBy lib secret what.Head u o operations v = AskedSo rules.asks u lib (call_of secret act.Head) o operations v
+  ServedBy lib secret (what.Update commit) u o operations v = AskedSo rules.asks u lib (call_of secret (act.Update commit)) o operations v
+  ServedBy lib secret (what.Get key) u o operations v = AskedSo rules.asks u lib (call_of secret (act.Get key)) o operations v
+  ServedBy lib secret (what.Put key bytes) u o operations v = AskedSo rules.asks u lib (call_of secret (act.Put key bytes)) o operations v
+  ServedBy lib secret (what.Missing kind ids) u o operations v = AskedSo rules.asks u lib (call_of secret (act.Missing kind ids)) o operations v
+  ServedBy lib secret (what.PutFs rows) u o operations v = PutsEach rules.asks lib secret u rows o operations v
+  ServedBy lib secret (what.GetFs ids) u o operations v =
+      GetsEach rules.asks lib secret u ids [] o operations v × SparesReading rules.too_much u lib secret ids o v
+  ServedBy lib secret (what.Ids server client) u o operations v = AskedSo rules.asks u lib (call_of secret (act.Ids server client)) o operations v
 
   abbrev pub ServedAt : Option (List ℕ) → Option (List ℕ) → What → V → Outcome → List Operation → V → Type 0
   ServedAt None secret w u o operations v = NotAsked u (outcome_without_library w) o operations v

@@ -4,7 +4,6 @@ use Rattle.std.specs.Prelude.{ℕ, ◌≡◌, ◌≢◌, ◌==◌, ◌||◌, ◌
 use Rattle.std.specs.Io.KnownBytes.{append_known}
 use Rattle.std.specs.List.{list_any}
 use Rattle.httparse.specs.Grammar.{HasNoRequest, LineEnd, print_blank, print_end, print_request}
-use Rattle.library_state.specs.declared.call.Call.{Call}
 use Rattle.ids.specs.FaultCount.{Rose}
 use Rattle.http_front.specs.declared.head.Head.{Head}
 use Rattle.http_front.specs.declared.head.Next.TheVariants as next
@@ -15,8 +14,8 @@ use Rattle.http_front.specs.ReplyText.{bad_text, is_bad_status}
 use Rattle.http_front.specs.RequestHead.{closes, method_of}
 use Rattle.http_front.specs.TargetFront.{MayBecomeHead}
 use Rattle.http_front.specs.RequestStream.{Request, IsCutAfter, IsLookedAt, IsRefused, IsRequest, IsUnfinished}
+use Rattle.worker_server.specs.Calls.{HostRules}
 use Rattle.worker_server.specs.ServedConnection.{Exchange, Shows, Answers, ComesInPieces, Stops, CountsEnd, closes_at, text_at}
-use Rattle.worker_server.specs.declared.host.Answer.{Answer}
 use Rattle.worker_server.specs.declared.reading.End.{End}
 use Rattle.worker_server.specs.declared.reading.End.TheVariants as end
 use Rattle.worker_server.specs.declared.reading.Look.{Look}
@@ -190,7 +189,7 @@ StopsSo (end.Refused status) given now how = RefusesSo status given now how
 StopsSo end.ReadFault given now how = (how ≡ served.ReadFault) × (now ≡ given)
 StopsSo end.NoMemory given now how = (how ≡ served.NoMemory) × (now ≡ given)
 
-module _ {V Operation : Type 0} (asks : V → List ℕ → Call → Answer → List Operation → V → Type 0) where
+module _ {V Operation : Type 0} (rules : HostRules V Operation) where
   -- the request of this number was read from `rest` and answered, and its reply was given whole. `buffer` and `held` are
   -- what had been taken and not yet used, before and after
   pub record OneMore (n : ℕ) (rest buffer held : List ℕ) (left : Option (List ℕ)) (u v : V) (old new : LinkTells) (closed : Bool) : Type 0 where
@@ -198,14 +197,14 @@ module _ {V Operation : Type 0} (asks : V → List ℕ → Call → Answer → L
     pub after : List ℕ
     pub is : IsRequest rest exchange.request after
     pub ahead : left ≡ Some after
-    pub answers : Answers asks u exchange v
+    pub answers : Answers rules u exchange v
     pub text : new.given ≡ append_known old.given (text_at n exchange)
     pub closes_is : closed ≡ closes_at n exchange.request
     pub reading : AsksUnfinished buffer ((print_request exchange.request.head ++ exchange.request.body) ++ held) old new
 
   -- the connection stops here. What it read until then it asked for in time
   pub record OneStop (n : ℕ) (rest buffer held : List ℕ) (u v : V) (old new : LinkTells) (how : Served) : Type 0 where
-    pub stops : Stops asks how n rest u v old.given new.given
+    pub stops : Stops rules how n rest u v old.given new.given
     pub reading : AsksUnfinished buffer held old new
 
   -- one turn of the connection: a request more, or its stop

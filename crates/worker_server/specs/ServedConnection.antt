@@ -4,7 +4,6 @@ use Rattle.std.specs.Prelude.{ℕ, ◌≡◌, ◌+◌, ◌<◌, ◌≤◌, ◌==
 use Rattle.std.specs.Io.KnownBytes.{append_known}
 use Rattle.httparse.specs.Grammar.{RequestHead}
 use Rattle.ids.specs.FaultCount.{Rose}
-use Rattle.library_state.specs.declared.call.Call.{Call}
 use Rattle.library_state.specs.declared.refusal.Refusal.{Refusal}
 use Rattle.http_front.specs.declared.order.Order.{Order}
 use Rattle.http_front.specs.declared.outcome.Outcome.{Outcome}
@@ -16,8 +15,7 @@ use Rattle.http_front.specs.Order.{IsOrder}
 use Rattle.http_front.specs.ReplyText.{text, bad_text}
 use Rattle.http_front.specs.RequestHead.{closes, fields_of, judge, method_of}
 use Rattle.http_front.specs.RequestStream.{Request, Reads, IsHeadAt, IsRequest, IsCutAfter, IsRefused, IsUnfinished, interim_of}
-use Rattle.worker_server.specs.Calls.{Serves}
-use Rattle.worker_server.specs.declared.host.Answer.{Answer}
+use Rattle.worker_server.specs.Calls.{HostRules, Serves}
 use Rattle.worker_server.specs.declared.served.Served.{Served}
 use Rattle.worker_server.specs.declared.served.Served.TheVariants.{Ended, Limit, Cut, Refused, ReadFault, WriteFault, NoMemory}
 
@@ -105,12 +103,12 @@ StopsUnasked ReadFault rest given now = (bytes : List ℕ) × IsBegun rest bytes
 StopsUnasked WriteFault rest given now = (bytes : List ℕ) × IsDueFirst rest bytes × GivesFront given now bytes
 StopsUnasked NoMemory rest given now = (bytes : List ℕ) × IsBegun rest bytes × (now ≡ append_known given bytes)
 
-module _ {V Operation : Type 0} (asks : V → List ℕ → Call → Answer → List Operation → V → Type 0) where
+module _ {V Operation : Type 0} (rules : HostRules V Operation) where
   -- a request and its outcome
   abbrev pub Answers : V → Exchange Operation → V → Type 0
   Answers u x v =
       (secret : Option (List ℕ)) × Shows x.request secret
-      × Serves asks u (IsOrderFor x.request secret) x.outcome x.operations v
+      × Serves rules u (IsOrderFor x.request secret) x.outcome x.operations v
 
   -- each request in its turn
   abbrev pub Run : V → List (Exchange Operation) → V → Type 0
@@ -194,7 +192,7 @@ NeverWaits input xs old new =
     × All (IsAskedInTime input xs (length taken) (length given)) asked × ComesInPieces (length taken) asked (length now)
 
 -- a connection whose replies never wait: the clause of a call on a link that had the input left
-abbrev pub SessionInTime : {V Operation : Type 0} → (V → List ℕ → Call → Answer → List Operation → V → Type 0) → List ℕ → LinkTells → LinkTells
+abbrev pub SessionInTime : {V Operation : Type 0} → HostRules V Operation → List ℕ → LinkTells → LinkTells
     → V → V → Served → Type 0
-SessionInTime asks input old new u v result =
-    (done : Session asks input old.given new.given u v result) × NeverWaits input done.exchanges old new
+SessionInTime rules input old new u v result =
+    (done : Session rules input old.given new.given u v result) × NeverWaits input done.exchanges old new

@@ -2,7 +2,7 @@
 ghost use Rattle.std.specs.Prelude.{◌≡◌, List, Some, IfSome};
 ghost use Rattle.http_front.specs.Order.{IsOrder};
 ghost use Rattle.http_front.specs.ReplyText.{text};
-ghost use Rattle.worker_server.specs.Calls.{AtAMoment, Serves, ServesOrder, outcome_without_library, refusal_of};
+ghost use Rattle.worker_server.specs.Calls.{Serves, ServesOrder, outcome_without_library, refusal_of, rules_at};
 
 use crate::asking::{ask_one, get_each, put_each};
 use crate::host::Host;
@@ -24,7 +24,7 @@ pub fn reply_to<H: Host>(
     requires ready { H.ready host.now pass.old }
     ensures ready { H.ready host.now pass.new }
     ensures serves { (outcome : Outcome) × (operations : List H.Operation)
-        × Serves (AtAMoment (H.shows host.now) H.asks) (H.view pass.old) (IsOrder head.now.method head.now.target head.now.token body.now) outcome operations (H.view pass.new)
+        × Serves (rules_at (H.shows host.now) H.asks H.too_much) (H.view pass.old) (IsOrder head.now.method head.now.target head.now.token body.now) outcome operations (H.view pass.new)
         × IfSome result (λ bytes. bytes ≡ text outcome closes) }
 {
     let outcome = outcome_of(alloc, host, pass, head, body);
@@ -55,7 +55,7 @@ fn outcome_of<H: Host>(
     requires ready { H.ready host.now pass.old }
     ensures ready { H.ready host.now pass.new }
     ensures serves { (operations : List H.Operation)
-        × Serves (AtAMoment (H.shows host.now) H.asks) (H.view pass.old) (IsOrder head.now.method head.now.target head.now.token body.now) result operations (H.view pass.new) }
+        × Serves (rules_at (H.shows host.now) H.asks H.too_much) (H.view pass.old) (IsOrder head.now.method head.now.target head.now.token body.now) result operations (H.view pass.new) }
 {
     match order_of(alloc, head, body) {
         Ok(order) => outcome_in(alloc, host, pass, order),
@@ -77,7 +77,7 @@ fn refusal_of(fault: OrderFault) -> Refusal
 fn outcome_in<H: Host>(alloc: Global, host: &H, pass: &mut H::Pass, order: Order) -> Outcome
     requires ready { H.ready host.now pass.old }
     ensures ready { H.ready host.now pass.new }
-    ensures serves { (operations : List H.Operation) × ServesOrder (AtAMoment (H.shows host.now) H.asks) (H.view pass.old) order result operations (H.view pass.new) }
+    ensures serves { (operations : List H.Operation) × ServesOrder (rules_at (H.shows host.now) H.asks H.too_much) (H.view pass.old) order result operations (H.view pass.new) }
 {
     let Order { lib, secret, what } = order;
     match lib {
@@ -108,7 +108,7 @@ fn outcome_by<H: Host>(
     requires ready { H.ready host.now pass.old }
     ensures ready { H.ready host.now pass.new }
     ensures serves { (operations : List H.Operation)
-        × ServesOrder (AtAMoment (H.shows host.now) H.asks) (H.view pass.old) (record { lib = Some lib; secret = secret; what = what }) result operations (H.view pass.new) }
+        × ServesOrder (rules_at (H.shows host.now) H.asks H.too_much) (H.view pass.old) (record { lib = Some lib; secret = secret; what = what }) result operations (H.view pass.new) }
 {
     match what {
         What::Version => Outcome::Version,

@@ -1,6 +1,6 @@
 //! Asking the host: one call, or one for each file and directory of a body.
-ghost use Rattle.std.specs.Prelude.{◌≡◌, ◌+◌, ◌≤◌, ◌⊎◌, nat_le, false, List, [], IfOk, IfErr, OnErr};
-ghost use Rattle.worker_server.specs.Calls.{AskedSo, AtAMoment, GetsEach, NotAsked, PutsEach, call_of, get_of, is_got, is_stored, most_packed, put_of, told_of};
+ghost use Rattle.std.specs.Prelude.{◌≡◌, ◌+◌, ◌≤◌, ◌⊎◌, ◌∷◌, nat_le, true, false, drop, List, [], IfOk, IfErr, OnErr};
+ghost use Rattle.worker_server.specs.Calls.{AskedSo, AtAMoment, GetsEach, NotAsked, PutsEach, SparesReading, call_of, get_of, is_got, is_stored, most_packed, put_of, told_of};
 ghost use Rattle.http_front.specs.Rows.{row_with};
 
 use crate::host::{Answer, Host};
@@ -88,8 +88,8 @@ fn put_one<H: Host>(
 const MOST_PACKED: u64 = 268_435_456;
 
 /// Asks for each file and directory in turn, up to the first that is not given, whose answer is the outcome, or with
-/// which they are more than fit in one reply, which is want of memory. Where there is no room for as many rows, nothing
-/// is asked.
+/// which they are more than fit in one reply, which is want of memory. Where the host knows so before, it is that, and the view
+/// stays. Where there is no room for as many rows, nothing is asked.
 pub fn get_each<H: Host>(
     alloc: Global,
     host: &H,
@@ -103,6 +103,7 @@ pub fn get_each<H: Host>(
     ensures asked { (operations : List H.Operation)
         × (GetsEach (AtAMoment (H.shows host.now) H.asks) lib secret (H.view pass.old) ids.now [] result operations (H.view pass.new)
         ⊎ NotAsked (H.view pass.old) (Outcome.Refused Refusal.NoMemory) result operations (H.view pass.new)) }
+    ensures bound { SparesReading H.too_much (H.view pass.old) lib secret ids.now result (H.view pass.new) }
 {
     let mut rows = match Vec::with_capacity(alloc, ids.len()) {
         Ok(rows) => rows,
@@ -136,7 +137,7 @@ fn is_room(packed: u64, size: u64) -> bool
     size <= MOST_PACKED - packed
 }
 
-/// Asks for one file or directory. The first of them is asked for with all ids.
+/// Asks for one file or directory. The first of them is asked for with those that follow.
 fn get_next<H: Host>(
     alloc: Global,
     host: &H,
@@ -148,12 +149,15 @@ fn get_next<H: Host>(
     is_first: bool,
 ) -> Answer
     requires ready { H.ready host.now pass.old }
+    requires first { is_first ≡ true → ids.now ≡ id ∷ drop 1 ids.now }
     ensures ready { H.ready host.now pass.new }
     ensures asks { (operations : List H.Operation)
         × (AtAMoment (H.shows host.now) H.asks) (H.view pass.old) lib.now (call_of secret.now (get_of id)) result operations (H.view pass.new) }
+    ensures bound { is_first ≡ true → H.too_much (H.view pass.old) lib.now secret.now ids.now most_packed
+        → (result.reply ≡ Reply.Refused Refusal.NoMemory) × (H.view pass.new ≡ H.view pass.old) }
 {
     if is_first {
-        return host.ask_first(alloc, pass, *lib, *secret, id, ids, MOST_PACKED);
+        return host.ask_first(alloc, pass, *lib, *secret, id, &ids[1..], MOST_PACKED);
     }
     let key = Key { kind: Kind::Fs, id };
     host.ask(

@@ -3,7 +3,7 @@ ghost use Rattle.std.specs.Prelude.{◌≡◌, ◌==◌, ◌||◌, ℕ, List, So
 ghost use Rattle.ids.specs.FaultCount.{Rose};
 ghost use Rattle.http_front.specs.Buffer.{to_read};
 ghost use Rattle.http_front.specs.Link.{told_by};
-ghost use Rattle.worker_server.specs.Calls.{AtAMoment, Told, Ran};
+ghost use Rattle.worker_server.specs.Calls.{AtAMoment, Told, Ran, rules_at};
 ghost use Rattle.worker_server.specs.RequestSteps.{CountsServed, OneServed};
 ghost use Rattle.worker_server.specs.ServedConnection.{CountsEnd, EndsAsked, SessionInTime, last_request};
 
@@ -36,7 +36,7 @@ pub fn serve_session<H: Host, L: Link>(
     // Where the link tells what it has left: the bytes given are the texts of the outcomes of the requests that those
     // bytes spell. Where it tells what it was asked besides: no reply waited for more input.
     ensures session { (input : List ℕ) → L.left link.old ≡ Some input
-        → SessionInTime (AtAMoment (H.shows host.now) H.asks) input (told_by L.taken L.given L.asked link.old)
+        → SessionInTime (rules_at (H.shows host.now) H.asks H.too_much) input (told_by L.taken L.given L.asked link.old)
         (told_by L.taken L.given L.asked link.new) (H.view pass.old) (H.view pass.new) result }
 
     // Of every link: the calls that were asked.
@@ -79,7 +79,7 @@ fn serve_one<H: Host, L: Link>(
     requires ready { H.ready host.now pass.old }
     ensures ready { H.ready host.now pass.new }
     ensures one { (rest : List ℕ) → to_read buffer.old (L.left link.old) ≡ Some rest
-        → OneServed (AtAMoment (H.shows host.now) H.asks) number rest buffer.old buffer.new (to_read buffer.new (L.left link.new))
+        → OneServed (rules_at (H.shows host.now) H.asks H.too_much) number rest buffer.old buffer.new (to_read buffer.new (L.left link.new))
         (H.view pass.old) (H.view pass.new) (told_by L.taken L.given L.asked link.old) (told_by L.taken L.given L.asked link.new) result }
     ensures still { OnErr result (to_read buffer.new (L.left link.new) ≡ to_read buffer.old (L.left link.old)) }
     ensures ran { (calls : List (Told H.Operation)) × Ran (AtAMoment (H.shows host.now) H.asks) (H.view pass.old) calls (H.view pass.new) }

@@ -22,8 +22,10 @@ pub struct Answer {
 /// view before, the moment at which it is asked, the answer, the operations that it left (a record of
 /// operations, empty where none is kept) and the view after.
 pub trait Host {
-    ghost use Rattle.std.specs.Prelude.{List, ℕ};
+    ghost use Rattle.std.specs.Prelude.{◌≡◌, ◌∷◌, List, Option, ℕ};
     ghost use Rattle.worker_server.specs.Calls.{AtAMoment, call_of, get_of};
+    ghost use Rattle.library_state.specs.declared.refusal.Refusal.TheVariants.{NoMemory};
+    ghost use Rattle.library_state.specs.declared.reply.Reply.TheVariants as reply;
     ghost use Rattle.library_state.specs.declared.call.Call.{Call};
     ghost use Rattle.worker_server.specs.declared.host.Answer.{Answer};
 
@@ -46,6 +48,10 @@ pub trait Host {
     // A call on a library, asked at this moment, may be answered so.
     ghost asks: { View → List ℕ → Call → ℕ → Answer → List Operation → View → Type 0 };
 
+    // As the host knows, these files and directories of a library, asked for with this secret, have together more than so
+    // many bytes.
+    ghost too_much: { View → List ℕ → Option (List ℕ) → List (List ℕ) → ℕ → Type 0 };
+
     /// Asks a call of a library, at a moment that the clock shows.
     fn ask(&self, alloc: Global, pass: &mut Self::Pass, lib: LibId, call: Call) -> Answer
         requires ready { ready self.now pass.old }
@@ -53,10 +59,9 @@ pub trait Host {
         ensures asks { (operations : List Operation)
             × AtAMoment (shows self.now) asks (view pass.old) lib call result operations (view pass.new) };
 
-    /// Asks a library for a file or directory, the first of `ids`, which will be asked for one after another.
+    /// Asks a library for a file or directory, and tells that `more` will be asked for after it, one after another.
     ///
-    /// So a host that can tell that they have together more than `most` bytes may answer with want of memory before it reads
-    /// one. No clause says that it does.
+    /// Where the host knows that they have together more than `most` bytes, the answer is want of memory, and the view stays.
     fn ask_first(
         &self,
         alloc: Global,
@@ -64,11 +69,13 @@ pub trait Host {
         lib: LibId,
         secret: Option<Secret>,
         id: ObjId,
-        ids: &[ObjId],
+        more: &[ObjId],
         most: u64,
     ) -> Answer
         requires ready { ready self.now pass.old }
         ensures ready { ready self.now pass.new }
         ensures asks { (operations : List Operation)
-            × AtAMoment (shows self.now) asks (view pass.old) lib (call_of secret (get_of id)) result operations (view pass.new) };
+            × AtAMoment (shows self.now) asks (view pass.old) lib (call_of secret (get_of id)) result operations (view pass.new) }
+        ensures bound { too_much (view pass.old) lib secret (id ∷ more.now) most
+            → (result.reply ≡ reply.Refused NoMemory) × (view pass.new ≡ view pass.old) };
 }

@@ -4,7 +4,7 @@ ghost use Rattle.library_state.specs.declared.refusal.Refusal.{Refusal};
 ghost use Rattle.http_front.specs.declared.order.Order.{Order};
 ghost use Rattle.http_front.specs.declared.outcome.Outcome.TheVariants.{Packed};
 ghost use Rattle.http_front.specs.declared.row.Row.{Row};
-ghost use Rattle.worker_server.specs.Calls.{AtAMoment, Serves, most_packed, packed_size};
+ghost use Rattle.worker_server.specs.Calls.{Serves, most_packed, packed_size, rules_at};
 ghost use Rattle.worker_server.specs.ServedConnection.{request_limit};
 
 use crate::host::Host;
@@ -18,5 +18,5 @@ pub fn the_limits_are_these()
 /// the host holds.
 pub fn a_packed_reply_has_a_bound<H: Host>()
     ensures { (host : H) (u v : H.View) (order : Result Order Refusal) (rows : List Row) (operations : List H.Operation)
-        → Serves (AtAMoment (H.shows host) H.asks) u (λ due. due ≡ order) (Packed rows) operations v → packed_size rows ≤ most_packed }
+        → Serves (rules_at (H.shows host) H.asks H.too_much) u (λ due. due ≡ order) (Packed rows) operations v → packed_size rows ≤ most_packed }
 {}

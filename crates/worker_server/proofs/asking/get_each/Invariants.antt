@@ -1,5 +1,6 @@
--- What was given so far, and then what is left, make the whole; there is room for each row; they fit so far.
-use Rattle.std.proofs.Common.{◌≡◌, ◌≤◌, List, [], drop, length, vec_len, vec_capacity}
+-- What was given so far, and then what is left, make the whole; there is room for each row; they fit so far. None was asked for,
+-- or the host doesn't know them to be more than fit.
+use Rattle.std.proofs.Common.{◌≡◌, ◌≤◌, ◌⊎◌, List, [], drop, length, vec_len, vec_capacity}
 use Rattle.http_front.specs.declared.outcome.Outcome.{Outcome}
 use Rattle.worker_server.specs.Calls.{AtAMoment, GetsEach, most_packed, packed_size}
 use Rattle.worker_server.proofs.asking.get_each.Given as goal
@@ -13,4 +14,5 @@ invariant-loop-id g l = record {
   count : vec_len l.rows ≡ l.id-index;
   size : l.packed ≡ packed_size l.rows.items;
   within : l.packed ≤ most_packed;
+  spared : ((l.id-index ≡ 0) × (g.H.Host.view l.pass ≡ g.H.Host.view l.fn.pass)) ⊎ (g.H.Host.too_much (g.H.Host.view l.fn.pass) l.fn.lib l.fn.secret l.ids most_packed → ⊥);
 }

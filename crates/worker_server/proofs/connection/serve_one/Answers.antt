@@ -6,7 +6,7 @@ use Rattle.http_front.specs.ReplyText.{text}
 use Rattle.worker_server.proofs.CallLemmas.{Serves-ran}
 use Rattle.worker_server.proofs.RequestLemmas.{AnswersNext-from_reply, OneMore-from_reply, Serves-at, StopsAsked-from_front, closes_as}
 use Rattle.worker_server.proofs.TimingLemmas.{Unfinished-later}
-use Rattle.worker_server.specs.Calls.{AtAMoment}
+use Rattle.worker_server.specs.Calls.{rules_at}
 use Rattle.worker_server.proofs.connection.serve_one.Goals as goal
 
 pub returns-in-Err-clause-one : goal.returns-in-Err-clause-one
@@ -14,11 +14,11 @@ returns-in-Err-clause-one g c = λ rest e. record { stops = inl (refl, c.in-Err.
 
 pub returns-in-None-clause-one : goal.returns-in-None-clause-one
 returns-in-None-clause-one g c = λ rest e.
-    let asks = AtAMoment (g.H.Host.shows c.args.host.now) g.H.Host.asks in
+    let rules = rules_at (g.H.Host.shows c.args.host.now) g.H.Host.asks g.H.Host.too_much in
     let served = c.in-None.ensures.serves in
     let stands = c.in-Ok.ensures.ok in
-    let here = Serves-at asks _ _ c.in-Ok.head _ _ _ _ c.front-front.ensures served.2 in
-    let next = AnswersNext-from_reply asks c.next_request.new.buffer (g.L.Link.left c.next_request.new.link) rest c.in-Ok.head stands.0 stands.1 stands.2 (c.in-Ok.ensures.to_read ∙ e)
+    let here = Serves-at rules _ _ c.in-Ok.head _ _ _ _ c.front-front.ensures served.2 in
+    let next = AnswersNext-from_reply rules c.next_request.new.buffer (g.L.Link.left c.next_request.new.link) rest c.in-Ok.head stands.0 stands.1 stands.2 (c.in-Ok.ensures.to_read ∙ e)
     _ _ served.0 served.1 here in
     record { stops = inr (record { request = stands.0; outcome = served.0; operations = served.1 }, next, stands.3); reading = c.in-Ok.ensures.reading }
 
@@ -27,16 +27,16 @@ returns-in-None-clause-ran g c = Serves-ran _ _ _ _ _ _ c.in-None.ensures.serves
 
 pub returns-in-Err-give-clause-one : goal.returns-in-Err-give-clause-one
 returns-in-Err-give-clause-one g c = λ rest e.
-    let asks = AtAMoment (g.H.Host.shows c.args.host.now) g.H.Host.asks in
+    let rules = rules_at (g.H.Host.shows c.args.host.now) g.H.Host.asks g.H.Host.too_much in
     let served = c.in-Some.ensures.serves in
     let stands = c.in-Ok.ensures.ok in
-    let here = Serves-at asks _ _ c.in-Ok.head _ _ _ _ c.front-front.ensures served.2 in
-    let next = AnswersNext-from_reply asks c.next_request.new.buffer (g.L.Link.left c.next_request.new.link) rest c.in-Ok.head stands.0 stands.1 stands.2 (c.in-Ok.ensures.to_read ∙ e)
+    let here = Serves-at rules _ _ c.in-Ok.head _ _ _ _ c.front-front.ensures served.2 in
+    let next = AnswersNext-from_reply rules c.next_request.new.buffer (g.L.Link.left c.next_request.new.link) rest c.in-Ok.head stands.0 stands.1 stands.2 (c.in-Ok.ensures.to_read ∙ e)
     _ _ served.0 served.1 here in
     let closes = closes_as c.args.number c.next_request.new.buffer c.in-Ok.head stands.0 stands.1 stands.2 c.closes_at-closes.result c.closes_at-closes.ensures.value in
     let gave = subst (λ (z : List ℕ). GivesFront (g.L.Link.given c.next_request.new.link) (g.L.Link.given c.give.new.self) z) (c.slice.ensures.value ∙ served.3) c.in-Err-give.ensures.given in
     record {
-      stops = inr (StopsAsked-from_front asks c.args.number rest _ _ _ next c.closes_at-closes.result closes _ _ _ stands.3 gave);
+      stops = inr (StopsAsked-from_front rules c.args.number rest _ _ _ next c.closes_at-closes.result closes _ _ _ stands.3 gave);
       reading = Unfinished-later _ _ _ _ _ c.in-Err-give.ensures.stays_taken c.in-Err-give.ensures.stays_asked c.in-Ok.ensures.reading;
     }
 
@@ -45,14 +45,14 @@ returns-in-Err-give-clause-ran g c = Serves-ran _ _ _ _ _ _ c.in-Some.ensures.se
 
 pub returns-clause-one : goal.returns-clause-one
 returns-clause-one g c = λ rest e.
-    let asks = AtAMoment (g.H.Host.shows c.args.host.now) g.H.Host.asks in
+    let rules = rules_at (g.H.Host.shows c.args.host.now) g.H.Host.asks g.H.Host.too_much in
     let served = c.in-Some.ensures.serves in
     let stands = c.in-Ok.ensures.ok in
-    let here = Serves-at asks _ _ c.in-Ok.head _ _ _ _ c.front-front.ensures served.2 in
+    let here = Serves-at rules _ _ c.in-Ok.head _ _ _ _ c.front-front.ensures served.2 in
     let gave : g.L.Link.given c.give.new.self ≡ append_known (g.L.Link.given c.next_request.new.link) (text served.0 c.closes_at-closes.result) =
     c.in-Ok-give.ensures.given ∙ ap (λ (z : List ℕ). append_known (g.L.Link.given c.next_request.new.link) z) (c.slice.ensures.value ∙ served.3) in
     let give = c.in-Ok-give.ensures in
-    OneMore-from_reply asks c.args.number _ c.next_request.new.buffer _ (g.L.Link.left c.next_request.new.link) _ rest c.in-Ok.head stands.0 stands.1 stands.2 (c.in-Ok.ensures.to_read ∙ e) c.skip.ensures give.stays_left
+    OneMore-from_reply rules c.args.number _ c.next_request.new.buffer _ (g.L.Link.left c.next_request.new.link) _ rest c.in-Ok.head stands.0 stands.1 stands.2 (c.in-Ok.ensures.to_read ∙ e) c.skip.ensures give.stays_left
     _ _ served.0 served.1 here c.closes_at-closes.result c.closes_at-closes.ensures.value _ _ _ stands.3 gave give.stays_taken give.stays_asked c.in-Ok.ensures.reading
 
 pub returns-clause-ran : goal.returns-clause-ran
