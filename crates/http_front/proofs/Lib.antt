@@ -7,7 +7,6 @@ pub mod FieldLemmas
 pub mod HeadLemmas
 pub mod IdArrayLemmas
 pub mod LineLemmas
-pub mod LinkLemmas
 pub mod MemoryLinkLemmas
 pub mod NumberLemmas
 pub mod OrderLemmas

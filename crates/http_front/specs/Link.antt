@@ -28,11 +28,9 @@ pub record LinkTells : Type 0 where
 abbrev pub told_by : {L : Type 0} → (L → Option (List ℕ)) → (L → Option (List ℕ)) → (L → Option (List Asked)) → L → LinkTells
 told_by taken given asked link = record { taken = taken link; given = given link; asked = asked link }
 
--- the last thing that a link was asked was for more, and nothing was moved since
-abbrev pub AskedLast : LinkTells → Type 0
-AskedLast tells =
-    (taken given : List ℕ) (asked : List Asked) → tells.taken ≡ Some taken → tells.given ≡ Some given → tells.asked ≡ Some asked
-    → (before : List Asked) × (asked ≡ before ++ (length taken, length given) ∷ [])
+-- the link was asked for more, and nothing was moved
+abbrev pub AskedInVain : LinkTells → LinkTells → Type 0
+AskedInVain old new = (new.taken ≡ old.taken) × (new.given ≡ old.given) × (new.asked ≡ asked_once_more old.asked old.taken old.given)
 
 -- a front of these bytes was given
 pub record GivesFront (old new : Option (List ℕ)) (bytes : List ℕ) : Type 0 where

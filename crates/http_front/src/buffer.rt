@@ -2,7 +2,7 @@
 ghost use Rattle.std.specs.Prelude.{◌≡◌, ◌≢◌, ◌+◌, ◌≤◌, ◌↔◌, IsTrue, [], length, drop, IfOk, IfErr, OnErr};
 ghost use Rattle.std.specs.Io.KnownBytes.{IsAtEnd};
 ghost use Rattle.http_front.specs.Buffer.{Fills, to_read};
-ghost use Rattle.http_front.specs.Link.{AskedLast, told_by};
+ghost use Rattle.http_front.specs.Link.{AskedInVain, told_by};
 ghost use Rattle.http_front.specs.Limits.{piece_limit};
 ghost use Rattle.ids.specs.FaultCount.{Rose};
 
@@ -98,7 +98,7 @@ impl Buffer {
         ensures stays { L.given link.new ≡ L.given link.old }
         ensures fills { Fills self.old self.new (told_by L.taken L.given L.asked link.old) (told_by L.taken L.given L.asked link.new) }
         ensures link { result ≡ Err FillFault.Link → Rose (L.faults link.old) (L.faults link.new) }
-        ensures last { result ≡ Err FillFault.Link → AskedLast (told_by L.taken L.given L.asked link.new) }
+        ensures last { result ≡ Err FillFault.Link → AskedInVain (told_by L.taken L.given L.asked link.old) (told_by L.taken L.given L.asked link.new) }
         ensures faults { result ≢ Err FillFault.Link → L.faults link.new ≡ L.faults link.old }
     {
         self.tidy();

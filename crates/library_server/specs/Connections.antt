@@ -44,7 +44,7 @@ pub record ServesOpened {S : Type 0} (contents : S → Option Contents) (may_giv
       → SessionInTime (rules_at shows (AnswersOn contents may_give texts faults) AsksTooMuch) input before.tells now.tells depot after how
   pub ran : (calls : List (Told ⊤)) × Ran (AtAMoment shows (AnswersOn contents may_give texts faults)) depot calls after
   pub count : CountsEnd before.faults now.faults how
-  pub last : EndsAsked how now.tells
+  pub last : EndsAsked how before.tells now.tells now.left
   pub status_is : status ≡ status_of how
 
 -- why no library was opened: the refusal, its cause in what the named library may give, and that the storage's count rose

@@ -1,5 +1,5 @@
 -- How the bytes are looked at in which a head is looked for. The key lemmas are look_at_all, quiet_by, look_kept and look_later.
-use Rattle.std.proofs.Common.{◌≡◌, ◌≢◌, ◌==◌, ◌||◌, ℕ, ◌+◌, ◌-◌, ◌*◌, ◌<◌, ◌≤◌, Bool, false, nat_le, nat_lt, List, [], ◌∷◌, ◌++◌, length, take, drop, refl, sym, ap, subst, ◌∙◌, arith, append_assoc, length-append, All}
+use Rattle.std.proofs.Common.{◌≡◌, ◌≢◌, ◌==◌, ◌||◌, ℕ, ◌+◌, ◌-◌, ◌*◌, ◌<◌, ◌≤◌, false, nat_le, nat_lt, List, [], ◌∷◌, ◌++◌, length, take, drop, refl, sym, ap, subst, ◌∙◌, arith, append_assoc, length-append, All}
 use Rattle.std.proofs.lemmas.Bool.{leb-false, or_parts}
 use Rattle.std.proofs.lemmas.Bool.Decides.{nat_tests}
 use Rattle.std.proofs.lemmas.List.{drop-append-le, drop_all, length-take-le, take-append-drop, take-append-le, take_all, take_at}
@@ -7,7 +7,7 @@ use Rattle.std.proofs.lemmas.List.Elements.{All-append, All-cons, All-nil}
 use Rattle.std.specs.List.{list_any}
 use Rattle.httparse.specs.Grammar.{HasNoRequest}
 use Rattle.http_front.specs.Limits.{head_limit}
-use Rattle.http_front.specs.RequestStream.{IsLookedAt, front_of}
+use Rattle.http_front.specs.RequestStream.{front_of}
 use Rattle.http_front.specs.TargetFront.{MayBecomeHead}
 use Rattle.http_front.proofs.LineLemmas.{none_by_lines}
 use Rattle.worker_server.specs.RequestSteps.{IsOpenBy, IsQuiet, IsScanned, is_due}

@@ -1,6 +1,6 @@
 -- From what stands in the buffer to what is left to read, at each end of reading a request.
 -- The key lemmas are open_end, bad_end, head_stops, interim_stops, body_stops and StandsAt-from_head.
-use Rattle.std.proofs.Common.{◌≡◌, ◌≢◌, ℕ, ◌+◌, ◌<◌, ◌≤◌, false, List, [], ◌∷◌, ◌++◌, length, take, drop, Option, None, Some, Result, Ok, Err, refl, sym, ap, subst, ◌∙◌, arith, append_assoc, append-nil, length-append, nat_le}
+use Rattle.std.proofs.Common.{◌≡◌, ◌≢◌, ℕ, ◌+◌, ◌<◌, ◌≤◌, true, false, List, [], ◌∷◌, ◌++◌, length, take, drop, Option, None, Some, Result, Ok, Err, refl, sym, ap, subst, ◌∙◌, arith, append_assoc, append-nil, length-append, nat_le}
 use Rattle.std.proofs.lemmas.Bool.{leb-false}
 use Rattle.std.proofs.lemmas.List.{length-take, length-take-le, length-drop}
 use Rattle.std.specs.Io.KnownBytes.{IsAtEnd, append_known}
@@ -9,15 +9,14 @@ use Rattle.httparse.specs.Grammar.{RequestHead, ReadsRequest, print_request, Has
 use Rattle.httparse.proofs.GrammarLemmas.{ReadsRequest-append}
 use Rattle.http_front.specs.Buffer.{to_read}
 use Rattle.http_front.specs.declared.head.Head.{Head}
-use Rattle.http_front.specs.Link.{GivesFront, LinkTells}
+use Rattle.http_front.specs.Link.{GivesFront}
 use Rattle.http_front.specs.ReplyText.{bad_text, interim_due}
 use Rattle.http_front.specs.TargetFront.{MayBecomeHead}
 use Rattle.http_front.specs.RequestStream.{Request, IsHeadAt, IsRequest, in_head, in_body, IsRefused, front_of, interim_of}
 use Rattle.http_front.specs.NextHead.{IsHeadOf, IsBad}
-use Rattle.http_front.proofs.LinkLemmas.{asked_last_still}
 use Rattle.http_front.proofs.StreamLemmas.{longer_front, head_at, request_at, refused_on}
-use Rattle.worker_server.specs.ServedConnection.{EndsAsked, StopsUnasked, not_yet, begun, interim, refusal}
-use Rattle.worker_server.specs.RequestSteps.{CountsRead, EndAsked, IsNoFault, StandsAt, IsEnd, IsBodyEnd, RefusesSo, StopsSo, end_at}
+use Rattle.worker_server.specs.ServedConnection.{StopsUnasked, not_yet, begun, interim, refusal}
+use Rattle.worker_server.specs.RequestSteps.{CountsRead, IsNoFault, StandsAt, IsEnd, IsBodyEnd, RefusesSo, StopsSo, end_at}
 use Rattle.worker_server.specs.declared.reading.End.{End}
 use Rattle.worker_server.specs.declared.reading.End.TheVariants as end
 use Rattle.worker_server.specs.declared.served.Served.{Served}
@@ -139,11 +138,11 @@ interim_is front head request is = ap interim_due is.expects_is
 
 -- where the interim reply was not given whole
 pub interim_stops : (buffer : List ℕ) (left : Option (List ℕ)) (rest : List ℕ) (head : Head) (request : RequestHead) (given now : Option (List ℕ))
-    → to_read buffer left ≡ Some rest → IsHeadOf (front_of buffer) head request
+    → to_read buffer left ≡ Some rest → IsHeadOf (front_of buffer) head request → head.expects ≡ true
     → GivesFront given now (interim_due head.expects) → StopsUnasked served.WriteFault rest given now
-interim_stops buffer left rest head request given now e is gives =
+interim_stops buffer left rest head request given now e is waits gives =
     let at = head_ahead buffer left rest head request e is in
-    (interim_due head.expects, interim request at.0 head.body at.1 is.body (interim_is (front_of buffer) head request is), gives)
+    (interim_due head.expects, interim request at.0 head.body at.1 is.body (sym is.expects_is ∙ waits) (interim_is (front_of buffer) head request is), gives)
 
 -- where the body was not read in full
 pub body_stops : (buffer : List ℕ) (left : Option (List ℕ)) (rest : List ℕ) (head : Head) (request : RequestHead) (end_is : End)
@@ -229,33 +228,9 @@ StandsAt-from_head buffer piece head request given now is fits gave =
       gave ∙ ap (append_known given) (interim_is (front_of buffer) head request is),
     )
 
--- ---- what was asked last
+-- ---- where no take failed
 
--- a take that failed stops the connection as the last thing that was asked
-pub stop_asked : (end_is : End) (how : Served) (mid new : LinkTells) → EndAsked end_is mid → StopsSo end_is mid.given new.given how
-    → new.taken ≡ mid.taken → new.asked ≡ mid.asked → EndsAsked how new
-stop_asked end.Over how mid new last stops same_taken same_asked = subst (λ h. EndsAsked h new) (sym stops.0) tt
-stop_asked (end.Cut read) how mid new last stops same_taken same_asked = subst (λ h. EndsAsked h new) (sym stops.0) tt
-stop_asked (end.Refused status) served.Ended mid new last stops same_taken same_asked = tt
-stop_asked (end.Refused status) served.Limit mid new last stops same_taken same_asked = tt
-stop_asked (end.Refused status) (served.Cut read) mid new last stops same_taken same_asked = tt
-stop_asked (end.Refused status) (served.Refused told) mid new last stops same_taken same_asked = tt
-stop_asked (end.Refused status) served.ReadFault mid new last stops same_taken same_asked = absurd stops
-stop_asked (end.Refused status) served.WriteFault mid new last stops same_taken same_asked = tt
-stop_asked (end.Refused status) served.NoMemory mid new last stops same_taken same_asked = tt
-stop_asked end.ReadFault how mid new last stops same_taken same_asked =
-    subst (λ h. EndsAsked h new) (sym stops.0) (asked_last_still mid new same_taken stops.1 same_asked last)
-stop_asked end.NoMemory how mid new last stops same_taken same_asked = subst (λ h. EndsAsked h new) (sym stops.0) tt
-
--- where no take failed, it was not the last thing
-pub no_fault_asked : (end_is : End) (now : LinkTells) → IsNoFault end_is → EndAsked end_is now
-no_fault_asked end.Over now none = tt
-no_fault_asked (end.Cut read) now none = tt
-no_fault_asked (end.Refused status) now none = tt
-no_fault_asked end.ReadFault now none = absurd none
-no_fault_asked end.NoMemory now none = tt
-
--- and the count stays
+-- the count stays
 pub counts_no_fault : {T : Type 0} (r : Result T End) (before now : ℕ) → now ≡ before → IfErr r IsNoFault → CountsRead before now r
 counts_no_fault (Ok x) before now same none = same
 counts_no_fault (Err end.Over) before now same none = same

@@ -1,20 +1,18 @@
 -- When the link is asked for more: the asking of one step joins that of the steps before it.
 -- The key lemmas are ReadsOn-none, ReadsOn-more, Unfinished-from_head, Unfinished-from_body, AsksFor-turn and
 -- NeverWaits-from_asks.
-use Rattle.std.proofs.Common.{◌≡◌, ◌≢◌, ℕ, ◌+◌, ◌-◌, ◌*◌, ◌<◌, ◌≤◌, false, nat_le, List, [], ◌∷◌, ◌++◌, length, take, drop, Option, Some, refl, sym, ap, subst, ◌∙◌, arith, append_assoc, append-nil, length-append, inl, inr, All}
-use Rattle.std.proofs.lemmas.Bool.{leb-false}
-use Rattle.std.proofs.lemmas.List.{take_at, take_all, drop_all}
+use Rattle.std.proofs.Common.{◌≡◌, ℕ, ◌+◌, ◌-◌, ◌<◌, ◌≤◌, List, [], ◌∷◌, ◌++◌, length, take, drop, Option, Some, refl, sym, ap, subst, ◌∙◌, arith, append_assoc, append-nil, length-append, inl, inr, All}
+use Rattle.std.proofs.lemmas.List.{take_at}
 use Rattle.std.proofs.lemmas.List.Elements.{All-nil, All-cons, All-head, All-tail, All-append}
 use Rattle.std.specs.Io.KnownBytes.{append_known}
 use Rattle.http_front.specs.Buffer.{Fills}
 use Rattle.http_front.specs.Link.{Asked, LinkTells, asked_once_more}
 use Rattle.http_front.specs.Limits.{piece_limit}
 use Rattle.http_front.specs.NextHead.{IsHeadOf}
-use Rattle.http_front.specs.TargetFront.{MayBecomeHead}
-use Rattle.http_front.specs.RequestStream.{Request, IsHeadAt, IsLookedAt, IsUnfinished, Reads, head_open, body_open, front_of, interim_of}
+use Rattle.http_front.specs.RequestStream.{Request, IsHeadAt, IsUnfinished, Reads, head_open, body_open, front_of, interim_of}
 use Rattle.http_front.specs.declared.head.Head.{Head}
 use Rattle.http_front.proofs.StreamLemmas.{head_at}
-use Rattle.httparse.specs.Grammar.{RequestHead, HasNoRequest, print_request}
+use Rattle.httparse.specs.Grammar.{RequestHead, print_request}
 use Rattle.worker_server.specs.ServedConnection.{AllOpen, ComesInPieces, Exchange, IsAskedInTime, IsInTime, NeverWaits, requests, texts}
 use Rattle.worker_server.specs.RequestSteps.{AsksFor, AsksUnfinished, HeldBefore, ReadsOn, WantsBytes, WantsHead, WasDue}
 use Rattle.worker_server.proofs.ReadingLemmas.{append_known-more, append_known-nil, body_cut, IsRequest-append}

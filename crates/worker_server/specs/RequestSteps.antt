@@ -9,13 +9,13 @@ use Rattle.http_front.specs.declared.head.Head.{Head}
 use Rattle.http_front.specs.declared.head.Next.TheVariants as next
 use Rattle.http_front.specs.Limits.{head_limit}
 use Rattle.http_front.specs.NextHead.{IsNext}
-use Rattle.http_front.specs.Link.{Asked, AskedLast, GivesFront, LinkTells}
+use Rattle.http_front.specs.Link.{Asked, GivesFront, LinkTells}
 use Rattle.http_front.specs.ReplyText.{bad_text, is_bad_status}
 use Rattle.http_front.specs.RequestHead.{closes, method_of}
 use Rattle.http_front.specs.TargetFront.{MayBecomeHead}
 use Rattle.http_front.specs.RequestStream.{Request, IsCutAfter, IsLookedAt, IsRefused, IsRequest, IsUnfinished}
 use Rattle.worker_server.specs.Calls.{HostRules}
-use Rattle.worker_server.specs.ServedConnection.{Exchange, Shows, Answers, ComesInPieces, Stops, CountsEnd, closes_at, text_at}
+use Rattle.worker_server.specs.ServedConnection.{Exchange, Shows, Answers, CameLast, ComesInPieces, EndsAsked, FailedLast, Stops, CountsEnd, closes_at, text_at}
 use Rattle.worker_server.specs.declared.reading.End.{End}
 use Rattle.worker_server.specs.declared.reading.End.TheVariants as end
 use Rattle.worker_server.specs.declared.reading.Look.{Look}
@@ -63,10 +63,29 @@ abbrev pub IsNoFault : End → Type 0
 IsNoFault end.ReadFault = ⊥
 IsNoFault how = ⊤
 
--- a take that failed was the last thing that the link was asked
-abbrev pub EndAsked : End → LinkTells → Type 0
-EndAsked end.ReadFault now = AskedLast now
-EndAsked how now = ⊤
+-- what came last from any time on came so still
+abbrev pub StillComes : LinkTells → LinkTells → Option (List ℕ) → Option (List ℕ) → Type 0
+StillComes old new left now_left = (start : LinkTells) → CameLast start old left → CameLast start new now_left
+
+-- a take that failed was the last thing that the link was asked, and none failed before a refusal
+abbrev pub EndAsked : End → LinkTells → LinkTells → Option (List ℕ) → Option (List ℕ) → Type 0
+EndAsked end.ReadFault old new left now_left = (start : LinkTells) → CameLast start old left → FailedLast start new
+EndAsked (end.Refused status) old new left now_left = StillComes old new left now_left
+EndAsked how old new left now_left = ⊤
+
+-- the same of what was read, or why it was not
+abbrev pub ReadAsked : {T : Type 0} → Result T End → LinkTells → LinkTells → Option (List ℕ) → Option (List ℕ) → Type 0
+ReadAsked (Ok done) old new left now_left = StillComes old new left now_left
+ReadAsked (Err how) old new left now_left = EndAsked how old new left now_left
+
+-- how a connection stops, by what it was asked from any time on
+abbrev pub StopAsked : Served → LinkTells → LinkTells → Option (List ℕ) → Option (List ℕ) → Type 0
+StopAsked how old new left now_left = (start : LinkTells) → CameLast start old left → EndsAsked how start new now_left
+
+-- the same of a step that may stop it
+abbrev pub StepAsked : {T : Type 0} → Result T Served → LinkTells → LinkTells → Option (List ℕ) → Option (List ℕ) → Type 0
+StepAsked (Ok done) old new left now_left = StillComes old new left now_left
+StepAsked (Err how) old new left now_left = StopAsked how old new left now_left
 
 -- the link's count rose where a take failed, and stayed otherwise
 abbrev pub CountsRead : {T : Type 0} → ℕ → ℕ → Result T End → Type 0

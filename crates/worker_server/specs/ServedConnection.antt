@@ -1,19 +1,19 @@
 -- A served connection: the requests that the bytes read spell, their replies in order, and how it ended.
 -- Read Session first, at the end. Requests: http_front, RequestStream. Replies: http_front, ReplyText.
 use Rattle.std.specs.Prelude.{ℕ, ◌≡◌, ◌+◌, ◌<◌, ◌≤◌, ◌==◌, ◌⊎◌, Bool, true, false, ◌||◌, List, [], ◌∷◌, ◌++◌, length, map, take, All, Option, Some, Result, Ok, codes, ⊤}
-use Rattle.std.specs.Io.KnownBytes.{append_known}
+use Rattle.std.specs.Io.KnownBytes.{IsAtEnd, append_known}
 use Rattle.httparse.specs.Grammar.{RequestHead}
 use Rattle.ids.specs.FaultCount.{Rose}
 use Rattle.library_state.specs.declared.refusal.Refusal.{Refusal}
 use Rattle.http_front.specs.declared.order.Order.{Order}
 use Rattle.http_front.specs.declared.outcome.Outcome.{Outcome}
 use Rattle.http_front.specs.Fields.{found, values_of}
-use Rattle.http_front.specs.Link.{Asked, AskedLast, GivesFront, LinkTells}
+use Rattle.http_front.specs.Link.{Asked, GivesFront, LinkTells}
 use Rattle.http_front.specs.Limits.{piece_limit}
 use Rattle.http_front.specs.NextHead.{IsTokenIn}
 use Rattle.http_front.specs.Order.{IsOrder}
 use Rattle.http_front.specs.ReplyText.{text, bad_text}
-use Rattle.http_front.specs.RequestHead.{closes, fields_of, judge, method_of}
+use Rattle.http_front.specs.RequestHead.{closes, expects, fields_of, judge, method_of}
 use Rattle.http_front.specs.RequestStream.{Request, Reads, IsHeadAt, IsRequest, IsCutAfter, IsRefused, IsUnfinished, interim_of}
 use Rattle.worker_server.specs.Calls.{HostRules, Serves}
 use Rattle.worker_server.specs.declared.served.Served.{Served}
@@ -73,10 +73,25 @@ CountsEnd before now ReadFault = Rose before now
 CountsEnd before now WriteFault = Rose before now
 CountsEnd before now how = now ≡ before
 
--- a take that failed was the last thing that the link was asked
-abbrev pub EndsAsked : Served → LinkTells → Type 0
-EndsAsked ReadFault now = AskedLast now
-EndsAsked how now = ⊤
+-- since then the link was not asked for more; or as it was asked last, bytes came, or it was at its end
+abbrev pub CameLast : LinkTells → LinkTells → Option (List ℕ) → Type 0
+CameLast old now left =
+    (taken given : List ℕ) (before : List Asked) → now.taken ≡ Some taken → now.given ≡ Some given → old.asked ≡ Some before
+    → (now.asked ≡ Some before) ⊎ ((asked : List Asked) × (last : Asked) × (now.asked ≡ Some (before ++ (asked ++ last ∷ [])))
+    × ((last.0 < length taken) ⊎ IsAtEnd left))
+
+-- since then the link was asked for more, and after the last time nothing was moved
+abbrev pub FailedLast : LinkTells → LinkTells → Type 0
+FailedLast old now =
+    (taken given : List ℕ) (before : List Asked) → now.taken ≡ Some taken → now.given ≡ Some given → old.asked ≡ Some before
+    → (asked : List Asked) × (now.asked ≡ Some (before ++ (asked ++ (length taken, length given) ∷ [])))
+
+-- a take that failed was the last thing that the link was asked in this call. Where a give failed, no take had: as the link was
+-- asked last, bytes came, or it was at its end
+abbrev pub EndsAsked : Served → LinkTells → LinkTells → Option (List ℕ) → Type 0
+EndsAsked ReadFault old now left = FailedLast old now
+EndsAsked WriteFault old now left = CameLast old now left
+EndsAsked how old now left = ⊤
 
 -- what may be given for what is left to read, before a request there is whole: nothing, or the interim reply of its head
 pub data IsBegun (rest given : List ℕ) : Type 0 where
@@ -84,11 +99,11 @@ pub data IsBegun (rest given : List ℕ) : Type 0 where
   begun : (h : RequestHead) (after : List ℕ) (size : ℕ) → IsHeadAt rest h after → judge h ≡ Ok size → given ≡ interim_of h
       → IsBegun rest given
 
--- bytes that are due for what is left to read, before a request there was asked: the interim reply of its head, or the
--- reply to what is refused
+-- bytes that are due for what is left to read, before a request there was asked: the interim reply of a head that waits for
+-- it, or the reply to what is refused
 pub data IsDueFirst (rest bytes : List ℕ) : Type 0 where
-  interim : (h : RequestHead) (after : List ℕ) (size : ℕ) → IsHeadAt rest h after → judge h ≡ Ok size → bytes ≡ interim_of h
-      → IsDueFirst rest bytes
+  interim : (h : RequestHead) (after : List ℕ) (size : ℕ) → IsHeadAt rest h after → judge h ≡ Ok size → expects h ≡ true
+      → bytes ≡ interim_of h → IsDueFirst rest bytes
   refusal : (status : ℕ) → IsRefused rest status → bytes ≡ bad_text status → IsDueFirst rest bytes
 
 -- how the connection stops before a further request is asked, as this is left to read. `given` is what the link was

@@ -1,10 +1,10 @@
 //! A connection: one request after another is read, answered and replied to.
-ghost use Rattle.std.specs.Prelude.{◌≡◌, ◌==◌, ◌||◌, ℕ, List, Some, IfErr, OnErr};
+ghost use Rattle.std.specs.Prelude.{◌≡◌, ◌==◌, ◌||◌, ℕ, List, Some, OnErr};
 ghost use Rattle.ids.specs.FaultCount.{Rose};
 ghost use Rattle.http_front.specs.Buffer.{to_read};
 ghost use Rattle.http_front.specs.Link.{told_by};
 ghost use Rattle.worker_server.specs.Calls.{AtAMoment, Told, Ran, rules_at};
-ghost use Rattle.worker_server.specs.RequestSteps.{CountsServed, OneServed};
+ghost use Rattle.worker_server.specs.RequestSteps.{CountsServed, OneServed, StepAsked};
 ghost use Rattle.worker_server.specs.ServedConnection.{CountsEnd, EndsAsked, SessionInTime, last_request};
 
 use crate::answering::reply_to;
@@ -47,8 +47,8 @@ pub fn serve_session<H: Host, L: Link>(
     ensures write_fault { result ≡ Served.WriteFault → Rose (L.faults link.old) (L.faults link.new) }
     ensures faults { CountsEnd (L.faults link.old) (L.faults link.new) result }
 
-    // Where the link tells what it was asked: a take that failed was the last of it.
-    ensures last { EndsAsked result (told_by L.taken L.given L.asked link.new) }
+    // Where the link tells what it was asked: a take that failed was the last of it, and where a give failed no take had.
+    ensures last { EndsAsked result (told_by L.taken L.given L.asked link.old) (told_by L.taken L.given L.asked link.new) (L.left link.new) }
 {
     let mut buffer = match Buffer::new(alloc) {
         Ok(buffer) => buffer,
@@ -83,7 +83,7 @@ fn serve_one<H: Host, L: Link>(
         (H.view pass.old) (H.view pass.new) (told_by L.taken L.given L.asked link.old) (told_by L.taken L.given L.asked link.new) result }
     ensures still { OnErr result (to_read buffer.new (L.left link.new) ≡ to_read buffer.old (L.left link.old)) }
     ensures ran { (calls : List (Told H.Operation)) × Ran (AtAMoment (H.shows host.now) H.asks) (H.view pass.old) calls (H.view pass.new) }
-    ensures last { IfErr result (λ how. EndsAsked how (told_by L.taken L.given L.asked link.new)) }
+    ensures last { StepAsked result (told_by L.taken L.given L.asked link.old) (told_by L.taken L.given L.asked link.new) (L.left link.old) (L.left link.new) }
     ensures faults { CountsServed (L.faults link.old) (L.faults link.new) result }
 {
     let head = match next_request(alloc, link, buffer) {

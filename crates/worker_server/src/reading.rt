@@ -6,7 +6,7 @@ ghost use Rattle.http_front.specs.Buffer.{Fills, to_read};
 ghost use Rattle.http_front.specs.Link.{told_by};
 ghost use Rattle.http_front.specs.NextHead.{IsHeadOf};
 ghost use Rattle.http_front.specs.RequestStream.{front_of};
-ghost use Rattle.worker_server.specs.RequestSteps.{BeginsBlank, CountsRead, EndAsked, HasBadStatus, IsBodyEnd, IsEnd, IsEndSize, IsLook, IsNoFault, IsScanned, ReadsOn, WantsBytes, WantsHead, end_at, is_due, is_open_blank};
+ghost use Rattle.worker_server.specs.RequestSteps.{BeginsBlank, CountsRead, HasBadStatus, IsBodyEnd, IsEnd, IsEndSize, IsLook, IsNoFault, IsScanned, ReadAsked, ReadsOn, WantsBytes, WantsHead, end_at, is_due, is_open_blank};
 
 use http_front::{Buffer, FillFault, HEAD_LIMIT, Head, Link, Next, next_head};
 use std::alloc::{AllocError, Global};
@@ -45,7 +45,7 @@ pub fn read_head<L: Link>(alloc: Global, link: &mut L, buffer: &mut Buffer) -> R
     ensures status { IfErr result HasBadStatus }
     ensures to_read { to_read buffer.new (L.left link.new) ≡ to_read buffer.old (L.left link.old) }
     ensures reads { ReadsOn WantsHead buffer.old buffer.new (told_by L.taken L.given L.asked link.old) (told_by L.taken L.given L.asked link.new) }
-    ensures last { IfErr result (λ end. EndAsked end (told_by L.taken L.given L.asked link.new)) }
+    ensures last { ReadAsked result (told_by L.taken L.given L.asked link.old) (told_by L.taken L.given L.asked link.new) (L.left link.old) (L.left link.new) }
     ensures faults { CountsRead (L.faults link.old) (L.faults link.new) result }
 {
     let mut seen = 0;
@@ -171,7 +171,7 @@ pub fn read_body<L: Link>(
     ensures status { IfErr result HasBadStatus }
     ensures to_read { to_read buffer.new (L.left link.new) ≡ to_read buffer.old (L.left link.old) }
     ensures reads { ReadsOn (WantsBytes (used + body)) buffer.old buffer.new (told_by L.taken L.given L.asked link.old) (told_by L.taken L.given L.asked link.new) }
-    ensures last { IfErr result (λ end. EndAsked end (told_by L.taken L.given L.asked link.new)) }
+    ensures last { ReadAsked result (told_by L.taken L.given L.asked link.old) (told_by L.taken L.given L.asked link.new) (L.left link.old) (L.left link.new) }
     ensures faults { CountsRead (L.faults link.old) (L.faults link.new) result }
 {
     while buffer.len() - used < body {
@@ -192,7 +192,7 @@ fn fill<L: Link>(link: &mut L, buffer: &mut Buffer) -> Result<usize, End>
     ensures status { IfErr result HasBadStatus }
     ensures fills { Fills buffer.old buffer.new (told_by L.taken L.given L.asked link.old) (told_by L.taken L.given L.asked link.new) }
     ensures to_read { to_read buffer.new (L.left link.new) ≡ to_read buffer.old (L.left link.old) }
-    ensures last { IfErr result (λ end. EndAsked end (told_by L.taken L.given L.asked link.new)) }
+    ensures last { ReadAsked result (told_by L.taken L.given L.asked link.old) (told_by L.taken L.given L.asked link.new) (L.left link.old) (L.left link.new) }
     ensures faults { CountsRead (L.faults link.old) (L.faults link.new) result }
 {
     match buffer.fill(link) {

@@ -1,12 +1,12 @@
 //! The next request: its head and its body are read, and what is due before it is asked is given.
-ghost use Rattle.std.specs.Prelude.{◌≡◌, ℕ, List, IsTrue, IfOk, IfErr, Some};
+ghost use Rattle.std.specs.Prelude.{◌≡◌, ℕ, List, IsTrue, IfOk, IfErr, OnErr, Some};
 ghost use Rattle.std.specs.Io.KnownBytes.{append_known};
 ghost use Rattle.http_front.specs.Buffer.{to_read};
 ghost use Rattle.http_front.specs.Link.{CountsFaults, Gives, told_by};
 ghost use Rattle.http_front.specs.ReplyText.{interim_due, is_bad_status};
 ghost use Rattle.http_front.specs.RequestStream.{Request, interim_of};
-ghost use Rattle.worker_server.specs.RequestSteps.{AsksUnfinished, CountsGive, CountsServed, HasBadStatus, RefusesSo, StandsAt, StopsSo};
-ghost use Rattle.worker_server.specs.ServedConnection.{EndsAsked, StopsUnasked};
+ghost use Rattle.worker_server.specs.RequestSteps.{AsksUnfinished, CountsGive, CountsServed, HasBadStatus, RefusesSo, StandsAt, StepAsked, StopsSo};
+ghost use Rattle.worker_server.specs.ServedConnection.{StopsUnasked};
 
 use crate::reading::{End, read_body, read_head};
 use crate::served::Served;
@@ -27,7 +27,7 @@ pub fn next_request<L: Link>(
         → StopsUnasked how rest (L.given link.old) (L.given link.new)) }
     ensures reading { AsksUnfinished buffer.old buffer.new (told_by L.taken L.given L.asked link.old) (told_by L.taken L.given L.asked link.new) }
     ensures to_read { to_read buffer.new (L.left link.new) ≡ to_read buffer.old (L.left link.old) }
-    ensures last { IfErr result (λ how. EndsAsked how (told_by L.taken L.given L.asked link.new)) }
+    ensures last { StepAsked result (told_by L.taken L.given L.asked link.old) (told_by L.taken L.given L.asked link.new) (L.left link.old) (L.left link.new) }
     ensures faults { CountsServed (L.faults link.old) (L.faults link.new) result }
 {
     let head = match read_head(alloc, link, buffer) {
@@ -47,6 +47,7 @@ pub fn next_request<L: Link>(
 /// Gives the interim reply, where the client waits for it.
 fn give_interim<L: Link>(link: &mut L, waits: bool) -> Result<(), LinkFailed>
     ensures given { Gives (L.given link.old) (L.given link.new) (interim_due waits) result }
+    ensures fails { OnErr result (IsTrue waits) }
     ensures left { L.left link.new ≡ L.left link.old }
     ensures taken { L.taken link.new ≡ L.taken link.old }
     ensures asked { L.asked link.new ≡ L.asked link.old }

@@ -1,8 +1,9 @@
 -- The request in the buffer, its outcome and what was given make one turn of the connection.
 use Rattle.std.proofs.Common.{◌≡◌, inl, inr, refl, List, ℕ, subst, ap, ◌∙◌}
 use Rattle.std.specs.Io.KnownBytes.{append_known}
-use Rattle.http_front.specs.Link.{GivesFront}
+use Rattle.http_front.specs.Link.{GivesFront, told_by}
 use Rattle.http_front.specs.ReplyText.{text}
+use Rattle.worker_server.proofs.AskedLemmas.{came_gave, stop_gave}
 use Rattle.worker_server.proofs.CallLemmas.{Serves-ran}
 use Rattle.worker_server.proofs.RequestLemmas.{AnswersNext-from_reply, OneMore-from_reply, Serves-at, StopsAsked-from_front, closes_as}
 use Rattle.worker_server.proofs.TimingLemmas.{Unfinished-later}
@@ -57,3 +58,15 @@ returns-clause-one g c = λ rest e.
 
 pub returns-clause-ran : goal.returns-clause-ran
 returns-clause-ran g c = Serves-ran _ _ _ _ _ _ c.in-Some.ensures.serves.2
+
+-- ---- what was asked last
+
+pub returns-in-Err-give-clause-last : goal.returns-in-Err-give-clause-last
+returns-in-Err-give-clause-last g c = λ start came.
+    let give = c.in-Err-give.ensures in
+    stop_gave (told_by g.L.Link.taken g.L.Link.given g.L.Link.asked c.next_request.new.link) (told_by g.L.Link.taken g.L.Link.given g.L.Link.asked c.give.new.self) (g.L.Link.left c.next_request.new.link) (g.L.Link.left c.give.new.self) _ give.stays_taken give.stays_asked give.stays_left give.given start (c.in-Ok.ensures.last start came)
+
+pub returns-clause-last : goal.returns-clause-last
+returns-clause-last g c = λ start came.
+    let give = c.in-Ok-give.ensures in
+    came_gave (told_by g.L.Link.taken g.L.Link.given g.L.Link.asked c.next_request.new.link) (told_by g.L.Link.taken g.L.Link.given g.L.Link.asked c.give.new.self) (g.L.Link.left c.next_request.new.link) (g.L.Link.left c.give.new.self) _ give.stays_taken give.stays_asked give.stays_left give.given start (c.in-Ok.ensures.last start came)

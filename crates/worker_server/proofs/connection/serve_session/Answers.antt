@@ -2,6 +2,7 @@
 use Rattle.std.proofs.Common.{◌≡◌, ◌<◌, ℕ, List, [], refl, sym, ap, subst, ◌∙◌, arith}
 use Rattle.http_front.specs.Buffer.{to_read}
 use Rattle.http_front.specs.Link.{told_by}
+use Rattle.worker_server.proofs.AskedLemmas.{came_start}
 use Rattle.worker_server.proofs.CallLemmas.{Ran-append}
 use Rattle.worker_server.proofs.SessionLemmas.{SoFar, SoFar-begin, SoFar-counted, SoFar-more, Session-closed, Session-limit, Session-stopped, Session-unbegun}
 use Rattle.worker_server.specs.Calls.{rules_at}
@@ -40,6 +41,7 @@ loop-number-preserved g c = record {
       SoFar-more (rules_at (g.H.Host.shows c.args.host.now) g.H.Host.asks g.H.Host.too_much) _ input _ _ _ _ _ _ s _ _ _ _ _ more few c.in-Ok-false.field-0-test;
   ran = Ran-append (rules_at (g.H.Host.shows c.args.host.now) g.H.Host.asks g.H.Host.too_much) _ _ _ c.loop-number.invariant.ran.0 _ c.loop-number.invariant.ran.1 c.in-Ok-false.ensures.ran.1;
   faults = c.in-Ok-false.ensures.faults ∙ c.loop-number.invariant.faults;
+  came = c.in-Ok-false.ensures.last (told_by g.L.Link.taken g.L.Link.given g.L.Link.asked c.args.link.now) c.loop-number.invariant.came;
 }
 
 pub returns-in-Ok-serve_one-clause-session : goal.returns-in-Ok-serve_one-clause-session
@@ -82,4 +84,11 @@ loop-number-init g c =
           (SoFar-begin rules input old (to_read [] left) u (ap (to_read []) e));
       ran = ([], refl);
       faults = refl;
+      came = came_start _ _;
     }
+
+pub returns-in-Err-serve_one-clause-last : goal.returns-in-Err-serve_one-clause-last
+returns-in-Err-serve_one-clause-last g c = c.in-Err-serve_one.ensures.last (told_by g.L.Link.taken g.L.Link.given g.L.Link.asked c.args.link.now) c.loop-number.invariant.came
+
+pub returns-clause-last : goal.returns-clause-last
+returns-clause-last g c = c.in-Err-serve_one-2.ensures.last (told_by g.L.Link.taken g.L.Link.given g.L.Link.asked c.args.link.now) c.loop-number.invariant.came

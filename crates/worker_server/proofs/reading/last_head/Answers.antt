@@ -1,12 +1,12 @@
 -- The last look is at all that is left.
-use Rattle.std.proofs.Common.{◌≡◌, ℕ, List, [], ◌++◌, length, nat_le, refl, sym, subst, append-nil}
+use Rattle.std.proofs.Common.{◌≡◌, ℕ, List, [], length, nat_le, refl, sym, subst, append-nil}
 use Rattle.http_front.specs.Limits.{head_limit}
 use Rattle.http_front.specs.RequestStream.{IsRefused, front_of}
 use Rattle.http_front.specs.declared.head.Next.{Next}
 use Rattle.http_front.specs.declared.head.Next.TheVariants as next
 use Rattle.http_front.specs.NextHead.{IsNext}
 use Rattle.http_front.proofs.StreamLemmas.{bad_status, refused_on}
-use Rattle.worker_server.specs.RequestSteps.{IsEnd, end_at}
+use Rattle.worker_server.specs.RequestSteps.{IsEnd}
 use Rattle.worker_server.specs.declared.reading.End.{End}
 use Rattle.worker_server.proofs.ReadingLemmas.{open_end}
 use Rattle.worker_server.proofs.reading.last_head.Goals as goal

@@ -1,6 +1,7 @@
 -- A fill that failed ends the body as it ends the head, and each fill comes where bytes of the body are wanted.
 use Rattle.std.proofs.Common.{ℕ, ◌+◌, ◌-◌, ◌<◌, ◌≤◌, length, subst, ◌∙◌, arith}
 use Rattle.worker_server.specs.RequestSteps.{WantsBytes}
+use Rattle.worker_server.proofs.AskedLemmas.{read_later}
 use Rattle.worker_server.proofs.TimingLemmas.{ReadsOn-more, wants_bytes}
 use Rattle.worker_server.proofs.reading.read_body.Goals as goal
 
@@ -29,4 +30,8 @@ loop-link-preserved g c =
       same = c.in-Ok.ensures.to_read ∙ s.same;
       reads = ReadsOn-more (WantsBytes (c.args.used + c.args.body)) _ _ _ _ _ _ s.reads (wants_bytes c.loop-link.buffer c.args.used c.args.body s.fits short) c.in-Ok.ensures.fills;
       faults = c.in-Ok.ensures.faults ∙ s.faults;
+      came = λ start came. c.in-Ok.ensures.last start (s.came start came);
     }
+
+pub returns-in-Err-clause-last : goal.returns-in-Err-clause-last
+returns-in-Err-clause-last g c = read_later c.in-Err.end _ _ _ _ _ _ c.loop-link.invariant.came c.in-Err.ensures.last

@@ -1,18 +1,17 @@
 -- The head at the front of the buffer, or the end that the input makes there.
-use Rattle.std.proofs.Common.{◌≡◌, ℕ, ◌+◌, List, length, nat_le, refl, subst, sym, ◌∙◌}
+use Rattle.std.proofs.Common.{◌≡◌, ℕ, List, length, nat_le, refl, subst, sym, ◌∙◌}
 use Rattle.std.proofs.lemmas.Result.{IfErr-weaker}
 use Rattle.http_front.specs.Limits.{head_limit}
-use Rattle.http_front.specs.declared.head.Next.TheVariants as next
 use Rattle.http_front.specs.RequestStream.{front_of}
 use Rattle.http_front.proofs.StreamLemmas.{bad_status}
-use Rattle.worker_server.specs.declared.reading.End.{End}
 use Rattle.worker_server.specs.declared.reading.Look.{Look}
 use Rattle.worker_server.specs.declared.reading.Look.TheVariants as look
-use Rattle.worker_server.specs.RequestSteps.{BeginsBlank, IsEnd, IsLook, IsScanned, WantsHead}
+use Rattle.worker_server.specs.RequestSteps.{BeginsBlank, IsLook, IsScanned, WantsHead}
+use Rattle.worker_server.proofs.AskedLemmas.{read_later, read_whole}
 use Rattle.worker_server.proofs.BlankLemmas.{blank_first, blank_longer}
 use Rattle.worker_server.proofs.LookLemmas.{look_first, look_later}
 use Rattle.worker_server.proofs.TimingLemmas.{ReadsOn-more, ReadsOn-none}
-use Rattle.worker_server.proofs.ReadingLemmas.{bad_end, counts_no_fault, last_ends, no_fault_asked}
+use Rattle.worker_server.proofs.ReadingLemmas.{bad_end, counts_no_fault, last_ends}
 use Rattle.worker_server.proofs.reading.read_head.Goals as goal
 
 -- what was told of the front is so of the buffer
@@ -47,7 +46,11 @@ returns-in-Ok-eq0-clause-err g c = IfErr-weaker c.last_head.result _ _ (λ how i
     last_ends c.fill.new.buffer _ rest how (c.in-Ok-eq0.ensures.to_read ∙ c.loop-now.invariant.same ∙ e) (c.in-Ok-eq0.ensures.end c.in-Ok-eq0.field-0-test) is) c.last_head.ensures.err
 
 pub returns-in-Ok-eq0-clause-last : goal.returns-in-Ok-eq0-clause-last
-returns-in-Ok-eq0-clause-last g c = IfErr-weaker c.last_head.result _ _ (λ how none. no_fault_asked how _ none) c.last_head.ensures.faults
+returns-in-Ok-eq0-clause-last g c =
+    read_whole c.last_head.result _ _ _ _ (λ start came. c.in-Ok-eq0.ensures.last start (c.loop-now.invariant.came start came)) c.last_head.ensures.faults
+
+pub returns-in-Err-fill-clause-last : goal.returns-in-Err-fill-clause-last
+returns-in-Err-fill-clause-last g c = read_later c.in-Err-fill.end _ _ _ _ _ _ c.loop-now.invariant.came c.in-Err-fill.ensures.last
 
 pub returns-in-Ok-eq0-clause-faults : goal.returns-in-Ok-eq0-clause-faults
 returns-in-Ok-eq0-clause-faults g c = counts_no_fault c.last_head.result _ _ (c.in-Ok-eq0.ensures.faults ∙ c.loop-now.invariant.faults) c.last_head.ensures.faults
@@ -73,6 +76,7 @@ loop-now-init g c = record {
   faults = refl;
   scanned = look_first _;
   blank = blank_first _;
+  came = λ start came. came;
 }
 
 pub loop-now-preserved : goal.loop-now-preserved
@@ -88,4 +92,5 @@ loop-now-preserved g c =
           (subst (λ (z : List ℕ). IsScanned c.in-Ok-Open.now (length c.loop-now.buffer) z) (sym fills.grown) (look_later c.in-Ok-Open.now c.loop-now.buffer fills.piece begun));
       blank = subst (λ (z : List ℕ). BeginsBlank c.blank_lines-blank.result z) (sym fills.grown)
           (blank_longer c.blank_lines-blank.result c.loop-now.buffer fills.piece (subst (λ (z : List ℕ). BeginsBlank c.blank_lines-blank.result z) c.front-front.ensures c.blank_lines-blank.ensures.value));
+      came = λ start came. c.in-Ok.ensures.last start (s.came start came);
     }

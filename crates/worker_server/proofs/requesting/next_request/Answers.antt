@@ -6,7 +6,8 @@ use Rattle.http_front.specs.Link.{GivesFront, told_by}
 use Rattle.http_front.specs.ReplyText.{interim_due}
 use Rattle.http_front.specs.RequestStream.{Request, interim_of}
 use Rattle.worker_server.specs.RequestSteps.{StandsAt, StopsSo}
-use Rattle.worker_server.proofs.ReadingLemmas.{body_stops, head_fits, head_stops, interim_is, interim_stops, StandsAt-from_head, stop_asked}
+use Rattle.worker_server.proofs.AskedLemmas.{came_gave, read_later, stop_came, stop_gave}
+use Rattle.worker_server.proofs.ReadingLemmas.{body_stops, head_fits, head_stops, interim_is, interim_stops, StandsAt-from_head}
 use Rattle.worker_server.proofs.TimingLemmas.{Unfinished-from_body, Unfinished-from_head}
 use Rattle.worker_server.proofs.requesting.next_request.Goals as goal
 
@@ -22,7 +23,7 @@ pub returns-in-Err-give_interim-clause-err : goal.returns-in-Err-give_interim-cl
 returns-in-Err-give_interim-clause-err g c = λ rest e.
     let is = c.in-Ok.ensures.ok in
     let gives = subst (λ (z : Option (List ℕ)). GivesFront z (g.L.Link.given c.give_interim.new.link) (interim_due c.in-Ok.head.expects)) c.in-Ok.ensures.reads.given c.in-Err-give_interim.ensures.given in
-    interim_stops c.read_head.new.buffer _ rest c.in-Ok.head is.0 _ _ (c.in-Ok.ensures.to_read ∙ e) is.1 gives
+    interim_stops c.read_head.new.buffer _ rest c.in-Ok.head is.0 _ _ (c.in-Ok.ensures.to_read ∙ e) is.1 c.in-Err-give_interim.ensures.fails gives
 
 pub returns-in-Ok-read_body-clause-ok : goal.returns-in-Ok-read_body-clause-ok
 returns-in-Ok-read_body-clause-ok g c =
@@ -70,11 +71,26 @@ returns-in-Err-read_body-clause-reading g c =
 
 pub returns-in-Err-clause-last : goal.returns-in-Err-clause-last
 returns-in-Err-clause-last g c =
-    stop_asked c.in-Err.end c.stop.result (told_by g.L.Link.taken g.L.Link.given g.L.Link.asked c.read_head.new.link) (told_by g.L.Link.taken g.L.Link.given g.L.Link.asked c.stop.new.link)
-    c.in-Err.ensures.last c.stop.ensures.value c.stop.ensures.taken c.stop.ensures.asked
+    stop_came c.in-Err.end c.stop.result _ (told_by g.L.Link.taken g.L.Link.given g.L.Link.asked c.read_head.new.link) (told_by g.L.Link.taken g.L.Link.given g.L.Link.asked c.stop.new.link) _ (g.L.Link.left c.read_head.new.link) (g.L.Link.left c.stop.new.link)
+    c.in-Err.ensures.last c.stop.ensures.value c.stop.ensures.taken c.stop.ensures.asked c.stop.ensures.left
+
+pub returns-in-Err-give_interim-clause-last : goal.returns-in-Err-give_interim-clause-last
+returns-in-Err-give_interim-clause-last g c = λ start came.
+    let interim = c.in-Err-give_interim.ensures in
+    stop_gave (told_by g.L.Link.taken g.L.Link.given g.L.Link.asked c.read_head.new.link) (told_by g.L.Link.taken g.L.Link.given g.L.Link.asked c.give_interim.new.link) (g.L.Link.left c.read_head.new.link) (g.L.Link.left c.give_interim.new.link) (interim_due c.in-Ok.head.expects) interim.taken interim.asked interim.left interim.given start (c.in-Ok.ensures.last start came)
+
+pub returns-in-Ok-read_body-clause-last : goal.returns-in-Ok-read_body-clause-last
+returns-in-Ok-read_body-clause-last g c = λ start came.
+    let interim = c.in-Ok-give_interim.ensures in
+    let gave = came_gave (told_by g.L.Link.taken g.L.Link.given g.L.Link.asked c.read_head.new.link) (told_by g.L.Link.taken g.L.Link.given g.L.Link.asked c.give_interim.new.link) (g.L.Link.left c.read_head.new.link) (g.L.Link.left c.give_interim.new.link) (interim_due c.in-Ok.head.expects) interim.taken interim.asked interim.left interim.given start (c.in-Ok.ensures.last start came) in
+    c.in-Ok-read_body.ensures.last start gave
 
 pub returns-in-Err-read_body-clause-last : goal.returns-in-Err-read_body-clause-last
 returns-in-Err-read_body-clause-last g c =
-    stop_asked c.in-Err-read_body.end c.stop-in-Err-read_body.result (told_by g.L.Link.taken g.L.Link.given g.L.Link.asked c.read_body.new.link)
-    (told_by g.L.Link.taken g.L.Link.given g.L.Link.asked c.stop-in-Err-read_body.new.link)
-    c.in-Err-read_body.ensures.last c.stop-in-Err-read_body.ensures.value c.stop-in-Err-read_body.ensures.taken c.stop-in-Err-read_body.ensures.asked
+    let interim = c.in-Ok-give_interim.ensures in
+    let read = read_later c.in-Err-read_body.end (told_by g.L.Link.taken g.L.Link.given g.L.Link.asked c.args.link.now) (told_by g.L.Link.taken g.L.Link.given g.L.Link.asked c.give_interim.new.link) (told_by g.L.Link.taken g.L.Link.given g.L.Link.asked c.read_body.new.link) (g.L.Link.left c.args.link.now) (g.L.Link.left c.give_interim.new.link) (g.L.Link.left c.read_body.new.link)
+    (λ start came. came_gave (told_by g.L.Link.taken g.L.Link.given g.L.Link.asked c.read_head.new.link) (told_by g.L.Link.taken g.L.Link.given g.L.Link.asked c.give_interim.new.link) (g.L.Link.left c.read_head.new.link) (g.L.Link.left c.give_interim.new.link) (interim_due c.in-Ok.head.expects) interim.taken interim.asked interim.left interim.given start (c.in-Ok.ensures.last start came))
+    c.in-Err-read_body.ensures.last in
+    let stopped = c.stop-in-Err-read_body.ensures in
+    stop_came c.in-Err-read_body.end c.stop-in-Err-read_body.result _ (told_by g.L.Link.taken g.L.Link.given g.L.Link.asked c.read_body.new.link) (told_by g.L.Link.taken g.L.Link.given g.L.Link.asked c.stop-in-Err-read_body.new.link) _ (g.L.Link.left c.read_body.new.link) (g.L.Link.left c.stop-in-Err-read_body.new.link)
+    read stopped.value stopped.taken stopped.asked stopped.left
