@@ -20,3 +20,7 @@ piece_limit = 65536
 -- an object of a row has fewer bytes, since four tell how many
 abbrev pub row_limit : ℕ
 row_limit = 4294967296
+
+-- the bytes in front of an object of a row: the 40 digits of its id, and the four that tell its length
+abbrev pub row_front : ℕ
+row_front = 44

@@ -24,7 +24,7 @@ pub(crate) fn read_tag(bytes: &[u8], headers: &[HeaderSpan]) -> Option<Tag>
 
 /// The tag that is written so: a quote, a number, a hyphen, a number and a quote.
 pub fn read_tag_text(text: &[u8]) -> Option<Tag>
-    ensures { IsTagText text.now result }
+    ensures value { IsTagText text.now result }
 {
     match unquoted(text) {
         Some(inner) => read_numbers(inner),

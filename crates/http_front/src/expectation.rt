@@ -35,8 +35,8 @@ pub(crate) fn closes(minor: u8, bytes: &[u8], headers: &[HeaderSpan]) -> bool
 
 /// Whether some `Connection` field has the element `close`.
 pub fn wants_close(bytes: &[u8], headers: &[HeaderSpan]) -> bool
-    requires { All (IsHeaderWithin (length bytes.now)) headers.now }
-    ensures { result ≡ wants_close (fields_at bytes.now headers.now) }
+    requires within { All (IsHeaderWithin (length bytes.now)) headers.now }
+    ensures value { result ≡ wants_close (fields_at bytes.now headers.now) }
 {
     for header in headers {
         if is_word(b"connection", header.name.of(bytes)) && has_close(header.value.of(bytes)) {

@@ -23,7 +23,7 @@ pub(crate) fn is_word(word: &[u8], bytes: &[u8]) -> bool
 
 /// Looks for the fields of that name.
 pub fn look_for(name: &[u8], bytes: &[u8], headers: &[HeaderSpan]) -> Seen
-    requires { All (IsHeaderWithin (length bytes.now)) headers.now }
+    requires within { All (IsHeaderWithin (length bytes.now)) headers.now }
     ensures value { found_at bytes.now result ≡ found (values_of name.now (fields_at bytes.now headers.now)) }
     ensures within { IsSeenWithin (length bytes.now) result }
 {

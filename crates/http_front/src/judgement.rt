@@ -92,7 +92,7 @@ fn has_host(minor: u8, bytes: &[u8], headers: &[HeaderSpan]) -> bool
 
 /// The number of 1 to 19 decimal digits that the text is.
 pub fn number_in(text: &[u8]) -> Option<u64>
-    ensures { result ≡ number_in text.now }
+    ensures value { result ≡ number_in text.now }
 {
     if text.is_empty() || text.len() > 19 || !are_digits(text) {
         return None;

@@ -1,13 +1,14 @@
 //! Theorems about the stream of requests and the table of calls.
 ghost use Rattle.std.specs.Prelude.{◌≡◌, ◌+◌, ◌^◌, ◌<◌, ◌≤◌, ◌⊎◌, ℕ, List, [], length, Option, Result, Ok, Some};
+ghost use Rattle.ids.specs.declared.key.Kind.{Kind};
 ghost use Rattle.library_state.specs.declared.call.Op.{Op};
 ghost use Rattle.library_state.specs.declared.refusal.Refusal.{Refusal};
 ghost use Rattle.http_front.specs.CallQuery.{IsClient, IsObjectId, check_query, ids_query, update_query};
-ghost use Rattle.http_front.specs.Limits.{body_limit, field_limit, head_limit, piece_limit, row_limit};
+ghost use Rattle.http_front.specs.Limits.{body_limit, field_limit, head_limit, piece_limit, row_front, row_limit};
 ghost use Rattle.http_front.specs.Order.{IsOrder, asked_of};
 ghost use Rattle.http_front.specs.Query.{query_of};
 ghost use Rattle.http_front.specs.RequestStream.{Extends, HasNoWhole, IsCutAfter, IsRefused, IsUnfinished, NeedsManyFields, Reads, Request};
-ghost use Rattle.http_front.specs.Route.{IsCall, IsLibrary, limit_of, method_in, path_in, route_of};
+ghost use Rattle.http_front.specs.Route.{IsCall, IsLibrary, limit_of, method_in, object_limit, path_in, route_of, usual_limit};
 ghost use Rattle.http_front.specs.Target.{path_of};
 ghost use Rattle.http_front.specs.declared.method.Method.{Method};
 ghost use Rattle.http_front.specs.declared.order.Order.{Order};
@@ -47,7 +48,8 @@ pub fn what_is_unfinished_is_short()
 
 /// The limits of what is read, in numbers.
 pub fn the_limits_are_these()
-    ensures { (head_limit ≡ 16384) × (field_limit ≡ 64) × (body_limit ≡ 67108864) × (piece_limit ≡ 65536) × (row_limit ≡ 2 ^ 32) }
+    ensures { (head_limit ≡ 16384) × (field_limit ≡ 64) × (body_limit ≡ 67108864) × (usual_limit ≡ 33554432) × (object_limit Kind.Commit ≡ 1048576)
+        × (object_limit Kind.Block ≡ 16777216) × (piece_limit ≡ 65536) × (row_front ≡ 44) × (row_limit ≡ 2 ^ 32) }
 {}
 
 /// No body is longer than the longest.

@@ -15,7 +15,7 @@ use std::alloc::{AllocError, Global};
 
 /// The status of a refusal.
 pub fn refused_status(refusal: &Refusal) -> Status
-    ensures { result ≡ refused_status refusal.now }
+    ensures value { result ≡ refused_status refusal.now }
 {
     match refusal {
         Refusal::NoLibrary | Refusal::NoCall | Refusal::NoObject(_) => Status::NotFound,

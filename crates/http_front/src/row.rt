@@ -4,7 +4,7 @@ ghost use Rattle.std.specs.Int.{to_be_bytes, w32};
 ghost use Rattle.hex.specs.Hex.{encode_lower};
 ghost use Rattle.ids.specs.Digits.{digits_form};
 ghost use Rattle.ids.specs.Form.{IsOf};
-ghost use Rattle.http_front.specs.Limits.{row_limit};
+ghost use Rattle.http_front.specs.Limits.{row_front, row_limit};
 ghost use Rattle.http_front.specs.Rows.{FitRows, HasNoRow, ReadsRows, row_with, rows_text};
 
 use ids::{Bytes, Items, ObjId};
@@ -68,9 +68,9 @@ fn row_of(alloc: Global, id: ObjId, bytes: &[u8]) -> Result<Row, AllocError>
 /// The id and the bytes of the row at the front, if one stands there.
 fn front_row(rest: &[u8]) -> Option<(ObjId, &[u8])>
     ensures whole { IfSome result (λ front. rest.now
-        ≡ encode_lower front.0 ++ (to_be_bytes w32 (length front.1.now) ++ (front.1.now ++ drop (44 + length front.1.now) rest.now))) }
+        ≡ encode_lower front.0 ++ (to_be_bytes w32 (length front.1.now) ++ (front.1.now ++ drop (row_front + length front.1.now) rest.now))) }
     ensures fits { IfSome result (λ front. length front.1.now < row_limit) }
-    ensures bound { IfSome result (λ front. 44 + length front.1.now ≤ length rest.now) }
+    ensures bound { IfSome result (λ front. row_front + length front.1.now ≤ length rest.now) }
     ensures id_size { IfSome result (λ front. length front.0 ≡ 20) }
     ensures id_bytes { IfSome result (λ front. All (λ byte. byte < 256) front.0) }
     ensures none { IfNone result (HasNoRow rest.now) }

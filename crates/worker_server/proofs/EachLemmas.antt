@@ -1,13 +1,15 @@
 -- Calls asked one after another: one more of them, and the last.
-use Rattle.std.proofs.Common.{◌≡◌, ◌⊎◌, ◌+◌, ◌==◌, ◌<◌, ◌≤◌, nat_le, Bool, true, false, drop, List, [], ◌∷◌, ◌++◌, length, Option, ℕ, inl, inr, refl, sym, ap, subst, ◌∙◌, reverse, append-nil}
+use Rattle.std.proofs.Common.{◌≡◌, ◌⊎◌, ◌+◌, ◌==◌, ◌<◌, ◌≤◌, nat_le, Bool, true, false, drop, List, [], ◌∷◌, ◌++◌, length, Option, ℕ, inl, inr, refl, sym, ap, subst, ◌∙◌, reverse, append-nil, arith}
 use Rattle.std.proofs.lemmas.Bool.{eqb-true, leb-false, leb-true}
 use Rattle.std.proofs.lemmas.List.{reverse-append}
-use Rattle.std.proofs.lemmas.List.Sums.{sum_by_push}
+use Rattle.std.proofs.lemmas.List.Elements.{All-cons, All-nil}
+use Rattle.std.proofs.lemmas.List.Sums.{sum_by-cons, sum_by_push}
 use Rattle.library_state.specs.declared.call.Call.{Call}
 use Rattle.library_state.specs.declared.refusal.Refusal.TheVariants.{NoMemory}
 use Rattle.library_state.specs.declared.reply.Reply.{Reply}
 use Rattle.library_state.specs.declared.reply.Reply.TheVariants as reply
-use Rattle.http_front.specs.Rows.{row_with}
+use Rattle.http_front.specs.Limits.{row_limit}
+use Rattle.http_front.specs.Rows.{FitRows, row_with}
 use Rattle.http_front.specs.declared.outcome.Outcome.{Outcome}
 use Rattle.http_front.specs.declared.outcome.Outcome.TheVariants.{Packed, Refused}
 use Rattle.http_front.specs.declared.row.Row.{Row}
@@ -100,6 +102,17 @@ pub packed_over : (rows : List Row) (id bytes slice : List ℕ) (packed : ℕ) �
     → false ≡ nat_le (packed + length slice) most_packed → most_packed < packed_size (rows ++ row_with id bytes ∷ [])
 packed_over rows id bytes slice packed is same over =
     subst (λ n. most_packed < n) (packed_now rows id bytes slice packed is same) (leb-false (packed + length slice) most_packed (sym over))
+
+-- each of those that fit is short
+pub each_has_text : (rows : List Row) → FitReply rows → FitRows rows
+each_has_text [] fits = All-nil (λ row. length row.bytes < row_limit)
+each_has_text (row ∷ rows) fits =
+    let whole : packed_size (row ∷ rows) ≡ length row.bytes + packed_size rows = sum_by-cons (λ row. length row.bytes) row rows in
+    let parts = within (length row.bytes) (packed_size rows) (subst (λ n. n ≤ most_packed) whole fits) in
+    All-cons (λ row. length row.bytes < row_limit) row rows parts.0 (each_has_text rows parts.1)
+  where
+    within : (size more : ℕ) → size + more ≤ most_packed → (size < row_limit) × (more ≤ most_packed)
+    within size more fits = (omega (arith, fits), omega (arith, fits))
 
 -- ---- calls
 
