@@ -10,6 +10,7 @@ flat.py SERVER FOLDER updates FILES [ROUNDS]
 flat.py SERVER FOLDER starts FILES COMMITS
     The processor time of a start over that library with so many kept commits of one changed file each, beside a start
     over one kept commit with the last tree, and over an empty library.
+The files have 1,000 contents, or as many as CONTENTS says. With its directories a tree has at most 1,000,000 paths.
 
 What an update touches: the commits, and the directories above each file that changed, with that file, in each tree of
 those: head and pushed, and where it is merged, the base and what was made. FOLDER in memory (/dev/shm) spares the disk.
@@ -31,7 +32,7 @@ from pipe_client import (Connection, command, commit_object, directory_entry, di
 
 pipe_client.REPLY_SECONDS = 3600
 TOKEN = "a" * 40
-WIDE, CONTENTS, MOMENT = 100, 1000, 1_700_000_000
+WIDE, CONTENTS, MOMENT = 100, int(os.environ.get("CONTENTS", "1000")), 1_700_000_000
 
 
 def spent(connection):
@@ -136,9 +137,12 @@ class Library:
 
     def first(self):
         for number in range(CONTENTS):
+            if number % 9000 == 8999:
+                self.open()
             data = b"content %d" % number
             text = file_object([self.connection.put_block(data)], len(data))
             self.tree.made[name_of(text)] = text
+        self.open()
         return self.push(self.tree)
 
     def changed(self, place, mark, parent, tree=None):

@@ -1,7 +1,8 @@
 #!/usr/bin/env bash
 # Updates of libraries of growing sizes with one file changed, and a start over many kept commits: see flat.py.
-#   bench/depot/flat.sh SERVER [FILES..]      10,000 and 100,000 files if left out; 1,000,000 take some 200 MB of WORK, which
-#                                             is /dev/shm if left out. ROUNDS=5 of each update; COMMITS=1000, or 0 for no starts
+#   bench/depot/flat.sh SERVER [FILES..]      10,000 and 100,000 files if left out; 980,000 (of 1,000,000 paths at most) take some
+#                                             200 MB of WORK, which is /dev/shm if left out. ROUNDS=5 of each update;
+#                                             COMMITS=1000, or 0 for no starts; CONTENTS=1000 different files
 set -eu
 here=$(cd "$(dirname "$0")" && pwd)
 server=$(realpath "$1")
