@@ -1,6 +1,7 @@
 pub mod ToldLemmas
 pub mod WritingLemmas
 pub mod GoodLemmas
+pub mod GivingLemmas
 pub mod MakeLemmas
 pub mod CompleteLemmas
 pub mod StartLemmas

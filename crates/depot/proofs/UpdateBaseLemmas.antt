@@ -282,9 +282,10 @@ counted_alike (walk.Store fault) = by fault
 module _ {S : Type 0} {contents : S → Option Contents} {may_give : S → Slot → Option (List ℕ) → Type 0} {texts faults : S → ℕ} where
   -- a reading that failed, as a refusal
   pub reads_refused : {T U : Type 0} {old new : StoreView S} (fault : WalkFault) → Reads {T = T} contents may_give texts faults old new (Err fault)
-      → ReadsOnly {T = U} contents texts faults old new (Err (walk_refusal fault))
+      → ReadsOnly {T = U} contents may_give texts faults old new (Err (walk_refusal fault))
   reads_refused {old = old} {new = new} fault reads = record {
     kept = reads.kept;
+    gives = reads.shelf.gives;
     written = reads.shelf.written;
     count = subst (λ b. MatchBool b ((faults old.shelf ≤ faults new.shelf) × Rose (faults old.shelf) (faults new.shelf)) (faults new.shelf ≡ faults old.shelf))
         (counted_alike fault) reads.count;
@@ -297,18 +298,20 @@ module _ {S : Type 0} {contents : S → Option Contents} {may_give : S → Slot 
 
   -- an answer after a reading that gave something
   pub reads_then_says : {T U : Type 0} {old new : StoreView S} (value : T) (result : Result U Refusal) → Reads contents may_give texts faults old new (Ok value)
-      → FailsBy is_of_store (faults old.shelf) (faults old.shelf) result → ReadsOnly contents texts faults old new result
+      → FailsBy is_of_store (faults old.shelf) (faults old.shelf) result → ReadsOnly contents may_give texts faults old new result
   reads_then_says {old = old} value result reads count = record {
     kept = reads.kept;
+    gives = reads.shelf.gives;
     written = reads.shelf.written;
     count = subst (λ n. FailsBy is_of_store (faults old.shelf) n result) (sym reads.count) count;
   }
 
   -- a reading that gave something, and then another call
   pub reads_only_then : {T U : Type 0} {old mid new : StoreView S} (value : T) (result : Result U Refusal)
-      → Reads contents may_give texts faults old mid (Ok value) → ReadsOnly contents texts faults mid new result → ReadsOnly contents texts faults old new result
+      → Reads contents may_give texts faults old mid (Ok value) → ReadsOnly contents may_give texts faults mid new result → ReadsOnly contents may_give texts faults old new result
   reads_only_then {new = new} value result first second = record {
     kept = keeps_then first.kept second.kept;
+    gives = λ slot given is. first.shelf.gives slot given (second.gives slot given is);
     written = second.written ∙ first.shelf.written;
     count = subst (λ n. FailsBy is_of_store n (faults new.shelf) result) first.count second.count;
   }

@@ -2,6 +2,7 @@ pub mod NextState
 pub mod Writing
 pub mod DepotView
 pub mod Make
+pub mod Giving
 pub mod Tokens
 pub mod Start
 pub mod Refusals

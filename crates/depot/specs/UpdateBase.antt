@@ -9,8 +9,9 @@ use Rattle.library_state.specs.declared.history.Install.{Install}
 use Rattle.library_state.specs.declared.refusal.Refusal.{Refusal}
 use Rattle.library_state.specs.declared.refusal.Refusal.TheVariants as refusal
 use Rattle.object_graph.specs.Objects.{commit_at}
-use Rattle.object_store.specs.Shelf.{Contents}
+use Rattle.object_store.specs.Shelf.{Contents, GivesNoMore}
 use Rattle.object_store.specs.StoreView.{Keeps, StoreView}
+use Rattle.object_store.specs.declared.shelf.Slot.{Slot}
 use Rattle.tree_walk.specs.Reading.{AnswersRead}
 use Rattle.tree_walk.specs.declared.fault.WalkFault.{WalkFault}
 use Rattle.depot.specs.ObjectCalls.{IsToldRefusal, is_of_store}
@@ -20,10 +21,11 @@ use Rattle.depot.specs.declared.update_base.Look.{Look}
 use Rattle.depot.specs.Refusals.{walk_refusal}
 use Rattle.depot.specs.declared.update_base.Look.TheVariants as look
 
--- a call that may be refused reads: nothing that the store holds is changed, no text is put, and the shelf's count of
--- faults rose where it failed, and stays else
-pub record ReadsOnly {S T : Type 0} (contents : S → Option Contents) (texts faults : S → ℕ) (old new : StoreView S) (result : Result T Refusal) : Type 0 where
+-- a call that may be refused reads: nothing that the store holds is changed, the shelf may give no more, no text is put, and
+-- the shelf's count of faults rose where it failed, and stays else
+pub record ReadsOnly {S T : Type 0} (contents : S → Option Contents) (may_give : S → Slot → Option (List ℕ) → Type 0) (texts faults : S → ℕ) (old new : StoreView S) (result : Result T Refusal) : Type 0 where
   pub kept : Keeps contents old new
+  pub gives : GivesNoMore (may_give old.shelf) (may_give new.shelf)
   pub written : texts new.shelf ≡ texts old.shelf
   pub count : FailsBy is_of_store (faults old.shelf) (faults new.shelf) result
 

@@ -7,6 +7,7 @@ ghost use Rattle.object_store.specs.Store.{CountsShelf};
 ghost use Rattle.object_store.specs.StoreView.{AddsNoStray, objects_of, status_of};
 ghost use Rattle.depot.specs.Answering.{MayAsk, ServesAt};
 ghost use Rattle.depot.specs.Changing.{TextSo, marked};
+ghost use Rattle.depot.specs.Giving.{GivesBy, IsOwnText, MayLay};
 
 use crate::depot::{Depot, Parts};
 use crate::refusals::answer_of;
@@ -21,6 +22,7 @@ impl<S: Shelf> Depot<S> {
     pub(crate) fn check(&mut self, place: usize, op: Op) -> Reply
         requires who { (secret : Option (List ℕ)) × MayAsk self.old.state.tokens secret (act.Check op) place }
         ensures value { (moment : ℕ) → ServesAt S.contents S.may_give S.texts S.faults self.old place (act.Check op) moment result self.new }
+        ensures gives { GivesBy (MayLay self.old.state.lib (act.Check op)) (S.may_give self.old.store.shelf) (S.may_give self.new.store.shelf) }
     {
         match op {
             Op::Download => Reply::Checked,
@@ -32,6 +34,7 @@ impl<S: Shelf> Depot<S> {
     fn check_upload(&mut self, place: usize) -> Reply
         requires who { (secret : Option (List ℕ)) × MayAsk self.old.state.tokens secret (act.Check op.Upload) place }
         ensures value { (moment : ℕ) → ServesAt S.contents S.may_give S.texts S.faults self.old place (act.Check op.Upload) moment result self.new }
+        ensures gives { GivesBy (IsOwnText self.old.state.lib) (S.may_give self.old.store.shelf) (S.may_give self.new.store.shelf) }
     {
         let seen = self.parts.see_collection(place);
         answer_of(Reply::Checked, seen)
@@ -48,6 +51,7 @@ impl<S: Shelf> Parts<S> {
             (status_of S.contents self.old.store) self.new.unsettled (status_of S.contents self.new.store) result (S.texts self.old.store.shelf) (S.texts self.new.store.shelf) }
         ensures stays { objects_of S.contents self.new.store ≡ objects_of S.contents self.old.store }
         ensures lying { AddsNoStray S.contents self.old.store self.new.store }
+        ensures gives { GivesBy (IsOwnText self.old.state.lib) (S.may_give self.old.store.shelf) (S.may_give self.new.store.shelf) }
         ensures faults { CountsShelf (S.faults self.old.store.shelf) (S.faults self.new.store.shelf) result }
     {
         let before = self.state.tokens.slice()[place].last;

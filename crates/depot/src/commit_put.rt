@@ -4,8 +4,10 @@ ghost use Rattle.ids.specs.Key.{Objects};
 ghost use Rattle.ids.specs.Outcome.{RefusesAs};
 ghost use Rattle.library_rules.specs.Creation.{opening_object};
 ghost use Rattle.object_graph.specs.Objects.{commit_at};
+ghost use Rattle.object_store.specs.Shelf.{GivesAlso};
 ghost use Rattle.object_store.specs.Store.{CountsShelf, IsPutFault, is_free, is_of_shelf, put_refusal};
 ghost use Rattle.object_store.specs.StoreView.{StraysBy, objects_of, status_of};
+ghost use Rattle.object_store.specs.declared.shelf.Slot.TheVariants as slots;
 ghost use Rattle.depot.specs.Writing.{HasProperParents, with_stored};
 
 use commit_objects::Commit;
@@ -27,6 +29,7 @@ pub(crate) fn put_commit<S: Shelf>(
     ensures refused { (objects : Objects) → objects_of S.contents store.old ≡ Some objects
         → RefusesAs is_free result (put_refusal objects (opening_object commit.now).key (opening_object commit.now).bytes) }
     ensures cause { IfErr result (IsPutFault (S.may_give store.old.shelf) (opening_object commit.now).key (opening_object commit.now).bytes) }
+    ensures gives { GivesAlso (S.may_give store.old.shelf) (S.may_give store.new.shelf) (slots.Object (opening_object commit.now).key) (Some (opening_object commit.now).bytes) }
     ensures lying { StraysBy is_of_shelf S.contents store.old store.new result }
     ensures faults { CountsShelf (S.faults store.old.shelf) (S.faults store.new.shelf) result }
 {

@@ -77,7 +77,7 @@ impl<S: Shelf> Depot<S> {
     /// The store, with the shelf.
     pub fn close(self) -> Store<S>
         ensures value { result ≡ self.store }
-        ensures stays { IsGood S.contents S.faults self }
+        ensures good { IsGood S.contents S.faults self }
     {
         self.parts.store
     }

@@ -2,6 +2,7 @@
 ghost use Rattle.std.specs.Prelude.{true, false, ◌≡◌, ◌<◌, ◌&&◌, ◌∷◌, not, nat_le};
 ghost use Rattle.library_rules.specs.Calls.{token_of};
 ghost use Rattle.library_state.specs.declared.call.Act.TheVariants as act;
+ghost use Rattle.object_store.specs.Shelf.{GivesNoMore};
 ghost use Rattle.depot.specs.Answering.{Serves, ServesAct, permits};
 ghost use Rattle.depot.specs.DepotView.{IsGood};
 ghost use Rattle.depot.specs.FirstGet.{fs_call, fs_get, size_of, sizes_of};
@@ -26,6 +27,7 @@ impl<S: Shelf> Depot<S> {
         moment: u64,
     ) -> Reply
         ensures serves { Serves S.contents S.may_give S.texts S.faults self.old (fs_call secret.now id) moment result self.new }
+        ensures gives { GivesNoMore (S.may_give self.old.store.shelf) (S.may_give self.new.store.shelf) }
         ensures stands { IsGood S.contents S.faults self.new }
         ensures denied { permits (token_of self.old.state.tokens secret.now) (fs_get id) ≡ false → result ≡ Reply.Refused Refusal.Denied }
         ensures bound { permits (token_of self.old.state.tokens secret.now) (fs_get id) ≡ true → most < sizes_of self.old.store.index (id ∷ more.now)

@@ -6,6 +6,7 @@ ghost use Rattle.object_store.specs.Store.{CountsShelf};
 ghost use Rattle.object_store.specs.StoreView.{AddsNoStray, objects_of, status_of};
 ghost use Rattle.depot.specs.Answering.{ServesAct};
 ghost use Rattle.depot.specs.Changing.{TextSo};
+ghost use Rattle.depot.specs.Giving.{GivesBy, IsOwnText};
 
 use crate::depot::{Depot, Parts};
 use crate::refusals::answer_of;
@@ -16,6 +17,7 @@ impl<S: Shelf> Depot<S> {
     /// Sets for how many days history is retained.
     pub(crate) fn limit(&mut self, days: i64) -> Reply
         ensures value { ServesAct S.contents S.may_give S.texts S.faults self.old (act.Limit days) result self.new }
+        ensures gives { GivesBy (IsOwnText self.old.state.lib) (S.may_give self.old.store.shelf) (S.may_give self.new.store.shelf) }
     {
         if !is_day_count(days) {
             return Reply::Refused(Refusal::BadDays(days));
@@ -41,6 +43,7 @@ impl<S: Shelf> Parts<S> {
             (status_of S.contents self.old.store) self.new.unsettled (status_of S.contents self.new.store) result (S.texts self.old.store.shelf) (S.texts self.new.store.shelf) }
         ensures stays { objects_of S.contents self.new.store ≡ objects_of S.contents self.old.store }
         ensures lying { AddsNoStray S.contents self.old.store self.new.store }
+        ensures gives { GivesBy (IsOwnText self.old.state.lib) (S.may_give self.old.store.shelf) (S.may_give self.new.store.shelf) }
         ensures faults { CountsShelf (S.faults self.old.store.shelf) (S.faults self.new.store.shelf) result }
     {
         let before = self.state.days;

@@ -3,6 +3,7 @@ ghost use Rattle.std.specs.Prelude.{◌≡◌, Some};
 ghost use Rattle.ids.specs.Key.{Objects};
 ghost use Rattle.library_rules.specs.Calls.{kept_alone, listed, said_by};
 ghost use Rattle.library_rules.specs.LibraryState.{State, IsSound};
+ghost use Rattle.object_store.specs.Shelf.{GivesNoMore};
 ghost use Rattle.object_store.specs.StoreView.{Keeps, objects_of};
 ghost use Rattle.depot.specs.Answering.{MayAnswer, ServesAct, ids_decided};
 ghost use Rattle.depot.specs.DepotView.{FitsIn};
@@ -22,6 +23,7 @@ impl<S: Shelf> Depot<S> {
     /// Lists the files and directories that one kept commit needs and another doesn't.
     pub(crate) fn list(&mut self, server: &ObjId, client: &Option<ObjId>) -> Reply
         ensures value { ServesAct S.contents S.may_give S.texts S.faults self.old (act.Ids server.now client.now) result self.new }
+        ensures gives { GivesNoMore (S.may_give self.old.store.shelf) (S.may_give self.new.store.shelf) }
     {
         list_ids(
             self.parts.alloc,
@@ -51,6 +53,7 @@ fn list_ids<S: Shelf>(
     ensures cause { MayAnswer store.new.index (S.may_give store.new.shelf) (act.Ids server.now client.now) (ids_decided kept.now server.now) result }
     ensures damaged { (objects : Objects) → objects_of S.contents store.old ≡ Some objects → IsToldDamage objects result }
     ensures written { S.texts store.new.shelf ≡ S.texts store.old.shelf }
+    ensures gives { GivesNoMore (S.may_give store.old.shelf) (S.may_give store.new.shelf) }
     ensures faults { Counts (S.faults store.old.shelf) (S.faults store.new.shelf) result }
 {
     if !is_kept(kept, server) {

@@ -9,6 +9,7 @@ ghost use Rattle.object_graph.specs.Objects.{commit_at};
 ghost use Rattle.object_store.specs.Store.{CountsShelf, IsPutFault, is_free, is_of_shelf, put_refusal};
 ghost use Rattle.object_store.specs.StoreView.{AddsNoStray, Keeps, ReadsShelf, StraysBy, objects_of, status_of};
 ghost use Rattle.depot.specs.DepotView.{IsGood, state_of};
+ghost use Rattle.depot.specs.Giving.{GivesBy, IsOfMaking};
 ghost use Rattle.depot.specs.Make.{IsCreated, IsMade, IsMakeFault, IsSlotFault, LeftUnmade, LeftUnmadeBy, RefusesWith, StoresFirst, first_state, is_make_counted, is_make_free, make_refusal};
 ghost use Rattle.depot.specs.Writing.{HasProperParents};
 
@@ -47,6 +48,7 @@ impl<S: Shelf> Depot<S> {
             → IfOk result (λ depot. state_of S.contents S.faults depot ≡ Some (created lib name.now user.now secret moment objects (S.faults store.shelf))) }
         ensures stands { IfOk result (IsGood S.contents S.faults) }
         ensures lying { IfOk result (λ depot. AddsNoStray S.contents store depot.store) }
+        ensures gives { IfOk result (λ depot. GivesBy (IsOfMaking (opening_object (opening_commit lib user.now moment)) (first_state lib name.now user.now secret (opening_commit lib user.now moment).id moment)) (S.may_give store.shelf) (S.may_give depot.store.shelf)) }
         ensures err_lying { IfErr result (λ refused. is_make_counted refused.1 ≡ false → AddsNoStray S.contents store refused.0) }
         ensures err { IfErr result (λ refused. LeftUnmadeBy S.contents store (opening_object (opening_commit lib user.now moment))
             (first_state lib name.now user.now secret (opening_commit lib user.now moment).id moment) refused.0 refused.1) }
@@ -94,6 +96,7 @@ fn create<S: Shelf>(
         (opening_object (opening_commit lib user.now moment)).bytes)) }
     ensures cause { IfErr result (IsMakeFault (S.may_give store.old.shelf) (opening_object (opening_commit lib user.now moment))) }
     ensures lying { StraysBy is_make_counted S.contents store.old store.new result }
+    ensures gives { GivesBy (IsOfMaking (opening_object (opening_commit lib user.now moment)) (first_state lib name.now user.now secret (opening_commit lib user.now moment).id moment)) (S.may_give store.old.shelf) (S.may_give store.new.shelf) }
     ensures faults { FailsBy is_make_counted (S.faults store.old.shelf) (S.faults store.new.shelf) result }
 {
     match check_empty(store) {
@@ -207,6 +210,7 @@ fn store_first<S: Shelf>(
         → RefusesAs is_free result (put_refusal objects (opening_object commit.now).key (opening_object commit.now).bytes) }
     ensures cause { IfErr result (IsPutFault (S.may_give store.old.shelf) (opening_object commit.now).key (opening_object commit.now).bytes) }
     ensures lying { StraysBy is_of_shelf S.contents store.old store.new result }
+    ensures gives { GivesBy (IsOfMaking (opening_object commit.now) state.now) (S.may_give store.old.shelf) (S.may_give store.new.shelf) }
     ensures faults { CountsShelf (S.faults store.old.shelf) (S.faults store.new.shelf) result }
 {
     match put_commit(alloc, store, commit) {

@@ -4,6 +4,7 @@ ghost use Rattle.std.specs.FinMap as map;
 ghost use Rattle.ids.specs.Key.{Objects};
 ghost use Rattle.library_rules.specs.Calls.{absent};
 ghost use Rattle.library_rules.specs.LibraryState.{State, is_stored};
+ghost use Rattle.object_store.specs.Shelf.{GivesNoMore};
 ghost use Rattle.object_store.specs.StoreView.{objects_of};
 ghost use Rattle.library_state.specs.declared.call.Act.TheVariants as act;
 ghost use Rattle.depot.specs.Answering.{MayTell, ServesAct};
@@ -20,6 +21,7 @@ impl<S: Shelf> Depot<S> {
     /// Tells which ids name nothing that is stored.
     pub(crate) fn missing(&mut self, kind: Kind, ids: &[ObjId]) -> Reply
         ensures value { ServesAct S.contents S.may_give S.texts S.faults self.old (act.Missing kind ids.now) result self.new }
+        ensures gives { GivesNoMore (S.may_give self.old.store.shelf) (S.may_give self.new.store.shelf) }
     {
         missing_objects(self.parts.alloc, &self.parts.store, kind, ids)
     }
@@ -45,9 +47,9 @@ fn absent_ids<S: Shelf>(
     kind: Kind,
     ids: &[ObjId],
 ) -> Result<IdList, AllocError>
-    ensures value { (objects : Objects) → objects_of S.contents store.now ≡ Some objects
+    ensures shown { (objects : Objects) → objects_of S.contents store.now ≡ Some objects
         → IfOk result (λ found. found ≡ absent_from (is_stored objects) kind map.empty ids.now) }
-    ensures told { IfOk result (λ found. found ≡ absent_from (is_known store.now.index) kind map.empty ids.now) }
+    ensures value { IfOk result (λ found. found ≡ absent_from (is_known store.now.index) kind map.empty ids.now) }
 {
     let mut met = KeyTable::new(alloc);
     let mut found = IdList::new(alloc);
@@ -62,8 +64,8 @@ fn absent_ids<S: Shelf>(
 
 /// Whether a key is told absent.
 fn is_absent<S: Shelf>(store: &Store<S>, met: &KeyTable<()>, key: &Key) -> bool
-    ensures value { (objects : Objects) → objects_of S.contents store.now ≡ Some objects → result ≡ is_absent (is_stored objects) met.now key.now }
-    ensures told { result ≡ is_absent (is_known store.now.index) met.now key.now }
+    ensures shown { (objects : Objects) → objects_of S.contents store.now ≡ Some objects → result ≡ is_absent (is_stored objects) met.now key.now }
+    ensures value { result ≡ is_absent (is_known store.now.index) met.now key.now }
 {
     !key.id.is_nil() && store.has(*key).is_none() && !met.has(key)
 }

@@ -6,8 +6,10 @@ ghost use Rattle.ids.specs.declared.key.Kind.TheVariants as kinds;
 ghost use Rattle.library_rules.specs.Calls.{first_refusal, got, not_fs, other_name, put_due};
 ghost use Rattle.library_rules.specs.LibraryState.{State};
 ghost use Rattle.library_state.specs.declared.call.Act.TheVariants as act;
+ghost use Rattle.object_store.specs.Shelf.{GivesNoMore};
 ghost use Rattle.object_store.specs.StoreView.{AddsNoStray, Keeps, objects_of, status_of};
 ghost use Rattle.depot.specs.Answering.{MayAnswer, MayGet, ServesAct, put_decided};
+ghost use Rattle.depot.specs.Giving.{GivesBy, IsObject};
 ghost use Rattle.depot.specs.ObjectCalls.{Counts, DoneSo, IsToldDamage, SaysOr, is_counted, store_decided, store_due};
 ghost use Rattle.depot.specs.Writing.{with_stored};
 
@@ -25,6 +27,7 @@ impl<S: Shelf> Depot<S> {
     /// Answers with what is stored under a key.
     pub(crate) fn get(&mut self, key: &Key) -> Reply
         ensures value { ServesAct S.contents S.may_give S.texts S.faults self.old (act.Get key.now) result self.new }
+        ensures gives { GivesNoMore (S.may_give self.old.store.shelf) (S.may_give self.new.store.shelf) }
     {
         get_object(&mut self.parts.store, key)
     }
@@ -32,6 +35,7 @@ impl<S: Shelf> Depot<S> {
     /// Stores an object.
     pub(crate) fn put(&mut self, key: &Key, bytes: &[u8]) -> Reply
         ensures value { ServesAct S.contents S.may_give S.texts S.faults self.old (act.Put key.now bytes.now) result self.new }
+        ensures gives { GivesBy (IsObject key.now bytes.now) (S.may_give self.old.store.shelf) (S.may_give self.new.store.shelf) }
     {
         put_object(
             self.parts.alloc,
@@ -50,6 +54,7 @@ fn get_object<S: Shelf>(store: &mut Store<S>, key: &Key) -> Reply
     ensures cause { MayGet store.old.index (S.may_give store.new.shelf) key.now result }
     ensures damaged { (objects : Objects) → objects_of S.contents store.old ≡ Some objects → IsToldDamage objects result }
     ensures written { S.texts store.new.shelf ≡ S.texts store.old.shelf }
+    ensures gives { GivesNoMore (S.may_give store.old.shelf) (S.may_give store.new.shelf) }
     ensures faults { Counts (S.faults store.old.shelf) (S.faults store.new.shelf) result }
 {
     match store.get(*key) {
@@ -76,6 +81,7 @@ fn put_object<S: Shelf>(
     ensures damaged { (objects : Objects) → objects_of S.contents store.old ≡ Some objects → IsToldDamage objects result }
     ensures lying { is_counted result ≡ false → AddsNoStray S.contents store.old store.new }
     ensures written { S.texts store.new.shelf ≡ S.texts store.old.shelf }
+    ensures gives { GivesBy (IsObject key.now bytes.now) (S.may_give store.old.shelf) (S.may_give store.new.shelf) }
     ensures faults { Counts (S.faults store.old.shelf) (S.faults store.new.shelf) result }
 {
     match key.kind {
@@ -96,6 +102,7 @@ fn store_object<S: Shelf>(store: &mut Store<S>, key: &Key, bytes: &[u8]) -> Repl
     ensures damaged { (objects : Objects) → objects_of S.contents store.old ≡ Some objects → IsToldDamage objects result }
     ensures lying { is_counted result ≡ false → AddsNoStray S.contents store.old store.new }
     ensures written { S.texts store.new.shelf ≡ S.texts store.old.shelf }
+    ensures gives { GivesBy (IsObject key.now bytes.now) (S.may_give store.old.shelf) (S.may_give store.new.shelf) }
     ensures faults { Counts (S.faults store.old.shelf) (S.faults store.new.shelf) result }
 {
     let new = store.has(*key).is_none();
@@ -117,6 +124,7 @@ fn put_fs<S: Shelf>(alloc: Global, store: &mut Store<S>, key: &Key, bytes: &[u8]
     ensures damaged { (objects : Objects) → objects_of S.contents store.old ≡ Some objects → IsToldDamage objects result }
     ensures lying { is_counted result ≡ false → AddsNoStray S.contents store.old store.new }
     ensures written { S.texts store.new.shelf ≡ S.texts store.old.shelf }
+    ensures gives { GivesBy (IsObject key.now bytes.now) (S.may_give store.old.shelf) (S.may_give store.new.shelf) }
     ensures faults { Counts (S.faults store.old.shelf) (S.faults store.new.shelf) result }
 {
     match FsObject::read(alloc, bytes) {
@@ -156,6 +164,7 @@ fn put_commit_text<S: Shelf>(
     ensures damaged { (objects : Objects) → objects_of S.contents store.old ≡ Some objects → IsToldDamage objects result }
     ensures lying { is_counted result ≡ false → AddsNoStray S.contents store.old store.new }
     ensures written { S.texts store.new.shelf ≡ S.texts store.old.shelf }
+    ensures gives { GivesBy (IsObject key.now bytes.now) (S.may_give store.old.shelf) (S.may_give store.new.shelf) }
     ensures faults { Counts (S.faults store.old.shelf) (S.faults store.new.shelf) result }
 {
     let commit = match Commit::read(alloc, bytes) {

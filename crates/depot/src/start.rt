@@ -4,7 +4,10 @@ ghost use Rattle.ids.specs.FaultCount.{FailsBy};
 ghost use Rattle.ids.specs.Key.{Objects};
 ghost use Rattle.library_rules.specs.LibraryState.{last_number};
 ghost use Rattle.library_state.specs.ProperState.{IsProper};
+ghost use Rattle.library_state.specs.StateSpelling.{text_of};
+ghost use Rattle.object_store.specs.Shelf.{GivesAlso};
 ghost use Rattle.object_store.specs.StoreView.{AddsNoStray, Keeps, ReadsShelf, objects_of, status_of};
+ghost use Rattle.object_store.specs.declared.shelf.Slot.TheVariants as slots;
 ghost use Rattle.depot.specs.DepotView.{FitsIn, IsGood, IsSoundIn};
 ghost use Rattle.depot.specs.Start.{IsDueOr, IsFound, IsGiven, IsNextOf, IsOpened, IsStartFault, IsStateFault, IsTextFault, LeftUnopenedBy, OpensTold, StartsAs, is_start_counted, start_refusal, state_refusal, without_store};
 
@@ -31,6 +34,7 @@ impl<S: Shelf> Depot<S> {
         ensures err_lying { IfErr result (λ refused. AddsNoStray S.contents store refused.0) }
         ensures settled { IfOk result (λ depot. depot.unsettled ≡ false) }
         ensures given { IfOk result (λ depot. IsNextOf (S.may_give store.shelf) depot.state) }
+        ensures gives { IfOk result (λ depot. GivesAlso (S.may_give store.shelf) (S.may_give depot.store.shelf) slots.Status (Some (text_of depot.state))) }
         ensures idle { IfOk result (λ depot. depot.running ≡ None) }
         ensures err { IfErr result (λ refused. LeftUnopenedBy S.contents store refused.0 refused.1) }
         ensures stays { IfErr result (λ refused. objects_of S.contents refused.0 ≡ objects_of S.contents store) }
@@ -68,9 +72,10 @@ fn open<S: Shelf>(
     requires known { FitsIn S.contents store.old known.old }
     ensures known { FitsIn S.contents store.old known.new }
     ensures value { IfOk result (IsOpened S.contents S.faults store.old store.new) }
-    ensures found { IfOk result (λ state. state.kept ≢ []) }
+    ensures some_kept { IfOk result (λ state. state.kept ≢ []) }
     ensures sound { IfOk result (IsSoundIn S.contents store.new) }
     ensures given { IfOk result (IsNextOf (S.may_give store.old.shelf)) }
+    ensures gives { IfOk result (λ state. GivesAlso (S.may_give store.old.shelf) (S.may_give store.new.shelf) slots.Status (Some (text_of state))) }
     ensures err { IfErr result (LeftUnopenedBy S.contents store.old store.new) }
     ensures lying { AddsNoStray S.contents store.old store.new }
     ensures stays { objects_of S.contents store.new ≡ objects_of S.contents store.old }

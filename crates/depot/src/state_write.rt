@@ -1,9 +1,12 @@
 //! The state text: when it is written, and what stands where a write fails.
-ghost use Rattle.std.specs.Prelude.{◌≡◌, IfErr, IsTrue, OnOk, OnErr, false};
+ghost use Rattle.std.specs.Prelude.{◌≡◌, IfErr, IsTrue, OnOk, OnErr, Some, false};
 ghost use Rattle.library_state.specs.StateSpelling.{text_of};
 ghost use Rattle.library_state.specs.declared.state.LibState.{LibState};
+ghost use Rattle.object_store.specs.Shelf.{GivesAlso};
 ghost use Rattle.object_store.specs.Store.{CountsShelf, is_free};
 ghost use Rattle.object_store.specs.StoreView.{AddsNoStray, objects_of, status_of};
+ghost use Rattle.object_store.specs.declared.shelf.Slot.TheVariants as slots;
+ghost use Rattle.depot.specs.Giving.{GivesBy, IsOwnText};
 ghost use Rattle.depot.specs.Writing.{ReadsBack, SettlesSo, Writes, leaves_open};
 
 use crate::depot::Parts;
@@ -20,6 +23,7 @@ pub(crate) fn write_text<S: Shelf>(
     ensures value { Writes state.now (status_of S.contents store.old) (status_of S.contents store.new) result }
     ensures stays { objects_of S.contents store.new ≡ objects_of S.contents store.old }
     ensures lying { AddsNoStray S.contents store.old store.new }
+    ensures gives { GivesAlso (S.may_give store.old.shelf) (S.may_give store.new.shelf) slots.Status (Some (text_of state.now)) }
     ensures faults { CountsShelf (S.faults store.old.shelf) (S.faults store.new.shelf) result }
 {
     let text = match state.write(alloc) {
@@ -38,6 +42,7 @@ impl<S: Shelf> Parts<S> {
         ensures state { self.new.state ≡ self.old.state }
         ensures stays { objects_of S.contents self.new.store ≡ objects_of S.contents self.old.store }
         ensures lying { AddsNoStray S.contents self.old.store self.new.store }
+        ensures gives { GivesBy (IsOwnText self.old.state.lib) (S.may_give self.old.store.shelf) (S.may_give self.new.store.shelf) }
         ensures faults { CountsShelf (S.faults self.old.store.shelf) (S.faults self.new.store.shelf) result }
     {
         if !self.unsettled {
@@ -60,6 +65,7 @@ impl<S: Shelf> Parts<S> {
         ensures state { self.new.state ≡ self.old.state }
         ensures stays { objects_of S.contents self.new.store ≡ objects_of S.contents self.old.store }
         ensures lying { AddsNoStray S.contents self.old.store self.new.store }
+        ensures gives { GivesBy (IsOwnText self.old.state.lib) (S.may_give self.old.store.shelf) (S.may_give self.new.store.shelf) }
         ensures faults { CountsShelf (S.faults self.old.store.shelf) (S.faults self.new.store.shelf) result }
     {
         let text = match self.state.write(self.alloc) {
@@ -78,6 +84,7 @@ impl<S: Shelf> Parts<S> {
         ensures state { self.new.state ≡ self.old.state }
         ensures stays { objects_of S.contents self.new.store ≡ objects_of S.contents self.old.store }
         ensures lying { AddsNoStray S.contents self.old.store self.new.store }
+        ensures gives { GivesAlso (S.may_give self.old.store.shelf) (S.may_give self.new.store.shelf) slots.Status (Some text.now) }
         ensures free { IfErr result (λ fault. IsTrue (is_free fault)) }
         ensures faults { CountsShelf (S.faults self.old.store.shelf) (S.faults self.new.store.shelf) result }
     {

@@ -3,6 +3,7 @@ ghost use Rattle.std.specs.Prelude.{ℕ, List, None, Option};
 ghost use Rattle.library_state.specs.declared.call.Act.TheVariants as act;
 ghost use Rattle.depot.specs.Answering.{MayAsk, ServesAt};
 ghost use Rattle.depot.specs.DepotView.{FitsIn, IsGood};
+ghost use Rattle.depot.specs.Giving.{GivesBy, IsOfUpdate};
 
 use crate::depot::{Depot, Parts};
 use crate::history::head_of;
@@ -22,6 +23,7 @@ impl<S: Shelf> Depot<S> {
     pub(crate) fn update(&mut self, place: usize, pushed: ObjId, moment: u64) -> Reply
         requires who { (secret : Option (List ℕ)) × MayAsk self.old.state.tokens secret (act.Update pushed) place }
         ensures value { ServesAt S.contents S.may_give S.texts S.faults self.old place (act.Update pushed) moment result self.new }
+        ensures gives { GivesBy (IsOfUpdate self.old.state.lib) (S.may_give self.old.store.shelf) (S.may_give self.new.store.shelf) }
     {
         self.parts
             .update_library(&mut self.known, place, pushed, moment)
@@ -43,6 +45,7 @@ impl<S: Shelf> Parts<S> {
         ensures value { ServesAt S.contents S.may_give S.texts S.faults (record { store = self.old.store; state = self.old.state; unsettled = self.old.unsettled; running = None })
             place (act.Update pushed) moment result (record { store = self.new.store; state = self.new.state; unsettled = self.new.unsettled; running = None }) }
         ensures known { FitsIn S.contents self.new.store known.new }
+        ensures gives { GivesBy (IsOfUpdate self.old.state.lib) (S.may_give self.old.store.shelf) (S.may_give self.new.store.shelf) }
         ensures stands { IsGood S.contents S.faults (record { store = self.new.store; state = self.new.state; unsettled = self.new.unsettled; running = None }) }
     {
         let plan = match plan_of(

@@ -8,6 +8,7 @@ ghost use Rattle.library_state.specs.declared.state.LibState.{LibState};
 ghost use Rattle.object_store.specs.Store.{CountsShelf, is_free, is_of_shelf};
 ghost use Rattle.object_store.specs.StoreView.{AddsNoStray, StraysBy, objects_of, status_of};
 ghost use Rattle.depot.specs.Answering.{with_install};
+ghost use Rattle.depot.specs.Giving.{GivesBy, IsNamedObject, IsOfUpdate, IsOwnText};
 ghost use Rattle.depot.specs.UpdateInstall.{ArePuttableIn, CarriesSo, IsWriteFault, StoresSo, held_in};
 ghost use Rattle.depot.specs.UpdatePlan.{AreNamed, listed, objects_in, own_object};
 ghost use Rattle.depot.specs.Writing.{ReadsBack, RewritesSo};
@@ -35,6 +36,7 @@ impl<S: Shelf> Parts<S> {
         ensures free { (objects : Objects) → objects_of S.contents self.old.store ≡ Some objects → IfErr result (λ fault. IsTrue (is_free fault)) }
         ensures cause { IfErr result (IsWriteFault (S.may_give self.new.store.shelf)) }
         ensures lying { StraysBy is_of_shelf S.contents self.old.store self.new.store result }
+        ensures gives { GivesBy (IsOfUpdate self.old.state.lib) (S.may_give self.old.store.shelf) (S.may_give self.new.store.shelf) }
         ensures faults { CountsShelf (S.faults self.old.store.shelf) (S.faults self.new.store.shelf) result }
     {
         let mut kept = match with_install(self.alloc, self.state.kept.slice(), install) {
@@ -64,6 +66,8 @@ impl<S: Shelf> Parts<S> {
         ensures state { self.new.state ≡ self.old.state }
         ensures stays { objects_of S.contents self.new.store ≡ objects_of S.contents self.old.store }
         ensures lying { AddsNoStray S.contents self.old.store self.new.store }
+        ensures gives { (next : LibState) → text.now ≡ text_of next → next.lib ≡ self.old.state.lib
+            → GivesBy (IsOwnText self.old.state.lib) (S.may_give self.old.store.shelf) (S.may_give self.new.store.shelf) }
         ensures free { IfErr result (λ fault. IsTrue (is_free fault)) }
         ensures faults { CountsShelf (S.faults self.old.store.shelf) (S.faults self.new.store.shelf) result }
     {
@@ -118,6 +122,7 @@ fn put_plan<S: Shelf>(store: &mut Store<S>, plan: &Plan) -> Result<(), StoreFaul
     ensures cause { IfErr result (IsWriteFault (S.may_give store.new.shelf)) }
     ensures lying { StraysBy is_of_shelf S.contents store.old store.new result }
     ensures written { S.texts store.new.shelf ≡ S.texts store.old.shelf }
+    ensures gives { GivesBy IsNamedObject (S.may_give store.old.shelf) (S.may_give store.new.shelf) }
     ensures faults { CountsShelf (S.faults store.old.shelf) (S.faults store.new.shelf) result }
 {
     match put_dirs(store, &plan.dirs) {
@@ -137,6 +142,7 @@ fn put_dirs<S: Shelf>(store: &mut Store<S>, dirs: &KeyTable<Bytes>) -> Result<()
     ensures cause { IfErr result (IsWriteFault (S.may_give store.new.shelf)) }
     ensures lying { StraysBy is_of_shelf S.contents store.old store.new result }
     ensures written { S.texts store.new.shelf ≡ S.texts store.old.shelf }
+    ensures gives { GivesBy IsNamedObject (S.may_give store.old.shelf) (S.may_give store.new.shelf) }
     ensures faults { CountsShelf (S.faults store.old.shelf) (S.faults store.new.shelf) result }
 {
     for (key, bytes) in dirs.iter() {
@@ -162,6 +168,7 @@ fn put_text<S: Shelf>(
     ensures cause { IfErr result (IsWriteFault (S.may_give store.new.shelf)) }
     ensures lying { StraysBy is_of_shelf S.contents store.old store.new result }
     ensures written { S.texts store.new.shelf ≡ S.texts store.old.shelf }
+    ensures gives { GivesBy IsNamedObject (S.may_give store.old.shelf) (S.may_give store.new.shelf) }
     ensures faults { CountsShelf (S.faults store.old.shelf) (S.faults store.new.shelf) result }
 {
     match text {
@@ -188,6 +195,7 @@ fn put_one<S: Shelf>(store: &mut Store<S>, key: &Key, bytes: &Bytes) -> Result<(
     ensures cause { IfErr result (IsWriteFault (S.may_give store.new.shelf)) }
     ensures lying { StraysBy is_of_shelf S.contents store.old store.new result }
     ensures written { S.texts store.new.shelf ≡ S.texts store.old.shelf }
+    ensures gives { GivesBy IsNamedObject (S.may_give store.old.shelf) (S.may_give store.new.shelf) }
     ensures faults { CountsShelf (S.faults store.old.shelf) (S.faults store.new.shelf) result }
 {
     match store.put(*key, bytes.slice()) {

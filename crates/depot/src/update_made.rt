@@ -41,7 +41,7 @@ pub(crate) fn plan_merged<S: Shelf>(
     ensures named { IfOk result HasNames }
     ensures cause { IfErr result (MayRefuseUpdate store.new.index (S.may_give store.new.shelf)) }
     ensures damaged { (objects : Objects) → objects_of S.contents store.old ≡ Some objects → IfErr result (IsToldDamageOf objects) }
-    ensures stays { ReadsOnly S.contents S.texts S.faults store.old store.new result }
+    ensures stays { ReadsOnly S.contents S.may_give S.texts S.faults store.old store.new result }
 {
     let Merged {
         root,
@@ -107,7 +107,7 @@ fn is_stored<S: Shelf>(store: &mut Store<S>, id: &ObjId, text: &[u8]) -> Result<
     ensures not_zeros { OnOk result (is_nil id.now ≡ false) }
     ensures cause { IfErr result (MayRefuseUpdate store.new.index (S.may_give store.new.shelf)) }
     ensures damaged { (objects : Objects) → objects_of S.contents store.old ≡ Some objects → IfErr result (IsToldDamageOf objects) }
-    ensures stays { ReadsOnly S.contents S.texts S.faults store.old store.new result }
+    ensures stays { ReadsOnly S.contents S.may_give S.texts S.faults store.old store.new result }
 {
     if is_zeros(id) {
         return Err(Refusal::Taken(*id));

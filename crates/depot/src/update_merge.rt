@@ -49,7 +49,7 @@ pub(crate) fn plan_merge<S: Shelf>(
     ensures named { IfOk result HasNames }
     ensures cause { IfErr result (MayRefuseUpdate store.new.index (S.may_give store.new.shelf)) }
     ensures damaged { (objects : Objects) → objects_of S.contents store.old ≡ Some objects → IfErr result (IsToldDamageOf objects) }
-    ensures stays { ReadsOnly S.contents S.texts S.faults store.old store.new result }
+    ensures stays { ReadsOnly S.contents S.may_give S.texts S.faults store.old store.new result }
 {
     let head = head_of(state.kept.slice());
     let roots = match read_roots(alloc, store, base, head, pushed) {

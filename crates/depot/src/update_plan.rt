@@ -56,7 +56,7 @@ pub(crate) fn plan_of<S: Shelf>(
     ensures any { (call : Call) → MayAsk state.now.tokens call.secret call.act place → call.act ≡ act.Update pushed
         → DecidesCall state.now call pushed store.new.index (S.may_give store.new.shelf) result }
     ensures damaged { (objects : Objects) → objects_of S.contents store.old ≡ Some objects → IfErr result (IsToldDamageOf objects) }
-    ensures stays { ReadsOnly S.contents S.texts S.faults store.old store.new result }
+    ensures stays { ReadsOnly S.contents S.may_give S.texts S.faults store.old store.new result }
 {
     let token = &state.tokens.slice()[place];
     plan_update(alloc, store, known, state, token, pushed, moment)
@@ -83,7 +83,7 @@ fn plan_update<S: Shelf>(
         → PlansSo (library state.now count objects) moment pushed (update_due (library state.now count objects) token.now pushed) result }
     ensures any { DecidesSo state.now token.now pushed store.new.index (S.may_give store.new.shelf) result }
     ensures damaged { (objects : Objects) → objects_of S.contents store.old ≡ Some objects → IfErr result (IsToldDamageOf objects) }
-    ensures stays { ReadsOnly S.contents S.texts S.faults store.old store.new result }
+    ensures stays { ReadsOnly S.contents S.may_give S.texts S.faults store.old store.new result }
 {
     if is_kept(state.kept.slice(), &pushed) {
         return Ok(None);
@@ -120,7 +120,7 @@ fn plan_unknown<S: Shelf>(
     ensures named { IfOk result HasNames }
     ensures cause { IfErr result (MayRefuseUpdate store.new.index (S.may_give store.new.shelf)) }
     ensures damaged { (objects : Objects) → objects_of S.contents store.old ≡ Some objects → IfErr result (IsToldDamageOf objects) }
-    ensures stays { ReadsOnly S.contents S.texts S.faults store.old store.new result }
+    ensures stays { ReadsOnly S.contents S.may_give S.texts S.faults store.old store.new result }
 {
     let found = match find_base(alloc, store, state.kept.slice(), pushed) {
         Ok(found) => found,
@@ -155,7 +155,7 @@ fn plan_based<S: Shelf>(
     ensures named { IfOk result HasNames }
     ensures cause { IfErr result (MayRefuseUpdate store.new.index (S.may_give store.new.shelf)) }
     ensures damaged { (objects : Objects) → objects_of S.contents store.old ≡ Some objects → IfErr result (IsToldDamageOf objects) }
-    ensures stays { ReadsOnly S.contents S.texts S.faults store.old store.new result }
+    ensures stays { ReadsOnly S.contents S.may_give S.texts S.faults store.old store.new result }
 {
     match check(alloc, store, known, pushed) {
         Ok(()) => {}

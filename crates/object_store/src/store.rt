@@ -75,6 +75,7 @@ impl<S: Shelf> Store<S> {
         // The refusals, in the order in which they are looked for. A wrong name and the id that names nothing are found
         // before the shelf is asked. Want of memory and a failure of the shelf may come in the place of the others.
         ensures wrong { ExactlyWith is_want result StoreFault.Wrong (sha1 bytes.now) (IsTrue (has_other_name key bytes.now)) }
+        ensures untouched { IsTrue (has_other_name key bytes.now) → self.new ≡ self.old }
         ensures taken { IsFalse (has_other_name key bytes.now) → IsTrue (same_bytes key.id nil) → result ≡ Err (StoreFault.Taken key.id) }
         ensures cause { IfErr result (IsPutFault (S.may_give self.new.shelf) key bytes.now) }
         ensures stored { IfErr result (IsOfStored (map.get self.old.index key) key) }

@@ -9,7 +9,7 @@ use Rattle.depot.proofs.missing.absent_ids.Given as goal
 
 abbrev pub invariant-loop-id : goal.invariant-loop-id
 invariant-loop-id g l = record {
-  value : (objects : Objects) → objects_of g.S.Shelf.contents l.store ≡ Some objects
+  shown : (objects : Objects) → objects_of g.S.Shelf.contents l.store ≡ Some objects
       → absent_from (is_stored objects) l.kind map.empty l.ids ≡ l.found ++ absent_from (is_stored objects) l.kind l.met (drop l.id-index l.ids);
-  told : absent_from (is_known l.store.index) l.kind map.empty l.ids ≡ l.found ++ absent_from (is_known l.store.index) l.kind l.met (drop l.id-index l.ids);
+  value : absent_from (is_known l.store.index) l.kind map.empty l.ids ≡ l.found ++ absent_from (is_known l.store.index) l.kind l.met (drop l.id-index l.ids);
 }

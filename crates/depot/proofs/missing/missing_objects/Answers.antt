@@ -7,7 +7,7 @@ use Rattle.depot.proofs.missing.missing_objects.Goals as goal
 
 pub returns-in-Ok-clause-value : goal.returns-in-Ok-clause-value
 returns-in-Ok-clause-value g c = λ s told.
-    inl (ap reply.Absent (c.in-Ok.ensures.value s.objects told ∙ absent_all s c.args.kind c.args.ids.now map.empty refl))
+    inl (ap reply.Absent (c.in-Ok.ensures.shown s.objects told ∙ absent_all s c.args.kind c.args.ids.now map.empty refl))
 
 pub returns-in-Ok-clause-cause : goal.returns-in-Ok-clause-cause
-returns-in-Ok-clause-cause g c = c.in-Ok.ensures.told ∙ unknown_all c.args.store.now.index c.args.kind c.args.ids.now
+returns-in-Ok-clause-cause g c = c.in-Ok.ensures.value ∙ unknown_all c.args.store.now.index c.args.kind c.args.ids.now

@@ -1,5 +1,6 @@
 -- Bytes that are refused leave nothing.
 use Rattle.depot.proofs.object_calls.put_fs.Goals as goal
+use Rattle.std.proofs.Common.{inl}
 use Rattle.depot.proofs.object_calls.put_fs.Goals.{in-Ok, in-Err-Bad, in-Err-NoMemory}
 
 pub returns-clause-lying : goal.returns-clause-lying
@@ -8,4 +9,12 @@ returns-clause-lying g c =
       | in-Ok w ↦ rw (w.result-is, w.store-is) w.store_object.ensures.lying
       | in-Err-Bad w ↦ rw (w.result-is, w.store-is) (λ free key stray. stray)
       | in-Err-NoMemory w ↦ rw (w.result-is, w.store-is) (λ free key stray. stray)
+    ]
+
+pub returns-clause-gives : goal.returns-clause-gives
+returns-clause-gives g c =
+    elim c.match-read.branch [
+      | in-Ok w ↦ rw w.store-is w.store_object.ensures.gives
+      | in-Err-Bad w ↦ rw w.store-is (λ slot given is. inl is)
+      | in-Err-NoMemory w ↦ rw w.store-is (λ slot given is. inl is)
     ]

@@ -8,6 +8,9 @@ use Rattle.depot.proofs.ObjectCallLemmas.{put_damage, put_refused}
 use Rattle.std.proofs.Common.{ap}
 use Rattle.depot.specs.ObjectCalls.{is_of_store}
 use Rattle.depot.proofs.UpdateInstallLemmas.{counted_same}
+use Rattle.object_store.specs.Shelf.{GivesNoMore}
+use Rattle.object_store.specs.StoreView.{StoreView}
+use Rattle.depot.proofs.GivingLemmas.{object_by}
 use Rattle.depot.proofs.object_calls.store_object.Goals as goal
 
 pub returns-in-Err-clause-value : goal.returns-in-Err-clause-value
@@ -22,3 +25,15 @@ returns-in-Err-clause-damaged g c = λ objects told.
 
 pub returns-in-Err-clause-lying : goal.returns-in-Err-clause-lying
 returns-in-Err-clause-lying g c free = c.in-Err.ensures.lying (counted_same c.in-Err.fault ∙ ap is_of_store (sym c.store_refusal.ensures.value) ∙ free)
+
+pub returns-in-Ok-clause-gives : goal.returns-in-Ok-clause-gives
+returns-in-Ok-clause-gives g c =
+    object_by c.args.key.now c.args.bytes.now
+    (λ other. subst (λ (now : StoreView g.row.S.Denot). GivesNoMore (g.S.Shelf.may_give c.args.store.now.shelf) (g.S.Shelf.may_give now.shelf)) (sym (c.in-Ok.ensures.untouched other)) (λ slot given is. is))
+    c.in-Ok.ensures.shelf.gives
+
+pub returns-in-Err-clause-gives : goal.returns-in-Err-clause-gives
+returns-in-Err-clause-gives g c =
+    object_by c.args.key.now c.args.bytes.now
+    (λ other. subst (λ (now : StoreView g.row.S.Denot). GivesNoMore (g.S.Shelf.may_give c.args.store.now.shelf) (g.S.Shelf.may_give now.shelf)) (sym (c.in-Err.ensures.untouched other)) (λ slot given is. is))
+    c.in-Err.ensures.shelf.gives

@@ -2,6 +2,7 @@
 use Rattle.std.proofs.Common.{◌∙◌, refl, sym}
 use Rattle.depot.proofs.StartLemmas.{left_unopened, opened_over, same_status, state_cause}
 use Rattle.object_store.proofs.StrayLemmas.{strays_kept}
+use Rattle.depot.proofs.GivingLemmas.{also_read}
 use Rattle.depot.proofs.start.open.Goals as goal
 
 pub check_state-requires : goal.check_state-requires
@@ -54,3 +55,6 @@ returns-in-Err-write_text-clause-lying g c key stray =
     strays_kept g.S.Shelf.contents c.args.store.now c.check_state.new.store
     (c.in-Ok-check_state.ensures.stays.index ∙ c.in-Ok.ensures.stays.index) (c.in-Ok-check_state.ensures.stays.shelf ∙ c.in-Ok.ensures.stays.shelf)
     key (c.in-Err-write_text.ensures.lying key stray)
+
+pub returns-in-Ok-write_text-clause-gives : goal.returns-in-Ok-write_text-clause-gives
+returns-in-Ok-write_text-clause-gives g c = also_read c.in-Ok.ensures.reads.gives (also_read c.in-Ok-check_state.ensures.reads.gives c.in-Ok-write_text.ensures.gives)

@@ -8,6 +8,7 @@ use Rattle.std.specs.Prelude.{ℕ}
 use Rattle.object_store.specs.StoreView.{objects_of}
 use Rattle.depot.specs.UpdatePlan.{listed}
 use Rattle.depot.proofs.UpdateInstallLemmas.{IsPutting, putting_next}
+use Rattle.depot.proofs.GivingLemmas.{then_by}
 use Rattle.depot.proofs.update_install.put_dirs.Goals as goal
 
 pub put_one-requires-clause-ready : goal.put_one-requires-clause-ready
@@ -29,9 +30,13 @@ loop-key-preserved g c =
           (objects_of g.S.Shelf.contents c.loop-key.store)) next c.loop-key.invariant.putting) c.in-Ok.ensures.value;
       lying = λ key stray. c.loop-key.invariant.lying key (c.in-Ok.ensures.lying key stray);
       slot = c.in-Ok.ensures.stays ∙ c.loop-key.invariant.slot;
+      gives = then_by c.loop-key.invariant.gives c.in-Ok.ensures.gives;
       written = c.in-Ok.ensures.written ∙ c.loop-key.invariant.written;
       count = c.in-Ok.ensures.faults ∙ c.loop-key.invariant.count;
     }
 
 pub returns-in-Err-clause-lying : goal.returns-in-Err-clause-lying
 returns-in-Err-clause-lying g c free key stray = c.loop-key.invariant.lying key (c.in-Err.ensures.lying free key stray)
+
+pub returns-in-Err-clause-gives : goal.returns-in-Err-clause-gives
+returns-in-Err-clause-gives g c = then_by c.loop-key.invariant.gives c.in-Err.ensures.gives

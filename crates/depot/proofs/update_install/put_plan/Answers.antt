@@ -4,6 +4,7 @@ use Rattle.object_store.specs.StoreView.{objects_of}
 use Rattle.depot.specs.UpdatePlan.{listed, own_object}
 use Rattle.depot.proofs.UpdateInstallLemmas.{named_back, named_front, puttable_back, puttable_front, stores_then}
 use Rattle.depot.proofs.StrayLemmas.{strays_then}
+use Rattle.depot.proofs.GivingLemmas.{then_by}
 use Rattle.depot.proofs.update_install.put_plan.Goals as goal
 
 pub put_dirs-requires-clause-named : goal.put_dirs-requires-clause-named
@@ -29,3 +30,6 @@ returns-clause-value g c =
 pub returns-clause-lying : goal.returns-clause-lying
 returns-clause-lying g c =
     strays_then g.S.Shelf.contents c.args.store.now c.put_dirs.new.store c.put_text.new.store c.put_text.result c.in-Ok.ensures.lying c.put_text.ensures.lying
+
+pub returns-clause-gives : goal.returns-clause-gives
+returns-clause-gives g c = then_by c.in-Ok.ensures.gives c.put_text.ensures.gives

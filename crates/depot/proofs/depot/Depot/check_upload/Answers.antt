@@ -5,6 +5,7 @@ use Rattle.library_state.specs.declared.call.Op.TheVariants as op
 use Rattle.depot.specs.Answering.{MayAsk, Serves, ServesAt}
 use Rattle.depot.specs.Changing.{marked}
 use Rattle.depot.specs.DepotView.{DepotView}
+use Rattle.depot.specs.Giving.{GivesBy, IsOwnText}
 use Rattle.depot.proofs.ActLemmas.{upload_good, upload_serves}
 use Rattle.depot.proofs.PlaceLemmas.{no_token, seen_asked}
 use Rattle.depot.proofs.FitsLemmas.{fits_same}
@@ -36,4 +37,5 @@ returns g c = record {
       (seen_asked call.secret call.act c.self.inside.parts.state.tokens c.args.place c.self.inside.parts.state.collection no_token who)
       c.see_collection-seen.new.self.store c.see_collection-seen.new.self.state c.see_collection-seen.new.self.unsettled c.see_collection-seen.ensures.stays c.see_collection-seen.ensures.lying c.see_collection-seen.result
       (c.see_collection-seen.ensures.value no_token) c.see_collection-seen.ensures.err (c.see_collection-seen.ensures.text no_token) c.see_collection-seen.ensures.faults));
+  gives = subst (λ (old : DepotView g.row.S.Denot). GivesBy (IsOwnText old.state.lib) (g.S.Shelf.may_give old.store.shelf) (g.S.Shelf.may_give c.see_collection-seen.new.self.store.shelf)) c.self.view_is c.see_collection-seen.ensures.gives;
 }

@@ -1,10 +1,11 @@
 -- The days are set, or the answer is that they can't be.
-use Rattle.std.proofs.Common.{None, ℤ, sym, ◌∙◌, subst, to_z-of_z}
+use Rattle.std.proofs.Common.{None, ℤ, inl, sym, ◌∙◌, subst, to_z-of_z}
 use Rattle.library_state.specs.declared.call.Act.TheVariants as act
 use Rattle.library_state.specs.declared.refusal.Refusal.TheVariants as refusal
 use Rattle.library_state.specs.declared.reply.Reply.TheVariants as reply
 use Rattle.depot.specs.Answering.{Serves, ServesAct}
 use Rattle.depot.specs.DepotView.{DepotView}
+use Rattle.depot.specs.Giving.{GivesBy, IsOwnText}
 use Rattle.depot.proofs.ActLemmas.{days_serve, limit_good, limit_serves}
 use Rattle.depot.proofs.FitsLemmas.{fits_same}
 use Rattle.depot.proofs.depot.Depot.limit.Goals as goal
@@ -16,6 +17,7 @@ returns-then-not-is_day_count g c = record {
       (sym (to_z-of_z c.ranges.days))
       (days_serve g.S.Shelf.contents g.S.Shelf.may_give g.S.Shelf.texts g.S.Shelf.faults c.args.self.now call moment right c.args.days asks
       (sym (simp (to_z-of_z, c.ranges.days) at c.is_day_count.ensures.value) ∙ c.if-not-is_day_count.true));
+  gives = λ slot given is. inl is;
 }
 
 pub invariant_of-self : goal.invariant_of-self
@@ -39,4 +41,5 @@ returns g c = record {
       (sym (simp (to_z-of_z, c.ranges.days) at c.is_day_count.ensures.value) ∙ c.if-not-is_day_count.false)
       c.set_days-set.new.self.store c.set_days-set.new.self.state c.set_days-set.new.self.unsettled c.set_days-set.ensures.stays c.set_days-set.ensures.lying c.set_days-set.result
       (simp (to_z-of_z, c.ranges.days) at c.set_days-set.ensures.ok) c.set_days-set.ensures.err (simp (to_z-of_z, c.ranges.days) at c.set_days-set.ensures.text) c.set_days-set.ensures.faults));
+  gives = subst (λ (old : DepotView g.row.S.Denot). GivesBy (IsOwnText old.state.lib) (g.S.Shelf.may_give old.store.shelf) (g.S.Shelf.may_give c.set_days-set.new.self.store.shelf)) c.self.view_is c.set_days-set.ensures.gives;
 }

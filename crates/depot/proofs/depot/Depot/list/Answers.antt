@@ -5,6 +5,7 @@ use Rattle.library_state.specs.declared.history.Install.{Install}
 use Rattle.std.specs.Prelude.{List}
 use Rattle.depot.specs.Answering.{MayAnswer, ServesAct, ids_decided}
 use Rattle.depot.specs.DepotView.{DepotView, library}
+use Rattle.object_store.specs.Shelf.{GivesNoMore}
 use Rattle.depot.proofs.ActLemmas.{list_serves}
 use Rattle.depot.proofs.GoodLemmas.{sound_at}
 use Rattle.depot.proofs.GrownLemmas.{good_kept, kept_status}
@@ -30,4 +31,5 @@ returns g c = record {
       (sound_at g.S.Shelf.contents g.S.Shelf.faults (record { store = c.self.inside.parts.store; state = c.self.inside.parts.state; unsettled = c.self.inside.parts.unsettled; running = None }) c.self.invariant.good objects (g.S.Shelf.faults c.self.inside.parts.store.shelf) told))
       (subst (λ (kept : List Install). MayAnswer c.list_ids.new.store.index (g.S.Shelf.may_give c.list_ids.new.store.shelf) (act.Ids c.args.server.now c.args.client.now) (ids_decided kept c.args.server.now) c.list_ids.result)
       c.slice.ensures.value c.list_ids.ensures.cause) c.list_ids.ensures.damaged c.list_ids.ensures.faults);
+  gives = subst (λ (old : DepotView g.row.S.Denot). GivesNoMore (g.S.Shelf.may_give old.store.shelf) (g.S.Shelf.may_give c.list_ids.new.store.shelf)) c.self.view_is c.list_ids.ensures.gives;
 }

@@ -14,4 +14,5 @@ returns g c = record {
       c.missing_objects.result
       (λ objects told. c.missing_objects.ensures.value (library c.self.inside.parts.state (g.S.Shelf.faults c.self.inside.parts.store.shelf) objects) told)
       c.missing_objects.ensures.cause (λ objects told. c.missing_objects.ensures.damaged objects) (c.missing_objects.ensures.faults (g.S.Shelf.faults c.self.inside.parts.store.shelf)));
+  gives = λ slot given is. is;
 }

@@ -3,6 +3,7 @@ use Rattle.std.proofs.Common.{None, refl, subst}
 use Rattle.library_state.specs.declared.call.Act.TheVariants as act
 use Rattle.depot.specs.Answering.{ServesAct}
 use Rattle.depot.specs.DepotView.{DepotView, library}
+use Rattle.depot.specs.Giving.{GivesBy, IsObject}
 use Rattle.depot.proofs.ActLemmas.{put_serves}
 use Rattle.depot.proofs.GrownLemmas.{good_put}
 use Rattle.depot.proofs.FitsLemmas.{fits_put}
@@ -25,4 +26,5 @@ returns g c = record {
       c.put_object.new.store c.put_object.result c.put_object.ensures.stays c.put_object.ensures.written
       (λ objects told. c.put_object.ensures.value (library c.self.inside.parts.state (g.S.Shelf.faults c.self.inside.parts.store.shelf) objects) told refl)
       c.put_object.ensures.cause c.put_object.ensures.damaged c.put_object.ensures.faults c.put_object.ensures.lying);
+  gives = subst (λ (old : DepotView g.row.S.Denot). GivesBy (IsObject c.args.key.now c.args.bytes.now) (g.S.Shelf.may_give old.store.shelf) (g.S.Shelf.may_give c.put_object.new.store.shelf)) c.self.view_is c.put_object.ensures.gives;
 }

@@ -8,10 +8,10 @@ open-requires g c = record { known = fits_empty g.S.Shelf.contents c.args.store 
 
 pub invariant_of-result : goal.invariant_of-result
 invariant_of-result g c = record {
-  good = good_opened g.S.Shelf.contents g.S.Shelf.faults c.args.store c.open.new.store c.in-Ok.state c.in-Ok.ensures.value c.in-Ok.ensures.found c.in-Ok.ensures.sound;
+  good = good_opened g.S.Shelf.contents g.S.Shelf.faults c.args.store c.open.new.store c.in-Ok.state c.in-Ok.ensures.value c.in-Ok.ensures.some_kept c.in-Ok.ensures.sound;
   fits = fits_same g.S.Shelf.contents c.args.store c.open.new.store c.open.new.known c.in-Ok.ensures.stays c.in-Ok.ensures.known;
 }
 
 pub returns-in-Ok-clause-stands : goal.returns-in-Ok-clause-stands
 returns-in-Ok-clause-stands g c =
-    good_opened g.S.Shelf.contents g.S.Shelf.faults c.args.store c.open.new.store c.in-Ok.state c.in-Ok.ensures.value c.in-Ok.ensures.found c.in-Ok.ensures.sound
+    good_opened g.S.Shelf.contents g.S.Shelf.faults c.args.store c.open.new.store c.in-Ok.state c.in-Ok.ensures.value c.in-Ok.ensures.some_kept c.in-Ok.ensures.sound

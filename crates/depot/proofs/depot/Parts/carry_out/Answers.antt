@@ -1,5 +1,5 @@
 -- The text that was prepared is that of the state with the head update.
-use Rattle.std.proofs.Common.{◌≡◌, ◌∙◌, ◌++◌, ◌∷◌, [], ap, subst}
+use Rattle.std.proofs.Common.{◌≡◌, ◌∙◌, ◌++◌, ◌∷◌, [], ap, inl, inr, subst, sym}
 use Rattle.library_state.specs.StateSpelling.{text_of}
 use Rattle.library_state.specs.declared.state.LibState.{LibState}
 use Rattle.object_store.specs.StoreView.{status_of}
@@ -8,6 +8,8 @@ use Rattle.depot.specs.UpdateInstall.{held_in}
 use Rattle.depot.specs.UpdatePlan.{objects_in}
 use Rattle.depot.specs.Writing.{ReadsBack}
 use Rattle.depot.proofs.UpdateInstallLemmas.{carried_out, left_unsure}
+use Rattle.depot.specs.Giving.{GivesBy, IsOwnText}
+use Rattle.depot.proofs.GivingLemmas.{then_by, wider_by}
 use Rattle.depot.proofs.depot.Parts.carry_out.Goals as goal
 
 pub returns-in-Err-write_installed-clause-value : goal.returns-in-Err-write_installed-clause-value
@@ -41,3 +43,28 @@ returns-in-Err-write_installed-clause-lying g c free key stray = c.in-Ok-put_pla
 
 pub returns-clause-lying : goal.returns-clause-lying
 returns-clause-lying g c key stray = c.in-Ok-put_plan.ensures.lying key (c.in-Ok-write_installed.ensures.lying key stray)
+
+pub returns-in-Err-put_plan-clause-gives : goal.returns-in-Err-put_plan-clause-gives
+returns-in-Err-put_plan-clause-gives g c = wider_by (λ slot given is. inl is) c.in-Err-put_plan.ensures.gives
+
+pub returns-in-Err-write_installed-clause-gives : goal.returns-in-Err-write_installed-clause-gives
+returns-in-Err-write_installed-clause-gives g c =
+    let next : LibState = with_install c.args.install.head c.args.install.pushed c.args.install.at c.args.self.now.state in
+    let text : c.slice-2.result.now ≡ text_of next
+    = c.slice-2.ensures.value ∙ c.in-Ok-text_with.ensures.value
+    ∙ ap (λ kept. text_of (record c.args.self.now.state { kept = kept })) (c.in-Ok.ensures.value ∙ ap (λ kept. kept ++ c.args.install ∷ []) c.slice.ensures.value) in
+    then_by (wider_by (λ slot given is. inl is) c.in-Ok-put_plan.ensures.gives)
+    (wider_by (λ slot given is. inr is)
+    (subst (λ (st : LibState). GivesBy (IsOwnText st.lib) (g.S.Shelf.may_give c.put_plan.new.store.shelf) (g.S.Shelf.may_give c.write_installed.new.self.store.shelf)) c.in-Ok-text_with.ensures.state
+    (c.in-Err-write_installed.ensures.gives next text (ap (λ (st : LibState). st.lib) (sym c.in-Ok-text_with.ensures.state)))))
+
+pub returns-clause-gives : goal.returns-clause-gives
+returns-clause-gives g c =
+    let next : LibState = with_install c.args.install.head c.args.install.pushed c.args.install.at c.args.self.now.state in
+    let text : c.slice-2.result.now ≡ text_of next
+    = c.slice-2.ensures.value ∙ c.in-Ok-text_with.ensures.value
+    ∙ ap (λ kept. text_of (record c.args.self.now.state { kept = kept })) (c.in-Ok.ensures.value ∙ ap (λ kept. kept ++ c.args.install ∷ []) c.slice.ensures.value) in
+    then_by (wider_by (λ slot given is. inl is) c.in-Ok-put_plan.ensures.gives)
+    (wider_by (λ slot given is. inr is)
+    (subst (λ (st : LibState). GivesBy (IsOwnText st.lib) (g.S.Shelf.may_give c.put_plan.new.store.shelf) (g.S.Shelf.may_give c.write_installed.new.self.store.shelf)) c.in-Ok-text_with.ensures.state
+    (c.in-Ok-write_installed.ensures.gives next text (ap (λ (st : LibState). st.lib) (sym c.in-Ok-text_with.ensures.state)))))

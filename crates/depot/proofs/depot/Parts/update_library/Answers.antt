@@ -17,6 +17,7 @@ use Rattle.depot.proofs.FitsLemmas.{fits_carried, fits_same}
 use Rattle.depot.proofs.GrownLemmas.{good_kept, kept_status}
 use Rattle.depot.proofs.UpdateGoodLemmas.{good_done, good_failed, held_kept, serves_done, serves_failed, serves_kept, serves_refused}
 use Rattle.depot.proofs.UpdatePlanLemmas.{decides_at, plan_puttable, plans_at}
+use Rattle.depot.proofs.GivingLemmas.{no_more, read_by}
 use Rattle.depot.proofs.depot.Parts.update_library.Goals as goal
 
 pub plan_of-requires-clause-within : goal.plan_of-requires-clause-within
@@ -161,3 +162,15 @@ returns-clause-stands g c =
     (λ objects told. c.in-Err-carry_out.ensures.free objects (c.in-Ok.ensures.stays.kept.objects ∙ told))
     (subst (λ n. CountsShelf {T = ⊤} n (g.S.Shelf.faults c.carry_out.new.self.store.shelf) (Err c.in-Err-carry_out.fault)) c.in-Ok.ensures.stays.count c.in-Err-carry_out.ensures.faults)
     c.requires.good
+
+pub returns-in-Err-clause-gives : goal.returns-in-Err-clause-gives
+returns-in-Err-clause-gives g c = no_more _ c.in-Err.ensures.stays.gives
+
+pub returns-in-None-clause-gives : goal.returns-in-None-clause-gives
+returns-in-None-clause-gives g c = no_more _ c.in-Ok.ensures.stays.gives
+
+pub returns-in-Ok-carry_out-clause-gives : goal.returns-in-Ok-carry_out-clause-gives
+returns-in-Ok-carry_out-clause-gives g c = read_by c.in-Ok.ensures.stays.gives c.in-Ok-carry_out.ensures.gives
+
+pub returns-clause-gives : goal.returns-clause-gives
+returns-clause-gives g c = read_by c.in-Ok.ensures.stays.gives c.in-Err-carry_out.ensures.gives

@@ -1,0 +1,60 @@
+-- What a shelf may give after a call on a library, beside what it might give before. Our own. Read GivesBy first, then MayLay.
+use Rattle.std.specs.Prelude.{◌≡◌, ◌⊎◌, ℕ, false, List, Option, None, Some}
+use Rattle.ids.specs.declared.key.Key.{Key}
+use Rattle.library_rules.specs.declared.entry.Stored.{Stored}
+use Rattle.library_state.specs.StateSpelling.{text_of}
+use Rattle.library_state.specs.declared.call.Act.{Act}
+use Rattle.library_state.specs.declared.call.Act.TheVariants as act
+use Rattle.library_state.specs.declared.call.Op.TheVariants as op
+use Rattle.library_state.specs.declared.state.LibState.{LibState}
+use Rattle.object_store.specs.Store.{has_other_name, name_refusal}
+use Rattle.object_store.specs.declared.shelf.Slot.{Slot}
+use Rattle.object_store.specs.declared.shelf.Slot.TheVariants.{Object, Status}
+
+-- what may be given now might be given before, or was laid since
+abbrev pub GivesBy : (Slot → Option (List ℕ) → Type 0) → (before now : Slot → Option (List ℕ) → Type 0) → Type 0
+GivesBy laid before now = (slot : Slot) (given : Option (List ℕ)) → now slot given → before slot given ⊎ laid slot given
+
+-- ---- what is laid
+
+-- the text of a state of the library of this id, into the status slot
+pub record IsOwnText (lib : List ℕ) (slot : Slot) (given : Option (List ℕ)) : Type 0 where
+  pub state : LibState
+  pub own : state.lib ≡ lib
+  pub at : slot ≡ Status
+  pub text : given ≡ Some (text_of state)
+
+-- these bytes under this key, which is their own name
+pub record IsObject (key : Key) (bytes : List ℕ) (slot : Slot) (given : Option (List ℕ)) : Type 0 where
+  pub at : slot ≡ Object key
+  pub is : given ≡ Some bytes
+  pub named : has_other_name key bytes ≡ false
+
+-- an object that its name doesn't forbid
+pub record IsNamedObject (slot : Slot) (given : Option (List ℕ)) : Type 0 where
+  pub key : Key
+  pub bytes : List ℕ
+  pub at : slot ≡ Object key
+  pub is : given ≡ Some bytes
+  pub named : name_refusal key bytes ≡ None
+
+-- what a merge makes, and the text after it
+abbrev pub IsOfUpdate : List ℕ → Slot → Option (List ℕ) → Type 0
+IsOfUpdate lib slot given = IsNamedObject slot given ⊎ IsOwnText lib slot given
+
+-- what a call on the library of this id may lay onto its shelf: the object that is put, under its own name; what a merge
+-- makes; and a text of the library, where the call may change its state. Every other lays nothing
+abbrev pub MayLay : List ℕ → Act → Slot → Option (List ℕ) → Type 0
+MayLay lib (act.Check op.Download) slot given = ⊥
+MayLay lib (act.Check op.Upload) slot given = IsOwnText lib slot given
+MayLay lib act.Head slot given = ⊥
+MayLay lib (act.Get key) slot given = ⊥
+MayLay lib (act.Put key bytes) slot given = IsObject key bytes slot given
+MayLay lib (act.Missing k ids) slot given = ⊥
+MayLay lib (act.Update pushed) slot given = IsOfUpdate lib slot given
+MayLay lib (act.Limit days) slot given = IsOwnText lib slot given
+MayLay lib (act.Ids server client) slot given = ⊥
+
+-- what the making of a library lays: its opening commit, and the text of its first state
+abbrev pub IsOfMaking : Stored → LibState → Slot → Option (List ℕ) → Type 0
+IsOfMaking x state slot given = ((slot ≡ Object x.key) × (given ≡ Some x.bytes)) ⊎ ((slot ≡ Status) × (given ≡ Some (text_of state)))
