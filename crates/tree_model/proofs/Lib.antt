@@ -9,6 +9,7 @@ pub mod ListedLemmas
 pub mod MergeLemmas
 pub mod ResultTreeLemmas
 pub mod SettledLemmas
+pub mod CutLemmas
 pub mod SurvivalLemmas
 pub mod UnmovedLemmas
 pub mod LastEntryLemmas
@@ -19,6 +20,7 @@ pub mod OneSideLemmas
 pub mod OwnDirectoryLemmas
 pub mod PathTextLemmas
 pub mod PathCountLemmas
+pub mod ShownCountLemmas
 pub mod SortedEntryLemmas
 pub mod FirstLongNameLemmas
 pub mod MergedAtLemmas

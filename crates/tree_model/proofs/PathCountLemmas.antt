@@ -22,30 +22,30 @@ use Rattle.tree_model.proofs.ListedLemmas.{same_path, same_path-true, same_path-
 
 -- ---- sums by recursion
 
-total : {X : Type 0} → (X → ℕ) → List X → ℕ
+unfoldable pub total : {X : Type 0} → (X → ℕ) → List X → ℕ
 total f [] = 0
 total f (x ∷ xs) = f x + total f xs
 
-total_is : {X : Type 0} (f : X → ℕ) (xs : List X) → total f xs ≡ sum_by f xs
+pub total_is : {X : Type 0} (f : X → ℕ) (xs : List X) → total f xs ≡ sum_by f xs
 unfolding total
 total_is f xs = is_sum_by (total f) f refl (λ x xs. refl) xs
 
-total_same : {X : Type 0} (f g : X → ℕ) → ((x : X) → f x ≡ g x) → (xs : List X) → total f xs ≡ total g xs
+pub total_same : {X : Type 0} (f g : X → ℕ) → ((x : X) → f x ≡ g x) → (xs : List X) → total f xs ≡ total g xs
 unfolding total
 total_same f g same [] = refl
 total_same f g same (x ∷ xs) = ap₂ (λ (a b : ℕ). a + b) (same x) (total_same f g same xs)
 
-total_zero : {X : Type 0} (f : X → ℕ) → ((x : X) → f x ≡ 0) → (xs : List X) → total f xs ≡ 0
+pub total_zero : {X : Type 0} (f : X → ℕ) → ((x : X) → f x ≡ 0) → (xs : List X) → total f xs ≡ 0
 unfolding total
 total_zero f none [] = refl
 total_zero f none (x ∷ xs) = let one = none x in let more = total_zero f none xs in omega arith
 
-total_both : {X : Type 0} (f g : X → ℕ) (xs : List X) → total (λ x. f x + g x) xs ≡ total f xs + total g xs
+pub total_both : {X : Type 0} (f g : X → ℕ) (xs : List X) → total (λ x. f x + g x) xs ≡ total f xs + total g xs
 unfolding total
 total_both f g [] = refl
 total_both f g (x ∷ xs) = let more = total_both f g xs in omega arith
 
-abbrev bit : Bool → ℕ
+abbrev pub bit : Bool → ℕ
 bit b = cond b 1 0
 
 -- ---- each path below the directory has one of the names
@@ -128,7 +128,7 @@ by_names d ns (q ∷ qs) distinct named =
 
 -- ---- paths of a tree
 
-in_sub : (P : PathV → Type 0) (qs : List PathV) → ((q : PathV) → is_in q qs ≡ true → P q) → AllByRecursion P qs
+pub in_sub : (P : PathV → Type 0) (qs : List PathV) → ((q : PathV) → is_in q qs ≡ true → P q) → AllByRecursion P qs
 in_sub P [] all = tt
 in_sub P (q ∷ qs) all =
     (all q (ap (λ b. b || is_in q qs) (same_path-itself q)), in_sub P qs (λ r there. all r (or_right (same_path r q) (is_in r qs) there)))
@@ -206,7 +206,7 @@ none_after p (e ∷ es) h =
     (none_after p es (right_holds (is_lt (path_cmp p e.0)) (below_all path_cmp p es) h))
 
 -- a map has each of its paths once
-once : {X : Type 0} (p : PathV) (es : List (PathV × X)) → T (map.is_sorted path_cmp es) → total (λ q. bit (same_path p q)) (map_list (λ e. e.0) es) ≡ bit (is_some (map.find path_cmp p es))
+pub once : {X : Type 0} (p : PathV) (es : List (PathV × X)) → T (map.is_sorted path_cmp es) → total (λ q. bit (same_path p q)) (map_list (λ e. e.0) es) ≡ bit (is_some (map.find path_cmp p es))
 unfolding total
 once p [] h = refl
 once {X} p (e ∷ es) h = by (same_path p e.0) refl (once p es (right_holds (below_all path_cmp e.0 es) (map.is_sorted path_cmp es) h))
@@ -232,7 +232,7 @@ paths_at t p =
     (once p (map.entries t) (map.entries_sorted t) ∙ ap (λ (o : Option Node). bit (is_some o)) (sym (map.get-entries t p)))
     (total_is (λ q. bit (is_under p q)) (map.keys t))
 
-all_counted : {X : Type 0} (xs : List X) → total (λ x. 1) xs ≡ length xs
+pub all_counted : {X : Type 0} (xs : List X) → total (λ x. 1) xs ≡ length xs
 unfolding total
 all_counted [] = refl
 all_counted (x ∷ xs) = let more = all_counted xs in omega arith

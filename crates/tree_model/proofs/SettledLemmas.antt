@@ -108,7 +108,7 @@ module _ (naming : Naming) (is_naming : IsNaming naming) (s : Sides) (base : IsT
       ap₂ (λ (b : Bool) (c : Choice). if b then Some Dir else option_map File c.main) (stays_settled q under) (settled.files q under)
       ∙ node_back (map.get s.head q)
 
-  none_leaves : (q : PathV) → is_under d q ≡ true → is_some (leaver_at s q) ≡ false
+  pub none_leaves : (q : PathV) → is_under d q ≡ true → is_some (leaver_at s q) ≡ false
   none_leaves q under =
       ap₂ (λ (b : Bool) (c : Choice). is_some (option_or c.side (if b then c.main else None))) (stays_settled q under) (settled.files q under)
       ∙ by (has_dir s.head q) refl
