@@ -11,13 +11,13 @@ use Rattle.fs_objects.specs.declared.fs_object.FsObject.TheVariants as fs
 use Rattle.commit_objects.specs.declared.commit.Commit.{Commit}
 use Rattle.object_graph.specs.Listing.{Listed, listed}
 use Rattle.object_graph.specs.Objects.{commit_at, commit_key, fs_at, fs_key, in_name_order, is_nil}
-use Rattle.object_graph.specs.Traversal.{Walk, start, visited, walk_below, walk_commit, walk_file_at}
+use Rattle.object_graph.specs.Traversal.{Walk, start, visited, walk_below, walk_commit, walk_file_at, walk_root}
 use Rattle.object_graph.specs.declared.fault.TreeFault.TheVariants.{TooDeep, TooMany, WrongKind}
 use Rattle.object_graph.proofs.CountingLemmas.{counts_from, entry_counts, nothing_listed}
 use Rattle.tree_walk.specs.Checking.{Found, IsWithin, Measures}
-use Rattle.tree_walk.specs.Extent.{deepest, extent_in, joined, with_entry}
+use Rattle.tree_walk.specs.Extent.{deepest, extent_in, extent_of, joined, with_entry}
 use Rattle.tree_walk.specs.Listings.{listed_from, listed_one}
-use Rattle.tree_walk.specs.Reading.{IsDue}
+use Rattle.tree_walk.specs.Reading.{Answers, IsDue}
 use Rattle.tree_walk.specs.Steps.{HasCounted, directory_step, entries_step, entry_step}
 use Rattle.tree_walk.specs.declared.extent.Extent.{Extent}
 use Rattle.tree_walk.specs.declared.fault.WalkFault.{WalkFault}
@@ -226,3 +226,10 @@ pub commit_stops : (objects : Objects) (id : List ℕ) (commit : Commit) (fault 
     → Measures objects (directory_step true objects 100 [] commit.root) 0 (listed objects 100 commit.root) (Err fault) → IsDue objects (walk_commit objects id).fault fault
 commit_stops objects id commit fault read measures =
     subst (λ (w : Walk). IsDue objects w.fault fault) (sym (step_commit objects id commit read)) (measures (visited (commit_key id) start) (record { none = refl; count = refl }))
+
+-- ---- a root
+
+pub root_measured : (objects : Objects) (id : List ℕ) (result : Result Extent WalkFault) → Measures objects (directory_step true objects 100 [] id) 0 (listed objects 100 id) result
+    → Answers objects (walk_root true objects id start).fault (λ extent. extent ≡ extent_of objects id) result
+root_measured objects id (Ok extent) measures = let found = measures start (record { none = refl; count = refl }) in (found.0.none, found.1)
+root_measured objects id (Err fault) measures = measures start (record { none = refl; count = refl })

@@ -2,10 +2,11 @@
 ghost use Rattle.std.specs.Prelude.{◌≡◌, ◌≤◌, true, IfOk, None, Some, ⊤};
 ghost use Rattle.ids.specs.Key.{Objects};
 ghost use Rattle.object_graph.specs.Listing.{listed};
-ghost use Rattle.object_graph.specs.Traversal.{start, walk_commit, walk_file_at};
+ghost use Rattle.object_graph.specs.Traversal.{start, walk_commit, walk_file_at, walk_root};
 ghost use Rattle.object_store.specs.StoreView.{objects_of};
 ghost use Rattle.tree_model.specs.declared.limits.TheConstants.{MAX_NAMES, MAX_PATHS};
 ghost use Rattle.tree_walk.specs.Checking.{IsWithin, Measures};
+ghost use Rattle.tree_walk.specs.Extent.{extent_of};
 ghost use Rattle.tree_walk.specs.KnownTrees.{Fits};
 ghost use Rattle.tree_walk.specs.Listings.{listed_from, listed_one};
 ghost use Rattle.tree_walk.specs.Reading.{Answers, Reads};
@@ -57,6 +58,33 @@ pub fn check<S: Shelf>(
         Ok(_) => Ok(()),
         Err(fault) => Err(fault),
     }
+}
+
+/// How much lies below a directory that is a root. The first fault of its traversal is answered.
+///
+/// It goes by what is known and adds to it, as `check` does.
+pub fn extent_at<S: Shelf>(
+    alloc: Global,
+    store: &mut Store<S>,
+    known: &mut Known,
+    root: ObjId,
+) -> Result<Extent, WalkFault>
+    requires known { (objects : Objects) → objects_of S.contents store.old ≡ Some objects → Fits objects known.old }
+    ensures value { (objects : Objects) → objects_of S.contents store.old ≡ Some objects
+        → Answers objects (walk_root true objects root start).fault (λ extent. extent ≡ extent_of objects root) result }
+    ensures bound { IfOk result (IsWithin MAX_NAMES 0) }
+    ensures known { (objects : Objects) → objects_of S.contents store.old ≡ Some objects → Fits objects known.new }
+    ensures stays { Reads S.contents S.may_give S.texts S.faults store.old store.new result }
+{
+    check_directory(
+        alloc,
+        store,
+        known,
+        &Trail::Root,
+        &root,
+        MAX_NAMES as u32,
+        0,
+    )
 }
 
 /// What lies below a directory, if it is whole.

@@ -20,12 +20,13 @@ mod reading;
 mod trail;
 mod unread;
 
-pub use crate::checking::check;
+pub use crate::checking::{check, extent_at};
 pub use crate::contents::{file_bytes, same_file};
 pub use crate::extent::Extent;
 pub use crate::fault::WalkFault;
+pub use crate::file::file_at;
 pub use crate::fs_list::fs_ids;
 pub use crate::known_trees::Known;
 pub use crate::listing::tree;
 pub use crate::reaching::needs;
-pub use crate::reading::commit_at;
+pub use crate::reading::{commit_at, fs_at};
