@@ -1,7 +1,8 @@
-"""Times updates of a library of many files with one file changed: update.py SERVER FOLDER FILES ROUNDS.
+"""Times updates of a library of many files with one file changed: update.py SERVER FOLDER FILES ROUNDS [merged].
 
 The library has FILES files of a few bytes in 40 folders. Each update is timed alone, after the objects that are new were
-put; besides, the processor time that the server spent in it, and how much memory it had at most.
+put; besides, the processor time that the server spent in it, and how much memory it had at most. With `merged` each update
+changes a file of the first one, so that from the second on it is merged.
 """
 import os
 import sys
@@ -94,21 +95,34 @@ def change_one(connection, tree, names, parent, number):
     return seconds_of(lambda: connection.update(commit))
 
 
-def main(server, folder, count, rounds):
+def change_first(connection, tree, names, parent, number):
+    """The same over the first update, whose files and folders stay as they are."""
+    own, data = list(names), tree.files[number]
+    told = change_one(connection, tree, own, parent, number)
+    tree.files[number] = data
+    return told
+
+
+def main(server, folder, count, rounds, merged):
     print(command(server, "create", folder, LIBRARY, "docs", "me", TOKEN)[1], end="")
     tree = Tree(count)
-    names, head = first_push(server, folder, tree)
+    names, first = first_push(server, folder, tree)
+    head = first
     connection, started = None, 0
     for round_number in range(rounds):
         if connection is None:
             connection = Connection(server, folder, LIBRARY, TOKEN)
             _, started = seconds_of(connection.head)
         before = processor(connection)
-        head, seconds = change_one(connection, tree, names, head, 37 * round_number % count)
+        number = 37 * round_number % count
+        if merged:
+            _, seconds = change_first(connection, tree, names, first, number)
+        else:
+            head, seconds = change_one(connection, tree, names, head, number)
         print(f"update of {count} files, one changed: {seconds * 1e3:.1f} ms, "
               f"push and update {processor(connection) - before:.2f} s of CPU, peak {peak(connection):.1f} MiB")
     print(f"(start and first reply {started * 1e3:.1f} ms)")
     connection.end()
 
 
-main(sys.argv[1], sys.argv[2], int(sys.argv[3]), int(sys.argv[4]))
+main(sys.argv[1], sys.argv[2], int(sys.argv[3]), int(sys.argv[4]), sys.argv[5:] == ["merged"])

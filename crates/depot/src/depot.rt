@@ -17,7 +17,7 @@ use tree_walk::Known;
 /// any other text.
 ///
 /// It keeps which directories and files it found whole, so that the check of a pushed commit reads what wasn't found whole
-/// before. A merge reads its three trees all the same. No clause says how much is read: what is kept is no part of what
+/// before, and a merge counts by them what it doesn't open. No clause says how much is read: what is kept is no part of what
 /// contracts see, but of the invariant. Where there is no memory for it less is kept.
 #[derive(Drop)]
 pub struct Depot<S: Shelf> {

@@ -5,7 +5,7 @@ ghost use Rattle.library_rules.specs.LibraryState.{head_of};
 ghost use Rattle.object_store.specs.StoreView.{objects_of};
 ghost use Rattle.tree_walk.specs.Reading.{Reads};
 ghost use Rattle.depot.specs.Answering.{MayRefuseUpdate};
-ghost use Rattle.depot.specs.DepotView.{library};
+ghost use Rattle.depot.specs.DepotView.{FitsIn, library};
 ghost use Rattle.depot.specs.ObjectCalls.{IsToldDamageOf};
 ghost use Rattle.depot.specs.UpdateBase.{ReadsOnly};
 ghost use Rattle.depot.specs.UpdateMerge.{AreComplete, RootSo, RootsSo};
@@ -20,7 +20,7 @@ use library_state::{LibState, Refusal};
 use object_store::{Shelf, Store};
 use std::alloc::Global;
 use tree_merge::{MergeFault, merge};
-use tree_walk::{WalkFault, commit_at};
+use tree_walk::{Known, WalkFault, commit_at};
 
 /// The roots of the merge base, the head and the pushed commit.
 #[derive(Drop)]
@@ -30,20 +30,23 @@ pub(crate) struct Roots {
     pub pushed: ObjId,
 }
 
-/// The plan of an update that merges a pushed commit into the head, over a merge base. Nothing is stored yet.
+/// The plan of an update that merges a pushed commit into the head, over a merge base, by what is known. Nothing is stored yet.
 ///
 /// Refused as the merge is, and as taken where the made commit can't be stored under its id.
 pub(crate) fn plan_merge<S: Shelf>(
     alloc: Global,
     store: &mut Store<S>,
+    known: &mut Known,
     state: &LibState,
     user: &Text,
     base: ObjId,
     pushed: ObjId,
     moment: u64,
 ) -> Result<Plan, Refusal>
+    requires known { FitsIn S.contents store.old known.old }
     requires complete { (objects : Objects) → objects_of S.contents store.old ≡ Some objects → AreComplete objects base (head_of state.now.kept) pushed }
     requires some_kept { state.now.kept ≢ [] }
+    ensures known { FitsIn S.contents store.old known.new }
     ensures value { (objects : Objects) (count : ℕ) → objects_of S.contents store.old ≡ Some objects
         → MergesSo (library state.now count objects) moment user.now base pushed result }
     ensures named { IfOk result HasNames }
@@ -56,7 +59,7 @@ pub(crate) fn plan_merge<S: Shelf>(
         Ok(roots) => roots,
         Err(fault) => return Err(walk_refusal(fault)),
     };
-    let merged = match merge(alloc, store, roots.base, roots.head, roots.pushed) {
+    let merged = match merge(alloc, store, known, roots.base, roots.head, roots.pushed) {
         Ok(merged) => merged,
         Err(fault) => return Err(merge_refusal(fault)),
     };

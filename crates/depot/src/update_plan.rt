@@ -133,8 +133,8 @@ fn plan_unknown<S: Shelf>(
     plan_based(alloc, store, known, state, user, base, pushed, moment)
 }
 
-/// The plan of an update over a merge base. The check doesn't read again what was found whole and fits at its place; a merge
-/// does.
+/// The plan of an update over a merge base. What was found whole and fits at its place the check doesn't read again, and what is
+/// settled a merge doesn't open.
 fn plan_based<S: Shelf>(
     alloc: Global,
     store: &mut Store<S>,
@@ -168,5 +168,5 @@ fn plan_based<S: Shelf>(
             text: None,
         });
     }
-    plan_merge(alloc, store, state, user, base, pushed, moment)
+    plan_merge(alloc, store, known, state, user, base, pushed, moment)
 }

@@ -7,6 +7,8 @@
 #[cfg(test)]
 mod depot_tests;
 #[cfg(test)]
+mod fetch_tests;
+#[cfg(test)]
 mod library;
 #[cfg(test)]
 mod library_server_tests;

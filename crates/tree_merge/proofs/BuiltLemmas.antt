@@ -1,22 +1,17 @@
--- What directories hold, and the whole tree once all are made. The key lemmas are distinct_more, to_do_more, built_all and needed_all.
-use Rattle.std.proofs.Common.{◌≡◌, ◌≢◌, ℕ, Bool, true, false, cond, if◌then◌else◌, List, [], ◌∷◌, ◌++◌, refl, sym, ap, ap₂, ◌∙◌, subst, None, is_some, IsSome, true≢false, ◌⊎◌, inl, inr}
+-- What directories hold. The key lemmas are distinct_more and to_do_more.
+use Rattle.std.proofs.Common.{◌≡◌, ◌≢◌, ℕ, Bool, true, false, cond, if◌then◌else◌, List, [], ◌∷◌, ◌++◌, refl, sym, ap, ap₂, ◌∙◌, subst, None, is_some, IsSome, true≢false}
 use Rattle.std.specs.FinMap as map
 use Rattle.std.specs.List.{IsDistinct}
 use Rattle.std.specs.Str.{bytes_eq}
-use Rattle.ids.specs.Key.{Objects}
 use Rattle.tree_model.specs.Path.{PathV}
 use Rattle.tree_model.specs.PathOrder.{paths_total}
 use Rattle.tree_model.proofs.ListedLemmas.{same_path, same_path-true, same_path-itself}
 use Rattle.fs_objects.specs.Directory.{names_of}
 use Rattle.fs_objects.specs.declared.dirent.Dirent.{Dirent}
-use Rattle.object_graph.specs.Objects.{entry_named, dirents_at, AreEntriesOf}
-use Rattle.object_graph.specs.Unchanged.{Keeps}
+use Rattle.object_graph.specs.Objects.{entry_named}
 use Rattle.tree_merge.specs.Sides.{Entries}
-use Rattle.tree_merge.specs.TreeBuilding.{IsSound, HasMade, IsDirectoryOf, directory_id_in, Lists}
+use Rattle.tree_merge.specs.TreeBuilding.{IsSound}
 use Rattle.tree_merge.proofs.DirentLemmas.{named_push_other, distinct_push, distinct_none}
-use Rattle.tree_merge.proofs.MadeLemmas.{kept_then}
-use Rattle.tree_merge.proofs.BuildingLemmas.{BuiltSo, Reach}
-use Rattle.tree_merge.proofs.SameEntryLemmas.{entries_same, ids_same}
 
 -- ---- names of what directories hold
 
@@ -55,29 +50,7 @@ module _ (R after : Entries) (H H2 : PathV → List Dirent) (path d : PathV) (n 
       by false true tie = refl
       by false false tie = old
 
--- ---- at the end
-
-module _ (W R : Entries) (H : PathV → List Dirent) (M M2 : Objects) (root : List ℕ) (sound : IsSound W) (so : BuiltSo W R H M) (none : (q : PathV) → map.get R q ≡ None)
-    (keeps : Keeps M M2) (lists : Lists M2 root (H [])) where
-  pub built_all : (objects : Objects) → Keeps M2 objects → AreEntriesOf objects root W
-  built_all objects all [] = sound.no_root
-  built_all objects all (n ∷ q) =
-      sym (entries_same objects (dirents_at objects root) (H []) (lists.names (so.proper []) objects all) (n ∷ q)
-      ∙ so.done objects (kept_then M M2 objects keeps all) [] n q (inl refl) (none (n ∷ [])))
-
-  pub needed_all : ((id : List ℕ) → HasMade M2 id → (HasMade M id) ⊎ (id ≡ root)) → (id : List ℕ) → HasMade M2 id → (objects : Objects) → Keeps M2 objects → IsDirectoryOf objects root id
-  needed_all told id has objects all = elim (told id has) [ inl old ↦ of_old (so.reach id old) | inr own ↦ inl own ]
-    where
-      of_old : Reach R H M id → IsDirectoryOf objects root id
-      of_old r = by r.waits
-        where
-          by : (r.dir ≡ []) ⊎ IsSome (map.get R r.dir) → IsDirectoryOf objects root id
-          by (inr some) = absurd (true≢false (sym some ∙ ap is_some (none r.dir)))
-          by (inl top) = inr (
-            r.name ∷ r.rest,
-            ids_same objects (dirents_at objects root) (H []) (lists.names (so.proper []) objects all) (r.name ∷ r.rest)
-                ∙ ap (λ (p : PathV). directory_id_in objects (H p) (r.name ∷ r.rest)) (sym top) ∙ r.at objects (kept_then M M2 objects keeps all),
-          )
+-- ---- a table without its root
 
 pub same_sound : (W E : Entries) → ((q : PathV) → map.get W q ≡ map.get E q) → IsSound E → IsSound W
 same_sound W E same sound = record {

@@ -25,12 +25,11 @@ use Rattle.object_graph.specs.Objects.{node_of}
 use Rattle.object_graph.specs.declared.entry.Entry.{Entry}
 use Rattle.object_graph.specs.declared.entry.Entry.TheVariants.{Dir, File}
 use Rattle.tree_merge.specs.FileEntry.{file_in, is_directory, version_of}
-use Rattle.tree_merge.specs.Sides.{AreSeen, AreTrees, base_in, head_in, pushed_in}
+use Rattle.tree_merge.specs.Sides.{AreSeen, AreTrees, Threes, base_in, head_in, pushed_in}
 use Rattle.tree_merge.specs.Decision.{choice_in, kept_by, IsPlaced, Marks, HasSettled, IsDecided}
 use Rattle.tree_merge.specs.declared.decision.Decided.{Decided}
 use Rattle.tree_merge.specs.declared.decision.Placing.{Placing}
 use Rattle.tree_merge.specs.declared.sides.Three.{Three}
-use Rattle.tree_merge.proofs.SideLemmas.{Threes}
 use Rattle.tree_merge.proofs.TableLemmas.{get-put}
 
 -- whether a path makes the directory above it survive

@@ -1,5 +1,5 @@
--- Which directories have forty zeros for an id. The key lemmas are nil_where_empty, root_zeros and some_written.
-use Rattle.std.proofs.Common.{◌≡◌, ◌≢◌, ◌↔◌, ◌==◌, ℕ, Bool, true, false, if◌then◌else◌, List, [], ◌∷◌, ◌++◌, length, refl, sym, ap, ◌∙◌, All, Option, Some, None, option_map, arith, eqb-true, true≢false, inl, inr}
+-- Which directories have forty zeros for an id. The key lemmas are nil_where_empty and some_written.
+use Rattle.std.proofs.Common.{◌≡◌, ◌≢◌, ◌==◌, ℕ, Bool, true, false, if◌then◌else◌, List, [], ◌∷◌, ◌++◌, length, refl, sym, ap, ◌∙◌, All, Option, Some, None, option_map, arith, eqb-true, true≢false, inl, inr}
 use Rattle.std.specs.FinMap as map
 use Rattle.std.specs.Cmp.Lexicographic.{bytes_decides}
 use Rattle.std.specs.List.{IsDistinct}
@@ -11,12 +11,11 @@ use Rattle.fs_objects.specs.Directory.{names_of}
 use Rattle.fs_objects.specs.Proper.{IsProperEntry}
 use Rattle.fs_objects.specs.Spelling.{in_written_order}
 use Rattle.fs_objects.specs.declared.dirent.Dirent.{Dirent}
-use Rattle.object_graph.specs.Objects.{AreEntriesOf, entries_of, entry_in, entry_named, entry_of, fs_at}
+use Rattle.object_graph.specs.Objects.{entries_of, entry_named, entry_of, fs_at}
 use Rattle.tree_merge.specs.Sides.{Entries}
 use Rattle.tree_merge.specs.TreeBuilding.{IsNilWhereEmpty, Lists}
 use Rattle.tree_merge.proofs.DirentLemmas.{same_name-itself, written_listing}
 use Rattle.tree_merge.proofs.MadeLemmas.{kept_itself}
-use Rattle.tree_merge.proofs.SameEntryLemmas.{nothing_named}
 
 -- a list in which no name is found is empty
 no_names : (es : List Dirent) → ((n : List ℕ) → entry_named n es ≡ None) → es ≡ []
@@ -62,12 +61,3 @@ zeros_same W E same dir id zeros = (
   λ is name. sym (same (dir ++ name ∷ [])) ∙ zeros.0 is name,
   λ none. zeros.1 (λ name. same (dir ++ name ∷ []) ∙ none name),
 )
-
--- the root
-pub root_zeros : (W : Entries) (M : Objects) (root : List ℕ) → AreEntriesOf M root W → IsNilWhereEmpty W [] root → (root ≡ nil) ↔ ((path : PathV) → map.get W path ≡ None)
-root_zeros W M root are zeros = (λ is path. nothing is path, λ none. zeros.1 (λ name. none (name ∷ [])))
-  where
-    nothing : root ≡ nil → (path : PathV) → map.get W path ≡ None
-    nothing is [] = are []
-    nothing is (n ∷ q) =
-        are (n ∷ q) ∙ ap (λ (b : Bool). entry_in M (if b then [] else entries_of (fs_at M root)) (n ∷ q)) ((bytes_decides root nil).1 is) ∙ nothing_named M n q

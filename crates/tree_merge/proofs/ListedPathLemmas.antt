@@ -18,15 +18,15 @@ use Rattle.tree_merge.specs.Sides.{Entries}
 use Rattle.tree_merge.proofs.CompleteRootLemmas.{member_named}
 use Rattle.tree_merge.proofs.DirentLemmas.{same_name, same_name-itself}
 
-abbrev Item : Type 0
+abbrev pub Item : Type 0
 Item = PathV × Entry
 
 -- no path stands twice
-abbrev Distinct : Listed → Type 0
+abbrev pub Distinct : Listed → Type 0
 Distinct [] = ⊤
 Distinct (x ∷ xs) = AllByRecursion (λ (y : Item). y.0 ≢ x.0) xs × Distinct xs
 
-all_more : (P Q : Item → Type 0) → ((y : Item) → P y → Q y) → (xs : Listed) → AllByRecursion P xs → AllByRecursion Q xs
+pub all_more : (P Q : Item → Type 0) → ((y : Item) → P y → Q y) → (xs : Listed) → AllByRecursion P xs → AllByRecursion Q xs
 all_more P Q more [] all = tt
 all_more P Q more (x ∷ xs) all = (more x all.0, all_more P Q more xs all.1)
 
@@ -34,7 +34,7 @@ all_append : (P : Item → Type 0) (xs ys : Listed) → AllByRecursion P xs → 
 all_append P [] ys all also = also
 all_append P (x ∷ xs) ys all also = (all.0, all_append P xs ys all.1 also)
 
-all_prefixed : (P Q : Item → Type 0) (name : List ℕ) → ((y : Item) → P y → Q (name ∷ y.0, y.1)) → (xs : Listed) → AllByRecursion P xs → AllByRecursion Q (prefixed name xs)
+pub all_prefixed : (P Q : Item → Type 0) (name : List ℕ) → ((y : Item) → P y → Q (name ∷ y.0, y.1)) → (xs : Listed) → AllByRecursion P xs → AllByRecursion Q (prefixed name xs)
 all_prefixed P Q name more [] all = tt
 all_prefixed P Q name more (x ∷ xs) all = (more x all.0, all_prefixed P Q name more xs all.1)
 
@@ -44,7 +44,7 @@ tails name p q e = cc
 heads : (m n : List ℕ) (p q : PathV) → m ∷ p ≡ n ∷ q → m ≡ n
 heads m n p q e = cc
 
-distinct_prefixed : (name : List ℕ) (xs : Listed) → Distinct xs → Distinct (prefixed name xs)
+pub distinct_prefixed : (name : List ℕ) (xs : Listed) → Distinct xs → Distinct (prefixed name xs)
 distinct_prefixed name [] distinct = tt
 distinct_prefixed name (x ∷ xs) distinct = (
   all_prefixed (λ y. y.0 ≢ x.0) (λ y. y.0 ≢ name ∷ x.0) name (λ y other e. other (tails name y.0 x.0 e)) xs distinct.0,
@@ -59,13 +59,13 @@ distinct_append (x ∷ xs) ys one two apart = (all_append (λ y. y.0 ≢ x.0) xs
 
 module _ (A : Objects) where
   -- something stands at the path, which is not the directory itself
-  record StandsBelow (id : List ℕ) (y : Item) : Type 0 where
-    other : y.0 ≢ []
-    there : IsSome (entry_below A y.0 id)
+  pub record StandsBelow (id : List ℕ) (y : Item) : Type 0 where
+    pub other : y.0 ≢ []
+    pub there : IsSome (entry_below A y.0 id)
 
-  record IsListed (id : List ℕ) (xs : Listed) : Type 0 where
-    all : AllByRecursion (StandsBelow id) xs
-    distinct : Distinct xs
+  pub record IsListed (id : List ℕ) (xs : Listed) : Type 0 where
+    pub all : AllByRecursion (StandsBelow id) xs
+    pub distinct : Distinct xs
 
   -- something stands at the path, whose first name is that of one of the entries
   record StandsIn (ds es : List Dirent) (y : Item) : Type 0 where
@@ -77,7 +77,7 @@ module _ (A : Objects) where
 
   record AreListed (ds es : List Dirent) (xs : Listed) : Type 0 where
     all : AllByRecursion (StandsIn ds es) xs
-    distinct : Distinct xs
+    pub distinct : Distinct xs
 
   inner_listed : (room : ℕ) → ((id : List ℕ) → IsListed id (listed A room id)) → (e : Dirent) (b : Bool) → is_directory_mode e.mode ≡ b
       → AllByRecursion (λ (y : Item). (y.0 ≢ []) × (is_directory_mode e.mode ≡ true) × IsSome (entry_below A y.0 e.id)) (if b then listed A room e.id else []) × Distinct (if b then listed A room e.id else [])
@@ -140,7 +140,7 @@ module _ (A : Objects) where
       unlike : (name : List ℕ) → IsSome (entry_named name es) → name ≡ e.name → ⊥
       unlike name some same = true≢false (sym some ∙ ap (λ n. is_some (entry_named n es)) same ∙ ap is_some apart.0)
 
-  lists_below : (room : ℕ) (id : List ℕ) → IsListed id (listed A room id)
+  pub lists_below : (room : ℕ) (id : List ℕ) → IsListed id (listed A room id)
   unfolding listed
   lists_below zero id = record { all = tt; distinct = tt }
   lists_below (suc room) id =
@@ -158,7 +158,7 @@ module _ (A : Objects) where
 
 -- ---- how many they are
 
-fits_in : (xs : Listed) (m : Entries) → Distinct xs → AllByRecursion (λ (y : Item). IsSome (map.get m y.0)) xs → length xs ≤ map.len m
+pub fits_in : (xs : Listed) (m : Entries) → Distinct xs → AllByRecursion (λ (y : Item). IsSome (map.get m y.0)) xs → length xs ≤ map.len m
 fits_in [] m distinct all = omega arith
 fits_in (x ∷ xs) m distinct all =
     let rest : length xs ≤ map.len (map.remove m x.0) =

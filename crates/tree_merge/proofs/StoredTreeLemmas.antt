@@ -130,7 +130,7 @@ module _ (A : Objects) where
 -- ---- a complete root
 
 module _ (objects more : Objects) (keeps : Keeps objects more) (root : List ℕ) (complete : IsCompleteRoot objects root) where
-  entry_stays : (path : PathV) → entry_below more path root ≡ entry_below objects path root
+  pub entry_stays : (path : PathV) → entry_below more path root ≡ entry_below objects path root
   entry_stays path =
       same_entry true objects more path 100 [] root (walk_root true objects root start).visits (ran_root true objects root start complete)
       (agree_kept objects more (walk_root true objects root start).visits keeps (root_stored objects true root start (none_stored objects) complete))

@@ -3,12 +3,12 @@ use Rattle.std.proofs.Common.{◌≡◌, ◌≤◌, ◌<◌, ◌-◌, ◌&&◌, 
 use Rattle.std.specs.FinMap as map
 use Rattle.std.specs.Cmp.Lexicographic.{bytes_decides}
 use Rattle.std.specs.Str.{bytes_eq}
-use Rattle.std.specs.Ordering.{eq_by_cmp}
 use Rattle.sha1.specs.Sha1.{sha1}
 use Rattle.ids.specs.Key.{Objects, key_cmp}
 use Rattle.ids.specs.declared.key.Key.{Key}
 use Rattle.object_store.specs.Store.{has_other_name, is_named_by_bytes, same_bytes}
 use Rattle.ids.proofs.KeyOrderLemmas.{key_cmp_total}
+use Rattle.object_graph.specs.Unchanged.{Keeps}
 use Rattle.object_graph.proofs.KeyLemmas.{same_key-true, same_key}
 use Rattle.tree_merge.specs.Merging.{AreLeft, FindsSo, IsOtherAt, IsSameAt, IsStoredOther, LeavesSo}
 use Rattle.tree_merge.specs.TreeBuilding.{AreNamed, IsCollision, IsOwnName}
@@ -171,3 +171,14 @@ finds_refused objects whole rest left so key bytes there (TooLong path size) is 
 finds_refused objects whole rest left so key bytes there (TooMany paths) is = absurd is
 finds_refused objects whole rest left so key bytes there (Taken id) is = drops_other objects whole rest left so key bytes there id is.0 is.1
 finds_refused objects whole rest left so key bytes there (Walk fault) is = is
+
+-- ---- at the end
+
+-- among objects that have the stored ones, what was made is there where what is left of it is
+pub kept_left : (objects made left : Objects) → AreLeft objects made left → (more : Objects) → Keeps objects more → Keeps left more → Keeps made more
+kept_left objects made left are_left more keeps also = record { kept = λ key bytes there. by key bytes there (map.get objects key) refl (are_left.is key) }
+  where
+    by : (key : Key) (bytes : List ℕ) → map.get made key ≡ Some bytes → (o : Option (List ℕ)) → map.get objects key ≡ o
+        → map.get left key ≡ (if is_some o then None else map.get made key) → map.get more key ≡ Some bytes
+    by key bytes there None none left_is = also.kept key bytes (left_is ∙ there)
+    by key bytes there (Some other) stored_is left_is = keeps.kept key other stored_is ∙ ap Some (are_left.same key bytes there other stored_is)

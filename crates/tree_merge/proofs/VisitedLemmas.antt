@@ -28,12 +28,12 @@ module _ (A : Objects) where
       by false other = (after (fs_at A id) (visited (fs_key id) ran.from)).there (fs_key id) (in_last ran.from.visits (fs_key id))
 
   -- the traversal of a directory at a path
-  record WasWalked (id : List ℕ) (visits : List Key) : Type 0 where
-    room : ℕ
-    path : PathV
-    ran : Ran (walk_object true A (walk_below true A room) true path id) visits
+  pub record WasWalked (id : List ℕ) (visits : List Key) : Type 0 where
+    pub room : ℕ
+    pub path : PathV
+    pub ran : Ran (walk_object true A (walk_below true A room) true path id) visits
 
-  entry_walks : (room : ℕ) (path : PathV) (id : List ℕ) (visits : List Key) → Ran (walk_object true A (walk_below true A room) true path id) visits
+  pub entry_walks : (room : ℕ) (path : PathV) (id : List ℕ) (visits : List Key) → Ran (walk_object true A (walk_below true A room) true path id) visits
       → (name : List ℕ) (i : List ℕ) → directory_in (entry_named name (dirents_at A id)) ≡ Some i → WasWalked i visits
   entry_walks room path id visits ran name i = by (entry_named name (dirents_at A id)) refl
     where
@@ -49,7 +49,7 @@ module _ (A : Objects) where
           let here = entry_ran true A room path id visits ran name e found in
           of_kind e here.0 (is_directory_mode e.mode) here.2 is
 
-  walks_below : (q : PathV) (room : ℕ) (path : PathV) (id : List ℕ) (visits : List Key) → Ran (walk_object true A (walk_below true A room) true path id) visits
+  pub walks_below : (q : PathV) (room : ℕ) (path : PathV) (id : List ℕ) (visits : List Key) → Ran (walk_object true A (walk_below true A room) true path id) visits
       → (i : List ℕ) → directory_id_in A (dirents_at A id) q ≡ Some i → WasWalked i visits
   walks_below [] room path id visits ran i is = cc is
   walks_below (name ∷ []) room path id visits ran i is = entry_walks room path id visits ran name i is

@@ -5,7 +5,8 @@ use Rattle.std.specs.FinMap as map
 use Rattle.ids.specs.Key.{Objects}
 use Rattle.tree_model.specs.Path.{PathV, path_cmp}
 use Rattle.tree_model.proofs.ListedLemmas.{same_path}
-use Rattle.object_graph.specs.Traversal.{Walk, start, walk_below, walk_file_at}
+use Rattle.object_graph.proofs.StoredLemmas.{root_stored}
+use Rattle.object_graph.specs.Traversal.{IsCompleteRoot, Walk, start, walk_below, walk_file_at, walk_root}
 use Rattle.object_graph.specs.Unchanged.{Keeps}
 use Rattle.object_graph.specs.declared.entry.Entry.{Entry}
 use Rattle.object_graph.proofs.LocalityLemmas.{Follows, locality}
@@ -20,6 +21,16 @@ use Rattle.tree_merge.specs.declared.decision.Decided.{Decided}
 use Rattle.tree_merge.specs.declared.decision.Placing.{Placing}
 use Rattle.tree_merge.specs.declared.file_entry.FileEntry.{FileEntry}
 use Rattle.tree_merge.proofs.TableLemmas.{Table, get-popped, get-put}
+
+-- a complete root is complete among more objects
+pub complete_kept : (objects more : Objects) → Keeps objects more → (id : List ℕ) → IsCompleteRoot objects id → IsCompleteRoot more id
+complete_kept objects more keeps id whole =
+    let w : Walk = walk_root true objects id start in
+    ap (λ (v : Walk). v.fault)
+    ((along_object true true objects more (Follows objects more) (locality objects more true) (walk_below true objects 100) (walk_below true more 100)
+    (along_below true true objects more (Follows objects more) (locality objects more true) 100) true [] id).same start
+    (agree_kept objects more w.visits keeps (root_stored objects true id start (none_stored objects) whole)))
+    ∙ whole
 
 -- a whole file is whole among more objects
 pub whole_kept : (objects more : Objects) → Keeps objects more → (id : List ℕ) → IsWhole objects id → IsWhole more id

@@ -6,3 +6,6 @@ pub mod ConflictNaming
 pub mod Decision
 pub mod Telling
 pub mod Merging
+pub mod MergedObjects
+pub mod Opening
+pub mod Level

@@ -1,6 +1,6 @@
 -- What a merge of stored trees gives. Our own. Read IsMerged and IsTaken, then MergesTo.
 use Rattle.tree_model.specs.declared.limits.TheConstants.{MAX_PATHS}
-use Rattle.std.specs.Prelude.{◌≡◌, ◌≢◌, ◌⊎◌, ◌↔◌, ◌≤◌, ◌<◌, ℕ, Bool, true, if◌then◌else◌, List, [], ◌∷◌, ◌++◌, Some, None, is_some, option_map, IsSome, Result, Ok, Err, ⊤}
+use Rattle.std.specs.Prelude.{◌≡◌, ◌≢◌, ◌⊎◌, ◌↔◌, ◌≤◌, ℕ, Bool, true, if◌then◌else◌, List, [], ◌∷◌, ◌++◌, Option, Some, None, is_some, option_map, IsSome, Result, Ok, Err, ⊤}
 use Rattle.std.specs.FinMap as map
 use Rattle.sha1.specs.Sha1.{sha1}
 use Rattle.ids.specs.Key.{Objects}
@@ -17,15 +17,16 @@ use Rattle.fs_objects.specs.declared.dirent.Dirent.{Dirent}
 use Rattle.fs_objects.specs.declared.fs_object.FsObject.TheVariants as fs
 use Rattle.conflict_names.specs.Naming.{merge_of, naming}
 use Rattle.object_store.specs.declared.error.StoreFault.TheVariants.{NoMemory}
-use Rattle.object_graph.specs.Objects.{AreEntriesOf, IsNilWhereNone, IsNilWhereNoPath, IsTreeOf, entry_named, entry_of, fs_key, node_of}
+use Rattle.object_graph.specs.Objects.{AreEntriesOf, IsNilWhereNone, IsNilWhereNoPath, IsTreeOf, dirents_at, entry_named, entry_of, fs_key, node_of}
 use Rattle.object_graph.specs.Traversal.{IsCompleteRoot, is_in, start, walk_root}
 use Rattle.object_graph.specs.Unchanged.{Keeps}
+use Rattle.tree_walk.specs.Extent.{extent_of}
 use Rattle.tree_walk.specs.Reading.{IsDue}
 use Rattle.tree_walk.specs.declared.fault.WalkFault.{WalkFault}
 use Rattle.tree_walk.specs.declared.fault.WalkFault.TheVariants.{Store}
 use Rattle.tree_merge.specs.ConflictNaming.{IsNamedTree}
-use Rattle.tree_merge.specs.Sides.{Entries, join_of}
-use Rattle.tree_merge.specs.TreeBuilding.{AreDirectories, AreNamed, HasMade, IsClash, IsCollision, IsDirectoryOf, IsNilOrMade, IsSound}
+use Rattle.tree_merge.specs.Opening.{settled_in}
+use Rattle.tree_merge.specs.TreeBuilding.{AreDirectoriesOver, AreNamed, HasMade, IsCollision, IsDirectoryOf, IsNilOrMade, directory_id_in}
 use Rattle.tree_merge.specs.declared.conflict_copies.Named.{Named}
 use Rattle.tree_merge.specs.declared.sides.Three.{Three}
 use Rattle.tree_merge.specs.declared.tree_builder.BuildFault.{BuildFault}
@@ -76,6 +77,12 @@ pub record IsTaken (objects : Objects) (s : Sides) (id : List ℕ) : Type 0 wher
   pub within : IsDirectoryIn objects tree bytes
   pub clash : CannotStore objects tree id bytes
 
+-- where pushed has the directory that the head has, or that base has, and the head's isn't empty, the merged tree has the head's own
+abbrev pub KeepsSettled : Objects → (base head pushed : List ℕ) → Merged → Type 0
+KeepsSettled objects base head pushed merged = (more : Objects) → Keeps objects more → Keeps merged.made more → (dir : PathV) (id : List ℕ)
+    → settled_in objects (dirents_at objects base) (dirents_at objects head) (dirents_at objects pushed) dir ≡ Some id → (extent_of objects id).paths ≢ 0
+    → directory_id_in more (dirents_at more merged.root) dir ≡ Some id
+
 -- what a merge answers, in each case
 abbrev pub MergesTo : Objects → Sides → Result Merged MergeFault → Type 0
 MergesTo objects s (Ok merged) = IsMerged objects s merged
@@ -107,16 +114,6 @@ as_read (Err (Walk fault)) = Err fault
 
 -- ---- for private clauses
 
--- the three roots' entries, path by path
-pub record IsJoined (objects : Objects) (base head pushed : List ℕ) (joined : map.FinMap path_cmp Three) : Type 0 where
-  pub base_entries : Entries
-  pub head_entries : Entries
-  pub pushed_entries : Entries
-  pub of_base : AreEntriesOf objects base base_entries
-  pub of_head : AreEntriesOf objects head head_entries
-  pub of_pushed : AreEntriesOf objects pushed pushed_entries
-  pub is : (path : PathV) → map.get joined path ≡ join_of (map.get base_entries path) (map.get head_entries path) (map.get pushed_entries path)
-
 -- no more paths than three trees have, and not the root
 pub record AreFew (joined : map.FinMap path_cmp Three) : Type 0 where
   pub no_root : map.get joined [] ≡ None
@@ -130,13 +127,14 @@ NamesSo objects more s (Err (TooMany paths)) = ⊥
 NamesSo objects more s (Err (Taken id)) = ⊥
 NamesSo objects more s (Err (Walk fault)) = IsDue objects None fault
 
--- the objects of the merged entries
-pub record IsBuilt (named : Named) (merged : Merged) : Type 0 where
+-- the objects of the merged entries, of which some directories are kept by their ids, as they are stored
+pub record IsBuiltOver (objects : Objects) (kept : PathV → Option (List ℕ)) (named : Named) (merged : Merged) : Type 0 where
   pub few : map.len named.nodes ≤ MAX_PATHS
-  pub value : IsSound named.nodes → (more : Objects) → Keeps merged.made more → AreEntriesOf more merged.root named.nodes
-  pub needed : IsSound named.nodes → (id : List ℕ) → HasMade merged.made id → (more : Objects) → Keeps merged.made more → IsDirectoryOf more merged.root id
-  pub dirs : IsSound named.nodes → AreDirectories named.nodes merged.made × IsNilOrMade merged.made merged.root
-  pub zeros : IsSound named.nodes → (merged.root ≡ nil) ↔ ((path : PathV) → map.get named.nodes path ≡ None)
+  pub value : (more : Objects) → Keeps objects more → Keeps merged.made more → AreEntriesOf more merged.root named.nodes
+  pub needed : (id : List ℕ) → HasMade merged.made id → (more : Objects) → Keeps merged.made more → IsDirectoryOf more merged.root id
+  pub dirs : AreDirectoriesOver kept named.nodes merged.made × IsNilOrMade merged.made merged.root
+  pub ids : (dir : PathV) (id : List ℕ) → kept dir ≡ Some id → (more : Objects) → Keeps merged.made more → directory_id_in more (dirents_at more merged.root) dir ≡ Some id
+  pub zeros : (merged.root ≡ nil) ↔ ((path : PathV) → map.get named.nodes path ≡ None)
   pub names : AreNamed merged.made
   pub conflicts : merged.conflicts ≡ named.conflicts
 
@@ -144,13 +142,6 @@ pub record IsBuilt (named : Named) (merged : Merged) : Type 0 where
 abbrev pub as_merge_fault : BuildFault → MergeFault
 as_merge_fault (build.Taken id) = Taken id
 as_merge_fault build.NoMemory = Walk (Store NoMemory)
-
-abbrev pub BuildsSo : Named → Result Merged MergeFault → Type 0
-BuildsSo named (Ok merged) = IsBuilt named merged
-BuildsSo named (Err (TooLong path bytes)) = ⊥
-BuildsSo named (Err (TooMany paths)) = (paths ≡ map.len named.nodes) × (MAX_PATHS < map.len named.nodes)
-BuildsSo named (Err (Taken id)) = (map.len named.nodes ≤ MAX_PATHS) × (IsSound named.nodes → IsClash named.nodes id)
-BuildsSo named (Err (Walk fault)) = fault ≡ Store NoMemory
 
 -- what is stored under a key is these bytes, if anything is
 abbrev pub IsSameAt : Objects → Key → List ℕ → Type 0

@@ -1,5 +1,5 @@
 -- What the three trees of a merge have at one path, as entries and as nodes. Our own. Read join_of, then AreSeen.
-use Rattle.std.specs.Prelude.{◌≡◌, Option, Some, None, is_some, option_map}
+use Rattle.std.specs.Prelude.{◌≡◌, ◌||◌, if◌then◌else◌, Option, Some, None, is_some, option_map}
 use Rattle.std.specs.FinMap as map
 use Rattle.ids.specs.Key.{Objects}
 use Rattle.tree_model.specs.Path.{PathV, path_cmp}
@@ -9,12 +9,14 @@ use Rattle.tree_model.specs.ConflictCopies.{in_trees}
 use Rattle.object_graph.specs.Objects.{node_of}
 use Rattle.object_graph.specs.declared.entry.Entry.{Entry}
 use Rattle.tree_merge.specs.declared.sides.Three.{Three}
-use Rattle.tree_merge.specs.declared.sides.Side.{Side}
-use Rattle.tree_merge.specs.declared.sides.Side.TheVariants.{Base, Head, Pushed}
 
 -- the entries at a path, by their paths
 abbrev pub Entries : Type 0
 Entries = map.FinMap path_cmp Entry
+
+-- what the three trees have, by its path
+abbrev pub Threes : Type 0
+Threes = map.FinMap path_cmp Three
 
 -- a tree is that of a table of entries, with the contents of files among these objects
 abbrev pub IsSeen : Objects → Entries → Tree → Type 0
@@ -28,19 +30,9 @@ abbrev pub or_blank : Option Three → Three
 or_blank None = blank
 or_blank (Some three) = three
 
-abbrev pub put_side : Side → Three → Entry → Three
-put_side Base three entry = record three { base = Some entry }
-put_side Head three entry = record three { head = Some entry }
-put_side Pushed three entry = record three { pushed = Some entry }
-
--- the entries with that of one side more, if it has one
-abbrev pub with_side : Side → Option Three → Option Entry → Option Three
-with_side side before None = before
-with_side side before (Some entry) = Some (put_side side (or_blank before) entry)
-
 -- what three trees have at a path at which they have these entries
 abbrev pub join_of : (base head pushed : Option Entry) → Option Three
-join_of base head pushed = with_side Pushed (with_side Head (with_side Base None base) head) pushed
+join_of base head pushed = if is_some base || (is_some head || is_some pushed) then Some (record { base = base; head = head; pushed = pushed }) else None
 
 -- the entry of each side
 abbrev pub base_in : Option Three → Option Entry
@@ -51,11 +43,6 @@ head_in three = (or_blank three).head
 
 abbrev pub pushed_in : Option Three → Option Entry
 pushed_in three = (or_blank three).pushed
-
--- an entry still waits to be added, or was added
-pub data WasAdded (side : Side) (now before : Option Three) (left whole : Option Entry) : Type 0 where
-  waits : left ≡ whole → now ≡ before → WasAdded side now before left whole
-  added : left ≡ None → now ≡ with_side side before whole → WasAdded side now before left whole
 
 -- the three trees of a merge are trees
 pub record AreTrees (s : Sides) : Type 0 where

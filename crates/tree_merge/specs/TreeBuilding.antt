@@ -17,13 +17,14 @@ use Rattle.fs_objects.specs.Proper.{IsProperEntry}
 use Rattle.fs_objects.specs.Spelling.{in_written_order}
 use Rattle.fs_objects.specs.declared.dirent.Dirent.{Dirent}
 use Rattle.fs_objects.specs.declared.fs_object.FsObject.TheVariants as fs
-use Rattle.object_graph.specs.Objects.{fs_key, dirents_at, entry_named, entry_of, directory_in}
+use Rattle.object_graph.specs.Objects.{fs_key, dirents_at, entry_in, entry_named, entry_of, directory_in}
 use Rattle.object_graph.specs.Unchanged.{Keeps}
 use Rattle.object_graph.specs.declared.entry.Entry.{Entry}
 use Rattle.object_graph.specs.declared.entry.Entry.TheVariants as entry
 use Rattle.tree_merge.specs.FileEntry.{as_entry}
 use Rattle.tree_merge.specs.Sides.{Entries}
 use Rattle.tree_merge.specs.declared.file_entry.FileEntry.{FileEntry}
+use Rattle.tree_merge.specs.declared.opening.Kept.{Kept}
 use Rattle.tree_merge.specs.declared.tree_builder.BuildFault.{BuildFault}
 use Rattle.tree_merge.specs.declared.tree_builder.BuildFault.TheVariants.{Taken, NoMemory}
 
@@ -148,17 +149,6 @@ pub record IsDirectoryMade (made : Objects) (name : List ℕ) (entries : List Di
   pub is : dirent ≡ dirent_of name dirent.id
   pub lists : Lists made dirent.id entries
 
--- what a directory tells of an entry
-abbrev pub IsEntryMade : Objects → List ℕ → Entry → List Dirent → Dirent → Type 0
-IsEntryMade made name entry.Dir entries dirent = IsDirectoryMade made name entries dirent
-IsEntryMade made name (entry.File id mode mtime modifier size) entries dirent =
-    dirent ≡ record { name = name; id = id; mode = mode; mtime = mtime; modifier = modifier; size = size }
-
--- the id of the object that was made for an entry
-abbrev pub IsOwn : Entry → Dirent → List ℕ → Type 0
-IsOwn entry.Dir dirent id = id ≡ dirent.id
-IsOwn (entry.File own mode mtime modifier size) dirent id = ⊥
-
 abbrev pub Held : Type 0
 Held = map.FinMap path_cmp (List Dirent)
 
@@ -166,12 +156,66 @@ Held = map.FinMap path_cmp (List Dirent)
 abbrev pub emptied : PathV → Held → PathV → List Dirent
 emptied path held q = if eq_by_cmp path_cmp q path then [] else held_at (map.get held q)
 
--- an entry was listed in the directory that it stands in; its own entries are given away
-pub record HasAdded (path : PathV) (entry : Entry) (before after : Held) (old new : Objects) : Type 0 where
+-- ---- directories that are kept by their ids
+
+-- the id of the directory that is kept at a path
+abbrev pub kept_ids : map.FinMap path_cmp Kept → PathV → Option (List ℕ)
+kept_ids kept path = option_map (λ own. own.id) (map.get kept path)
+
+-- entries are those of a whole tree but for what lies below directories that are kept by their ids; below such an id stands,
+-- among the stored objects, what the tree has there
+pub record IsShownPart (stored : Objects) (kept : PathV → Option (List ℕ)) (whole entries : Entries) : Type 0 where
+  pub sound : IsSound whole
+  pub nodes : IsSound entries
+  pub top : kept [] ≡ None
+  pub shown : (path : PathV) → IsSome (map.get entries path) → map.get entries path ≡ map.get whole path
+  pub none : (dir : PathV) (name : List ℕ) (path : PathV) → (dir ≡ []) ⊎ IsSome (map.get entries dir) → kept dir ≡ None → map.get entries (dir ++ name ∷ []) ≡ None
+      → map.get whole (dir ++ name ∷ path) ≡ None
+  pub stands : (dir : PathV) (id : List ℕ) → kept dir ≡ Some id → map.get entries dir ≡ Some entry.Dir
+  pub hidden : (dir : PathV) (name : List ℕ) → IsSome (kept dir) → map.get entries (dir ++ name ∷ []) ≡ None
+  pub below : (dir : PathV) (id : List ℕ) → kept dir ≡ Some id → (objects : Objects) → Keeps stored objects → (name : List ℕ) (path : PathV)
+      → entry_in objects (dirents_at objects id) (name ∷ path) ≡ map.get whole (dir ++ name ∷ path)
+  pub some : (dir : PathV) (id : List ℕ) → kept dir ≡ Some id → IsNilWhereEmpty whole dir id
+
+-- what a directory tells of another: the id that is kept, or that of the object that was made
+abbrev pub IsListed : Objects → List ℕ → Option (List ℕ) → List Dirent → Dirent → Type 0
+IsListed made name None entries dirent = IsDirectoryMade made name entries dirent
+IsListed made name (Some id) entries dirent = dirent ≡ dirent_of name id
+
+-- what a directory tells of an entry
+abbrev pub IsEntryListed : Objects → List ℕ → Option (List ℕ) → Entry → List Dirent → Dirent → Type 0
+IsEntryListed made name kept entry.Dir entries dirent = IsListed made name kept entries dirent
+IsEntryListed made name kept (entry.File id mode mtime modifier size) entries dirent =
+    dirent ≡ record { name = name; id = id; mode = mode; mtime = mtime; modifier = modifier; size = size }
+
+-- the id of the object that was made for an entry
+abbrev pub IsOwnListed : Option (List ℕ) → Entry → Dirent → List ℕ → Type 0
+IsOwnListed None entry.Dir dirent id = id ≡ dirent.id
+IsOwnListed None (entry.File own mode mtime modifier size) dirent id = ⊥
+IsOwnListed (Some kept) entry dirent id = ⊥
+
+-- an id of a directory: forty zeros, that of an object that was made, or one that is kept
+abbrev pub IsNilMadeOrKept : (PathV → Option (List ℕ)) → Objects → List ℕ → Type 0
+IsNilMadeOrKept kept made id = IsNilOrMade made id ⊎ ((dir : PathV) × (kept dir ≡ Some id))
+
+-- each object that was made is a directory of the tree, and lists directories of the tree
+pub record AreDirectoriesOver (kept : PathV → Option (List ℕ)) (entries : Entries) (made : Objects) : Type 0 where
+  pub texts : (key : Key) (bytes : List ℕ) → map.get made key ≡ Some bytes → IsDirectoryText entries bytes
+  pub below : (key : Key) (bytes : List ℕ) → map.get made key ≡ Some bytes → (dirents : List Dirent) → fs_of bytes ≡ Ok (fs.Dir dirents)
+      → (name : List ℕ) (e : Dirent) → entry_named name dirents ≡ Some e → is_directory_mode e.mode ≡ true → IsNilMadeOrKept kept made e.id
+
+-- an entry was listed in the directory that it stands in, by the id that is kept for it, if there is one
+pub record HasListed (kept : Option (List ℕ)) (path : PathV) (given : Entry) (before after : Held) (old new : Objects) : Type 0 where
   pub dir : PathV
   pub name : List ℕ
   pub dirent : Dirent
   pub split : path ≡ dir ++ name ∷ []
-  pub made : IsEntryMade new name entry (held_at (map.get before path)) dirent
-  pub told : (id : List ℕ) → HasMade new id → (HasMade old id) ⊎ IsOwn entry dirent id
+  pub made : IsEntryListed new name kept given (held_at (map.get before path)) dirent
+  pub told : (id : List ℕ) → HasMade new id → (HasMade old id) ⊎ IsOwnListed kept given dirent id
   pub listed : (q : PathV) → held_at (map.get after q) ≡ (if eq_by_cmp path_cmp q dir then emptied path before q ++ dirent ∷ [] else emptied path before q)
+
+-- an entry is refused as taken for its own object alone
+pub record IsRefusedEntry (kept : Option (List ℕ)) (given : Entry) (made : Objects) (entries : List Dirent) (id : List ℕ) : Type 0 where
+  pub is_dir : given ≡ entry.Dir
+  pub not_kept : kept ≡ None
+  pub refused : IsRefusedList made entries id

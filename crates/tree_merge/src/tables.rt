@@ -1,5 +1,5 @@
 //! Entries of a table of paths, put one by one.
-ghost use Rattle.std.specs.Prelude.{◌≡◌, ◌≤◌, ◌+◌, ◌&&◌, ◌||◌, OnOk, is_some, if◌then◌else◌};
+ghost use Rattle.std.specs.Prelude.{◌≡◌, [], ◌≤◌, ◌+◌, ◌&&◌, ◌||◌, OnOk, is_some, if◌then◌else◌};
 ghost use Rattle.std.specs.Option.{option_or};
 ghost use Rattle.std.specs.FinMap as map;
 ghost use Rattle.std.specs.Ordering.{eq_by_cmp};
@@ -14,6 +14,14 @@ pub(crate) fn put<V: Drop>(table: &mut PathTable<V>, path: Path, value: V) -> Re
 {
     table.insert(path, value)?;
     Ok(())
+}
+
+/// Takes out what stands at the root, which is no entry.
+pub(crate) fn drop_root<V: Drop>(alloc: Global, table: &mut PathTable<V>)
+    ensures ok { table.new ≡ map.remove table.old [] }
+{
+    let root = Path::root(alloc);
+    let _ = table.remove(&root);
 }
 
 /// Puts a value, if there is one, at a copy of the path.

@@ -11,12 +11,14 @@ ghost use Rattle.fs_objects.specs.Directory.{names_of};
 ghost use Rattle.fs_objects.specs.FsObject.{fs_of};
 ghost use Rattle.fs_objects.specs.Proper.{IsProper};
 ghost use Rattle.fs_objects.specs.Spelling.{as_written};
-ghost use Rattle.object_graph.specs.Objects.{AreEntriesOf};
+ghost use Rattle.object_graph.specs.Objects.{AreEntriesOf, dirents_at};
 ghost use Rattle.object_graph.specs.Unchanged.{Keeps};
 ghost use Rattle.object_graph.specs.declared.entry.Entry.TheVariants.{Dir as dir_entry};
-ghost use Rattle.tree_merge.specs.TreeBuilding.{IsSound, AreNamed, AreDirectories, HasAdded, IsCausedInBuild, IsDirectoryOf, IsClash, IsEntryMade, IsOwn, IsMade, IsNilOrMade, IsRefused, IsRefusedList, Lists, HasMade, held_at, dirent_of};
+ghost use Rattle.tree_merge.specs.Sides.{Entries};
+ghost use Rattle.tree_merge.specs.TreeBuilding.{IsSound, AreNamed, AreDirectories, AreDirectoriesOver, HasListed, IsCausedInBuild, IsDirectoryMade, IsDirectoryOf, IsClash, IsEntryListed, IsMade, IsNilOrMade, IsOwnListed, IsRefused, IsRefusedEntry, IsRefusedList, IsShownPart, Lists, HasMade, held_at, directory_id_in, dirent_of, kept_ids};
 
-use crate::tables::put;
+use crate::opening::Kept;
+use crate::tables::{drop_root, put};
 use fs_objects::{DIRECTORY_TYPE, DirObject, Dirent, FsObject};
 use ids::{Bytes, Items, Key, KeyTable, Kind, ObjId, Text};
 use object_graph::Entry;
@@ -55,7 +57,7 @@ impl From<AllocError> for BuildFault {
 ///
 /// It goes from the last path to the first, so that each directory's entries are complete before its own object is made.
 /// Directories have mtime 0, and no object is made for an empty one.
-pub fn build(alloc: Global, mut entries: PathTable<Entry>) -> Result<BuiltTree, BuildFault>
+pub fn build(alloc: Global, entries: PathTable<Entry>) -> Result<BuiltTree, BuildFault>
     ensures value { IfOk result (λ built. IsSound entries → (objects : Objects) → Keeps built.made objects → AreEntriesOf objects built.root entries) }
     ensures needed { IfOk result (λ built. IsSound entries → (id : List ℕ) → HasMade built.made id
         → (objects : Objects) → Keeps built.made objects → IsDirectoryOf objects built.root id) }
@@ -67,11 +69,38 @@ pub fn build(alloc: Global, mut entries: PathTable<Entry>) -> Result<BuiltTree, 
     ensures taken { (id : List ℕ) → result ≡ Err (BuildFault.Taken id) → IsSound entries → IsClash entries id }
     ensures cause { IfErr result IsCausedInBuild }
 {
+    let kept = PathTable::new(alloc);
+    build_over(alloc, entries, &kept)
+}
+
+/// Makes the directory objects of a tree, of which some directories are kept by their ids, as they are stored: what lies below
+/// those isn't among the entries.
+pub(crate) fn build_over(
+    alloc: Global,
+    mut entries: PathTable<Entry>,
+    kept: &PathTable<Kept>,
+) -> Result<BuiltTree, BuildFault>
+    ensures value { IfOk result (λ built. (stored : Objects) → (whole : Entries) → IsShownPart stored (kept_ids kept.now) whole entries
+        → (objects : Objects) → Keeps stored objects → Keeps built.made objects → AreEntriesOf objects built.root whole) }
+    ensures needed { IfOk result (λ built. (stored : Objects) → (whole : Entries) → IsShownPart stored (kept_ids kept.now) whole entries
+        → (id : List ℕ) → HasMade built.made id → (objects : Objects) → Keeps built.made objects → IsDirectoryOf objects built.root id) }
+    ensures ids { IfOk result (λ built. (stored : Objects) → (whole : Entries) → IsShownPart stored (kept_ids kept.now) whole entries
+        → (dir : PathV) → (id : List ℕ) → kept_ids kept.now dir ≡ Some id → (objects : Objects) → Keeps built.made objects
+        → directory_id_in objects (dirents_at objects built.root) dir ≡ Some id) }
+    ensures dirs { IfOk result (λ built. (stored : Objects) → (whole : Entries) → IsShownPart stored (kept_ids kept.now) whole entries
+        → AreDirectoriesOver (kept_ids kept.now) whole built.made × IsNilOrMade built.made built.root) }
+    ensures zeros { IfOk result (λ built. (stored : Objects) → (whole : Entries) → IsShownPart stored (kept_ids kept.now) whole entries
+        → (built.root ≡ nil) ↔ ((path : PathV) → map.get whole path ≡ None)) }
+    ensures stays { IfOk result (λ built. AreNamed built.made) }
+    ensures taken { (id : List ℕ) → result ≡ Err (BuildFault.Taken id) → (stored : Objects) → (whole : Entries) → IsShownPart stored (kept_ids kept.now) whole entries
+        → IsClash whole id }
+    ensures cause { IfErr result IsCausedInBuild }
+{
     drop_root(alloc, &mut entries);
     let mut held = PathTable::new(alloc);
     let mut made = KeyTable::new(alloc);
     while let Some((path, entry)) = entries.pop_last() {
-        match add_entry(alloc, path, entry, &mut held, &mut made) {
+        match add_entry(alloc, path, entry, kept, &mut held, &mut made) {
             Ok(()) => {}
             Err(fault) => return Err(fault),
         }
@@ -84,40 +113,44 @@ pub fn build(alloc: Global, mut entries: PathTable<Entry>) -> Result<BuiltTree, 
     }
 }
 
-/// Takes out what stands at the root, which is no entry.
-fn drop_root(alloc: Global, entries: &mut PathTable<Entry>)
-    ensures ok { entries.new ≡ map.remove entries.old [] }
-{
-    let root = Path::root(alloc);
-    let _ = entries.remove(&root);
-}
-
-/// Lists an entry in the directory that it stands in. The entries of a directory are listed already.
+/// Lists an entry in the directory that it stands in. The entries of a directory are listed already, or it is kept by its id.
 fn add_entry(
     alloc: Global,
     path: Path,
     entry: Entry,
+    kept: &PathTable<Kept>,
     held: &mut PathTable<Items<Dirent>>,
     made: &mut KeyTable<Bytes>,
 ) -> Result<(), BuildFault>
     requires some { path ≢ [] }
     requires ready { IsDistinct bytes_eq (names_of (held_at (map.get held.old path))) }
-    ensures ok { OnOk result (HasAdded path entry held.old held.new made.old made.new) }
+    ensures ok { OnOk result (HasListed (kept_ids kept.now path) path entry held.old held.new made.old made.new) }
     ensures stays { OnOk result (Keeps made.old made.new) }
     ensures named { AreNamed made.old → AreNamed made.new }
-    ensures taken { (id : List ℕ) → result ≡ Err (BuildFault.Taken id) → (entry ≡ dir_entry) × IsRefusedList made.old (held_at (map.get held.old path)) id }
+    ensures taken { (id : List ℕ) → result ≡ Err (BuildFault.Taken id) → IsRefusedEntry (kept_ids kept.now path) entry made.old (held_at (map.get held.old path)) id }
 {
     let entries = held.remove(&path);
+    let own = kept_at(kept, &path);
     let Some((dir, name)) = path.split_last() else {
         unreachable!()
     };
-    let dirent = match make_dirent(alloc, name, entry, entries, made) {
+    let dirent = match make_dirent(alloc, name, entry, own, entries, made) {
         Ok(dirent) => dirent,
         Err(fault) => return Err(fault),
     };
     match hold(alloc, held, dir, dirent) {
         Ok(()) => Ok(()),
         Err(_) => Err(BuildFault::NoMemory),
+    }
+}
+
+/// The id of the directory that is kept at a path, if there is one.
+fn kept_at(kept: &PathTable<Kept>, path: &Path) -> Option<ObjId>
+    ensures value { result ≡ kept_ids kept.now path.now }
+{
+    match kept.get(path) {
+        Some(own) => Some(own.id),
+        None => None,
     }
 }
 
@@ -145,20 +178,21 @@ fn or_new(alloc: Global, listed: Option<Items<Dirent>>) -> Items<Dirent>
     }
 }
 
-/// The entry of a file, or of a directory with these entries, whose object is made.
+/// The entry of a file, or of a directory that is kept by its id, or of one with these entries, whose object is made.
 fn make_dirent(
     alloc: Global,
     name: Name,
     entry: Entry,
+    own: Option<ObjId>,
     entries: Option<Items<Dirent>>,
     made: &mut KeyTable<Bytes>,
 ) -> Result<Dirent, BuildFault>
     requires ready { IsDistinct bytes_eq (names_of (held_at entries)) }
-    ensures value { IfOk result (IsEntryMade made.new name entry (held_at entries)) }
+    ensures value { IfOk result (IsEntryListed made.new name own entry (held_at entries)) }
     ensures stays { OnOk result (Keeps made.old made.new) }
-    ensures told { IfOk result (λ dirent. (id : List ℕ) → HasMade made.new id → (HasMade made.old id) ⊎ IsOwn entry dirent id) }
+    ensures told { IfOk result (λ dirent. (id : List ℕ) → HasMade made.new id → (HasMade made.old id) ⊎ IsOwnListed own entry dirent id) }
     ensures named { AreNamed made.old → AreNamed made.new }
-    ensures taken { (id : List ℕ) → result ≡ Err (BuildFault.Taken id) → (entry ≡ dir_entry) × IsRefusedList made.old (held_at entries) id }
+    ensures taken { (id : List ℕ) → result ≡ Err (BuildFault.Taken id) → IsRefusedEntry own entry made.old (held_at entries) id }
 {
     match entry {
         Entry::File {
@@ -175,10 +209,30 @@ fn make_dirent(
             modifier,
             size,
         }),
-        Entry::Dir => match make_directory(alloc, entries, made) {
-            Ok(id) => directory_dirent(alloc, name, id),
-            Err(fault) => Err(fault),
+        Entry::Dir => match own {
+            Some(id) => directory_dirent(alloc, name, id),
+            None => make_named(alloc, name, entries, made),
         },
+    }
+}
+
+/// The entry of a directory with these entries, whose object is made.
+fn make_named(
+    alloc: Global,
+    name: Name,
+    entries: Option<Items<Dirent>>,
+    made: &mut KeyTable<Bytes>,
+) -> Result<Dirent, BuildFault>
+    requires ready { IsDistinct bytes_eq (names_of (held_at entries)) }
+    ensures value { IfOk result (IsDirectoryMade made.new name (held_at entries)) }
+    ensures stays { OnOk result (Keeps made.old made.new) }
+    ensures told { IfOk result (λ dirent. (id : List ℕ) → HasMade made.new id → (HasMade made.old id) ⊎ (id ≡ dirent.id)) }
+    ensures named { AreNamed made.old → AreNamed made.new }
+    ensures taken { (id : List ℕ) → result ≡ Err (BuildFault.Taken id) → IsRefusedList made.old (held_at entries) id }
+{
+    match make_directory(alloc, entries, made) {
+        Ok(id) => directory_dirent(alloc, name, id),
+        Err(fault) => Err(fault),
     }
 }
 

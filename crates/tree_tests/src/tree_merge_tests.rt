@@ -16,7 +16,7 @@ use std::alloc::{AllocError, Global};
 use std::test::Fail;
 use tree_merge::{BuildFault, BuiltTree, MergeFault, Merged, build, merge};
 use tree_model::{Name, NameFault, Path, PathTable};
-use tree_walk::{commit_at, needs};
+use tree_walk::{Known, commit_at, laws, needs};
 
 type Shelved = Store<MemoryShelf>;
 
@@ -231,7 +231,9 @@ fn merge_commits<S: Shelf>(
     let base = complete_root(alloc, store, base)?;
     let head = complete_root(alloc, store, head)?;
     let pushed = complete_root(alloc, store, pushed)?;
-    Ok(merge(alloc, store, base, head, pushed))
+    laws::what_is_known_is_right_at_first();
+    let mut known = Known::new(alloc);
+    Ok(merge(alloc, store, &mut known, base, head, pushed))
 }
 
 /// The merge of three trees.

@@ -26,15 +26,22 @@ returns-in-Err-clause-damaged g c = λ objects told.
     (none_due objects c.in-Err.fault (c.in-Err.ensures.value objects told
     (at_head objects c.args.base c.head_of-head.result (head_of c.args.state.now.kept) c.args.pushed head (c.requires.complete objects told)))))
 
-pub merge-requires : goal.merge-requires
-merge-requires g c = record {
-  whole = λ objects told.
-      let head : c.head_of-head.result ≡ head_of c.args.state.now.kept = c.head_of-head.ensures.value ∙ ap head_of c.slice.ensures.value in
-      let before = sym c.in-Ok.ensures.stays.kept.objects ∙ told in
-      let complete = c.requires.complete objects before in
-      roots_whole objects c.args.base (head_of c.args.state.now.kept) c.args.pushed c.in-Ok.roots complete
-      (roots_at objects c.args.base c.head_of-head.result (head_of c.args.state.now.kept) c.args.pushed c.in-Ok.roots head complete (c.in-Ok.ensures.value objects before));
-}
+pub merge-requires-clause-known : goal.merge-requires-clause-known
+merge-requires-clause-known g c = λ objects told. c.requires.known objects (sym c.in-Ok.ensures.stays.kept.objects ∙ told)
+
+pub merge-requires-clause-whole : goal.merge-requires-clause-whole
+merge-requires-clause-whole g c = λ objects told.
+    let head : c.head_of-head.result ≡ head_of c.args.state.now.kept = c.head_of-head.ensures.value ∙ ap head_of c.slice.ensures.value in
+    let before = sym c.in-Ok.ensures.stays.kept.objects ∙ told in
+    let complete = c.requires.complete objects before in
+    roots_whole objects c.args.base (head_of c.args.state.now.kept) c.args.pushed c.in-Ok.roots complete
+    (roots_at objects c.args.base c.head_of-head.result (head_of c.args.state.now.kept) c.args.pushed c.in-Ok.roots head complete (c.in-Ok.ensures.value objects before))
+
+pub returns-in-Err-merge-clause-known : goal.returns-in-Err-merge-clause-known
+returns-in-Err-merge-clause-known g c = λ objects told. c.in-Err-merge.ensures.known objects (c.in-Ok.ensures.stays.kept.objects ∙ told)
+
+pub returns-clause-known : goal.returns-clause-known
+returns-clause-known g c = λ objects told. c.in-Ok-merge.ensures.known objects (c.in-Ok.ensures.stays.kept.objects ∙ told)
 
 pub returns-in-Err-merge-clause-value : goal.returns-in-Err-merge-clause-value
 returns-in-Err-merge-clause-value g c = λ objects count told.

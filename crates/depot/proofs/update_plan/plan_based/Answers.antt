@@ -28,3 +28,9 @@ returns-clause-value g c = λ objects count told.
     (c.in-Ok.ensures.value objects told).0 c.plan_merge.result
     (ap (λ kept. same_id c.args.base (head_of kept)) (sym c.slice.ensures.value) ∙ sym c.is_head.ensures.value ∙ c.if-is_head.false)
     (c.plan_merge.ensures.value objects count (c.in-Ok.ensures.stays.kept.objects ∙ told))
+
+pub plan_merge-requires-clause-known : goal.plan_merge-requires-clause-known
+plan_merge-requires-clause-known g c = λ objects told. c.in-Ok.ensures.known objects (sym c.in-Ok.ensures.stays.kept.objects ∙ told)
+
+pub returns-clause-known : goal.returns-clause-known
+returns-clause-known g c = λ objects told. c.plan_merge.ensures.known objects (c.in-Ok.ensures.stays.kept.objects ∙ told)

@@ -7,7 +7,7 @@ use Rattle.tree_walk.proofs.ReadsLemmas.{reads_then, told_after}
 use Rattle.tree_merge.specs.FileChoice.{IsWholeAt, IsWholeThree}
 use Rattle.tree_merge.specs.declared.file_entry.FileEntry.{FileEntry}
 use Rattle.tree_merge.specs.declared.sides.Three.{Three}
-use Rattle.tree_merge.proofs.SideLemmas.{Threes}
+use Rattle.tree_merge.specs.Sides.{Threes}
 use Rattle.tree_merge.proofs.TableLemmas.{get-popped, popped_len, above_popped}
 use Rattle.tree_merge.proofs.DecisionLemmas.{decided_start, decided_more, decided_all}
 use Rattle.tree_merge.proofs.WholeLemmas.{whole_start}

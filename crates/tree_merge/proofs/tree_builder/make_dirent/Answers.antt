@@ -1,7 +1,4 @@
-use Rattle.std.proofs.Common.{ap, Err}
-use Rattle.tree_merge.specs.declared.tree_builder.BuildFault.TheVariants.{Taken}
-use Rattle.tree_merge.proofs.MadeLemmas.{fault_told}
 use Rattle.tree_merge.proofs.tree_builder.make_dirent.Goals as goal
 
-pub returns-in-Err-clause-taken : goal.returns-in-Err-clause-taken
-returns-in-Err-clause-taken c id e = (c.in-Dir.is, c.in-Err.ensures.taken id (ap Err (fault_told c.in-Err.fault (Taken id) e)))
+pub returns-in-None-clause-taken : goal.returns-in-None-clause-taken
+returns-in-None-clause-taken c id e = record { is_dir = c.in-Dir.is; not_kept = c.in-None.is; refused = c.make_named.ensures.taken id e }
