@@ -24,7 +24,7 @@ pub record IsOwnText (lib : List ℕ) (slot : Slot) (given : Option (List ℕ)) 
   pub at : slot ≡ Status
   pub text : given ≡ Some (text_of state)
 
--- these bytes under this key, which is their own name
+-- these bytes under this key, a name that they don't contradict
 pub record IsObject (key : Key) (bytes : List ℕ) (slot : Slot) (given : Option (List ℕ)) : Type 0 where
   pub at : slot ≡ Object key
   pub is : given ≡ Some bytes
@@ -38,12 +38,13 @@ pub record IsNamedObject (slot : Slot) (given : Option (List ℕ)) : Type 0 wher
   pub is : given ≡ Some bytes
   pub named : name_refusal key bytes ≡ None
 
--- what a merge makes, and the text after it
+-- in an update: any object that its name doesn't forbid, and a text of the library
 abbrev pub IsOfUpdate : List ℕ → Slot → Option (List ℕ) → Type 0
 IsOfUpdate lib slot given = IsNamedObject slot given ⊎ IsOwnText lib slot given
 
--- what a call on the library of this id may lay onto its shelf: the object that is put, under its own name; what a merge
--- makes; and a text of the library, where the call may change its state. Every other lays nothing
+-- what a call on the library of this id may lay onto its shelf: the object that is put, under a name that its bytes don't
+-- contradict; in an update any object that its name doesn't forbid; and a text of the library, where the call may change its
+-- state. Every other lays nothing
 abbrev pub MayLay : List ℕ → Act → Slot → Option (List ℕ) → Type 0
 MayLay lib (act.Check op.Download) slot given = ⊥
 MayLay lib (act.Check op.Upload) slot given = IsOwnText lib slot given

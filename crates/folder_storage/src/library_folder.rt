@@ -118,7 +118,7 @@ impl<F: FileSystem + Drop> LibraryFolder<F> {
         Ok(way)
     }
 
-    /// Writes the spare file. Where that fails nothing is left of it.
+    /// Writes the spare file. Where that fails it is taken away, if it can be.
     pub(crate) fn write_spare(
         &mut self,
         spare: &str,
@@ -132,7 +132,7 @@ impl<F: FileSystem + Drop> LibraryFolder<F> {
         written
     }
 
-    /// Moves the spare file to this path. Where that fails nothing is left of it.
+    /// Moves the spare file to this path. Where that fails it is taken away, if it can be.
     pub(crate) fn move_spare(&mut self, spare: &str, path: &str) -> io::Result<()> {
         let moved = self.files.rename(spare, path);
         if moved.is_err() {
@@ -146,8 +146,8 @@ impl<F: FileSystem + Drop> LibraryFolder<F> {
         named_path(self.files.alloc(), self.path.as_str(), "tmp/spare")
     }
 
-    /// Moves the object that was written beside into its slot. Where that fails nothing is left of the spare file. The
-    /// object's folder is listed anew, since a move that fails may have been done.
+    /// Moves the object that was written beside into its slot. Where that fails the spare file is taken away, if it
+    /// can be. The object's folder is listed anew, since a move that fails may have been done.
     pub(crate) fn move_in(&mut self, key: &Key, bytes: &[u8], way: &Way) -> io::Result<()>
         ensures forgotten { IsForgotten self.new.listing key.now }
     {

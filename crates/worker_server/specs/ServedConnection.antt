@@ -86,8 +86,8 @@ FailedLast old now =
     (taken given : List ℕ) (before : List Asked) → now.taken ≡ Some taken → now.given ≡ Some given → old.asked ≡ Some before
     → (asked : List Asked) × (now.asked ≡ Some (before ++ (asked ++ (length taken, length given) ∷ [])))
 
--- a take that failed was the last thing that the link was asked in this call. Where a give failed, no take had: as the link was
--- asked last, bytes came, or it was at its end
+-- a take that failed was the last thing that the link was asked in this call. Where a give failed, bytes came as the link was
+-- asked last, or it was at its end
 abbrev pub EndsAsked : Served → LinkTells → LinkTells → Option (List ℕ) → Type 0
 EndsAsked ReadFault old now left = FailedLast old now
 EndsAsked WriteFault old now left = CameLast old now left

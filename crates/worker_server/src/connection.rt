@@ -47,7 +47,8 @@ pub fn serve_session<H: Host, L: Link>(
     ensures write_fault { result ≡ Served.WriteFault → Rose (L.faults link.old) (L.faults link.new) }
     ensures faults { CountsEnd (L.faults link.old) (L.faults link.new) result }
 
-    // Where the link tells what it was asked: a take that failed was the last of it, and where a give failed no take had.
+    // Where the link tells what it was asked: a take that failed was the last of it, and where a give failed bytes came as it
+    // was asked last, or it was at its end.
     ensures last { EndsAsked result (told_by L.taken L.given L.asked link.old) (told_by L.taken L.given L.asked link.new) (L.left link.new) }
 {
     let mut buffer = match Buffer::new(alloc) {
