@@ -1,15 +1,16 @@
 -- Lower-case hexadecimal text and the bytes that it stands for. The key lemmas are decode_pairs-lower, encode_lower-bytes_of
 -- and IsOf-encode_lower.
-use Rattle.std.proofs.Common.{◌≡◌, ℕ, zero, suc, ◌+◌, ◌-◌, ◌*◌, ◌/◌, ◌%◌, ◌<◌, ◌==◌, inl, inr, Bool, true, ◌&&◌, nat_le, nat_lt, if◌then◌else◌, List, [], ◌∷◌, length, slice_index, Some, Ok, refl, ap, ◌∙◌, arith, All}
+use Rattle.std.proofs.Common.{◌≡◌, ℕ, zero, suc, ◌+◌, ◌-◌, ◌*◌, ◌/◌, ◌%◌, ◌<◌, ◌==◌, inl, inr, Bool, true, ◌&&◌, nat_le, nat_lt, if◌then◌else◌, List, [], ◌∷◌, length, slice_index, Some, Ok, refl, ap, ◌∙◌, arith, All, IsUtf8}
 use Rattle.std.proofs.lemmas.Bool.{cases_lt, and_parts, eqb-true}
 use Rattle.std.proofs.lemmas.Bool.Decides.{nat_tests}
 use Rattle.std.proofs.lemmas.List.Elements.{All-head, All-tail, All-nil, All-cons, All-from_get_or, All-get_or}
 use Rattle.std.proofs.lemmas.List.{get_or_past}
 use Rattle.std.specs.List.{AllPass}
 use Rattle.std.specs.Str.{IsAscii}
+use Rattle.std.proofs.lemmas.Str.{IsUtf8-from_ascii}
 use Rattle.hex.specs.Hex.{decode_pairs, decode_of, decode_sized, encode_lower, encode_with, hex_digit_value, lower_digits, pair_value, IsBytes}
 use Rattle.hex.proofs.Pairs.{decode_pairs-ok_pair, cons_byte}
-use Rattle.hex.proofs.HexLemmas.{decode_of-even, decode_sized-twice, length-encode_with}
+use Rattle.hex.proofs.HexLemmas.{decode_of-even, decode_sized-twice, length-encode_with, IsAscii-encode_with}
 use Rattle.ids.specs.Digits.{is_lower_digit, digits_form}
 use Rattle.ids.specs.Form.{IsOf}
 
@@ -160,6 +161,10 @@ IsAscii-lower_digits k = elim (cases_lt k 16) [
   | inl below ↦ rw (table-digit_of k below) (grind (arith, nat_tests))
   | inr above ↦ rw (get_or_past lower_digits k 0 above) (omega arith)
 ]
+
+-- digits are a text
+pub IsUtf8-encode_lower : (xs : List ℕ) → IsUtf8 (encode_lower xs)
+IsUtf8-encode_lower xs = IsUtf8-from_ascii (encode_lower xs) (IsAscii-encode_with lower_digits xs IsAscii-lower_digits)
 
 -- bytes, in the other words
 pub IsBytes-from_All : (xs : List ℕ) → All (λ b. b < 256) xs → IsBytes xs

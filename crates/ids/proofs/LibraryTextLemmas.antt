@@ -1,10 +1,12 @@
--- The lower-case hyphenated form and the bytes that it stands for. The key lemmas are parsed-library, hyphenated-library
--- and IsOf-hyphenated.
-use Rattle.std.proofs.Common.{◌≡◌, ℕ, ◌+◌, ◌*◌, ◌/◌, ◌%◌, ◌<◌, ◌==◌, inl, inr, Bool, true, false, if◌then◌else◌, List, length, slice_index, Some, refl, sym, ap, ◌∙◌, arith, All}
-use Rattle.std.proofs.lemmas.Bool.{eqb-true, cases_eq}
+-- The lower-case hyphenated form and the bytes that it stands for. The key lemmas are parsed-library, hyphenated-library,
+-- IsOf-hyphenated and IsUtf8-hyphenated.
+use Rattle.std.proofs.Common.{◌≡◌, ℕ, ◌+◌, ◌*◌, ◌/◌, ◌%◌, ◌<◌, ◌==◌, inl, inr, Bool, true, false, cond, if◌then◌else◌, List, length, get_or, slice_index, Some, refl, sym, ap, ◌∙◌, arith, All, IsUtf8}
+use Rattle.std.proofs.lemmas.Bool.{eqb-true, cases_eq, cases_lt}
 use Rattle.std.proofs.lemmas.Bool.Decides.{nat_tests}
-use Rattle.std.proofs.lemmas.List.{get_or_default}
+use Rattle.std.proofs.lemmas.List.{get_or_default, get_or_past}
 use Rattle.std.proofs.lemmas.List.Elements.{All-from_get_or}
+use Rattle.std.proofs.lemmas.Str.{IsUtf8-from_ascii}
+use Rattle.std.specs.Str.{IsAscii}
 use Rattle.uuid.specs.Text.{by_index, byte_of_digits, digit_place, digits_of, has_hyphens, hex_digit, hyphen_place, hyphenated_text, is_hex_digit, is_hyphen_place, lower, nibble, parsed, parsed_hyphenated, value_of}
 use Rattle.uuid.proofs.TextLemmas.{by_index_at, by_index_length, by_index_same, hyphens_pass, nibble_small, simple_some}
 use Rattle.ids.specs.Digits.{is_lower_digit}
@@ -127,6 +129,23 @@ IsOf-hyphenated xs = record {
   whole = by_index_length 36 _;
   each = λ k h. rw (by_index_at 36 (λ j. if is_hyphen_place j then 45 else hex_digit lower (nibble xs (digit_place j))) k 0 h) (character_good xs k (is_hyphen_place k) refl);
 }
+
+-- what may stand in the text is ASCII, so it is a text
+small_digit : (c : ℕ) → is_lower_digit c ≡ true → c < 128
+small_digit c is = grind (arith, nat_tests)
+
+small_character : (c : ℕ) (b : Bool) → cond b (c == 45) (is_lower_digit c) ≡ true → c < 128
+small_character c true is = let same : c ≡ 45 = eqb-true c 45 is in omega arith
+small_character c false is = small_digit c is
+
+library_ascii : (text : List ℕ) → IsOf library_form text → IsAscii text
+library_ascii text is k = elim (cases_lt k 36) [
+  | inl below ↦ small_character (get_or text k 0) (is_hyphen_place k) (is.each k below)
+  | inr above ↦ let whole : length text ≡ 36 = is.whole in rw (get_or_past text k 0 (omega (arith, whole))) (omega arith)
+]
+
+pub IsUtf8-hyphenated : (xs : List ℕ) → IsUtf8 (hyphenated_text lower xs)
+IsUtf8-hyphenated xs = IsUtf8-from_ascii (hyphenated_text lower xs) (library_ascii (hyphenated_text lower xs) (IsOf-hyphenated xs))
 
 -- ---- a text of the form that goes on from any place
 

@@ -1,5 +1,6 @@
 -- The order of the kinds of objects, and the word for each. Our own.
-use Rattle.std.specs.Prelude.{ℕ, List, codes}
+use Rattle.std.specs.Prelude.{ℕ, List, Option, Some, None, codes, if◌then◌else◌}
+use Rattle.std.specs.Str.{bytes_eq}
 use Rattle.ids.specs.declared.key.Kind.{Kind}
 use Rattle.ids.specs.declared.key.Kind.TheVariants.{Commit, Fs, Block}
 
@@ -14,3 +15,11 @@ abbrev pub kind_word : Kind → List ℕ
 kind_word Commit = codes "commit"
 kind_word Fs = codes "fs"
 kind_word Block = codes "block"
+
+-- the kind that a word names
+abbrev pub kind_of : List ℕ → Option Kind
+kind_of word =
+    if bytes_eq word (codes "commit") then Some Commit
+    else if bytes_eq word (codes "fs") then Some Fs
+    else if bytes_eq word (codes "block") then Some Block
+    else None

@@ -15,7 +15,7 @@ const DIGITS: usize = 40;
 
 /// The 20 bytes that a text of exactly 40 lower-case hexadecimal digits stands for.
 pub fn read_digits(text: &str) -> Result<[u8; 20], BadId>
-    ensures good { IsOk result ↔ IsOf digits_form text.now }
+    ensures form { IsOk result ↔ IsOf digits_form text.now }
     ensures value { IfOk result (λ bytes. text.now ≡ encode_lower bytes) }
     ensures decoded { IfOk result (λ bytes. decode_of text.now ≡ Ok bytes) }
     ensures bad { IfErr result (λ e. IsLongestBeginning digits_form text.now e.at) }

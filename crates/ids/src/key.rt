@@ -32,7 +32,7 @@ pub type KeyList = Items<Key>;
 
 impl Kind {
     ghost use Rattle.std.specs.Prelude.{◌≤◌, length};
-    ghost use Rattle.ids.specs.Kind.{kind_word};
+    ghost use Rattle.ids.specs.Kind.{kind_of, kind_word};
 
     /// The word for the kind, in paths, bodies and lines.
     pub fn word(self) -> &'static str
@@ -43,6 +43,21 @@ impl Kind {
             Kind::Commit => "commit",
             Kind::Fs => "fs",
             Kind::Block => "block",
+        }
+    }
+
+    /// The kind that a word names.
+    pub fn of(word: &str) -> Option<Kind>
+        ensures value { result ≡ kind_of word.now }
+    {
+        if word == "commit" {
+            Some(Kind::Commit)
+        } else if word == "fs" {
+            Some(Kind::Fs)
+        } else if word == "block" {
+            Some(Kind::Block)
+        } else {
+            None
         }
     }
 }

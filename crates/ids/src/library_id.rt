@@ -27,7 +27,7 @@ impl Model for LibId {
 impl LibId {
     /// Reads exactly the lower-case hyphenated form of 36 characters. It takes no memory.
     pub fn read(text: &str) -> Result<LibId, BadId>
-        ensures good { IsOk result ↔ IsOf library_form text.now }
+        ensures form { IsOk result ↔ IsOf library_form text.now }
         ensures value { IfOk result (λ id. text.now ≡ hyphenated_text lower id) }
         ensures decoded { IfOk result (λ id. Some id ≡ parsed text.now) }
         ensures bad { IfErr result (λ e. IsLongestBeginning library_form text.now e.at) }

@@ -60,7 +60,7 @@ impl ObjId {
 
     /// Reads exactly 40 lower-case hexadecimal digits. It takes no memory.
     pub fn read(text: &str) -> Result<ObjId, BadId>
-        ensures good { IsOk result ↔ IsOf digits_form text.now }
+        ensures form { IsOk result ↔ IsOf digits_form text.now }
         ensures value { IfOk result (λ id. text.now ≡ encode_lower id) }
         ensures decoded { IfOk result (λ id. decode_of text.now ≡ Ok id) }
         ensures bad { IfErr result (λ e. IsLongestBeginning digits_form text.now e.at) }

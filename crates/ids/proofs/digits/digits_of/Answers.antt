@@ -1,9 +1,8 @@
 -- The digits of 20 bytes have the form and decode to them.
 use Rattle.std.proofs.Common.{◌≡◌}
-use Rattle.std.proofs.lemmas.Str.{IsUtf8-from_ascii}
-use Rattle.hex.specs.Hex.{encode_lower, lower_digits}
-use Rattle.hex.proofs.HexLemmas.{IsAscii-encode_with, decode_of-encode_lower}
-use Rattle.ids.proofs.DigitsLemmas.{IsOf-encode_lower, IsAscii-lower_digits}
+use Rattle.hex.specs.Hex.{encode_lower}
+use Rattle.hex.proofs.HexLemmas.{decode_of-encode_lower}
+use Rattle.ids.proofs.DigitsLemmas.{IsOf-encode_lower, IsUtf8-encode_lower}
 use Rattle.ids.proofs.digits.digits_of.Goals as goal
 
 -- what was written
@@ -17,4 +16,4 @@ pub returns-clause-decoded : goal.returns-clause-decoded
 returns-clause-decoded c = rw (written c) (decode_of-encode_lower c.args.bytes.now c.fits-bytes)
 
 pub returns-clause-utf8 : goal.returns-clause-utf8
-returns-clause-utf8 c = IsUtf8-from_ascii _ (rw (written c) (IsAscii-encode_with lower_digits c.args.bytes.now IsAscii-lower_digits))
+returns-clause-utf8 c = rw (written c) (IsUtf8-encode_lower c.args.bytes.now)

@@ -6,8 +6,8 @@ use Rattle.ids.specs.Digits.{digits_form}
 use Rattle.ids.specs.Form.{IsOf}
 use Rattle.ids.proofs.digits.read_digits.Goals as goal
 
-pub returns-then-at-lt-DIGITS-clause-good : goal.returns-then-at-lt-DIGITS-clause-good
-returns-then-at-lt-DIGITS-clause-good c = (
+pub returns-then-at-lt-DIGITS-clause-form : goal.returns-then-at-lt-DIGITS-clause-form
+returns-then-at-lt-DIGITS-clause-form c = (
   λ e. absurd (true≢false (sym e)),
   λ good.
       let is = rw c.as_bytes-text.ensures.value at c.digits_beginning-at.ensures.value in

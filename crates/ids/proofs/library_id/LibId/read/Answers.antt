@@ -7,8 +7,8 @@ use Rattle.ids.specs.Form.{IsOf}
 use Rattle.ids.specs.LibraryId.{library_form}
 use Rattle.ids.proofs.library_id.LibId.read.Goals as goal
 
-pub returns-then-at-lt-CHARACTERS-clause-good : goal.returns-then-at-lt-CHARACTERS-clause-good
-returns-then-at-lt-CHARACTERS-clause-good c = (
+pub returns-then-at-lt-CHARACTERS-clause-form : goal.returns-then-at-lt-CHARACTERS-clause-form
+returns-then-at-lt-CHARACTERS-clause-form c = (
   λ e. absurd (true≢false (sym e)),
   λ good.
       let is = rw c.as_bytes.ensures.value at c.library_beginning-at.ensures.value in
@@ -21,8 +21,8 @@ unreachable-requires c =
     let good : IsOf library_form c.args.text.now = IsOf-from_longest library_form c.args.text.now c.library_beginning-at.result is (omega arith) (omega arith) in
     true≢false (sym (c.in-Err.ensures.ok.1 (bytes_of c.args.text.now, sym (parsed-library c.args.text.now good))))
 
-pub returns-clause-good : goal.returns-clause-good
-returns-clause-good c = (
+pub returns-clause-form : goal.returns-clause-form
+returns-clause-form c = (
   λ _.
       let is = rw c.as_bytes.ensures.value at c.library_beginning-at.ensures.value in
       IsOf-from_longest library_form c.args.text.now c.library_beginning-at.result is (omega arith) (omega arith),
