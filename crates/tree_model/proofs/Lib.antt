@@ -18,6 +18,7 @@ pub mod NameLemmas
 pub mod NothingLostLemmas
 pub mod OneSideLemmas
 pub mod OwnDirectoryLemmas
+pub mod PathReadingLemmas
 pub mod PathTextLemmas
 pub mod PathCountLemmas
 pub mod ShownCountLemmas

@@ -2,16 +2,11 @@
 use Rattle.std.proofs.Common.{◌≡◌, ℕ, ◌+◌, ◌≤◌, ◌≢◌, ◌==◌, Bool, true, false, cond, List, [], ◌∷◌, length, nat_lt, Option, Some, None, position, refl, sym, ap, ◌∙◌, ltb-false, eq-eqb}
 use Rattle.std.proofs.lemmas.Iterator.Adapters.{position_from-zero}
 use Rattle.std.specs.List.{AllByRecursion, position_from}
-use Rattle.std.specs.Option.{option_or}
 use Rattle.std.specs.Bool.{then_some}
-use Rattle.ids.proofs.BasicLemmas.{none_from_option_map}
+use Rattle.ids.proofs.BasicLemmas.{none_from_option_map, nones_from_option_or}
 use Rattle.std.proofs.lemmas.Bool.{or_parts}
 use Rattle.tree_model.specs.Name.{IsName, is_separator, has_dots}
 use Rattle.tree_model.specs.declared.limits.TheConstants.{MAX_NAME}
-
-neither : {X : Type 0} (a b : Option X) → option_or a b ≡ None → (a ≡ None) × (b ≡ None)
-neither None b e = (refl, e)
-neither (Some x) b e = cc
 
 not_so : {X : Type 0} (b : Bool) (x : X) → then_some b x ≡ None → b ≡ false
 not_so true x e = cc
@@ -38,9 +33,9 @@ no_slashes (b ∷ text) h =
 parts : (text : List ℕ) → IsName text
     → ((length text == 0) ≡ false) × (nat_lt MAX_NAME (length text) ≡ false) × (position is_separator text ≡ None) × (has_dots text ≡ false)
 parts text h =
-    let a = neither _ _ h.faultless in
-    let b = neither _ _ a.1 in
-    let c = neither _ _ b.1 in
+    let a = nones_from_option_or _ _ h.faultless in
+    let b = nones_from_option_or _ _ a.1 in
+    let c = nones_from_option_or _ _ b.1 in
     (not_so _ _ a.0, not_so _ _ b.0, none_from_option_map _ _ c.0, not_so _ _ c.1)
 
 pub IsName-some : (text : List ℕ) → IsName text → text ≢ []

@@ -61,7 +61,7 @@ under_sibling (n ∷ d) [] a b = at_end (pointwise nat_eq n a) d ∙ sym (at_end
     at_end false d = refl
 under_sibling (n ∷ d) (m ∷ e) a b = ap (λ r. pointwise nat_eq n m && r) (under_sibling d e a b)
 
-under_some : (d q : PathV) → is_under d q ≡ true → q ≢ []
+pub under_some : (d q : PathV) → is_under d q ≡ true → q ≢ []
 under_some [] q e is = true≢false (sym e ∙ ap (is_under []) is)
 under_some (n ∷ d) q e is = true≢false (sym e ∙ ap (is_under (n ∷ d)) is)
 

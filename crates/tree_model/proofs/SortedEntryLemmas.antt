@@ -1,9 +1,9 @@
 -- Entries of a map stand in the order of their keys. The key lemmas are above_last, first_below and mapped_entries.
-use Rattle.std.proofs.Common.{◌≡◌, ◌&&◌, Bool, true, false, cond, T, List, [], ◌∷◌, refl, sym, ap, ap₂, ◌∙◌, subst, Option, Some, None, is_some, Ordering, Less, Equal, Greater, true≢false, inl, inr}
+use Rattle.std.proofs.Common.{◌≡◌, ◌&&◌, Bool, true, false, cond, T, List, [], ◌∷◌, refl, sym, ap, ap₂, ◌∙◌, subst, Option, Some, None, is_some, Ordering, Less, true≢false, inl, inr}
 use Rattle.std.specs.Ordering.{is_lt}
 use Rattle.std.specs.FinMap as map
 use Rattle.std.specs.FinMap.Entries.{below_all}
-use Rattle.ids.proofs.BasicLemmas.{apart_from_is_lt, less_from_is_lt}
+use Rattle.ids.proofs.BasicLemmas.{apart_from_is_lt}
 use Rattle.tree_model.specs.Path.{PathV, path_cmp}
 use Rattle.tree_model.proofs.ListedLemmas.{same_path, same_path-true, same_path-itself}
 use Rattle.tree_model.proofs.MovingLemmas.{In, found_in}

@@ -1,10 +1,11 @@
 -- Paths, their texts and their byte order. A path is a list of names; read path_text, then path_cmp.
-use Rattle.std.specs.Prelude.{ℕ, Bool, true, false, if◌then◌else◌, List, [], ◌∷◌, ◌++◌}
-use Rattle.std.specs.List.{AllByRecursion, join_with_byte}
+use Rattle.std.specs.Prelude.{ℕ, ◌==◌, Bool, true, false, if◌then◌else◌, List, [], ◌∷◌, ◌++◌, Option, Some, None}
+use Rattle.std.specs.List.{AllByRecursion, join_with_byte, list_all, slice_split}
+use Rattle.std.specs.Option.{is_none}
 use Rattle.std.specs.declared.cmp.Ordering.{Ordering}
 use Rattle.std.specs.Ordering.{nat_cmp, on}
 use Rattle.std.specs.Cmp.Lexicographic.{slice_cmp}
-use Rattle.tree_model.specs.Name.{IsName}
+use Rattle.tree_model.specs.Name.{IsName, name_fault}
 
 -- the names from the root on, each as its bytes
 abbrev pub PathV : Type 0
@@ -43,6 +44,14 @@ segments (name ∷ path) = slashed name (has_more path) ∷ segments path
 -- the names joined by '/'
 abbrev pub path_text : PathV → List ℕ
 path_text path = join_with_byte 47 path
+
+-- the path of some names, where they are good
+abbrev pub good_path : List (List ℕ) → Option PathV
+good_path names = if list_all (λ name. is_none (name_fault name)) names then Some names else None
+
+-- the path whose text this is: good names with '/' between them. The text of the root has no bytes, and is none
+abbrev pub path_of : List ℕ → Option PathV
+path_of text = good_path (slice_split (λ b. b == 47) text)
 
 -- the byte order of the texts, told piece by piece so that it tells all lists of lists apart
 abbrev pub path_cmp : PathV → PathV → Ordering

@@ -1,11 +1,12 @@
 //! A path from the root of a tree, ordered by the bytes of its text.
-ghost use Rattle.std.specs.Prelude.{◌≡◌, ◌∷◌, ◌++◌, [], IfOk, OnOk, OnSome, ◌≤◌, length, slice_get, string_bytes, if◌then◌else◌};
+ghost use Rattle.std.specs.Prelude.{◌≡◌, ◌==◌, ◌∷◌, ◌++◌, [], IfOk, OnOk, OnSome, ◌≤◌, length, map, slice_get, string_bytes, if◌then◌else◌};
+ghost use Rattle.std.specs.List.{slice_split};
 ghost use Rattle.std.specs.Ordering.{nat_cmp};
 ghost use Rattle.std.specs.Cmp.Lexicographic.{slice_cmp};
-ghost use Rattle.tree_model.specs.DirectorySurvival.{is_under, is_within};
-ghost use Rattle.tree_model.specs.Path.{path_cmp, slashed, parent_of};
+ghost use Rattle.tree_model.specs.DirectorySurvival.{is_under};
+ghost use Rattle.tree_model.specs.Path.{good_path, path_cmp, slashed, parent_of};
 
-use crate::name::Name;
+use crate::name::{Name, NameFault};
 use ids::Text;
 use std::alloc::{AllocError, Global};
 use std::cmp::Ordering;
@@ -32,9 +33,9 @@ impl Model for Path {
 }
 
 impl Path {
-    ghost use Rattle.std.specs.Prelude.{◌≡◌, ◌∷◌, ◌++◌, [], IfOk, OnOk, OnErr, MatchOption};
-    ghost use Rattle.tree_model.specs.DirectorySurvival.{is_under, is_within};
-    ghost use Rattle.tree_model.specs.Path.{IsPath, parent_of, path_text};
+    ghost use Rattle.std.specs.Prelude.{◌≡◌, ◌≢◌, ◌∷◌, ◌++◌, [], IfOk, IfSome, OnOk, OnErr, MatchOption};
+    ghost use Rattle.tree_model.specs.DirectorySurvival.{is_under};
+    ghost use Rattle.tree_model.specs.Path.{IsPath, parent_of, path_of, path_text};
 
     /// The path of the root, which has no names.
     pub fn root(alloc: Global) -> Path
@@ -43,6 +44,15 @@ impl Path {
         Path {
             names: Vec::new(alloc),
         }
+    }
+
+    /// The path whose text this is: good names with `/` between them. The text of the root has no bytes, and is none.
+    pub fn read(alloc: Global, text: &str) -> Result<Option<Path>, AllocError>
+        ensures value { IfOk result (λ path. path ≡ path_of text.now) }
+        ensures proper { IfOk result (λ told. IfSome told (λ path. path ≢ [])) }
+    {
+        let names = pieces_of(alloc, text)?;
+        good_path(alloc, names.as_slice())
     }
 
     /// The names from the root on.
@@ -112,13 +122,6 @@ impl Path {
         stands_under(dir.names(), self.names())
     }
 
-    /// Whether this is the directory's own path, or that of something below it.
-    pub fn is_within(&self, dir: &Path) -> bool
-        ensures value { result ≡ is_within dir.now self.now }
-    {
-        stands_within(dir.names(), self.names())
-    }
-
     /// A copy of the path.
     pub fn copy(&self, alloc: Global) -> Result<Path, AllocError>
         ensures value { IfOk result (λ path. path ≡ self.now) }
@@ -126,6 +129,28 @@ impl Path {
         let names = copy_names(alloc, self.names(), self.names.len())?;
         Ok(Path { names })
     }
+}
+
+/// The pieces of a path's text.
+fn pieces_of(alloc: Global, text: &str) -> Result<Vec<&str>, AllocError>
+    ensures value { IfOk result (λ pieces. map (λ piece. piece.now) pieces.items ≡ slice_split (λ b. b == 47) text.entry.now) }
+{
+    text.split('/').collect(alloc)
+}
+
+/// The path with these names, where they are good.
+fn good_path(alloc: Global, names: &[&str]) -> Result<Option<Path>, AllocError>
+    ensures value { IfOk result (λ path. path ≡ good_path (map (λ name. name.now) names.now)) }
+{
+    let mut path = Path::root(alloc);
+    for name in names {
+        match Name::read(alloc, name) {
+            Ok(name) => path.push(name)?,
+            Err(NameFault::Bad(_)) => return Ok(None),
+            Err(NameFault::NoMemory) => return Err(AllocError),
+        }
+    }
+    Ok(Some(path))
 }
 
 /// The names of the directory that the entry stands in; of no names none.
@@ -148,18 +173,6 @@ fn stands_under(dir: &[Name], path: &[Name]) -> bool
         (None, Some(_)) => true,
         (Some(_), None) => false,
         (None, None) => false,
-    }
-}
-
-/// Whether a path has the names of a directory in front.
-fn stands_within(dir: &[Name], path: &[Name]) -> bool
-    ensures value { result ≡ is_within dir.now path.now }
-{
-    match (dir.split_first(), path.split_first()) {
-        (Some((first, dirs)), Some((name, names))) => first == name && stands_within(dirs, names),
-        (Some(_), None) => false,
-        (None, Some(_)) => true,
-        (None, None) => true,
     }
 }
 
