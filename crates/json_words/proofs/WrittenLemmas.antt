@@ -1,6 +1,6 @@
 -- The compact text of a value is read as the value. Read IsSpelled first: what a value needs for that.
--- The key lemma is json_of-compact_text.
-use Rattle.std.proofs.Common.{◌≡◌, ℕ, suc, max, pos, negsuc, ◌^◌, ◌<◌, ◌≤◌, List, [], ◌∷◌, ◌++◌, Bool, true, false, Some, option_map, option_and_then, decimal, refl, sym, ap, ap₂, subst, ◌∙◌, append-nil, IsUtf8}
+-- The key lemma is json_of-compact_text; no_float_ids and flat_ids are of lists of ids.
+use Rattle.std.proofs.Common.{◌≡◌, ℕ, suc, max, pos, negsuc, ◌^◌, ◌<◌, ◌≤◌, List, [], ◌∷◌, ◌++◌, Bool, true, false, Some, option_map, option_and_then, map, decimal, refl, sym, ap, ap₂, subst, ◌∙◌, append-nil, IsUtf8}
 use Rattle.std.specs.Bool.{⊤}
 use Rattle.std.proofs.lemmas.Fmt.{IsAscii-decimal, IsAscii-signed}
 use Rattle.std.proofs.lemmas.Str.{IsUtf8-append, IsUtf8-from_ascii}
@@ -14,9 +14,11 @@ pub use Rattle.json.proofs.Printed.Utf8.{IsUtf8-are_ascii}
 use Rattle.json.proofs.Printed.Utf8.{IsUtf8-boolean, IsUtf8-quoted}
 use Rattle.serde_json.specs.Data.{Num, unsigned, negative, float, Data, null, boolean, number, string, array, object, Items, no_items, item, Members, no_members, member, put, depth, items_depth, members_depth}
 use Rattle.serde_json.specs.Read.{read, number_of, of_json, of_items, of_members, max_depth}
-use Rattle.serde_json.specs.Written.{number_text, outline, items_outline, members_outline, comma_if, compact_text, items_text, members_text}
+use Rattle.serde_json.specs.Written.{items_have_float, number_text, outline, items_outline, members_outline, comma_if, compact_text, items_text, members_text}
 use Rattle.serde_json.proofs.Numbers.{number_of-decimal, number_of-negative}
 use Rattle.serde_json.proofs.Texts.{print-outline}
+use Rattle.serde_json.specs.View.{items_of}
+use Rattle.json_words.specs.IdText.{id_data}
 use Rattle.json_words.specs.JsonText.{json_of}
 use Rattle.json_words.proofs.JsonLemmas.{json_of-utf8}
 
@@ -188,3 +190,13 @@ mutual
 -- a value's compact text is read as the value
 pub json_of-compact_text : (d : Data) → IsSpelled d → depth d ≤ max_depth → json_of (compact_text d) ≡ Some d
 json_of-compact_text d is shallow = json_of-utf8 (compact_text d) (utf8 d is) ∙ read-compact_text d is shallow
+
+-- ---- lists of ids
+
+pub no_float_ids : (ids : List (List ℕ)) → items_have_float (items_of (map id_data ids)) ≡ false
+no_float_ids [] = refl
+no_float_ids (id ∷ ids) = no_float_ids ids
+
+pub flat_ids : (ids : List (List ℕ)) → items_depth (items_of (map id_data ids)) ≡ 0
+flat_ids [] = refl
+flat_ids (id ∷ ids) = ap (max 0) (flat_ids ids)

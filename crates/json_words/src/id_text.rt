@@ -43,7 +43,7 @@ pub fn id_in(value: &Value) -> Option<ObjId>
 #[tactic(auto, unfolding(crate::specs::IdText::stored_id_in))]
 pub fn stored_id_in(value: &Value) -> Option<ObjId>
     ensures value { result ≡ stored_id_in (view value.now) }
-    ensures found { IfSome result (λ id. id ≢ nil) }
+    ensures not_zeros { IfSome result (λ id. id ≢ nil) }
 {
     match id_in(value) {
         Some(id) => if id.is_nil() { None } else { Some(id) },
