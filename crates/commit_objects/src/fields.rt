@@ -68,7 +68,7 @@ pub fn id_at(value: &Value, key: CommitKey) -> Result<ObjId, BadCommit>
 #[tactic(auto, unfolding(crate::specs::Commit::stored_id_at))]
 pub fn stored_id_at(value: &Value, key: CommitKey) -> Result<ObjId, BadCommit>
     ensures value { result ≡ stored_id_at key (view value.now) }
-    ensures bound { IfOk result (λ id. id ≢ nil) }
+    ensures not_zeros { IfOk result (λ id. id ≢ nil) }
 {
     let text = required_text(value, key)?;
     match stored_id_of(text) {
@@ -90,7 +90,7 @@ pub fn library_id_at(value: &Value, key: CommitKey) -> Result<LibId, BadCommit>
 #[tactic(auto, unfolding(crate::specs::Commit::parent_at))]
 pub fn parent_at(value: &Value, key: CommitKey) -> Result<Option<ObjId>, BadCommit>
     ensures value { result ≡ parent_at key (view value.now) }
-    ensures bound { IfOk result (λ parent. IfSome parent (λ id. id ≢ nil)) }
+    ensures not_zeros { IfOk result (λ parent. IfSome parent (λ id. id ≢ nil)) }
 {
     match json_words::optional_text(value, key.text()) {
         Ok(Some(text)) => match stored_id_of(text) {
@@ -142,7 +142,7 @@ fn is_nonzero(number: &Number) -> Option<bool>
 #[tactic(auto, unfolding(crate::specs::Commit::stored_id_of))]
 fn stored_id_of(text: &str) -> Option<ObjId>
     ensures value { result ≡ stored_id_of text.now }
-    ensures found { IfSome result (λ id. id ≢ nil) }
+    ensures not_zeros { IfSome result (λ id. id ≢ nil) }
 {
     match object_id(text) {
         Some(id) => if id.is_nil() { None } else { Some(id) },

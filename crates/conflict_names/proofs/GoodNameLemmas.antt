@@ -1,18 +1,17 @@
 -- A conflict name is a good name where it isn't too long, and other numbers give other names.
-use Rattle.std.proofs.Common.{◌≡◌, ℕ, ◌+◌, ◌≤◌, Bool, true, false, not, nat_eq, nat_lt, ◌&&◌, ◌==◌, cond, List, [], ◌∷◌, ◌++◌, length, map, take, drop, codes, Option, None, Some, option_map, position, refl, sym, ap, ◌∙◌, arith, ℤ, le-ltb, ne_eqb, length-append}
-use Rattle.std.proofs.lemmas.Bool.{and_parts}
+use Rattle.std.proofs.Common.{◌≡◌, ℕ, ◌+◌, ◌≤◌, Bool, true, false, not, nat_eq, nat_lt, ◌&&◌, ◌==◌, cond, List, [], ◌∷◌, ◌++◌, length, map, take, drop, codes, None, Some, position, refl, sym, ap, ◌∙◌, arith, ℤ, le-ltb, ne_eqb, length-append}
+use Rattle.std.proofs.lemmas.Bool.{and_parts, and_right}
 use Rattle.std.proofs.lemmas.Iterator.Adapters.{position_from-zero}
 use Rattle.std.proofs.lemmas.List.{append_cancel_left, append_cancel_right, take-append-drop}
 use Rattle.std.proofs.lemmas.List.Folds.{list_all-append}
 use Rattle.std.specs.List.{list_all, position_from}
-use Rattle.std.specs.Option.{option_or}
 use Rattle.tree_model.specs.Name.{IsName, is_separator, has_dots}
 use Rattle.tree_model.specs.ThreeWayMerge.{IsNaming}
 use Rattle.conflict_names.specs.CivilTime.{moment_of, stamp}
 use Rattle.conflict_names.specs.Naming.{ext_at, shown, number_text, naming}
 use Rattle.conflict_names.proofs.NumeralLemmas.{number_text-injective}
-use Rattle.conflict_names.proofs.PlainLemmas.{is_free, joined, one_more, all-free, stamp-plain, number_text-plain}
-use Rattle.ids.proofs.BasicLemmas.{none_from_option_map}
+use Rattle.conflict_names.proofs.PlainLemmas.{is_free, one_more, all-free, stamp-plain, number_text-plain}
+use Rattle.ids.proofs.BasicLemmas.{none_from_option_map, nones_from_option_or, list_all-joined}
 
 free_from : (place : ℕ) (xs : List ℕ) → position_from is_separator place xs ≡ None → list_all is_free xs ≡ true
 free_from place [] e = refl
@@ -32,29 +31,21 @@ none_from place (x ∷ xs) e = by (is_separator x) e (none_from (place + 1) xs)
     by true h rest = cc
     by false h rest = rest h
 
-neither : {X : Type 0} (a b : Option X) → option_or a b ≡ None → (a ≡ None) × (b ≡ None)
-neither None b e = (refl, e)
-neither (Some x) b e = cc
-
 name_free : (name : List ℕ) → IsName name → list_all is_free name ≡ true
 name_free name h =
-    let a = neither _ _ h.faultless in
-    let b = neither _ _ a.1 in
-    let c = neither _ _ b.1 in
+    let a = nones_from_option_or _ _ h.faultless in
+    let b = nones_from_option_or _ _ a.1 in
+    let c = nones_from_option_or _ _ b.1 in
     let none : position is_separator name ≡ None = none_from_option_map _ _ c.0 in
     free_from 0 name (sym (position_from-zero is_separator name) ∙ none)
-
-and_false : (x y : Bool) → y ≡ false → (x && y) ≡ false
-and_false true y e = e
-and_false false y e = refl
 
 long-no_dots : (text : List ℕ) → 3 ≤ length text → has_dots text ≡ false
 long-no_dots [] long = absurd (omega arith)
 long-no_dots (a ∷ []) long = absurd (omega arith)
 long-no_dots (a ∷ b ∷ []) long = absurd (omega arith)
 long-no_dots (a ∷ b ∷ c ∷ rest) long =
-    let one : (nat_eq a 46 && false) ≡ false = and_false _ _ refl in
-    let two : (nat_eq a 46 && (nat_eq b 46 && false)) ≡ false = and_false _ _ (and_false _ _ refl) in
+    let one : (nat_eq a 46 && false) ≡ false = and_right _ _ refl in
+    let two : (nat_eq a 46 && (nat_eq b 46 && false)) ≡ false = and_right _ _ (and_right _ _ refl) in
     rw (one, two) refl
 
 good : (text : List ℕ) → 3 ≤ length text → length text ≤ 255 → list_all is_free text ≡ true → IsName text
@@ -85,8 +76,8 @@ eight_free : (a b c d e f g h : List ℕ) → list_all is_free a ≡ true → li
     → list_all is_free e ≡ true → list_all is_free f ≡ true → list_all is_free g ≡ true → list_all is_free h ≡ true
     → list_all is_free (a ++ b ++ c ++ d ++ e ++ f ++ g ++ h) ≡ true
 eight_free a b c d e f g h pa pb pc pd pe pf pg ph =
-    joined is_free (a ++ b ++ c ++ d ++ e ++ f ++ g) h (joined is_free (a ++ b ++ c ++ d ++ e ++ f) g (joined is_free (a ++ b ++ c ++ d ++ e) f
-    (joined is_free (a ++ b ++ c ++ d) e (joined is_free (a ++ b ++ c) d (joined is_free (a ++ b) c (joined is_free a b pa pb) pc) pd) pe) pf) pg) ph
+    list_all-joined is_free (a ++ b ++ c ++ d ++ e ++ f ++ g) h (list_all-joined is_free (a ++ b ++ c ++ d ++ e ++ f) g (list_all-joined is_free (a ++ b ++ c ++ d ++ e) f
+    (list_all-joined is_free (a ++ b ++ c ++ d) e (list_all-joined is_free (a ++ b ++ c) d (list_all-joined is_free (a ++ b) c (list_all-joined is_free a b pa pb) pc) pd) pe) pf) pg) ph
 
 eight_long : (a b c d e f g h : List ℕ) → length b ≤ length (a ++ b ++ c ++ d ++ e ++ f ++ g ++ h)
 eight_long a b c d e f g h = simp length-append (omega arith)

@@ -1,13 +1,13 @@
 -- The bytes of stamps and numbers: none is `/` or NUL, and all are ASCII.
-use Rattle.std.proofs.Common.{◌≡◌, ℕ, zero, suc, ◌+◌, ◌/◌, ◌%◌, ◌<◌, Bool, true, false, not, nat_lt, nat_le, ◌&&◌, ◌||◌, ◌==◌, cond, List, [], ◌∷◌, ◌++◌, refl, ◌∙◌, arith, IsAscii, ltb-true}
+use Rattle.std.proofs.Common.{◌≡◌, ℕ, zero, suc, ◌+◌, ◌/◌, ◌%◌, ◌<◌, Bool, true, false, not, nat_lt, nat_le, ◌&&◌, ◌||◌, ◌==◌, cond, List, [], ◌∷◌, ◌++◌, refl, arith, IsAscii, ltb-true}
 use Rattle.std.proofs.lemmas.Bool.{and_parts, and_from}
 use Rattle.std.proofs.lemmas.Bool.Decides.{nat_tests}
-use Rattle.std.proofs.lemmas.List.Folds.{list_all-append}
 use Rattle.std.proofs.lemmas.Str.Ascii.{IsAscii-nil, IsAscii-cons}
 use Rattle.std.specs.List.{list_all}
 use Rattle.tree_model.specs.Name.{is_separator}
 use Rattle.conflict_names.specs.CivilTime.{digit, two_digits, four_digits, stamp, stamp_text, year_of, month_of, day_of}
 use Rattle.conflict_names.specs.Naming.{numeral, numeral_in, number_text}
+use Rattle.ids.proofs.BasicLemmas.{list_all-joined}
 
 -- neither `/` nor NUL
 abbrev pub is_free : ℕ → Bool
@@ -26,9 +26,6 @@ plain-ascii b h = grind (arith, nat_tests)
 digit-plain : (n : ℕ) → is_plain (digit n) ≡ true
 digit-plain n = grind (arith, nat_tests)
 
-pub joined : (p : ℕ → Bool) (xs ys : List ℕ) → list_all p xs ≡ true → list_all p ys ≡ true → list_all p (xs ++ ys) ≡ true
-joined p xs ys a b = list_all-append p xs ys ∙ and_from _ _ a b
-
 pub one_more : (p : ℕ → Bool) (x : ℕ) (xs : List ℕ) → p x ≡ true → list_all p xs ≡ true → list_all p (x ∷ xs) ≡ true
 one_more p x xs a b = and_from _ _ a b
 
@@ -39,7 +36,7 @@ four-plain : (n : ℕ) → list_all is_plain (four_digits n) ≡ true
 four-plain n = one_more is_plain (digit (n / 1000)) (digit (n / 100) ∷ two_digits n) (digit-plain (n / 1000)) (one_more is_plain (digit (n / 100)) (two_digits n) (digit-plain (n / 100)) (two-plain n))
 
 next-plain : (xs : List ℕ) (n : ℕ) → list_all is_plain xs ≡ true → list_all is_plain (xs ++ 45 ∷ two_digits n) ≡ true
-next-plain xs n h = joined is_plain xs (45 ∷ two_digits n) h (one_more is_plain 45 (two_digits n) refl (two-plain n))
+next-plain xs n h = list_all-joined is_plain xs (45 ∷ two_digits n) h (one_more is_plain 45 (two_digits n) refl (two-plain n))
 
 text-plain : (y mo d h mi s : ℕ) → list_all is_plain (stamp_text y mo d h mi s) ≡ true
 text-plain y mo d h mi s =
@@ -59,7 +56,7 @@ numeral_in-plain (suc steps) n = by (nat_lt n 10) (numeral_in-plain steps (n / 1
   where
     by : (b : Bool) → list_all is_plain (numeral_in steps (n / 10)) ≡ true → list_all is_plain (cond b (digit n ∷ []) (numeral_in steps (n / 10) ++ digit n ∷ [])) ≡ true
     by true front = one_more is_plain (digit n) [] (digit-plain n) refl
-    by false front = joined is_plain (numeral_in steps (n / 10)) (digit n ∷ []) front (one_more is_plain (digit n) [] (digit-plain n) refl)
+    by false front = list_all-joined is_plain (numeral_in steps (n / 10)) (digit n ∷ []) front (one_more is_plain (digit n) [] (digit-plain n) refl)
 
 pub number_text-plain : (k : ℕ) → list_all is_plain (number_text k) ≡ true
 unfolding numeral

@@ -1,22 +1,14 @@
 -- What is written has no float, and nests three levels at most.
-use Rattle.std.proofs.Common.{◌≡◌, ◌≤◌, ℕ, max, List, [], ◌∷◌, map, Bool, true, false, cond, refl, ap, arith}
+use Rattle.std.proofs.Common.{◌≡◌, ◌≤◌, List, [], ◌∷◌, map, Bool, true, false, cond, refl, arith}
 use Rattle.json_words.proofs.FoundLemmas.{is_float-of_integer}
 use Rattle.serde_json.specs.Data.{Data, depth, items_depth}
 use Rattle.serde_json.specs.View.{items_of}
 use Rattle.serde_json.specs.Written.{has_float, items_have_float}
 use Rattle.fs_objects.specs.Mode.{is_file_mode}
-use Rattle.json_words.specs.IdText.{id_data}
 use Rattle.fs_objects.specs.Spelling.{file_with, file_data, file_entry_with, directory_entry_with, entry_data, directory_with}
 use Rattle.fs_objects.specs.declared.dirent.Dirent.{Dirent}
 use Rattle.fs_objects.specs.declared.file_object.FileObject.{FileObject}
-
-no_float_ids : (ids : List (List ℕ)) → items_have_float (items_of (map id_data ids)) ≡ false
-no_float_ids [] = refl
-no_float_ids (id ∷ ids) = no_float_ids ids
-
-flat_ids : (ids : List (List ℕ)) → items_depth (items_of (map id_data ids)) ≡ 0
-flat_ids [] = refl
-flat_ids (id ∷ ids) = ap (max 0) (flat_ids ids)
+use Rattle.json_words.proofs.WrittenLemmas.{no_float_ids, flat_ids}
 
 pub has_float-file_data : (file : FileObject) → has_float (file_data file) ≡ false
 unfolding file_with

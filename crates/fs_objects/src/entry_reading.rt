@@ -38,7 +38,7 @@ pub struct Details<'a> {
 /// The whole entry, of which the head was read.
 #[tactic(auto, unfolding(crate::specs::Directory::entry_from))]
 pub(crate) fn entry_from(alloc: Global, head: Head<'_>, item: &Value) -> Result<Dirent, FsFault>
-    requires good { name_fault head.name.now ≡ None }
+    requires name { name_fault head.name.now ≡ None }
     requires known { IsTrue (is_file_mode head.mode || is_directory_mode head.mode) }
     ensures value { ReadsAs result (entry_from (head_seen head.entry) (view item.now)) }
     ensures proper { IfOk result IsProperEntry }
@@ -64,7 +64,7 @@ pub(crate) fn entry_from(alloc: Global, head: Head<'_>, item: &Value) -> Result<
 #[tactic(auto, unfolding(crate::specs::Directory::head_of))]
 pub(crate) fn head_of<'a>(item: &'a Value, place: u64) -> Result<Head<'a>, BadFs>
     ensures value { result_map head_seen result ≡ head_of place (view item.now) }
-    ensures good { IfOk result (λ head. name_fault head.name.now ≡ None) }
+    ensures name { IfOk result (λ head. name_fault head.name.now ≡ None) }
     ensures known { IfOk result
         (λ head. IsTrue (is_file_mode head.mode || is_directory_mode head.mode)) }
 {

@@ -20,6 +20,7 @@ use Rattle.object_store.specs.Shelf.{Contents, FindsNext, IsNextFound}
 use Rattle.object_store.specs.Steps.{Indexes, is_done, is_read, is_upto}
 use Rattle.object_store.specs.StoreView.{Index, IsIndexOf, indexed}
 use Rattle.object_store.specs.declared.shelf.Found.{Found}
+use Rattle.ids.proofs.BasicLemmas.{is_some-option_map}
 
 -- what the index holds at a key of this kind, where c tells whether its id was read
 at_kind : Kind → Kind → Bool → Option ℕ → Option ℕ
@@ -180,17 +181,13 @@ then-end objects index read q = read q ∙ to_end q.kind (option_map length (map
 
 -- ---- what a whole index tells
 
-sized : (x : Option (List ℕ)) → is_some (option_map length x) ≡ is_some x
-sized None = refl
-sized (Some x) = refl
-
 unsized : (x : Option (List ℕ)) → None ≡ option_map length x → x ≡ None
 unsized None e = refl
 unsized (Some x) e = absurd (true≢false (sym (ap is_some e)))
 
 -- a key stands in the index where it is held
 pub stands : (objects : Objects) (index : Index) → IsIndexOf objects index → (q : Key) → is_some (map.get index q) ≡ is_some (map.get objects q)
-stands objects index is q = ap is_some (is q) ∙ sized (map.get objects q)
+stands objects index is q = ap is_some (is q) ∙ is_some-option_map length (map.get objects q)
 
 -- the next key of the index is the next that is held
 pub next-held : (objects : Objects) (index : Index) → IsIndexOf objects index → (after result : Option Key) → IsNext index after result → IsNext objects after result

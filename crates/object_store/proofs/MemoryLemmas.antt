@@ -20,6 +20,7 @@ use Rattle.object_store.proofs.MapLemmas.{tied_key}
 use Rattle.object_store.specs.MemoryShelf.{FindsAt, FindsKey, HasIds, IsFirstFrom, IsFirstPast, IsLeastFrom, IsPast, MemoryShelfState, begun, counted, fails_next}
 use Rattle.object_store.specs.Shelf.{FindsNext}
 use Rattle.object_store.specs.declared.shelf.Found.{Found}
+use Rattle.std.proofs.lemmas.Bool.{not-false}
 
 -- ---- the least key from one on
 
@@ -163,13 +164,9 @@ ids-put old new k bytes (Err e) ids size ok err = rw err ids
 pub begin-rose : (old new : MemoryShelfState) (may : Bool) → old.faults < 2 ^ 64 → may ≡ not (fails_next old) → may ≡ false → new ≡ begun old
     → (old.faults ≤ new.faults) × Rose old.faults new.faults
 begin-rose old new may small is stopped e =
-    let due : fails_next old ≡ true = undo (fails_next old) (sym is ∙ stopped) in
+    let due : fails_next old ≡ true = not-false (fails_next old) (sym is ∙ stopped) in
     let faults : new.faults ≡ counted old.faults = ap (λ (s : MemoryShelfState). s.faults) e ∙ ap (λ b. cond b (counted old.faults) old.faults) due in
     rose old.faults new.faults small faults
   where
-    undo : (b : Bool) → not b ≡ false → b ≡ true
-    undo true e = refl
-    undo false e = absurd (true≢false e)
-
     rose : (f n : ℕ) → f < 2 ^ 64 → n ≡ min (f + 1) (2 ^ 64 - 1) → (f ≤ n) × Rose f n
     rose f n small e = (omega arith, omega arith)

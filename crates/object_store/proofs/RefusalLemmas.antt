@@ -23,7 +23,7 @@ use Rattle.object_store.specs.declared.put.Put.{Put}
 use Rattle.object_store.specs.declared.put.Put.TheVariants.{New, Same}
 use Rattle.object_store.specs.declared.shelf.Slot.{Slot}
 use Rattle.object_store.specs.declared.shelf.Slot.TheVariants.{Object}
-use Rattle.ids.proofs.BasicLemmas.{none_from_is_some}
+use Rattle.ids.proofs.BasicLemmas.{none_from_is_some, is_some-option_map}
 
 -- a fetch gives what is held under a key of the index
 pub given-stored : (known : Option Contents) (index : Index) (objects : Objects) (key : Key) → option_map (indexed index) known ≡ Some objects
@@ -34,15 +34,11 @@ given-stored known index objects key told there may_give tells given gives =
     let at = held-at known index objects key told in
     tells at.0 given at.1 gives ∙ sym (at.2 ∙ ap (λ b. cond b (map.get at.0.objects key) None) there)
 
-sized : (x : Option (List ℕ)) → is_some (option_map length x) ≡ is_some x
-sized None = refl
-sized (Some x) = refl
-
 -- what stands in the index is held
 pub there-held : (known : Option Contents) (index : Index) (objects : Objects) (key : Key) → option_map (indexed index) known ≡ Some objects
     → IsReady known index → is_some (map.get index key) ≡ true → is_some (map.get objects key) ≡ true
 there-held known index objects key told ready there =
-    sym (sized (map.get objects key)) ∙ sym (ap is_some (sizes known index ready objects told key)) ∙ there
+    sym (is_some-option_map length (map.get objects key)) ∙ sym (ap is_some (sizes known index ready objects told key)) ∙ there
 
 -- what doesn't stand in the index isn't held
 pub not-held : (known : Option Contents) (index : Index) (objects : Objects) (key : Key) → option_map (indexed index) known ≡ Some objects

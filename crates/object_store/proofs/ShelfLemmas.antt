@@ -15,6 +15,7 @@ use Rattle.object_store.specs.declared.shelf.ShelfFailed.{ShelfFailed}
 use Rattle.object_store.specs.declared.shelf.ShelfFailed.TheVariants.{Shelf, NoMemory}
 use Rattle.object_store.specs.declared.shelf.Slot.{Slot}
 use Rattle.object_store.specs.declared.shelf.Slot.TheVariants.{Object, Status}
+use Rattle.ids.proofs.BasicLemmas.{same_from_some}
 
 -- ---- shelves that tell what they hold
 
@@ -46,9 +47,6 @@ removed_lies held (Object key) Status given is = inl is
 removed_lies held Status (Object q) given is = inl is
 removed_lies held Status Status given is = inr (refl, is)
 
-same_some : (x y : Contents) → Some x ≡ Some y → x ≡ y
-same_some x y e = cc
-
 -- the contents are the old ones, or these
 changed_lies : (old changed new : Contents) (slot : Slot) (laid : Option (List ℕ)) → GivesAlso (Tells old) (Tells changed) slot laid
     → (new ≡ old) ⊎ (new ≡ changed) → GivesAlso (Tells old) (Tells new) slot laid
@@ -56,10 +54,10 @@ changed_lies old changed new slot laid lies (inl same) at given is = inl (is ∙
 changed_lies old changed new slot laid lies (inr done) at given is = lies at given (is ∙ ap (λ held. lies_in held at) done)
 
 either : (old changed new : Contents) (result : Result ⊤ ShelfFailed) → Changes (Some old) (Some changed) (Some new) result → (new ≡ old) ⊎ (new ≡ changed)
-either old changed new (Ok done) is = inr (same_some _ _ is)
-either old changed new (Err Shelf) (inl is) = inl (same_some _ _ is)
-either old changed new (Err Shelf) (inr is) = inr (same_some _ _ is)
-either old changed new (Err NoMemory) is = inl (same_some _ _ is)
+either old changed new (Ok done) is = inr (same_from_some _ _ is)
+either old changed new (Err Shelf) (inl is) = inl (same_from_some _ _ is)
+either old changed new (Err Shelf) (inr is) = inr (same_from_some _ _ is)
+either old changed new (Err NoMemory) is = inl (same_from_some _ _ is)
 
 -- a put, whatever it answers
 pub tells_put : (old new : Contents) (slot : Slot) (bytes : List ℕ) (result : Result ⊤ ShelfFailed)

@@ -16,6 +16,7 @@ use Rattle.object_store.specs.declared.error.StoreFault.TheVariants as fault
 use Rattle.object_store.specs.declared.shelf.ShelfFailed.{ShelfFailed}
 use Rattle.object_store.specs.declared.shelf.ShelfFailed.TheVariants.{Shelf, NoMemory}
 use Rattle.object_store.specs.declared.shelf.Slot.TheVariants.{Object, Status}
+use Rattle.ids.proofs.BasicLemmas.{same_from_some}
 
 module _ {S : Type 0} (contents : S → Option Contents) (old new : StoreView S) where
   -- nothing was changed
@@ -37,9 +38,6 @@ module _ {S : Type 0} (contents : S → Option Contents) (old new : StoreView S)
   before_put true bytes size x y lies unknown = cc
   before_put false bytes size x y lies unknown = (lies, unknown)
 
-  same_some : {A : Type 0} (x y : A) → Some x ≡ Some y → x ≡ y
-  same_some x y e = cc
-
   -- an object was put, and its key into the index
   pub strays_put : (key : Key) (bytes : List ℕ) → new.index ≡ map.insert old.index key (length bytes) → contents new.shelf ≡ put_known (contents old.shelf) (Object key) bytes
       → AddsNoStray contents old new
@@ -48,7 +46,7 @@ module _ {S : Type 0} (contents : S → Option Contents) (old new : StoreView S)
       by : (known : Option Contents) → contents old.shelf ≡ known → IsStray contents old q
       by None is = absurd (true≢false (sym (ap is_some (sym (shelf ∙ ap (λ o. put_known o (Object key) bytes) is) ∙ stray.told))))
       by (Some held) is =
-          let objects = ap (λ (c : Contents). c.objects) (same_some _ _ (sym (shelf ∙ ap (λ o. put_known o (Object key) bytes) is) ∙ stray.told)) in
+          let objects = ap (λ (c : Contents). c.objects) (same_from_some _ _ (sym (shelf ∙ ap (λ o. put_known o (Object key) bytes) is) ∙ stray.told)) in
           let was = before_put (eq_by_cmp key_cmp q key) bytes (length bytes) (map.get held.objects q) (map.get old.index q)
           (ap is_some (sym (map.get-insert key_cmp_total held.objects key bytes q)) ∙ ap (λ m. is_some (map.get m q)) objects ∙ stray.lies)
           (sym (map.get-insert key_cmp_total old.index key (length bytes) q) ∙ ap (λ m. map.get m q) (sym index) ∙ stray.unknown) in
@@ -73,7 +71,7 @@ module _ {S : Type 0} (contents : S → Option Contents) (old new : StoreView S)
       by : (known : Option Contents) → contents old.shelf ≡ known → IsStray contents old q
       by None is = absurd (true≢false (sym (ap is_some (sym (shelf ∙ ap (λ o. removed_known o (Object key)) is) ∙ stray.told))))
       by (Some held) is =
-          let objects = ap (λ (c : Contents). c.objects) (same_some _ _ (sym (shelf ∙ ap (λ o. removed_known o (Object key)) is) ∙ stray.told)) in
+          let objects = ap (λ (c : Contents). c.objects) (same_from_some _ _ (sym (shelf ∙ ap (λ o. removed_known o (Object key)) is) ∙ stray.told)) in
           let was = before_removal (eq_by_cmp key_cmp q key) (map.get held.objects q) (map.get old.index q)
           (ap is_some (sym (map.get-remove key_cmp_total held.objects key q)) ∙ ap (λ m. is_some (map.get m q)) objects ∙ stray.lies)
           (sym (map.get-remove key_cmp_total old.index key q) ∙ ap (λ m. map.get m q) (sym index) ∙ stray.unknown) in
@@ -96,7 +94,7 @@ module _ {S : Type 0} (contents : S → Option Contents) (old new : StoreView S)
       by : (known : Option Contents) → contents old.shelf ≡ known → IsStray contents old q
       by None is = absurd (true≢false (sym (ap is_some (sym (shelf ∙ ap (λ o. put_known o Status text) is) ∙ stray.told))))
       by (Some held) is =
-          let objects = ap (λ (c : Contents). c.objects) (same_some _ _ (sym (shelf ∙ ap (λ o. put_known o Status text) is) ∙ stray.told)) in
+          let objects = ap (λ (c : Contents). c.objects) (same_from_some _ _ (sym (shelf ∙ ap (λ o. put_known o Status text) is) ∙ stray.told)) in
           record { held = held; told = is; lies = ap (λ m. is_some (map.get m q)) objects ∙ stray.lies; unknown = ap (λ m. map.get m q) (sym index) ∙ stray.unknown }
 
   -- a text was written, or may be

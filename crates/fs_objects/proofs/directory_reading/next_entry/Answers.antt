@@ -27,7 +27,7 @@ returns-in-Err-clause-value c =
 pub unreachable-requires : goal.unreachable-requires
 unreachable-requires c =
     let fault = (c.in-Err-Bad.ensures.bad c.in-Err-Bad.field-0-0).0 (ap Err c.in-Err-Bad.field-0-is) in
-    let none = c.in-Ok.ensures.good in
+    let none = c.in-Ok.ensures.name in
     cc
 
 pub returns-then-not-is_new-clause-value : goal.returns-then-not-is_new-clause-value

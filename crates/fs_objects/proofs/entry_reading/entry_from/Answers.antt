@@ -5,5 +5,5 @@ use Rattle.fs_objects.proofs.entry_reading.entry_from.Goals as goal
 pub unreachable-requires : goal.unreachable-requires
 unreachable-requires c =
     let fault = (c.in-Err-Bad.ensures.bad c.in-Err-Bad.field-0-0).0 (ap Err c.in-Err-Bad.field-0-is) in
-    let none = c.requires.good in
+    let none = c.requires.name in
     cc
