@@ -34,9 +34,7 @@ use Rattle.library_state.specs.declared.token.Token.{Token}
 use Rattle.library_state.proofs.StateCheckLemmas.{Passes, state_in-found}
 use Rattle.library_state.proofs.TokenLemmas.{tokens_after-ok, is_taken-secrets}
 use Rattle.library_state.specs.declared.state.TheConstants.{MAX_STATE_NAME, MAX_TOKENS}
-
-at_most : (n m : ℕ) → n ≤ m → nat_le n m ≡ true
-at_most n m below = grind (arith, nat_tests)
+use Rattle.std.proofs.lemmas.Bool.{le-leb}
 
 between : (low n high : ℕ) → low ≤ n → n ≤ high → (nat_le low n && nat_le n high) ≡ true
 between low n high above below = grind (arith, nat_tests)
@@ -68,13 +66,13 @@ kept_in-found d installs is some typed proper =
     let many : 1 ≤ length (map install_data installs) = rw (length-map installs install_data) some in
     rw (
       array_field-found (codes "kept") d (map install_data installs) is,
-      at_most 1 (length (map install_data installs)) many,
+      le-leb 1 (length (map install_data installs)) many,
       installs_read installs (recursion_from_All IsTypedInstall installs typed) (recursion_from_All IsProperInstall installs proper),
     )
 
 -- ---- tokens
 
-right_of-text : (right : Right) → right_of (right_text right) ≡ Some right
+pub right_of-text : (right : Right) → right_of (right_text right) ≡ Some right
 right_of-text Read = refl
 right_of-text Write = refl
 right_of-text Owner = refl
@@ -132,7 +130,7 @@ tokens_in-found collection d tokens is typed proper =
     let few : length (map token_data tokens) ≤ MAX_TOKENS = rw (length-map tokens token_data) proper.few in
     rw (
       array_field-found (codes "tokens") d (map token_data tokens) is,
-      at_most (length (map token_data tokens)) MAX_TOKENS few,
+      le-leb (length (map token_data tokens)) MAX_TOKENS few,
       tokens_read collection [] tokens (recursion_from_All IsTypedToken tokens typed) (recursion_from_All (IsProperToken collection) tokens proper.each) proper.distinct,
     )
 
@@ -160,7 +158,7 @@ library_in-found d lib is reads = rw (text_field-found (codes "lib") d (hyphenat
 
 name_in-found : (d : Data) (name : List ℕ) → get (codes "name") d ≡ Some (string name) → length name ≤ MAX_STATE_NAME → name_in d ≡ Ok name
 unfolding name_in
-name_in-found d name is fits = rw (text_field-found (codes "name") d name is, at_most (length name) MAX_STATE_NAME fits)
+name_in-found d name is fits = rw (text_field-found (codes "name") d name is, le-leb (length name) MAX_STATE_NAME fits)
 
 passes-data : (state : LibState) → IsTyped state → IsProper state → Passes (state_data state) state
 unfolding state_with

@@ -1,20 +1,10 @@
 -- The text of a state is read as the state. The key lemma is state_of-text_of.
-use Rattle.std.proofs.Common.{◌≡◌, ◌≤◌, ◌<◌, ◌^◌, ℕ, ℤ, pos, negsuc, List, codes, [], ◌∷◌, map, true, false, cond, Bool, ◌==◌, nat_le, inl, inr, IsUtf8, Ok, refl, arith, length, get_or}
-use Rattle.std.proofs.lemmas.Bool.{and_parts, leb-true, eqb-true, cases_lt}
-use Rattle.std.proofs.lemmas.Bool.Decides.{nat_tests}
-use Rattle.std.proofs.lemmas.List.{get_or_past}
+use Rattle.std.proofs.Common.{◌≡◌, ◌≤◌, ◌<◌, ◌^◌, ℕ, ℤ, pos, negsuc, List, codes, [], ◌∷◌, map, true, nat_le, IsUtf8, Ok, refl, arith}
+use Rattle.std.proofs.lemmas.Bool.{and_parts, leb-true}
 use Rattle.std.proofs.lemmas.List.Elements.{recursion_from_All}
-use Rattle.std.proofs.lemmas.Str.{IsUtf8-from_ascii}
 use Rattle.std.specs.List.{AllByRecursion}
-use Rattle.std.specs.Str.{IsAscii}
-use Rattle.hex.specs.Hex.{encode_lower, lower_digits}
-use Rattle.hex.proofs.HexLemmas.{IsAscii-encode_with}
-use Rattle.uuid.specs.Text.{hyphenated_text, is_hyphen_place, lower}
-use Rattle.ids.specs.Digits.{is_lower_digit}
-use Rattle.ids.specs.Form.{IsOf}
-use Rattle.ids.specs.LibraryId.{library_form}
-use Rattle.ids.proofs.DigitsLemmas.{IsAscii-lower_digits}
-use Rattle.ids.proofs.LibraryTextLemmas.{IsOf-hyphenated}
+use Rattle.ids.proofs.DigitsLemmas.{IsUtf8-encode_lower}
+use Rattle.ids.proofs.LibraryTextLemmas.{IsUtf8-hyphenated}
 use Rattle.serde_json.specs.Find.{of_integer}
 use Rattle.serde_json.specs.View.{items_of}
 use Rattle.json_words.proofs.WrittenLemmas.{IsUtf8-are_ascii, IsSpelled, IsSpelledNumber, AreSpelled, json_of-compact_text}
@@ -30,28 +20,6 @@ use Rattle.library_state.specs.declared.state.LibState.{LibState}
 use Rattle.library_state.specs.declared.token.Token.{Token}
 use Rattle.library_state.proofs.StateReadBackLemmas.{state_of-state_data}
 use Rattle.library_state.proofs.StateTextLemmas.{depth-state_data}
-
--- the digits of an id are a text
-digits_utf8 : (id : List ℕ) → IsUtf8 (encode_lower id)
-digits_utf8 id = IsUtf8-from_ascii (encode_lower id) (IsAscii-encode_with lower_digits id IsAscii-lower_digits)
-
--- what may stand in the text of a library id is ASCII
-small_digit : (c : ℕ) → is_lower_digit c ≡ true → c < 128
-small_digit c is = grind (arith, nat_tests)
-
-small_character : (c : ℕ) (b : Bool) → cond b (c == 45) (is_lower_digit c) ≡ true → c < 128
-small_character c true is = let same : c ≡ 45 = eqb-true c 45 is in omega arith
-small_character c false is = small_digit c is
-
-library_ascii : (text : List ℕ) → IsOf library_form text → IsAscii text
-library_ascii text is k = elim (cases_lt k 36) [
-  | inl below ↦ small_character (get_or text k 0) (is_hyphen_place k) (is.each k below)
-  | inr above ↦ let whole : length text ≡ 36 = is.whole in rw (get_or_past text k 0 (omega (arith, whole))) (omega arith)
-]
-
--- the text of a library id is a text
-library_utf8 : (lib : List ℕ) → IsUtf8 (hyphenated_text lower lib)
-library_utf8 lib = IsUtf8-from_ascii (hyphenated_text lower lib) (library_ascii (hyphenated_text lower lib) (IsOf-hyphenated lib))
 
 right_utf8 : (right : Right) → IsUtf8 (right_text right)
 right_utf8 Read = IsUtf8-are_ascii _ refl
@@ -77,9 +45,9 @@ installs_spelled (install ∷ installs) typed = (
     refl,
     (
       IsUtf8-are_ascii (codes "head") refl,
-      digits_utf8 install.head,
+      IsUtf8-encode_lower install.head,
       refl,
-      (IsUtf8-are_ascii (codes "pushed") refl, digits_utf8 install.pushed, refl, tt),
+      (IsUtf8-are_ascii (codes "pushed") refl, IsUtf8-encode_lower install.pushed, refl, tt),
     ),
   ),
   installs_spelled installs typed.1,
@@ -103,7 +71,7 @@ tokens_spelled collection (token ∷ tokens) most typed proper = (
       refl,
       (
         IsUtf8-are_ascii (codes "secret") refl,
-        digits_utf8 token.secret,
+        IsUtf8-encode_lower token.secret,
         refl,
         (IsUtf8-are_ascii (codes "user") refl, typed.0.user, refl, tt),
       ),
@@ -136,7 +104,7 @@ state_spelled state typed proper =
           refl,
           (
             IsUtf8-are_ascii (codes "lib") refl,
-            library_utf8 state.lib,
+            IsUtf8-hyphenated state.lib,
             refl,
             (
               IsUtf8-are_ascii (codes "name") refl,

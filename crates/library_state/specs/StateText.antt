@@ -93,6 +93,7 @@ right_in d = do
   text ← at_key Tokens (text_field (codes "right") d)
   ok_or (right_of text) Tokens
 
+-- the digits of a secret, which may be forty zeros
 unfoldable pub secret_in : Data → Result (List ℕ) StateKey
 secret_in d = do
   text ← at_key Tokens (text_field (codes "secret") d)

@@ -34,7 +34,7 @@ impl Secret {
 
     /// Reads exactly 40 lower-case hexadecimal digits. It takes no memory.
     pub fn read(text: &str) -> Result<Secret, BadId>
-        ensures good { IsOk result ↔ IsOf digits_form text.now }
+        ensures form { IsOk result ↔ IsOf digits_form text.now }
         ensures value { IfOk result (λ secret. text.now ≡ encode_lower secret) }
         ensures decoded { IfOk result (λ secret. decode_of text.now ≡ Ok secret) }
         ensures bad { IfErr result (λ e. IsLongestBeginning digits_form text.now e.at) }

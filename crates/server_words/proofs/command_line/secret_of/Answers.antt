@@ -6,9 +6,9 @@ use Rattle.server_words.proofs.command_line.secret_of.Goals as goal
 
 pub returns-in-Ok : goal.returns-in-Ok
 returns-in-Ok c = record {
-  value = sym (object_id_of-good c.args.text.now c.in-Ok.secret (c.in-Ok.ensures.good.0 refl) c.in-Ok.ensures.decoded);
+  value = sym (object_id_of-good c.args.text.now c.in-Ok.secret (c.in-Ok.ensures.form.0 refl) c.in-Ok.ensures.decoded);
 }
 
 pub returns-in-Err : goal.returns-in-Err
 returns-in-Err c =
-    record { value = sym (object_id_of-bad c.args.text.now (λ is. false≢true (c.in-Err.ensures.good.1 is))) }
+    record { value = sym (object_id_of-bad c.args.text.now (λ is. false≢true (c.in-Err.ensures.form.1 is))) }
