@@ -1,6 +1,6 @@
 -- A chunk that grows by the bytes of a piece, and what is left of the chunks behind it.
-use Rattle.std.proofs.Common.{◌≡◌, ℕ, ◌+◌, ◌-◌, ◌<◌, ◌≤◌, Bool, true, false, List, [], ◌∷◌, ◌++◌, length, take, drop, refl, sym, ap, ◌∙◌, arith, ⊎_elim, not, Result, Ok, Err, OnErr}
-use Rattle.std.proofs.lemmas.Bool.{cases_lt, false≢true, not-true}
+use Rattle.std.proofs.Common.{◌≡◌, ℕ, ◌+◌, ◌-◌, ◌<◌, ◌≤◌, Bool, true, false, List, [], ◌∷◌, ◌++◌, length, take, drop, refl, sym, ap, ◌∙◌, arith, ⊎_elim, Result, Ok, Err, OnErr}
+use Rattle.std.proofs.lemmas.Bool.{cases_lt, false≢true}
 use Rattle.std.proofs.lemmas.List.{length-take-le, length-append, take-take, take-append-drop, append-nil, take_at}
 use Rattle.std.proofs.Math.Seq.{take-append-add}
 use Rattle.block_chunker.specs.declared.cuts.Cuts.{Cuts}
@@ -76,10 +76,6 @@ TakesSome-end cuts begun grown none piece old new taken h empty handed =
 pub GrowsBy-short : (cuts : Cuts) (begun grown piece : List ℕ) (taken : ℕ) → GrowsBy cuts begun grown piece taken false → length grown ≤ cuts.max → length grown < cuts.max
 GrowsBy-short cuts begun grown piece taken h bound =
     ⊎_elim (λ short. short) (λ long. absurd (false≢true (sym (ap (ends_in_cut cuts) h.joined ∙ h.told) ∙ ends_in_cut-full cuts grown (omega arith)))) (cases_lt (length grown) cuts.max)
-
-pub is_true : (b : Bool) → not b ≡ false → b ≡ true
-is_true true e = refl
-is_true false e = absurd (false≢true (sym e))
 
 -- of all the chunks that end within a piece some were handed out, and the rest is to come
 pub record HandsOut (old now rest all : List (List ℕ)) : Type 0 where

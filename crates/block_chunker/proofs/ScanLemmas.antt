@@ -1,6 +1,6 @@
 -- The first end of a chunk, from what the rolling hash finds.
-use Rattle.std.proofs.Common.{◌≡◌, ℕ, ◌-◌, ◌/◌, ◌^◌, ◌<◌, ◌≤◌, ◌==◌, ◌||◌, Bool, true, false, List, length, take, drop, refl, sym, ap, ◌∙◌, arith, ◌⊎◌, ⊎_elim, inl, inr}
-use Rattle.std.proofs.lemmas.Bool.{cases_lt, ne_eqb, eqb-true, false≢true, or_cases, false_from_ne_true}
+use Rattle.std.proofs.Common.{◌≡◌, ℕ, ◌-◌, ◌/◌, ◌^◌, ◌<◌, ◌≤◌, ◌==◌, ◌||◌, Bool, true, false, List, length, take, drop, refl, sym, ap, ◌∙◌, arith, ◌⊎◌, ⊎_elim}
+use Rattle.std.proofs.lemmas.Bool.{cases_lt, ne_eqb, eqb-true, false≢true, or_cases, false_from_ne_true, or_parts}
 use Rattle.std.proofs.lemmas.List.{length-take-le}
 use Rattle.block_chunker.specs.declared.cuts.Cuts.{Cuts}
 use Rattle.block_chunker.specs.ChunkBoundaries.{window_hash, window, ends_in_cut}
@@ -15,10 +15,6 @@ or_of_true false b e = absurd (false≢true e)
 pub or_of_false : (a b : Bool) → a ≡ false → b ≡ (a || b)
 or_of_false true b e = absurd (false≢true (sym e))
 or_of_false false b e = refl
-
-or_none : (a b : Bool) → (a || b) ≡ false → a ≡ false
-or_none true b e = absurd (false≢true (sym e))
-or_none false b e = refl
 
 -- whether a beginning of the chunk ends in a cut, from the least length on
 pub ends_in_cut-take : (cuts : Cuts) (bytes : List ℕ) (k : ℕ) → cuts.min ≤ k → k ≤ length bytes → ends_in_cut cuts (take k bytes) ≡ ((window_hash (window (take k bytes)) / 2 ^ cuts.shift == 0) || (k == cuts.max))
@@ -38,7 +34,7 @@ IsFirstEnd-grown cuts bytes from end found is long short bounded h e = record {
   quiet = λ k p q. ends_in_cut-take cuts bytes k (omega arith) (omega (arith, h.within)) ∙ ap (λ b. b || (k == cuts.max)) (h.quiet k p q) ∙ ne_eqb k cuts.max (omega (arith, h.within));
   told = λ p. ends_in_cut-take cuts bytes end (omega arith) h.within ∙ ap (λ b. b || (end == cuts.max)) (h.told p) ∙ sym e;
   some = λ t. ⊎_elim h.some (λ full. omega (arith, eqb-true end cuts.max full)) (or_cases found (end == cuts.max) (sym e ∙ t));
-  whole = λ t. h.whole (or_none found (end == cuts.max) (sym e ∙ t));
+  whole = λ t. h.whole (or_parts found (end == cuts.max) (sym e ∙ t)).0;
 }
 
 -- a first end behind a later place, where there is none up to it
@@ -90,7 +86,3 @@ IsFirstEnd-go_on cuts bytes from to end found p e fits uncut h =
 pub either_true : (a b : Bool) → (a ≡ true) ⊎ (b ≡ true) → (a || b) ≡ true
 either_true true b h = refl
 either_true false b h = ⊎_elim (λ e. absurd (false≢true e)) (λ e. e) h
-
-pub both_false : (a b : Bool) → a ≡ false → b ≡ false → (a || b) ≡ false
-both_false true b e f = absurd (false≢true (sym e))
-both_false false b e f = f

@@ -1,9 +1,9 @@
 use Rattle.std.proofs.Common.{rules, subst}
 use Rattle.block_chunker.specs.ChunkerProgress.{GrowsBy}
 use Rattle.block_chunker.proofs.RollingHashLemmas.{chunk_hash-none}
-use Rattle.block_chunker.proofs.ChunkerLemmas.{TakesSome-on, TakesSome-end, GrowsBy-short, is_true}
+use Rattle.block_chunker.proofs.ChunkerLemmas.{TakesSome-on, TakesSome-end, GrowsBy-short}
 use Rattle.block_chunker.proofs.chunker.take_some.Goals as goal
-use Rattle.std.proofs.lemmas.Bool.{not-true}
+use Rattle.std.proofs.lemmas.Bool.{not-true, not-false}
 
 pub returns-then-not-growth-clause-ok : goal.returns-then-not-growth-clause-ok
 returns-then-not-growth-clause-ok c =
@@ -27,5 +27,5 @@ returns-clause-hash c =
 pub returns-clause-ok : goal.returns-clause-ok
 returns-clause-ok c =
     TakesSome-end c.args.cuts c.args.bytes.now.items c.grow.new.bytes.items _ c.args.piece.now c.args.chunks.now _ _
-    (subst (λ b. GrowsBy c.args.cuts c.args.bytes.now.items c.grow.new.bytes.items c.args.piece.now c.in_ok-growth.growth.taken b) (is_true _ c.if-not-growth.false) c.in_ok-growth.ensures.ok)
+    (subst (λ b. GrowsBy c.args.cuts c.args.bytes.now.items c.grow.new.bytes.items c.args.piece.now c.in_ok-growth.growth.taken b) (not-false _ c.if-not-growth.false) c.in_ok-growth.ensures.ok)
     (search rules) (search rules)
