@@ -23,6 +23,7 @@ use Rattle.folder_side.specs.Findings.{seen_at, skips, is_skipped, has_nameless,
 use Rattle.folder_side.proofs.SortedEntryLemmas.{Rises-entries, passes, same_keys, fewer_keys, length_chosen}
 use Rattle.folder_side.proofs.ListingLemmas.{item_of_path, above, none_below}
 use Rattle.tree_model.specs.declared.limits.TheConstants.{MAX_NAMES, MAX_PATHS}
+use Rattle.tree_model.proofs.SettledLemmas.{under_some}
 
 both_same : (a b : Bool) → (a ≡ true → b ≡ true) → b ≡ false → a ≡ b
 both_same true b more none = sym (more refl)
@@ -241,18 +242,6 @@ module _ (cuts : Cuts) (c : Contents) where
       by : (r : PathV) → q ≡ d ++ r → (q ≡ d) ⊎ (is_under d q ≡ true)
       by [] is = inl (is ∙ append-nil d)
       by (n ∷ r) is = inr (subst (λ p. is_under d p ≡ true) (sym is) (under_of d n r))
-
-  pub not_empty : (d : PathV) (n : List ℕ) (r : PathV) → d ++ n ∷ r ≢ []
-  not_empty [] n r e = cc
-  not_empty (m ∷ d) n r e = cc
-
-  under_some : (d q : PathV) → is_under d q ≡ true → q ≢ []
-  under_some d [] under e = none d under
-    where
-      none : (d : PathV) → is_under d [] ≡ true → ⊥
-      none [] u = true≢false (sym u)
-      none (m ∷ d) u = true≢false (sym u)
-  under_some d (n ∷ q) under e = cc
 
   -- where there is no directory there are no nameless entries
   no_nameless : IsFolder c → (q : PathV) → q ≢ [] → (at c q ≡ Some Dir → ⊥) → has_nameless c q ≡ false

@@ -13,6 +13,7 @@ use Rattle.folder_side.specs.declared.holding.Holding.TheVariants.{Dir, File, Ot
 use Rattle.folder_side.specs.Folder.{Contents, IsFolder, at, nameless_at, is_dir, is_dir_at, CanStand, IsEmptyDir, IsRemovable, with_holding, without}
 use Rattle.folder_side.specs.MemoryFolder.{nothing, with_nameless}
 use Rattle.folder_side.proofs.SortedEntryLemmas.{Rises-entries, found_of}
+use Rattle.std.proofs.lemmas.Bool.{or_right}
 
 pub IsFolder-nothing : IsFolder nothing
 IsFolder-nothing = record {
@@ -25,7 +26,7 @@ IsFolder-nothing = record {
     none : (q : PathV) → at nothing q ≡ None
     none q = map.get-empty {X = Holding} path_cmp q
 
-dir_is : (o : Option Holding) → is_dir o ≡ true → o ≡ Some Dir
+pub dir_is : (o : Option Holding) → is_dir o ≡ true → o ≡ Some Dir
 dir_is None e = cc
 dir_is (Some Dir) e = refl
 dir_is (Some (File bytes)) e = cc
@@ -141,11 +142,7 @@ IsFolder-nameless c dir count folder is = record {
 any_found : (dir : PathV) (es : List (PathV × Holding)) (e : PathV × Holding) → In e es → is_under dir e.0 ≡ true → list_any (λ entry. is_under dir entry.0) es ≡ true
 any_found dir [] e there under = absurd there
 any_found dir (f ∷ es) e (inl is) under = ap (λ b. b || list_any (λ entry. is_under dir entry.0) es) (ap (λ (g : PathV × Holding). is_under dir g.0) (sym is) ∙ under)
-any_found dir (f ∷ es) e (inr there) under = behind (is_under dir f.0) (list_any (λ entry. is_under dir entry.0) es) (any_found dir es e there under)
-  where
-    behind : (a b : Bool) → b ≡ true → (a || b) ≡ true
-    behind true b e = refl
-    behind false b e = e
+any_found dir (f ∷ es) e (inr there) under = or_right (is_under dir f.0) (list_any (λ entry. is_under dir entry.0) es) (any_found dir es e there under)
 
 pub record SomeUnder (dir : PathV) (es : List (PathV × Holding)) : Type 0 where
   pub entry : PathV × Holding

@@ -1,5 +1,5 @@
 -- What is left of a checkout, and which directories stay stuck. The key lemmas are stuck_goes_on, held_in_order and held_listed.
-use Rattle.std.proofs.Common.{◌≡◌, ◌≢◌, ◌↔◌, ◌⊎◌, ◌<◌, ◌&&◌, ◌||◌, ℕ, zero, suc, not, Bool, true, false, if◌then◌else◌, List, [], ◌∷◌, ◌++◌, refl, sym, ap, ◌∙◌, subst, Option, Some, None, IsSome, is_some, unwrap_or, option_and_then, true≢false, ltb-true, Contains, inl, inr, append-nil, arith}
+use Rattle.std.proofs.Common.{◌≡◌, ◌≢◌, ◌↔◌, ◌<◌, ◌&&◌, ◌||◌, ℕ, zero, suc, not, Bool, true, false, if◌then◌else◌, List, [], ◌∷◌, ◌++◌, refl, sym, ap, ◌∙◌, subst, Option, Some, None, IsSome, is_some, unwrap_or, option_and_then, true≢false, ltb-true, Contains, inl, inr, append-nil, arith}
 use Rattle.std.specs.Prelude.{nat_lt, map as list_map}
 use Rattle.std.specs.List.{filter_map, cons_option, list_any}
 use Rattle.std.specs.FinMap as map
@@ -16,7 +16,8 @@ use Rattle.folder_side.specs.WorkingTree.{KeepsHidden, PlainDir, PlainFile, held
 use Rattle.folder_side.proofs.ListingLemmas.{dir_above}
 use Rattle.folder_side.proofs.SortedEntryLemmas.{Rises-entries, found_of}
 use Rattle.std.proofs.lemmas.Bool.{or_cases, or_left, or_right, and_parts, and_from}
-use Rattle.ids.proofs.BasicLemmas.{contains_more}
+use Rattle.ids.proofs.BasicLemmas.{contains_more, inner_is_some}
+use Rattle.folder_side.proofs.FolderLemmas.{dir_is}
 
 -- ---- entries that pass a test
 
@@ -111,12 +112,8 @@ dir_of c folder dir some (nameless path within many) = by (within_is dir path wi
         let same : path ≡ dir = is ∙ append-nil dir in
         subst (λ p. at c p ≡ Some Dir) same (folder.nameless_in_dirs path (λ none. some (sym same ∙ none)) positive)
     by (name ∷ rest) is =
-        let there : at c path ≡ Some Dir = folder.nameless_in_dirs path (λ none. not_none dir name rest (sym is ∙ none)) positive in
+        let there : at c path ≡ Some Dir = folder.nameless_in_dirs path (λ none. inner_is_some dir name rest (sym is ∙ none)) positive in
         dir_above c folder dir name rest some (ap is_some (ap (at c) (sym is) ∙ there))
-      where
-        not_none : (d : PathV) (n : List ℕ) (r : PathV) → d ++ n ∷ r ≢ []
-        not_none [] n r e = cc
-        not_none (m ∷ d) n r e = cc
 
 cause_goes : (old new : Contents) → KeepsHidden old new → (dir : PathV) → Cause old dir → Cause new dir
 cause_goes old new keeps dir (other path under is) = other path under ((keeps.others path).1 is)
@@ -223,17 +220,11 @@ listed_in tree c (f ∷ es) e (inr there) is = by (lacks tree c f) (listed_in tr
     by None more = more
     by (Some p) more = contains_more p e.0 (filter_map (lacks tree c) es) more
 
-is_a_dir : (o : Option Holding) → is_dir o ≡ true → o ≡ Some Dir
-is_a_dir None is = cc is
-is_a_dir (Some Dir) is = refl
-is_a_dir (Some (File bytes)) is = cc is
-is_a_dir (Some Other) is = cc is
-
 pub held_listed : (tree : Tree) (c : Contents) (path : PathV) → Contains (held_list tree c) path ↔ ((is_stuck c path ≡ true) × (map.get tree path ≡ None))
 held_listed tree c path = (listed_for tree c path (map.entries c.paths), back)
   where
     back : (is_stuck c path ≡ true) × (map.get tree path ≡ None) → Contains (held_list tree c) path
     back (stuck, none) =
-        let dir = is_a_dir (at c path) (and_parts (is_dir (at c path)) (list_any (hides_other path) (map.entries c.paths) || list_any (hides_nameless path) (map.entries c.nameless)) stuck).0 in
+        let dir = dir_is (at c path) (and_parts (is_dir (at c path)) (list_any (hides_other path) (map.entries c.paths) || list_any (hides_nameless path) (map.entries c.nameless)) stuck).0 in
         listed_in tree c (map.entries c.paths) (path, Dir) (in_found (map.entries c.paths) path Dir (sym (map.get-entries c.paths path) ∙ dir))
         (lacks_is tree c (path, Dir) ∙ lacking_is tree c path stuck none)

@@ -18,7 +18,8 @@ use Rattle.folder_side.specs.declared.holding.Holding.TheVariants.{Dir, File, Ot
 use Rattle.folder_side.specs.Folder.{Contents, IsFolder, at, nameless_at, kind_of, items_in, listing_at}
 use Rattle.folder_side.specs.Findings.{AreOf, KnowsNameless, Grows, HasTaken, HasTakenItem, HasScanned, Gives}
 use Rattle.folder_side.proofs.ListingLemmas.{item_there, ItemThere, listing_is}
-use Rattle.folder_side.proofs.FindingsLemmas.{not_empty, Grows-on, HasScanned-of, HasTakenItem-dir, HasTakenItem-leaf, items-on, items-push, KnowsItem}
+use Rattle.folder_side.proofs.FindingsLemmas.{Grows-on, HasScanned-of, HasTakenItem-dir, HasTakenItem-leaf, items-on, items-push, KnowsItem}
+use Rattle.ids.proofs.BasicLemmas.{inner_is_some}
 
 -- ---- small steps
 
@@ -113,7 +114,7 @@ pub leaf_item : {T : Type 0} (cuts : Cuts) (c : Contents) (old new : Findings) (
     → (at c path ≡ Some Dir → ⊥) → (r : Result T ScanFault) → Gives c (HasTaken cuts c path old new) r → Gives c (HasTakenItem cuts c (dir ++ name ∷ []) old new) r
 leaf_item cuts c old new dir name path is folder no_dir (Ok x) taken =
     subst (λ (p : PathV). HasTakenItem cuts c p old new) is
-    (HasTakenItem-leaf cuts c folder old new path (λ e. not_empty cuts c dir name [] (sym is ∙ e)) no_dir taken)
+    (HasTakenItem-leaf cuts c folder old new path (λ e. inner_is_some dir name [] (sym is ∙ e)) no_dir taken)
 leaf_item cuts c old new dir name path is folder no_dir (Err fault) past = past
 
 pub dir_item : {T : Type 0} (cuts : Cuts) (c : Contents) (old mid new : Findings) (dir : PathV) (name : List ℕ) (path : PathV) → path ≡ dir ++ name ∷ []

@@ -12,20 +12,13 @@ use Rattle.folder_side.specs.Folder.{Contents, at, is_other, is_dir}
 use Rattle.folder_side.specs.ScanReport.{seen_of, IsScan}
 use Rattle.folder_side.specs.WorkingTree.{held_of, is_stuck, seen_as}
 use Rattle.std.specs.Prelude.{nat_lt}
+use Rattle.std.proofs.Math.Bool.{and-true, and-false}
 
 pub seen-visible : (cuts : Cuts) (o : Option Holding) → option_and_then (seen_of cuts) o ≡ option_map (seen_as cuts) (option_and_then held_of o)
 seen-visible cuts None = refl
 seen-visible cuts (Some Dir) = refl
 seen-visible cuts (Some (File bytes)) = refl
 seen-visible cuts (Some Other) = refl
-
-and-true : (a : Bool) → (a && true) ≡ a
-and-true true = refl
-and-true false = refl
-
-and-false : (a : Bool) → (a && false) ≡ false
-and-false true = refl
-and-false false = refl
 
 -- an entry that is chosen passes a test of its path exactly where the path of one that is chosen does
 any-chosen : {X : Type 0} (p : PathV → Bool) (q : X → Bool) (entries : List (PathV × X)) →

@@ -1,8 +1,6 @@
 -- What is read as a command is its spelling, and the spelling of a command is read as it.
 -- The key lemmas are command_of-words_of and words_of-command_of, at the end.
 use Rattle.std.proofs.Common.{◌≡◌, ◌≢◌, ℕ, Bool, true, false, ◌&&◌, List, [], ◌∷◌, Option, Some, None, inl, refl, sym, cond, codes}
-use Rattle.std.proofs.lemmas.Bool.{false_from_ne_true}
-use Rattle.std.proofs.lemmas.Slice.Eq.{bytes_eq-Decides}
 use Rattle.std.specs.Option.{IfSome}
 use Rattle.std.specs.Result.{result_ok}
 use Rattle.std.specs.Str.{bytes_eq}
@@ -26,6 +24,7 @@ use Rattle.server_words.specs.declared.command.Command.TheVariants.{Create, Toke
 use Rattle.server_words.specs.declared.command.Location.{Location}
 use Rattle.server_words.specs.declared.command.Location.TheVariants.{Memory, Folder}
 use Rattle.ids.proofs.BasicLemmas.{same_from_bytes_eq, apart_from_bytes_eq}
+use Rattle.library_state.proofs.StateReadBackLemmas.{right_of-text}
 
 -- what a text is read as spells the text
 library_text_at : (text : List ℕ) (b : Bool) → has_form library_form text ≡ b → IfSome (cond b (parsed text) None) (λ id. text ≡ hyphenated_text lower id)
@@ -159,16 +158,11 @@ secret_of-digits : (secret : List ℕ) → IsBytesOf 20 secret → secret_of (en
 secret_of-digits secret is =
     object_id_of-good (encode_lower secret) secret (IsOf-encode_lower secret is.0 is.1) (decode_of-encode_lower secret (IsBytes-from_All secret is.1))
 
-right_of-right_text : (right : Right) → right_of (right_text right) ≡ Some right
-right_of-right_text Read = refl
-right_of-right_text Write = refl
-right_of-right_text Owner = refl
-
 pub command_of-words_of : (command : Command) → command ≢ Usage → IsCommand command → command_of (words_of command) ≡ command
 command_of-words_of (Create location lib name user secret) other is =
     rw (location_word-location_text location is.0, library_id_of-text lib is.1, secret_of-digits secret is.4, is.2, is.3)
 command_of-words_of (Token location lib user secret right) other is =
-    rw (location_word-location_text location is.0, library_id_of-text lib is.1, secret_of-digits secret is.3, right_of-right_text right, is.2)
+    rw (location_word-location_text location is.0, library_id_of-text lib is.1, secret_of-digits secret is.3, right_of-text right, is.2)
 command_of-words_of (Inetd location lib) other is = rw (location_word-location_text location is.0, library_id_of-text lib is.1)
 command_of-words_of Help other is = refl
 command_of-words_of Version other is = refl
