@@ -1,5 +1,5 @@
 -- A new library is sound, and so is one with a token more. The key lemmas are sound_created and sound_with_token.
-use Rattle.std.proofs.Common.{◌≡◌, ◌||◌, ◌⊎◌, inl, inr, ℕ, suc, ◌+◌, ◌≤◌, ◌<◌, Bool, true, false, List, [], ◌∷◌, ◌++◌, length, refl, sym, ap, ◌∙◌, subst, true≢false, arith, Result, Ok, zero-le}
+use Rattle.std.proofs.Common.{◌≡◌, ◌||◌, ◌⊎◌, inl, inr, ℕ, ◌+◌, ◌≤◌, ◌<◌, Bool, true, false, List, [], ◌∷◌, ◌++◌, length, refl, sym, ap, ◌∙◌, subst, true≢false, arith, Result, Ok, zero-le}
 use Rattle.std.specs.List.{AllByRecursion, IsDistinct}
 use Rattle.std.specs.Str.{bytes_eq}
 use Rattle.std.specs.Cmp.Lexicographic.{bytes_decides}
@@ -19,6 +19,7 @@ use Rattle.library_rules.proofs.KeptHistoryLemmas.{cons_some}
 use Rattle.library_rules.proofs.MemberLemmas.{same_id-true}
 use Rattle.std.proofs.lemmas.Bool.{or_cases}
 use Rattle.ids.proofs.BasicLemmas.{AllByRecursion-push}
+use Rattle.std.proofs.lemmas.List.{length_push}
 
 -- a commit with no file is complete once it is stored
 pub empty_complete : (A : Objects) (id : List ℕ) (commit : Commit) → commit_at A id ≡ Ok commit → commit.root ≡ nil → IsComplete A id
@@ -98,13 +99,6 @@ distinct_push : (secrets : List (List ℕ)) (secret : List ℕ) → IsDistinct b
 unfolding IsDistinct
 distinct_push [] secret distinct free = (tt, tt)
 distinct_push (x ∷ secrets) secret distinct free = (AllByRecursion-push (λ y. bytes_eq x y ≡ false) secrets secret distinct.0 free.0, distinct_push secrets secret distinct.1 free.1)
-
-length_push : {A : Type 0} (xs : List A) (x : A) → length (xs ++ x ∷ []) ≡ length xs + 1
-length_push [] x = refl
-length_push (y ∷ xs) x = ap (λ k. suc k) (length_push xs x) ∙ more (length xs)
-  where
-    more : (k : ℕ) → suc (k + 1) ≡ suc k + 1
-    more k = omega arith
 
 pub sound_with_token : (s : State) (user secret : List ℕ) (right : Right) → IsSound s → is_taken s.state.tokens secret ≡ false → length s.state.tokens < 1000
     → 1 ≤ length user → length user ≤ 255 → IsSound (with_token user secret right s)

@@ -1,5 +1,5 @@
 -- As a collection ends, and what leaves before. The key lemmas are clean_at_end and spared.
-use Rattle.std.proofs.Common.{◌≡◌, ◌||◌, Bool, true, false, sym, ap, subst, ◌∙◌}
+use Rattle.std.proofs.Common.{◌≡◌, ◌||◌, true, false, sym, ap, subst, ◌∙◌}
 use Rattle.ids.specs.declared.key.Key.{Key}
 use Rattle.object_graph.specs.Traversal.{is_in}
 use Rattle.library_rules.specs.Changes.{with_added, without, apply, step_changes, moved}
@@ -9,15 +9,12 @@ use Rattle.library_rules.specs.LibraryState.{State, is_stored, is_needed, is_fre
 use Rattle.library_rules.specs.declared.entry.Entry.{Entry}
 use Rattle.library_rules.specs.declared.entry.Step.TheVariants as step
 use Rattle.library_rules.proofs.StepLemmas.{objects_after, spares}
+use Rattle.std.proofs.lemmas.Bool.{or_from}
 
 -- what leaves is neither needed nor fresh
-neither : (a b : Bool) → a ≡ false → b ≡ false → (a || b) ≡ false
-neither true b p q = p
-neither false b p q = q
-
 pub spared : (s : State) (e : Entry) → Permits s e → (key : Key) → is_in e.removed key ≡ true → (is_needed s.objects s.state.kept key || is_fresh s.running key) ≡ false
 spared s e permits key there =
-    neither (is_needed s.objects s.state.kept key) (is_fresh s.running key) ((spares s e permits).unneeded key there) ((spares s e permits).not_fresh key there)
+    or_from (is_needed s.objects s.state.kept key) (is_fresh s.running key) ((spares s e permits).unneeded key there) ((spares s e permits).not_fresh key there)
 
 -- an end changes no object and cuts nothing
 ended_objects : (s : State) (e : Entry) → Ends s e → (apply s e).objects ≡ s.objects

@@ -1,5 +1,5 @@
 -- Ids, keys and tests in lists. The key lemmas are any_found, in_all and kept_append.
-use Rattle.std.proofs.Common.{◌≡◌, ◌||◌, ◌⊎◌, inl, inr, ℕ, Bool, true, false, List, [], ◌∷◌, ◌++◌, refl, sym, ap, ◌∙◌, subst, true≢false}
+use Rattle.std.proofs.Common.{◌≡◌, ◌||◌, inl, inr, ℕ, Bool, true, false, List, [], ◌∷◌, ◌++◌, refl, sym, ap, ◌∙◌, subst, true≢false}
 use Rattle.std.specs.Cmp.Lexicographic.{bytes_decides}
 use Rattle.std.specs.FinSet as set
 use Rattle.std.specs.List.{list_any}
@@ -12,7 +12,8 @@ use Rattle.object_graph.specs.Traversal.{is_in}
 use Rattle.object_graph.proofs.KeyLemmas.{same_key}
 use Rattle.library_rules.specs.Changes.{add_all}
 use Rattle.library_rules.specs.LibraryState.{kept_commits, is_kept}
-use Rattle.std.proofs.lemmas.Bool.{or_cases, or_left, or_right, false_from_ne_true, or_parts}
+use Rattle.std.proofs.lemmas.Bool.{or_cases, or_left, or_right}
+use Rattle.std.proofs.lemmas.List.Folds.{list_any-append}
 
 pub same_id-true : (a b : List ℕ) → same_id a b ≡ true → a ≡ b
 same_id-true a b e = (bytes_decides a b).0 e
@@ -46,16 +47,12 @@ any_found P (x ∷ ids) id e p = elim (or_cases (same_id id x) (list_any (same_i
   | inr there ↦ or_right (P x) (list_any P ids) (any_found P ids id there p)
 ]
 
-pub any_append : {A : Type 0} (P : A → Bool) (xs ys : List A) → list_any P (xs ++ ys) ≡ (list_any P xs || list_any P ys)
-any_append P [] ys = refl
-any_append P (x ∷ xs) ys = ap (λ b. P x || b) (any_append P xs ys) ∙ or_assoc (P x) (list_any P xs) (list_any P ys)
-
 pub commits_append : (xs ys : List Install) → kept_commits (xs ++ ys) ≡ kept_commits xs ++ kept_commits ys
 commits_append [] ys = refl
 commits_append (x ∷ xs) ys = ap (λ ids. x.head ∷ x.pushed ∷ ids) (commits_append xs ys)
 
 pub kept_append : (xs ys : List Install) (id : List ℕ) → is_kept (xs ++ ys) id ≡ (is_kept xs id || is_kept ys id)
-kept_append xs ys id = ap (list_any (same_id id)) (commits_append xs ys) ∙ any_append (same_id id) (kept_commits xs) (kept_commits ys)
+kept_append xs ys id = ap (list_any (same_id id)) (commits_append xs ys) ∙ list_any-append (same_id id) (kept_commits xs) (kept_commits ys)
 
 -- ---- sets of keys
 

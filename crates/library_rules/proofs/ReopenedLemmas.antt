@@ -13,9 +13,7 @@ use Rattle.library_rules.specs.Recovery.{StandsFor, opened}
 use Rattle.library_rules.proofs.KeepingLemmas.{agrees_grown, still_complete, same_needs, needs_stored}
 use Rattle.library_rules.proofs.MemberLemmas.{apart, same_id-itself}
 use Rattle.std.proofs.lemmas.Bool.{or_left, or_right, false_from_ne_true}
-
-next_opening : (n : ℕ) → n < last_number → n + 1 ≤ last_number
-next_opening n less = omega arith
+use Rattle.library_rules.proofs.SoundLemmas.{next_number}
 
 one_more : (n : ℕ) → 1 ≤ n + 1
 one_more n = omega arith
@@ -31,7 +29,7 @@ sound_opened s lying faults sound keeps less = record {
   numbers = record {
     collections = sound.numbers.collections;
     opened = one_more s.state.opening;
-    openings = next_opening s.state.opening less;
+    openings = next_number s.state.opening less;
     day_count = sound.numbers.day_count;
     name_size = sound.numbers.name_size;
   };

@@ -1,5 +1,5 @@
 -- What keeps a state sound, layer by layer. The key lemmas are sound_moved, sound_act, sound_begun and sound_swept.
-use Rattle.std.proofs.Common.{◌≡◌, ◌⊎◌, inl, inr, ℕ, suc, ◌+◌, ◌≤◌, ◌<◌, ℤ, Bool, true, false, if◌then◌else◌, cond, List, [], ◌∷◌, ◌++◌, length, refl, sym, ap, ◌∙◌, subst, true≢false, arith, Option, None, Some, option_map, le_refl}
+use Rattle.std.proofs.Common.{◌≡◌, ◌⊎◌, inl, inr, ℕ, ◌+◌, ◌≤◌, ◌<◌, ℤ, Bool, true, false, if◌then◌else◌, cond, List, [], ◌∷◌, ◌++◌, length, refl, sym, ap, ◌∙◌, subst, true≢false, arith, Option, None, Some, option_map, le_refl}
 use Rattle.std.specs.FinMap as map
 use Rattle.std.specs.FinSet as set
 use Rattle.std.specs.List.{AllByRecursion, IsDistinct}
@@ -137,7 +137,7 @@ lasts_more n (t ∷ tokens) all = (more t.last all.0, lasts_more n tokens all.1)
 pub tokens_begun : (n : ℕ) (tokens : List Token) → AreTokens tokens n → AreTokens tokens (n + 1)
 tokens_begun n tokens are = record { secrets = are.secrets; few = are.few; lasts = lasts_more n tokens are.lasts; users = are.users }
 
-next_number : (n : ℕ) → n < last_number → n + 1 ≤ last_number
+pub next_number : (n : ℕ) → n < last_number → n + 1 ≤ last_number
 next_number n less = omega arith
 
 pub numbers_begun : (collection opening : ℕ) (days : ℤ) (name : List ℕ) → collection < last_number → AreNumbers collection opening days name → AreNumbers (collection + 1) opening days name

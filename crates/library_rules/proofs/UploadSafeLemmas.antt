@@ -1,13 +1,11 @@
 -- Every step but a begin keeps a safe key safe. The key lemmas are needed_stays, covers_step and stays_safe.
-use Rattle.std.proofs.Common.{◌≡◌, ◌≢◌, inl, inr, ℕ, Bool, true, false, cond, List, [], ◌∷◌, Option, None, Some, option_map, refl, ap, ◌∙◌}
+use Rattle.std.proofs.Common.{◌≡◌, ◌≢◌, inl, inr, ℕ, Bool, true, false, cond, List, [], Option, None, Some, option_map, refl, ap, ◌∙◌}
 use Rattle.std.specs.FinSet as set
-use Rattle.std.specs.List.{list_any}
 use Rattle.std.proofs.lemmas.Bool.{and_parts, and_from, or_cases, or_left, or_right, false_from_ne_true}
 use Rattle.ids.specs.declared.key.Key.{Key}
 use Rattle.library_state.specs.declared.call.Act.{Act}
 use Rattle.library_state.specs.declared.call.Act.TheVariants as act
 use Rattle.library_state.specs.declared.reply.Reply.{Reply}
-use Rattle.object_graph.specs.Objects.{same_id}
 use Rattle.object_graph.specs.Traversal.{is_in, needs}
 use Rattle.library_rules.specs.Calls.{keys_of}
 use Rattle.library_rules.specs.Changes.{with_added, without, keys_added, fresher, told_by, stored_keys, moved, is_refused, act_changes, turn_counted, step_changes, apply}
@@ -19,35 +17,21 @@ use Rattle.library_rules.specs.declared.entry.Entry.{Entry}
 use Rattle.library_rules.specs.declared.entry.Step.{Step}
 use Rattle.library_rules.specs.declared.entry.Step.TheVariants as step
 use Rattle.library_rules.proofs.KeepingLemmas.{same_needs, agrees_moved, kept_needs, still_stored}
-use Rattle.library_rules.proofs.MemberLemmas.{apart, in_all, same_id-itself}
+use Rattle.library_rules.proofs.MemberLemmas.{apart, in_all}
 use Rattle.library_rules.proofs.RetriedLemmas.{kept_stays}
 use Rattle.library_rules.proofs.StepLemmas.{objects_after, spares}
+use Rattle.library_rules.proofs.ReopenedLemmas.{any_at}
 
 -- ---- what is needed stays needed
 
--- one of the ids at which a test passes
-record Passing (P : List ℕ → Bool) (ids : List (List ℕ)) : Type 0 where
-  id : List ℕ
-  there : list_any (same_id id) ids ≡ true
-  passes : P id ≡ true
-
-some_passing : (P : List ℕ → Bool) (ids : List (List ℕ)) → list_any P ids ≡ true → Passing P ids
-some_passing P [] e = cc
-some_passing P (x ∷ ids) e = elim (or_cases (P x) (list_any P ids) e) [
-  | inl here ↦ record { id = x; there = or_left (same_id x x) (list_any (same_id x) ids) (same_id-itself x); passes = here }
-  | inr later ↦
-      let found = some_passing P ids later in
-      record { id = found.id; there = or_right (same_id found.id x) (list_any (same_id found.id) ids) found.there; passes = found.passes }
-]
-
 needed_stays : (s : State) (e : Entry) → IsSound s → Permits s e → e.step ≢ step.Began → (key : Key) → is_needed s.objects s.state.kept key ≡ true → is_needed (apply s e).objects (apply s e).state.kept key ≡ true
 needed_stays s e sound permits other key needed =
-    let found = some_passing (λ commit. is_in (needs s.objects commit) key) (kept_commits s.state.kept) needed in
+    let found = any_at (λ commit. is_in (needs s.objects commit) key) (kept_commits s.state.kept) needed in
     let id = found.id in
-    let agree = agrees_moved s.objects s.state.kept e.added e.removed id found.there (sound.kept.complete id found.there) (spares s e permits).unneeded (spares s e permits).one in
+    let agree = agrees_moved s.objects s.state.kept e.added e.removed id found.among (sound.kept.complete id found.among) (spares s e permits).unneeded (spares s e permits).one in
     let B = without (with_added s.objects e.added) e.removed in
     let there : is_in (needs B id) key ≡ true = ap (λ keys. is_in keys key) (same_needs s.objects B id agree) ∙ found.passes in
-    let kept = kept_stays s e id found.there (λ began. absurd (other began)) in
+    let kept = kept_stays s e id found.among (λ began. absurd (other began)) in
     ap (λ A. is_needed A (apply s e).state.kept key) (objects_after s e) ∙ kept_needs B (apply s e).state.kept id key kept there
 
 -- ---- what is fresh stays fresh
