@@ -1,19 +1,18 @@
 -- A request names a call exactly by that call's method and path. The lemmas that callers want are named_by_path and
 -- path_names.
-use Rattle.std.proofs.Common.{◌≡◌, ℕ, ◌<◌, Bool, true, false, cond, Option, None, Some, List, [], ◌∷◌, length, get_or, codes, nat_eq, refl, sym, ◌∙◌, ap, subst, arith, lit<, inl, inr, ◌⊎◌, not, ne_eqb, All}
-use Rattle.std.proofs.lemmas.Bool.{cases_lt, eqb-true, false_from_ne_true, true≢false, not-true}
+use Rattle.std.proofs.Common.{◌≡◌, ℕ, ◌<◌, Bool, true, false, cond, Option, None, Some, List, [], ◌∷◌, length, get_or, codes, nat_eq, refl, sym, ◌∙◌, ap, subst, arith, inl, inr, ◌⊎◌, not, ne_eqb, All}
+use Rattle.std.proofs.lemmas.Bool.{eqb-true, false_from_ne_true, true≢false, not-true}
 use Rattle.std.proofs.lemmas.List.Sums.{AllPass-from_list_all}
 use Rattle.std.specs.List.{list_all}
 use Rattle.hex.proofs.HexLemmas.{decode_of-encode_lower}
 use Rattle.uuid.proofs.RoundTrips.{parses_hyphenated}
-use Rattle.std.proofs.lemmas.List.Elements.{All-from_get_or, All-get_or}
-use Rattle.std.proofs.lemmas.List.{get_or_past}
+use Rattle.std.proofs.lemmas.List.Elements.{All-from_get_or}
 use Rattle.std.proofs.lemmas.List.Splits.{join_with_byte-slice_split, slice_split_at, slice_split_none}
 use Rattle.std.specs.Cmp.Lexicographic.{same_text}
 use Rattle.std.specs.List.{join_with_byte}
 use Rattle.std.specs.Option.{option_and_then}
 use Rattle.std.specs.Str.{bytes_eq}
-use Rattle.hex.specs.Hex.{IsBytes, encode_lower}
+use Rattle.hex.specs.Hex.{encode_lower}
 use Rattle.uuid.specs.Text.{hyphenated_text, is_hyphen_place, lower}
 use Rattle.ids.specs.declared.key.Key.{Key}
 use Rattle.ids.specs.declared.key.Kind.{Kind}
@@ -24,8 +23,9 @@ use Rattle.ids.specs.LibraryId.{library_form}
 use Rattle.ids.proofs.DigitsLemmas as digits
 use Rattle.ids.proofs.LibraryTextLemmas as library
 use Rattle.json_words.specs.IdText.{library_id_of, object_id_of}
-use Rattle.ids.specs.Kind.{kind_word}
-use Rattle.http_front.specs.Route.{IsCall, IsLibrary, IsNamed, IsPathKind, head_method, head_route, kind_of, library_route, method_in, named_route, object_route, pair_route, parts_in, path_in, path_route, repo_route, route_of, top_route, under, version_route, word_route}
+use Rattle.ids.specs.Kind.{kind_of, kind_word}
+use Rattle.ids.proofs.KindLemmas.{kind_of-has}
+use Rattle.http_front.specs.Route.{IsCall, IsLibrary, IsNamed, IsPathKind, head_method, head_route, kind_in_path, library_route, method_in, named_route, object_route, pair_route, parts_in, path_in, path_kind, path_route, repo_route, route_of, top_route, under, version_route, word_route}
 use Rattle.http_front.specs.Target.{parts, path_of}
 use Rattle.http_front.specs.declared.method.Method.{Method}
 use Rattle.http_front.specs.declared.method.Method.TheVariants as method
@@ -40,29 +40,22 @@ and_some : {A : Type 0} (f : A → Option Route) (o : Option A) (r : Route) → 
 and_some f None r e = let bad : ⊥ = cc in absurd bad
 and_some f (Some x) r e = (x, refl, e)
 
-kind_text : (word : List ℕ) (kind : Kind) → kind_of word ≡ Some kind → word ≡ kind_word kind
-kind_text word kind e = elim (kind_picked (bytes_eq word (codes "block")) Block _ kind e) [
-  | inl is ↦ same_text word (codes "block") (sym is.0) ∙ ap kind_word is.1
-  | inr e ↦ let is = if_kind (bytes_eq word (codes "commit")) Commit kind e in same_text word (codes "commit") (sym is.0) ∙ ap kind_word is.1
-]
-  where
-    kind_picked : (b : Bool) (k : Kind) (o : Option Kind) (kind : Kind) → cond b (Some k) o ≡ Some kind → ((b ≡ true) × (k ≡ kind)) ⊎ (o ≡ Some kind)
-    kind_picked true k o kind e = let same : k ≡ kind = cc in inl (refl, same)
-    kind_picked false k o kind e = inr e
+kind_named : (o : Option Kind) (kind : Kind) → option_and_then path_kind o ≡ Some kind → o ≡ Some kind
+kind_named None kind e = let bad : ⊥ = cc in absurd bad
+kind_named (Some Commit) kind e = e
+kind_named (Some Fs) kind e = let bad : ⊥ = cc in absurd bad
+kind_named (Some Block) kind e = e
 
-    if_kind : (b : Bool) (k kind : Kind) → cond b (Some k) None ≡ Some kind → (b ≡ true) × (k ≡ kind)
-    if_kind true k kind e = let same : k ≡ kind = cc in (refl, same)
-    if_kind false k kind e = let bad : ⊥ = cc in absurd bad
+kind_text : (word : List ℕ) (kind : Kind) → kind_in_path word ≡ Some kind → word ≡ kind_word kind
+kind_text word kind e = kind_of-has word kind (kind_named (kind_of word) kind e)
 
 -- ---- a kind that a path can name
 
-path_kind : (word : List ℕ) (kind : Kind) → kind_of word ≡ Some kind → IsPathKind kind
-path_kind word kind e = path_kind_at (bytes_eq word (codes "block")) (bytes_eq word (codes "commit")) kind e
-  where
-    path_kind_at : (b c : Bool) (kind : Kind) → cond b (Some Block) (cond c (Some Commit) None) ≡ Some kind → IsPathKind kind
-    path_kind_at true c kind e = let same : Block ≡ kind = cc in subst IsPathKind same tt
-    path_kind_at false true kind e = let same : Commit ≡ kind = cc in subst IsPathKind same tt
-    path_kind_at false false kind e = let bad : ⊥ = cc in absurd bad
+is_path_kind : (o : Option Kind) (kind : Kind) → option_and_then path_kind o ≡ Some kind → IsPathKind kind
+is_path_kind None kind e = let bad : ⊥ = cc in absurd bad
+is_path_kind (Some Commit) kind e = let same : Commit ≡ kind = cc in subst IsPathKind same tt
+is_path_kind (Some Fs) kind e = let bad : ⊥ = cc in absurd bad
+is_path_kind (Some Block) kind e = let same : Block ≡ kind = cc in subst IsPathKind same tt
 
 -- a path's parts that name a call: those of a call
 record IsPathOf (m : Method) (q : List (List ℕ)) (route : Route) : Type 0 where
@@ -136,11 +129,11 @@ head_named method.Other lib route sized e = let bad : ⊥ = cc in absurd bad
 -- a kind of object and an id
 named_is : (m : Method) (lib word text : List ℕ) (route : Route) → IsLibrary lib → named_route m lib word text ≡ Some route → IsPathOf m (under lib (word ∷ text ∷ [])) route
 named_is m lib word text route sized e =
-    let kind = and_some (λ k. option_and_then (λ id. object_route m lib (record { kind = k; id = id })) (object_id_of text)) (kind_of word) route e in
+    let kind = and_some (λ k. option_and_then (λ id. object_route m lib (record { kind = k; id = id })) (object_id_of text)) (kind_in_path word) route e in
     let id = and_some (λ i. object_route m lib (record { kind = kind.0; id = i })) (object_id_of text) route kind.2 in
     let bytes = id_bytes text id.0 id.1 in
     let named : IsNamed lib (record { kind = kind.0; id = id.0 }) =
-    record { lib_is = sized; id_size = bytes.0; id_bytes = bytes.1; kind = path_kind word kind.0 kind.1 } in
+    record { lib_is = sized; id_size = bytes.0; id_bytes = bytes.1; kind = is_path_kind (kind_of word) kind.0 kind.1 } in
     let own = object_named m lib (record { kind = kind.0; id = id.0 }) route named id.2 in
     record {
       method_is = own.method_is;
@@ -239,15 +232,9 @@ pub lib_reads : (lib : List ℕ) → length lib ≡ 16 → All (λ byte. byte < 
 unfolding library_id_of
 lib_reads lib size bytes = rw (has_form-IsOf library_form (hyphenated_text lower lib) (library.IsOf-hyphenated lib)) (sym (parses_hyphenated lower lib (inl refl) size bytes))
 
-are_bytes : (id : List ℕ) → All (λ byte. byte < 256) id → IsBytes id
-are_bytes id bytes i = elim (cases_lt i (length id)) [
-  | inl inside ↦ All-get_or (λ byte. byte < 256) id i 0 inside bytes
-  | inr past ↦ rw (get_or_past id i 0 past) (lit< tt)
-]
-
 pub id_reads : (id : List ℕ) → length id ≡ 20 → All (λ byte. byte < 256) id → object_id_of (encode_lower id) ≡ Some id
 unfolding object_id_of
-id_reads id size bytes = rw (has_form-IsOf digits_form (encode_lower id) (digits.IsOf-encode_lower id size bytes), decode_of-encode_lower id (are_bytes id bytes))
+id_reads id size bytes = rw (has_form-IsOf digits_form (encode_lower id) (digits.IsOf-encode_lower id size bytes), decode_of-encode_lower id (digits.IsBytes-from_All id bytes))
 
 -- ---- parts without a slash, joined by slashes, are cut into the same parts
 
@@ -295,7 +282,7 @@ cut_object lib key is = cut_under lib (kind_word key.kind ∷ encode_lower key.i
 library_named : (m : Method) (lib : List ℕ) (rest : List (List ℕ)) → IsLibrary lib → path_route m (under lib rest) ≡ library_route m lib rest
 library_named m lib rest is = rw (lib_reads lib is.size is.bytes)
 
-kind_read : (kind : Kind) → IsPathKind kind → kind_of (kind_word kind) ≡ Some kind
+kind_read : (kind : Kind) → IsPathKind kind → kind_in_path (kind_word kind) ≡ Some kind
 kind_read Commit is = refl
 kind_read Fs is = absurd is
 kind_read Block is = refl

@@ -1,6 +1,6 @@
 -- What is left of an input has one end. The key lemmas are nothing_cut, nothing_refused, one_cut, one_status and
 -- cut_or_refused.
-use Rattle.std.proofs.Common.{◌≡◌, ℕ, zero, suc, ◌<◌, ◌≤◌, ◌⊎◌, inl, inr, List, [], ◌∷◌, length, take, drop, refl, sym, ap, ◌∙◌, arith, append-nil, length-append, Result, Ok, Err}
+use Rattle.std.proofs.Common.{◌≡◌, ℕ, zero, suc, ◌<◌, ◌⊎◌, inl, inr, List, [], ◌∷◌, length, take, drop, refl, sym, ap, ◌∙◌, arith, append-nil, length-append, Result, Ok, Err}
 use Rattle.std.proofs.lemmas.List.{take-append-drop}
 use Rattle.std.proofs.lemmas.List.Elements.{All-nil}
 use Rattle.std.proofs.lemmas.List.Sums.{AllPass-from_list_all}
@@ -11,7 +11,7 @@ use Rattle.httparse.specs.Grammar.{RequestHead, IsRequestHead, ReadsRequest, IsF
 use Rattle.httparse.specs.Spans.{RequestOverflows}
 use Rattle.http_front.specs.RequestHead.{judge}
 use Rattle.http_front.specs.RequestStream.{IsHeadAt, IsCutAfter, in_head, in_body, IsRefused, by_head, by_bytes, by_length, NeedsManyFields, front_of, interim_of}
-use Rattle.http_front.proofs.StreamLemmas.{one_head, reads_front}
+use Rattle.http_front.proofs.StreamLemmas.{one_head, reads_front, too_many}
 
 -- ---- where nothing is left
 
@@ -74,9 +74,6 @@ head_and_many : (rest : List ℕ) (head : RequestHead) (after : List ℕ) → Is
     → RequestOverflows 64 (front_of rest) → ⊥
 head_and_many rest head after at over =
     too_many (length head.fields) (over (drop 16384 rest) head after (at.reads.0, take-append-drop 16384 rest ∙ at.reads.1)) at.few
-  where
-    too_many : (n : ℕ) → 64 < n → n ≤ 64 → ⊥
-    too_many n many few = omega arith
 
 -- a head is accepted or refused
 accepted_and_refused : (rest : List ℕ) (head other : RequestHead) (after more : List ℕ) (size status : ℕ) → IsHeadAt rest head after

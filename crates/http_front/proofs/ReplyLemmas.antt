@@ -1,10 +1,10 @@
 -- The bodies of refusals have no float, so their text is serde_json's. The lemma that callers want is refused_text.
-use Rattle.std.proofs.Common.{◌≡◌, ◌≢◌, ℕ, List, [], ◌∷◌, map, None, Some, codes, true, false, refl, ap, ◌∙◌, subst, ne_eqb}
+use Rattle.std.proofs.Common.{◌≡◌, ◌≢◌, ℕ, List, map, None, Some, codes, true, false, refl, ap, ◌∙◌, subst, ne_eqb}
 use Rattle.http_front.specs.declared.status.Status.TheVariants.{NotImplemented}
 use Rattle.http_front.specs.ReplyText.{bad_body, bad_text, json_parts, written}
 use Rattle.serde_json.specs.Data.{Data, array}
 use Rattle.serde_json.specs.View.{view, items_of}
-use Rattle.serde_json.specs.Written.{compact_text, has_float, items_have_float}
+use Rattle.serde_json.specs.Written.{compact_text, has_float}
 use Rattle.serde_json.specs.declared.value.Value.{Value}
 use Rattle.json_words.specs.IdText.{id_data}
 use Rattle.http_front.specs.IdArray.{array_text}
@@ -12,6 +12,7 @@ use Rattle.library_state.specs.declared.refusal.Refusal.{Refusal}
 use Rattle.library_state.specs.declared.refusal.Refusal.TheVariants as refusal
 use Rattle.http_front.specs.RefusalText.{refused_body, refused_data}
 use Rattle.json_words.proofs.FoundLemmas.{is_float-of_integer}
+use Rattle.json_words.proofs.WrittenLemmas.{no_float_ids}
 
 pub no_float : (refusal : Refusal) → has_float (refused_data refusal) ≡ false
 no_float refusal.NoLibrary = refl
@@ -42,10 +43,6 @@ no_float refusal.Store = refl
 no_float refusal.Spent = refl
 no_float refusal.NoMemory = refl
 
-no_float_items : (ids : List (List ℕ)) → items_have_float (items_of (map id_data ids)) ≡ false
-no_float_items [] = refl
-no_float_items (id ∷ ids) = no_float_items ids
-
 -- the text of an array of ids
 pub ids_text : (ids : List (List ℕ)) (values : List Value) (d : Data) (bytes : List ℕ) → d ≡ array (items_of (map view values)) → map view values ≡ map id_data ids
     → (has_float d ≡ false → bytes ≡ compact_text d) → bytes ≡ array_text ids
@@ -53,7 +50,7 @@ unfolding array_text
 ids_text ids values d bytes whole is text =
     let same : d ≡ array (items_of (map id_data ids)) = whole ∙ ap (λ ds. array (items_of ds)) is in
     let P : Data → Type 0 = λ e. has_float e ≡ false → bytes ≡ compact_text e in
-    subst P same text (no_float_items ids)
+    subst P same text (no_float_ids ids)
 
 pub refused_text : (refusal : Refusal) (d : Data) (bytes : List ℕ) → d ≡ refused_data refusal → (has_float d ≡ false → bytes ≡ compact_text d) → bytes ≡ refused_body refusal
 unfolding refused_body

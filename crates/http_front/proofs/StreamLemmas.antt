@@ -189,6 +189,10 @@ no_whole_short input head after size is judged short request rest whole =
         let same_size : size ≡ body = cc in
         omega (arith, same_size, whole, short)
 
+-- a head has at most 64 fields
+pub too_many : (n : ℕ) → 64 < n → n ≤ 64 → ⊥
+too_many n many few = omega arith
+
 -- where what is left is refused
 pub no_whole_refused : (input : List ℕ) (status : ℕ) → IsRefused input status → HasNoWhole input
 no_whole_refused input status (by_head head after is judged) request rest whole =
@@ -199,9 +203,6 @@ no_whole_refused input status (by_bytes is over) request rest whole =
     let head = whole.head in
     let many = over (drop 16384 input) request.head _ (head.reads.0, take-append-drop 16384 input ∙ head.reads.1) in
     absurd (too_many (length request.head.fields) many head.few)
-  where
-    too_many : (n : ℕ) → 64 < n → n ≤ 64 → ⊥
-    too_many n many few = omega arith
 no_whole_refused input status (by_length is long unread) request rest whole =
     no_whole_open input unread.none request rest whole
 

@@ -70,15 +70,15 @@ tested_no_space (b ∷ bytes) none = by_first (tested_no_space bytes none.1) (b 
     by_first later true is = absurd (none.0 (eqb-true b 32 is))
     by_first later false is = later
 
+tails : (x y : ℕ) (p q : List ℕ) → x ∷ p ≡ y ∷ q → p ≡ q
+tails x y p q same = cc
+
 -- two lists that agree have their first space at one place
 same_after : (a b u v : List ℕ) → NoSpace a → NoSpace b → a ++ 32 ∷ u ≡ b ++ 32 ∷ v → u ≡ v
 same_after [] [] u v na nb same = cc
 same_after [] (y ∷ b) u v na nb same = absurd (nb.0 (cc))
 same_after (x ∷ a) [] u v na nb same = absurd (na.0 (cc))
 same_after (x ∷ a) (y ∷ b) u v na nb same = same_after a b u v na.1 nb.1 (tails x y (a ++ 32 ∷ u) (b ++ 32 ∷ v) same)
-  where
-    tails : (x y : ℕ) (p q : List ℕ) → x ∷ p ≡ y ∷ q → p ≡ q
-    tails x y p q same = cc
 
 -- a list without a space is a front of what stands before a space
 within : (s more target tail : List ℕ) → NoSpace s → s ++ more ≡ target ++ 32 ∷ tail → (t : List ℕ) × (target ≡ s ++ t)
@@ -88,9 +88,6 @@ within (x ∷ s) more (y ∷ target) tail none same =
     let rest = within s more target tail none.1 (tails x y (s ++ more) (target ++ 32 ∷ tail) same) in
     let first : y ≡ x = cc in
     (rest.0, λ i. first i ∷ rest.1 i)
-  where
-    tails : (x y : ℕ) (p q : List ℕ) → x ∷ p ≡ y ∷ q → p ≡ q
-    tails x y p q same = cc
 
 after_space_is : (front target : List ℕ) → NoSpace front → after_space (front ++ 32 ∷ target) ≡ target
 after_space_is [] target none = refl

@@ -32,7 +32,7 @@ kind_bound Commit = omega arith
 kind_bound Fs = omega arith
 kind_bound Block = omega arith
 
-limit_at_bound : (call : Option Route) → limit_at call ≤ 67108864
+pub limit_at_bound : (call : Option Route) → limit_at call ≤ 67108864
 limit_at_bound None = omega arith
 limit_at_bound (Some route.Version) = omega arith
 limit_at_bound (Some (route.Check lib)) = omega arith

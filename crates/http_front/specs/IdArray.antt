@@ -10,6 +10,10 @@ use Rattle.json_words.specs.Fields.{list_of}
 use Rattle.json_words.specs.IdText.{id_data, id_in}
 use Rattle.json_words.specs.JsonText.{json_of}
 
+-- how deep the items of an array may nest where it is a whole text, which nests at most 127 levels
+abbrev pub item_depth : ℕ
+item_depth = 126
+
 -- an item is the text of an id
 abbrev pub id_at : Data → Result (List ℕ) ℕ
 id_at d = ok_or (id_in d) 0

@@ -23,8 +23,8 @@ abbrev pub reason_data : List ℕ → Data
 reason_data reason = object (because reason)
 
 -- the bodies that tell one thing more: an id, the key of an object, a number
-abbrev pub id_data : List ℕ → List ℕ → Data
-id_data id reason = object (member (codes "id") (string (encode_lower id)) (because reason))
+abbrev pub told_id : List ℕ → List ℕ → Data
+told_id id reason = object (member (codes "id") (string (encode_lower id)) (because reason))
 
 abbrev pub got_data : List ℕ → List ℕ → Data
 got_data got reason = object (member (codes "got") (string (encode_lower got)) (because reason))
@@ -79,13 +79,13 @@ refused_data (refusal.Wrong got) = got_data got (codes "wrong")
 refused_data (refusal.BadFs code) = code_data code (codes "bad-fs")
 refused_data (refusal.BadCommit code) = code_data code (codes "bad-commit")
 refused_data (refusal.OtherLibrary lib) = lib_data lib (codes "other-library")
-refused_data (refusal.Taken id) = id_data id (codes "taken")
+refused_data (refusal.Taken id) = told_id id (codes "taken")
 refused_data (refusal.Stale last now) = stale_data last now
 refused_data (refusal.Incomplete key) = key_data key (codes "incomplete")
 refused_data (refusal.Unrelated count) = count_data count (codes "unrelated")
 refused_data (refusal.Unreadable key) = key_data key (codes "unreadable")
-refused_data (refusal.WrongKind id) = id_data id (codes "wrong-kind")
-refused_data (refusal.WrongSize id) = id_data id (codes "wrong-size")
+refused_data (refusal.WrongKind id) = told_id id (codes "wrong-kind")
+refused_data (refusal.WrongSize id) = told_id id (codes "wrong-size")
 refused_data (refusal.TooDeep path) = path_data path (codes "too-deep")
 refused_data (refusal.TooMany count) = count_data count (codes "too-many")
 refused_data (refusal.TooLong path size) = long_data path size

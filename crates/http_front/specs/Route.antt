@@ -25,7 +25,7 @@ use Rattle.ids.specs.declared.key.Kind.TheVariants.{Commit, Fs, Block}
 use Rattle.hex.specs.Hex.{encode_lower}
 use Rattle.uuid.specs.Text.{hyphenated_text, lower}
 use Rattle.json_words.specs.IdText.{library_id_of, object_id_of}
-use Rattle.ids.specs.Kind.{kind_word}
+use Rattle.ids.specs.Kind.{kind_of, kind_word}
 use Rattle.http_front.specs.Limits.{body_limit}
 use Rattle.http_front.specs.Target.{parts_of}
 use Rattle.http_front.specs.declared.method.Method.{Method}
@@ -33,12 +33,15 @@ use Rattle.http_front.specs.declared.method.Method.TheVariants as method
 use Rattle.http_front.specs.declared.route.Route.{Route}
 use Rattle.http_front.specs.declared.route.Route.TheVariants.{Version, Check, Head, Update, Get, Put, CheckFs, CheckBlocks, PutFs, GetFs, Ids}
 
+-- the kind, where a path can name objects of it
+abbrev pub path_kind : Kind → Option Kind
+path_kind Commit = Some Commit
+path_kind Fs = None
+path_kind Block = Some Block
+
 -- the kind of object that a word of a path names
-abbrev pub kind_of : List ℕ → Option Kind
-kind_of word =
-    if bytes_eq word (codes "block") then Some Block
-    else if bytes_eq word (codes "commit") then Some Commit
-    else None
+abbrev pub kind_in_path : List ℕ → Option Kind
+kind_in_path word = option_and_then path_kind (kind_of word)
 
 -- what each method asks of an object
 abbrev pub object_route : Method → List ℕ → Key → Option Route
@@ -61,7 +64,7 @@ head_route m lib word = if bytes_eq word (codes "commit") then head_method m lib
 -- what a kind of object and an id name
 abbrev pub named_route : Method → List ℕ → List ℕ → List ℕ → Option Route
 named_route m lib word name =
-    option_and_then (λ kind. option_and_then (λ id. object_route m lib (record { kind = kind; id = id })) (object_id_of name)) (kind_of word)
+    option_and_then (λ kind. option_and_then (λ id. object_route m lib (record { kind = kind; id = id })) (object_id_of name)) (kind_in_path word)
 
 -- what follows `/repo/LIB/`, where it is two words. `HEAD` is no id
 abbrev pub pair_route : Method → List ℕ → List ℕ → List ℕ → Option Route

@@ -12,7 +12,7 @@ ghost use Rattle.json_words.specs.Fields.{list_of};
 ghost use Rattle.json_words.specs.IdText.{id_data, id_in, object_id_of};
 ghost use Rattle.json_tokens.specs.Front.{FrontIs, ItemsAre};
 ghost use Rattle.json_tokens.specs.Opening.{text_in};
-ghost use Rattle.http_front.specs.IdArray.{array_text, id_at, ids_of, ids_of_read};
+ghost use Rattle.http_front.specs.IdArray.{array_text, id_at, ids_of, ids_of_read, item_depth};
 
 use ids::{IdList, ObjId};
 use json::{Reader, Scratch, Token};
@@ -53,13 +53,13 @@ fn ids_of_text(alloc: Global, text: &str) -> Result<IdList, ReadFault<u64>>
 }
 
 /// The ids that the items of an array are, or none where an item is no id. The bracket was taken, and the closing one is
-/// taken too. Behind the first item that is no id nothing is read. In an array that is a whole text, items nest at most 126
-/// levels.
+/// taken too. Behind the first item that is no id nothing is read. In an array that is a whole text, items nest at most
+/// `item_depth` levels.
 fn ids_behind(alloc: Global, reader: &mut Reader<'_>) -> Result<Option<IdList>, AllocError>
     ensures found { IfOk result (λ answer. IfSome answer (λ ids. (ds : Items)
-        × ItemsAre 126 reader.old ds reader.new × (each id_at (list_of ds) ≡ Ok ids))) }
+        × ItemsAre item_depth reader.old ds reader.new × (each id_at (list_of ds) ≡ Ok ids))) }
     ensures absent { IfOk result (λ answer. IfNone answer ((ds : Items) → (rest : List SpecToken)
-        → ItemsAre 126 reader.old ds rest → each id_at (list_of ds) ≡ Err 0)) }
+        → ItemsAre item_depth reader.old ds rest → each id_at (list_of ds) ≡ Err 0)) }
 {
     let mut ids = IdList::new(alloc);
     'items: while !reader.take_end_array() {
@@ -73,9 +73,9 @@ fn ids_behind(alloc: Global, reader: &mut Reader<'_>) -> Result<Option<IdList>, 
 
 /// The id that the item at the front is the text of, or none.
 fn next_id(reader: &mut Reader<'_>) -> Option<ObjId>
-    ensures found { IfSome result (λ id. (d : Data) × FrontIs 126 reader.old d reader.new × (id_in d ≡ Some id)) }
+    ensures found { IfSome result (λ id. (d : Data) × FrontIs item_depth reader.old d reader.new × (id_in d ≡ Some id)) }
     ensures shorter { IfSome result (λ _. length reader.new < length reader.old) }
-    ensures absent { IfNone result ((d : Data) → (rest : List SpecToken) → FrontIs 126 reader.old d rest → id_in d ≡ None) }
+    ensures absent { IfNone result ((d : Data) → (rest : List SpecToken) → FrontIs item_depth reader.old d rest → id_in d ≡ None) }
 {
     match reader.next() {
         Some(token) => id_in_token(token),

@@ -177,7 +177,7 @@ pub(crate) fn is_due_at(fails: &[u64], number: u64) -> bool
 
 /// Copies the `count` bytes of `input` from `place` on to the front of `into`.
 fn copy_from(input: &[u8], place: usize, into: &mut [u8], count: usize)
-    requires there { place + count ≤ length input.now }
+    requires within { place + count ≤ length input.now }
     requires fits { count ≤ length into.old }
     ensures { take count into.new ≡ take count (drop place input.now) }
 {

@@ -2,7 +2,7 @@
 ghost use Rattle.std.specs.Prelude.{◌≡◌, codes, IfOk};
 ghost use Rattle.serde_json.specs.Data.{number, unsigned, string, object, member, no_members};
 ghost use Rattle.serde_json.specs.View.{view};
-ghost use Rattle.http_front.specs.RefusalText.{at_data, because, code_data, count_data, damaged_data, days_data, got_data, id_data, id_or_null, key_data, lib_data, long_data, path_data, reason_data, stale_data};
+ghost use Rattle.http_front.specs.RefusalText.{at_data, because, code_data, count_data, damaged_data, days_data, got_data, told_id, id_or_null, key_data, lib_data, long_data, path_data, reason_data, stale_data};
 
 use ids::{Key, LibId, ObjId};
 use json_words::{id_value, library_id_value};
@@ -19,7 +19,7 @@ pub fn reason_value(alloc: Global, reason: &str) -> Result<Value, AllocError>
 
 /// A reason and an id.
 pub fn id_refusal_value(alloc: Global, id: &ObjId, reason: &str) -> Result<Value, AllocError>
-    ensures { IfOk result (λ value. view value ≡ id_data id.now reason.now) }
+    ensures { IfOk result (λ value. view value ≡ told_id id.now reason.now) }
 {
     id_member(alloc, id_value(alloc, id)?, reason)
 }

@@ -1,6 +1,6 @@
 //! The calls that a method and a path name.
 ghost use Rattle.std.specs.Prelude.{◌≡◌};
-ghost use Rattle.http_front.specs.Route.{head_route, kind_of, library_route, limit_of, named_route, object_limit, object_route, pair_route, path_route, route_limit, repo_route, route_of, top_route, version_route, word_route};
+ghost use Rattle.http_front.specs.Route.{head_route, kind_in_path, library_route, limit_of, named_route, object_limit, object_route, pair_route, path_kind, path_route, route_limit, repo_route, route_of, top_route, version_route, word_route};
 ghost use Rattle.http_front.specs.Target.{parts};
 
 use crate::method::Method;
@@ -228,7 +228,7 @@ fn head_route(method: Method, lib: LibId, word: &str) -> Option<Route>
 fn named_route(method: Method, lib: LibId, word: &str, name: &str) -> Option<Route>
     ensures { result ≡ named_route method lib word.now name.now }
 {
-    let kind = kind_of(word)?;
+    let kind = kind_in_path(word)?;
     let id = object_id(name)?;
     object_route(method, lib, Key { kind, id })
 }
@@ -243,14 +243,22 @@ fn object_route(method: Method, lib: LibId, key: Key) -> Option<Route>
     }
 }
 
-fn kind_of(word: &str) -> Option<Kind>
-    ensures { result ≡ kind_of word.now }
+/// The kind of object that a word of a path names.
+fn kind_in_path(word: &str) -> Option<Kind>
+    ensures { result ≡ kind_in_path word.now }
 {
-    if word == "block" {
-        return Some(Kind::Block);
+    match Kind::of(word) {
+        Some(kind) => path_kind(kind),
+        None => None,
     }
-    if word == "commit" {
-        return Some(Kind::Commit);
+}
+
+/// The kind, where a path can name objects of it.
+fn path_kind(kind: Kind) -> Option<Kind>
+    ensures { result ≡ path_kind kind }
+{
+    match kind {
+        Kind::Commit | Kind::Block => Some(kind),
+        Kind::Fs => None,
     }
-    None
 }

@@ -92,7 +92,7 @@ fn front_row(rest: &[u8]) -> Option<(ObjId, &[u8])>
 
 /// The id whose 40 digits some bytes are.
 fn id_in_digits(digits: &[u8]) -> Option<ObjId>
-    ensures good { IsSome result ↔ IsOf digits_form digits.now }
+    ensures form { IsSome result ↔ IsOf digits_form digits.now }
     ensures value { IfSome result (λ id. digits.now ≡ encode_lower id) }
 {
     match from_utf8(digits) {

@@ -8,7 +8,7 @@ ghost use Rattle.http_front.specs.TargetFront.{IsBroken, IsTextFront, MayBecomeH
 /// Whether the bytes end within a target that no bytes can make a text. Then they begin no head.
 pub(crate) fn breaks_target(front: &[u8]) -> bool
     ensures broken { IsTrue result → RequestOverflows field_limit front.now }
-    ensures whole { result ≡ false → MayBecomeRequest front.now → MayBecomeHead front.now }
+    ensures may { result ≡ false → MayBecomeRequest front.now → MayBecomeHead front.now }
 {
     let target = after_space(front);
     if has_space(target) {
@@ -38,7 +38,7 @@ fn has_space(bytes: &[u8]) -> bool
 /// Whether some byte can be of no character.
 fn is_broken(bytes: &[u8]) -> bool
     ensures broken { IsTrue result → IsBroken bytes.now }
-    ensures whole { result ≡ false → IsTextFront bytes.now }
+    ensures may { result ≡ false → IsTextFront bytes.now }
 {
     match std::str::from_utf8(bytes) {
         Ok(_) => false,

@@ -13,7 +13,7 @@ pub slice_bounds-id_in_digits-end : goal.slice_bounds-id_in_digits-end
 slice_bounds-id_in_digits-end c = let long = c.if-rest-lt-FRONT.false in sym (length-take-le 40 c.args.rest.now (omega (arith, long)))
 
 pub returns-in-None-clause-none : goal.returns-in-None-clause-none
-returns-in-None-clause-none c = no_row_digits c.args.rest.now (λ is. let bad : false ≡ true = c.in-None.ensures.good.1 is in let no : ⊥ = cc in no)
+returns-in-None-clause-none c = no_row_digits c.args.rest.now (λ is. let bad : false ≡ true = c.in-None.ensures.form.1 is in let no : ⊥ = cc in no)
 
 pub returns-then-size-rest-clause-none : goal.returns-then-size-rest-clause-none
 returns-then-size-rest-clause-none c = no_row_size c.args.rest.now c.from_be_bytes-size.result c.from_be_bytes-size.ensures c.if-size-rest.true
