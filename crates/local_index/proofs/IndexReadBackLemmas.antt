@@ -25,7 +25,7 @@ use Rattle.local_index.specs.Typed.{IsTyped, IsTypedKnown, IsTypedFile, IsTypedB
 use Rattle.local_index.specs.declared.index.Index.{Index}
 use Rattle.local_index.specs.declared.index.Known.{Known}
 use Rattle.local_index.specs.declared.index.Known.TheVariants.{Dir, File}
-use Rattle.local_index.proofs.PathTextLemmas.{path_of-text}
+use Rattle.tree_model.proofs.PathReadingLemmas.{path_of-text}
 
 -- ---- one entry
 

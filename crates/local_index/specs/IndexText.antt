@@ -1,8 +1,7 @@
 -- What the bytes of an index text are read as, or the first failing check. docs/FORMATS.md, "Index text".
 -- Read index_of first.
 use Rattle.std.specs.Prelude.{ℕ, ◌==◌, ◌^◌, ◌-◌, not, Bool, true, false, List, [], ◌∷◌, codes, if◌then◌else◌, Option, Some, None, is_some, Result, Ok, Err, ⊤}
-use Rattle.std.specs.Option.{is_none}
-use Rattle.std.specs.List.{list_all, slice_split}
+use Rattle.std.specs.List.{list_all}
 use Rattle.std.specs.FinMap as map
 use Rattle.serde_json.specs.Data.{Data}
 use Rattle.serde_json.specs.Find.{as_null}
@@ -12,8 +11,7 @@ use Rattle.json_words.specs.Fields.{is_object, field, number_field, number_betwe
 use Rattle.json_words.specs.IdText.{id_field, stored_id_in, library_id_of}
 use Rattle.json_words.specs.JsonText.{json_of}
 use Rattle.json_words.specs.declared.fields.FieldFault.{FieldFault}
-use Rattle.tree_model.specs.Name.{name_fault}
-use Rattle.tree_model.specs.Path.{PathV, path_cmp, parent_of}
+use Rattle.tree_model.specs.Path.{PathV, path_cmp, path_of, parent_of}
 use Rattle.local_index.specs.declared.fault.IndexKey.{IndexKey}
 use Rattle.local_index.specs.declared.fault.IndexKey.TheVariants.{Whole, Version, Lib, Base, Entries, Extra}
 use Rattle.local_index.specs.declared.index.Index.{Index}
@@ -27,15 +25,6 @@ KnownPaths = map.FinMap path_cmp Known
 abbrev pub at_key : {A : Type 0} → IndexKey → Result A FieldFault → Result A IndexKey
 at_key key (Ok found) = Ok found
 at_key key (Err fault) = Err key
-
--- ---- paths
-
--- the path whose text this is: names that are good, with '/' between them
-abbrev pub good_path : List (List ℕ) → Option PathV
-good_path names = if list_all (λ name. is_none (name_fault name)) names then Some names else None
-
-abbrev pub path_of : List ℕ → Option PathV
-path_of text = good_path (slice_split (λ b. b == 47) text)
 
 unfoldable pub path_in : Data → Result PathV IndexKey
 path_in d = do

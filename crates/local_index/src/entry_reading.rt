@@ -1,13 +1,12 @@
 //! Reading of the entries of an index text.
-ghost use Rattle.std.specs.Prelude.{◌≡◌, ◌≢◌, ◌==◌, [], true, map as list_map, option_copied, IfOk, IfSome, OnOk};
-ghost use Rattle.std.specs.List.{slice_split};
+ghost use Rattle.std.specs.Prelude.{◌≡◌, ◌≢◌, [], true, map as list_map, option_copied, IfOk, OnOk};
 ghost use Rattle.std.specs.FinMap as map;
 ghost use Rattle.serde_json.specs.View.{view};
 ghost use Rattle.json_words.specs.Answer.{ReadsAs};
 ghost use Rattle.json_words.specs.Check.{result_map};
 ghost use Rattle.json_words.specs.Fields.{has_only};
 ghost use Rattle.local_index.specs.declared.fault.IndexKey.TheVariants as key;
-ghost use Rattle.local_index.specs.IndexText.{good_path, path_of, path_in, mode_in, file_keys, file_in, known_in, with_entry, with_entries, is_known_dir, is_dir_in, all_stand, entries_in, at_key};
+ghost use Rattle.local_index.specs.IndexText.{path_in, mode_in, file_keys, file_in, known_in, with_entry, with_entries, is_known_dir, is_dir_in, all_stand, entries_in, at_key};
 ghost use Rattle.local_index.specs.Reading.{file_seen, IsSound};
 ghost use Rattle.local_index.specs.IndexSpelling.{HasFileMode};
 ghost use Rattle.fs_objects.specs.Mode.{is_file_mode};
@@ -22,7 +21,7 @@ use json_words::{
 };
 use serde_json::Value;
 use std::alloc::{AllocError, Global};
-use tree_model::{Name, NameFault, Path, PathTable};
+use tree_model::{Path, PathTable};
 
 /// The entries, no two at one path, each in a directory of them.
 #[tactic(auto, unfolding(crate::specs::IndexText::entries_in))]
@@ -82,42 +81,11 @@ fn read_path(alloc: Global, item: &Value) -> Result<Path, IndexFault>
         Ok(text) => text,
         Err(_) => return Err(ReadFault::Bad(IndexKey::Entries)),
     };
-    match path_of(alloc, text) {
+    match Path::read(alloc, text) {
         Ok(Some(path)) => Ok(path),
         Ok(None) => Err(ReadFault::Bad(IndexKey::Entries)),
         Err(AllocError) => Err(ReadFault::NoMemory),
     }
-}
-
-/// The path whose text this is.
-fn path_of(alloc: Global, text: &str) -> Result<Option<Path>, AllocError>
-    ensures value { IfOk result (λ path. path ≡ path_of text.now) }
-    ensures proper { IfOk result (λ told. IfSome told (λ path. path ≢ [])) }
-{
-    let names = pieces_of(alloc, text)?;
-    good_path(alloc, names.as_slice())
-}
-
-/// The pieces of a path's text.
-fn pieces_of(alloc: Global, text: &str) -> Result<Vec<&str>, AllocError>
-    ensures value { IfOk result (λ pieces. list_map (λ piece. piece.now) pieces.items ≡ slice_split (λ b. b == 47) text.entry.now) }
-{
-    text.split('/').collect(alloc)
-}
-
-/// The path with these names, where they are good.
-fn good_path(alloc: Global, names: &[&str]) -> Result<Option<Path>, AllocError>
-    ensures value { IfOk result (λ path. path ≡ good_path (list_map (λ name. name.now) names.now)) }
-{
-    let mut path = Path::root(alloc);
-    for name in names {
-        match Name::read(alloc, name) {
-            Ok(name) => path.push(name)?,
-            Err(NameFault::Bad(_)) => return Ok(None),
-            Err(NameFault::NoMemory) => return Err(AllocError),
-        }
-    }
-    Ok(Some(path))
 }
 
 /// What an entry is: with its path alone a directory, else a file.
