@@ -20,10 +20,6 @@ pub from_not : (b : Bool) → IsTrue (not b) → b ≡ false
 from_not true t = absurd (false≢true t)
 from_not false t = refl
 
-pub from_not_false : (b : Bool) → not b ≡ false → b ≡ true
-from_not_false true e = refl
-from_not_false false e = absurd (true≢false e)
-
 -- ---- where the parser finds none
 
 pub no_head_found : (front : List ℕ) (headers : List HeaderSpan) (r : Result (Status ResponseSpans) Error)

@@ -1,20 +1,15 @@
 -- What a member of a JSON value is read as, both ways. The key lemmas are text_at-found, number_at-found, id_at-found,
 -- library_at-found, key_at-found, path_at-found and got_at-found, and those that go back: text_at-has and so on.
-use Rattle.std.proofs.Common.{◌≡◌, ◌≢◌, ℕ, ◌==◌, Bool, true, false, if◌then◌else◌, List, [], ◌∷◌, length, All, Option, None, Some, codes, refl, sym, ap, subst, ◌∙◌, arith, option_map}
-use Rattle.std.specs.List.{AllByRecursion, list_all, slice_split}
-use Rattle.std.specs.Option.{option_and_then, is_none}
+use Rattle.std.proofs.Common.{◌≡◌, ℕ, ◌==◌, Bool, true, false, if◌then◌else◌, List, [], ◌∷◌, length, Option, None, Some, codes, refl, sym, ap, subst, ◌∙◌, arith, option_map}
+use Rattle.std.specs.Option.{option_and_then}
 use Rattle.std.specs.Result.{result_ok}
-use Rattle.std.specs.Str.{bytes_eq}
-use Rattle.std.proofs.lemmas.Bool.{and_parts, eqb-true, false≢true}
-use Rattle.std.proofs.lemmas.List.Elements.{All-from_recursion}
-use Rattle.std.proofs.lemmas.List.Splits.{join_with_byte-slice_split, slice_split_none, slice_split_at}
+use Rattle.std.proofs.lemmas.Bool.{eqb-true}
 use Rattle.hex.specs.Hex.{encode_lower}
 use Rattle.uuid.specs.Text.{hyphenated_text, lower}
-use Rattle.ids.specs.Kind.{kind_word}
+use Rattle.ids.specs.Kind.{kind_of, kind_word}
+use Rattle.ids.proofs.KindLemmas.{kind_of-has, kind_of-word}
 use Rattle.ids.specs.declared.key.Key.{Key}
-use Rattle.ids.specs.declared.key.Kind.{Kind}
-use Rattle.ids.specs.declared.key.Kind.TheVariants.{Commit, Fs, Block}
-use Rattle.ids.proofs.BasicLemmas.{same_from_bytes_eq, same_from_some}
+use Rattle.ids.proofs.BasicLemmas.{same_from_some}
 use Rattle.serde_json.specs.Data.{Data, unsigned, negative, float, null, boolean, number, string, array, object}
 use Rattle.serde_json.specs.Find.{get, as_number, as_str, as_u64}
 use Rattle.json_words.specs.Check.{◌>>=◌, ok_or}
@@ -22,15 +17,16 @@ use Rattle.json_words.specs.Fields.{number_field, text_field}
 use Rattle.json_words.specs.IdText.{library_id_of, object_id_of}
 use Rattle.json_words.specs.declared.fields.FieldFault.TheVariants.{Missing, WrongType}
 use Rattle.json_words.proofs.FoundLemmas.{number_field-found, text_field-found}
-use Rattle.tree_model.specs.Name.{IsName, name_fault}
-use Rattle.tree_model.specs.Path.{PathV, IsPath, path_text}
-use Rattle.tree_model.proofs.NameLemmas.{IsName-no_slash, IsName-some}
+use Rattle.tree_model.specs.Name.{IsName}
+use Rattle.tree_model.specs.Path.{PathV, IsPath, path_of, path_text}
+use Rattle.tree_model.proofs.PathReadingLemmas.{IsTextOf, path_of-has, path_of-text}
+use Rattle.tree_model.proofs.NameLemmas.{IsName-some}
 use Rattle.http_front.specs.CallQuery.{IsClient, IsObjectId}
 use Rattle.http_front.specs.RefusalText.{id_or_null}
 use Rattle.http_front.specs.Route.{IsLibrary}
 use Rattle.http_front.proofs.CallLemmas.{id_reads, lib_reads}
 use Rattle.http_front.proofs.NamedIdLemmas.{id_bytes, id_text, lib_text, library_bytes}
-use Rattle.http_client.specs.RefusalWords.{good_path, got_at, id_at, id_or_none, key_at, key_of, kind_of, library_at, number_at, path_at, path_of, text_at}
+use Rattle.http_client.specs.RefusalWords.{got_at, id_at, id_or_none, key_at, key_of, library_at, named_path, number_at, path_at, text_at}
 
 -- ---- texts and numbers
 
@@ -153,27 +149,6 @@ got_at-has d got e = let v = passed (get (codes "got") d) id_or_none got e in no
 
 -- ---- keys
 
-kind_of-word : (kind : Kind) → kind_of (kind_word kind) ≡ Some kind
-kind_of-word Commit = refl
-kind_of-word Fs = refl
-kind_of-word Block = refl
-
-kind_of-has : (word : List ℕ) (kind : Kind) → kind_of word ≡ Some kind → word ≡ kind_word kind
-kind_of-has word kind e = by (bytes_eq word (codes "commit")) refl e
-  where
-    third : (b : Bool) → bytes_eq word (codes "block") ≡ b → (if b then Some Block else None) ≡ Some kind → word ≡ kind_word kind
-    third true is e = same_from_bytes_eq word (codes "block") is ∙ ap kind_word (same_from_some Block kind e)
-    third false is e = absurd (cc)
-
-    second : (b : Bool) → bytes_eq word (codes "fs") ≡ b → (if b then Some Fs else if bytes_eq word (codes "block") then Some Block else None) ≡ Some kind → word ≡ kind_word kind
-    second true is e = same_from_bytes_eq word (codes "fs") is ∙ ap kind_word (same_from_some Fs kind e)
-    second false is e = third (bytes_eq word (codes "block")) refl e
-
-    by : (b : Bool) → bytes_eq word (codes "commit") ≡ b
-        → (if b then Some Commit else if bytes_eq word (codes "fs") then Some Fs else if bytes_eq word (codes "block") then Some Block else None) ≡ Some kind → word ≡ kind_word kind
-    by true is e = same_from_bytes_eq word (codes "commit") is ∙ ap kind_word (same_from_some Commit kind e)
-    by false is e = second (bytes_eq word (codes "fs")) refl e
-
 pub key_at-found : (d : Data) (key : Key) → IsObjectId key.id → get (codes "id") d ≡ Some (string (encode_lower key.id))
     → get (codes "kind") d ≡ Some (string (kind_word key.kind)) → key_at d ≡ Some key
 key_at-found d key named id_is kind_is =
@@ -200,29 +175,6 @@ key_at-has d key e =
 
 -- ---- paths
 
-abbrev is_slash : ℕ → Bool
-is_slash b = b == 47
-
-plain : (name : List ℕ) → AllByRecursion (λ b. b ≢ 47) name → AllByRecursion (λ b. is_slash b ≡ false) name
-plain [] h = tt
-plain (b ∷ name) h = (by (b == 47) refl, plain name h.1)
-  where
-    by : (t : Bool) → (b == 47) ≡ t → (b == 47) ≡ false
-    by true e = absurd (h.0 (eqb-true b 47 e))
-    by false e = e
-
-no_slash : (name : List ℕ) → IsName name → All (λ b. is_slash b ≡ false) name
-no_slash name h = All-from_recursion (λ b. is_slash b ≡ false) name (plain name (IsName-no_slash name h))
-
-pieces : (name : List ℕ) (path : PathV) → AllByRecursion IsName (name ∷ path) → slice_split is_slash (path_text (name ∷ path)) ≡ name ∷ path
-pieces name [] h = slice_split_none is_slash name (no_slash name h.0)
-pieces name (next ∷ path) h =
-    slice_split_at is_slash name 47 (path_text (next ∷ path)) (no_slash name h.0) refl ∙ ap (λ names. name ∷ names) (pieces next path h.1)
-
-good_names : (path : PathV) → AllByRecursion IsName path → list_all (λ name. is_none (name_fault name)) path ≡ true
-good_names [] h = refl
-good_names (name ∷ path) h = rw h.0.faultless (good_names path h.1)
-
 some_length : (b : ℕ) (text : List ℕ) (test : Bool) → (length (b ∷ text) == 0) ≡ test → test ≡ false
 some_length b text true is = let none : length (b ∷ text) ≡ 0 = eqb-true _ 0 is in absurd (omega (arith, none))
 some_length b text false is = refl
@@ -232,52 +184,26 @@ some_text [] path h = absurd (IsName-some [] h refl)
 some_text (b ∷ name) [] h = some_length b name _ refl
 some_text (b ∷ name) (next ∷ path) h = some_length b _ _ refl
 
-path_of-text : (path : PathV) → IsPath path → path_of (path_text path) ≡ Some path
-path_of-text [] h = refl
-path_of-text (name ∷ path) h =
-    ap (λ b. if b then Some [] else good_path (slice_split is_slash (path_text (name ∷ path)))) (some_text name path h.named.0)
-    ∙ ap good_path (pieces name path h.named)
-    ∙ ap (λ b. if b then Some (name ∷ path) else None) (good_names (name ∷ path) h.named)
-
-is_faultless : {A : Type 0} (o : Option A) → is_none o ≡ true → o ≡ None
-is_faultless None e = refl
-is_faultless (Some a) e = absurd (false≢true e)
-
-are_names : (path : PathV) → list_all (λ name. is_none (name_fault name)) path ≡ true → AllByRecursion IsName path
-are_names [] e = tt
-are_names (name ∷ path) e =
-    let parts = and_parts (is_none (name_fault name)) (list_all (λ name. is_none (name_fault name)) path) e in
-    (record { faultless = is_faultless (name_fault name) parts.0 }, are_names path parts.1)
+named_path-text : (path : PathV) → IsPath path → named_path (path_text path) ≡ Some path
+named_path-text [] h = refl
+named_path-text (name ∷ path) h =
+    ap (λ b. if b then Some [] else path_of (path_text (name ∷ path))) (some_text name path h.named.0) ∙ path_of-text (name ∷ path) (λ e. cc) h
 
 pub record HasPath (name : List ℕ) (d : Data) (path : PathV) : Type 0 where
   pub named : IsPath path
   pub there : get name d ≡ Some (string (path_text path))
 
-record IsTextOf (text : List ℕ) (path : PathV) : Type 0 where
-  named : IsPath path
-  is : text ≡ path_text path
-
-good_path-has : (names path : PathV) → good_path names ≡ Some path → (names ≡ path) × IsPath path
-good_path-has names path e = by (list_all (λ name. is_none (name_fault name)) names) refl e
-  where
-    by : (b : Bool) → list_all (λ name. is_none (name_fault name)) names ≡ b → (if b then Some names else None) ≡ Some path → (names ≡ path) × IsPath path
-    by true is e = let same = same_from_some names path e in (same, subst IsPath same (record { named = are_names names is }))
-    by false is e = absurd (cc)
-
-path_of-has : (text : List ℕ) (path : PathV) → path_of text ≡ Some path → IsTextOf text path
-path_of-has [] path e = subst (IsTextOf []) (same_from_some [] path e) (record { named = record { named = tt }; is = refl })
-path_of-has (b ∷ text) path e =
+named_path-has : (text : List ℕ) (path : PathV) → named_path text ≡ Some path → IsTextOf text path
+named_path-has [] path e = subst (IsTextOf []) (same_from_some [] path e) (record { named = record { named = tt }; is = refl })
+named_path-has (b ∷ text) path e =
     let some = some_length b text (length (b ∷ text) == 0) refl in
-    let cut : good_path (slice_split is_slash (b ∷ text)) ≡ Some path =
-    ap (λ t. if t then Some [] else good_path (slice_split is_slash (b ∷ text))) (sym some) ∙ e in
-    let good = good_path-has (slice_split is_slash (b ∷ text)) path cut in
-    record { named = good.1; is = sym (join_with_byte-slice_split 47 (b ∷ text)) ∙ ap path_text good.0 }
+    path_of-has (b ∷ text) path (ap (λ t. if t then Some [] else path_of (b ∷ text)) (sym some) ∙ e)
 
 pub path_at-found : (d : Data) (path : PathV) → IsPath path → get (codes "path") d ≡ Some (string (path_text path)) → path_at d ≡ Some path
-path_at-found d path named is = ap (option_and_then path_of) (text_at-found (codes "path") d (path_text path) is) ∙ path_of-text path named
+path_at-found d path named is = ap (option_and_then named_path) (text_at-found (codes "path") d (path_text path) is) ∙ named_path-text path named
 
 pub path_at-has : (d : Data) (path : PathV) → path_at d ≡ Some path → HasPath (codes "path") d path
 path_at-has d path e =
-    let text = passed (text_at (codes "path") d) path_of path e in
-    let is = path_of-has text.first path text.gives in
+    let text = passed (text_at (codes "path") d) named_path path e in
+    let is = named_path-has text.first path text.gives in
     record { named = is.named; there = text_at-has (codes "path") d text.first text.is ∙ ap (λ t. Some (string t)) is.is }

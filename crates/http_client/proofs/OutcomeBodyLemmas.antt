@@ -19,8 +19,9 @@ use Rattle.http_front.specs.declared.status.Status.TheVariants.{Success}
 use Rattle.http_client.specs.OrderOutcome.{CanHave, CanMiss, CanPack, asks_head, asks_list, asks_object, asks_right, asks_version, is_update, stores}
 use Rattle.http_client.specs.OutcomeReading.{IsOutcome, TellsThings, absent_of, answered, as_read, head_in, told_in, version_in}
 use Rattle.http_client.proofs.MemberLemmas.{id_at-found, number_at-found}
-use Rattle.http_client.proofs.RefusalBodyLemmas.{digits_utf8, refusal_read}
+use Rattle.http_client.proofs.RefusalBodyLemmas.{refusal_read}
 use Rattle.http_client.proofs.RequestLemmas.{ids_read_back}
+use Rattle.ids.proofs.DigitsLemmas.{IsUtf8-encode_lower}
 
 version_told : told_in version_in version_body ≡ Some Version
 unfolding version_body
@@ -33,7 +34,7 @@ unfolding head_body
 head_told id named =
     ap (option_and_then head_in)
     (json_of-compact_text (head_data id)
-    (IsUtf8-are_ascii (codes "head_commit_id") refl, digits_utf8 id, refl, (IsUtf8-are_ascii (codes "is_corrupted") refl, lit< tt, refl, tt)) (lit≤ tt))
+    (IsUtf8-are_ascii (codes "head_commit_id") refl, IsUtf8-encode_lower id, refl, (IsUtf8-are_ascii (codes "is_corrupted") refl, lit< tt, refl, tt)) (lit≤ tt))
     ∙ id_at-found (codes "head_commit_id") (head_data id) id named refl
 
 version_read : (order : What) → asks_version order ≡ true → IsOutcome order Success version_body (Some Version)

@@ -1,7 +1,7 @@
 -- Rows and ids that are compared one by one. The lemmas that callers want are ids_more, ids_all, ids_differ, no_rows,
 -- other_rows and among_more.
-use Rattle.std.proofs.Common.{◌≡◌, ℕ, ◌+◌, ◌<◌, ◌≤◌, not, IsTrue, Bool, true, false, List, [], ◌∷◌, ◌++◌, length, map, take, get_or, refl, sym, ap, ap₂, ◌∙◌, arith, Result, Ok, Err}
-use Rattle.std.proofs.lemmas.Bool.{true≢false}
+use Rattle.std.proofs.Common.{◌≡◌, ℕ, ◌+◌, ◌<◌, ◌≤◌, not, IsTrue, Bool, true, false, List, [], ◌∷◌, ◌++◌, length, map, take, get_or, sym, ap, ap₂, ◌∙◌, arith, Result, Ok, Err}
+use Rattle.std.proofs.lemmas.Bool.{true≢false, not-false}
 use Rattle.std.proofs.lemmas.Slice.Eq.{bytes_eq-Decides}
 use Rattle.std.specs.Str.{bytes_eq}
 use Rattle.std.proofs.lemmas.List.{get_or-map, map_more, take_all, take_more}
@@ -32,11 +32,7 @@ pub not_same : (a b : List ℕ) → true ≡ not (bytes_eq a b) → a ≡ b → 
 not_same a b apart same = let bad : true ≡ false = apart ∙ ap not ((bytes_eq-Decides a b).1 same) in true≢false bad
 
 pub same_by : (a b : List ℕ) → false ≡ not (bytes_eq a b) → a ≡ b
-same_by a b same = (bytes_eq-Decides a b).0 (from_not_not (bytes_eq a b) same)
-  where
-    from_not_not : (t : Bool) → false ≡ not t → t ≡ true
-    from_not_not true e = refl
-    from_not_not false e = absurd (true≢false (sym e))
+same_by a b same = (bytes_eq-Decides a b).0 (not-false (bytes_eq a b) (sym same))
 
 -- the rows are those of the ids where all are compared
 pub ids_all : (rows : List Row) (ids : List (List ℕ)) (k : ℕ) → length rows ≤ k → length rows ≡ length ids

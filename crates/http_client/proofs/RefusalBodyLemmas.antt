@@ -1,13 +1,10 @@
 -- The body that a server writes for a refusal is read as the refusal. The key lemma is refusal_read.
-use Rattle.std.proofs.Common.{◌≡◌, ℕ, ◌≤◌, true, List, None, Some, codes, refl, lit≤, IsUtf8}
+use Rattle.std.proofs.Common.{◌≡◌, ◌≤◌, true, None, Some, codes, refl, lit≤, IsUtf8}
 use Rattle.std.proofs.lemmas.Bool.{false≢true}
-use Rattle.std.proofs.lemmas.Str.{IsUtf8-from_ascii}
-use Rattle.hex.specs.Hex.{encode_lower, lower_digits}
-use Rattle.hex.proofs.HexLemmas.{IsAscii-encode_with}
 use Rattle.ids.specs.Kind.{kind_word}
 use Rattle.ids.specs.declared.key.Kind.{Kind}
 use Rattle.ids.specs.declared.key.Kind.TheVariants.{Commit, Fs, Block}
-use Rattle.ids.proofs.DigitsLemmas.{IsAscii-lower_digits}
+use Rattle.ids.proofs.DigitsLemmas.{IsUtf8-encode_lower}
 use Rattle.serde_json.specs.Data.{depth}
 use Rattle.json_words.proofs.WrittenLemmas.{IsSpelled, IsUtf8-are_ascii, json_of-compact_text}
 use Rattle.library_state.specs.declared.refusal.Refusal.{Refusal}
@@ -18,10 +15,7 @@ use Rattle.http_front.specs.declared.outcome.Outcome.TheVariants.{Refused}
 use Rattle.http_client.specs.OrderOutcome.{can_refuse}
 use Rattle.http_client.specs.OutcomeReading.{IsOutcome, TellsWhy}
 use Rattle.http_client.specs.RefusalReading.{HasMembers, IsSpoken, NamesThings, members_of}
-use Rattle.http_client.proofs.TargetTextLemmas.{library_utf8}
-
-pub digits_utf8 : (id : List ℕ) → IsUtf8 (encode_lower id)
-digits_utf8 id = IsUtf8-from_ascii (encode_lower id) (IsAscii-encode_with lower_digits id IsAscii-lower_digits)
+use Rattle.ids.proofs.LibraryTextLemmas.{IsUtf8-hyphenated}
 
 kind_utf8 : (kind : Kind) → IsUtf8 (kind_word kind)
 kind_utf8 Commit = IsUtf8-are_ascii (codes "commit") refl
@@ -64,26 +58,26 @@ spelled refusal.BadMethod said = (IsUtf8-are_ascii (codes "reason") refl, IsUtf8
 spelled refusal.BadQuery said = (IsUtf8-are_ascii (codes "reason") refl, IsUtf8-are_ascii (codes "bad-query") refl, refl, tt)
 spelled (refusal.BadBody at) said = (IsUtf8-are_ascii (codes "at") refl, said, refl, (IsUtf8-are_ascii (codes "reason") refl, IsUtf8-are_ascii (codes "bad-body") refl, refl, tt))
 spelled refusal.Denied said = (IsUtf8-are_ascii (codes "reason") refl, IsUtf8-are_ascii (codes "denied") refl, refl, tt)
-spelled (refusal.NoObject key) said = (IsUtf8-are_ascii (codes "id") refl, digits_utf8 key.id, refl, (IsUtf8-are_ascii (codes "kind") refl, kind_utf8 key.kind, refl, (IsUtf8-are_ascii (codes "reason") refl, IsUtf8-are_ascii (codes "no-object") refl, refl, tt)))
-spelled (refusal.Wrong got) said = (IsUtf8-are_ascii (codes "got") refl, digits_utf8 got, refl, (IsUtf8-are_ascii (codes "reason") refl, IsUtf8-are_ascii (codes "wrong") refl, refl, tt))
+spelled (refusal.NoObject key) said = (IsUtf8-are_ascii (codes "id") refl, IsUtf8-encode_lower key.id, refl, (IsUtf8-are_ascii (codes "kind") refl, kind_utf8 key.kind, refl, (IsUtf8-are_ascii (codes "reason") refl, IsUtf8-are_ascii (codes "no-object") refl, refl, tt)))
+spelled (refusal.Wrong got) said = (IsUtf8-are_ascii (codes "got") refl, IsUtf8-encode_lower got, refl, (IsUtf8-are_ascii (codes "reason") refl, IsUtf8-are_ascii (codes "wrong") refl, refl, tt))
 spelled (refusal.BadFs code) said = (IsUtf8-are_ascii (codes "code") refl, said, refl, (IsUtf8-are_ascii (codes "reason") refl, IsUtf8-are_ascii (codes "bad-fs") refl, refl, tt))
 spelled (refusal.BadCommit code) said = (IsUtf8-are_ascii (codes "code") refl, said, refl, (IsUtf8-are_ascii (codes "reason") refl, IsUtf8-are_ascii (codes "bad-commit") refl, refl, tt))
-spelled (refusal.OtherLibrary lib) said = (IsUtf8-are_ascii (codes "lib") refl, library_utf8 lib, refl, (IsUtf8-are_ascii (codes "reason") refl, IsUtf8-are_ascii (codes "other-library") refl, refl, tt))
-spelled (refusal.Taken id) said = (IsUtf8-are_ascii (codes "id") refl, digits_utf8 id, refl, (IsUtf8-are_ascii (codes "reason") refl, IsUtf8-are_ascii (codes "taken") refl, refl, tt))
+spelled (refusal.OtherLibrary lib) said = (IsUtf8-are_ascii (codes "lib") refl, IsUtf8-hyphenated lib, refl, (IsUtf8-are_ascii (codes "reason") refl, IsUtf8-are_ascii (codes "other-library") refl, refl, tt))
+spelled (refusal.Taken id) said = (IsUtf8-are_ascii (codes "id") refl, IsUtf8-encode_lower id, refl, (IsUtf8-are_ascii (codes "reason") refl, IsUtf8-are_ascii (codes "taken") refl, refl, tt))
 spelled (refusal.Stale last now) said = (IsUtf8-are_ascii (codes "last") refl, said.0, refl, (IsUtf8-are_ascii (codes "now") refl, said.1, refl, (IsUtf8-are_ascii (codes "reason") refl, IsUtf8-are_ascii (codes "stale") refl, refl, tt)))
-spelled (refusal.Incomplete key) said = (IsUtf8-are_ascii (codes "id") refl, digits_utf8 key.id, refl, (IsUtf8-are_ascii (codes "kind") refl, kind_utf8 key.kind, refl, (IsUtf8-are_ascii (codes "reason") refl, IsUtf8-are_ascii (codes "incomplete") refl, refl, tt)))
+spelled (refusal.Incomplete key) said = (IsUtf8-are_ascii (codes "id") refl, IsUtf8-encode_lower key.id, refl, (IsUtf8-are_ascii (codes "kind") refl, kind_utf8 key.kind, refl, (IsUtf8-are_ascii (codes "reason") refl, IsUtf8-are_ascii (codes "incomplete") refl, refl, tt)))
 spelled (refusal.Unrelated count) said = (IsUtf8-are_ascii (codes "count") refl, said, refl, (IsUtf8-are_ascii (codes "reason") refl, IsUtf8-are_ascii (codes "unrelated") refl, refl, tt))
-spelled (refusal.Unreadable key) said = (IsUtf8-are_ascii (codes "id") refl, digits_utf8 key.id, refl, (IsUtf8-are_ascii (codes "kind") refl, kind_utf8 key.kind, refl, (IsUtf8-are_ascii (codes "reason") refl, IsUtf8-are_ascii (codes "unreadable") refl, refl, tt)))
-spelled (refusal.WrongKind id) said = (IsUtf8-are_ascii (codes "id") refl, digits_utf8 id, refl, (IsUtf8-are_ascii (codes "reason") refl, IsUtf8-are_ascii (codes "wrong-kind") refl, refl, tt))
-spelled (refusal.WrongSize id) said = (IsUtf8-are_ascii (codes "id") refl, digits_utf8 id, refl, (IsUtf8-are_ascii (codes "reason") refl, IsUtf8-are_ascii (codes "wrong-size") refl, refl, tt))
+spelled (refusal.Unreadable key) said = (IsUtf8-are_ascii (codes "id") refl, IsUtf8-encode_lower key.id, refl, (IsUtf8-are_ascii (codes "kind") refl, kind_utf8 key.kind, refl, (IsUtf8-are_ascii (codes "reason") refl, IsUtf8-are_ascii (codes "unreadable") refl, refl, tt)))
+spelled (refusal.WrongKind id) said = (IsUtf8-are_ascii (codes "id") refl, IsUtf8-encode_lower id, refl, (IsUtf8-are_ascii (codes "reason") refl, IsUtf8-are_ascii (codes "wrong-kind") refl, refl, tt))
+spelled (refusal.WrongSize id) said = (IsUtf8-are_ascii (codes "id") refl, IsUtf8-encode_lower id, refl, (IsUtf8-are_ascii (codes "reason") refl, IsUtf8-are_ascii (codes "wrong-size") refl, refl, tt))
 spelled (refusal.TooDeep path) said = (IsUtf8-are_ascii (codes "path") refl, said, refl, (IsUtf8-are_ascii (codes "reason") refl, IsUtf8-are_ascii (codes "too-deep") refl, refl, tt))
 spelled (refusal.TooMany count) said = (IsUtf8-are_ascii (codes "count") refl, said, refl, (IsUtf8-are_ascii (codes "reason") refl, IsUtf8-are_ascii (codes "too-many") refl, refl, tt))
 spelled (refusal.TooLong path size) said = (IsUtf8-are_ascii (codes "length") refl, said.1, refl, (IsUtf8-are_ascii (codes "path") refl, said.0, refl, (IsUtf8-are_ascii (codes "reason") refl, IsUtf8-are_ascii (codes "too-long") refl, refl, tt)))
 spelled refusal.Store said = (IsUtf8-are_ascii (codes "reason") refl, IsUtf8-are_ascii (codes "store") refl, refl, tt)
 spelled refusal.Spent said = (IsUtf8-are_ascii (codes "reason") refl, IsUtf8-are_ascii (codes "spent") refl, refl, tt)
 spelled refusal.NoMemory said = (IsUtf8-are_ascii (codes "reason") refl, IsUtf8-are_ascii (codes "no-memory") refl, refl, tt)
-spelled (refusal.Damaged want None) said = (IsUtf8-are_ascii (codes "got") refl, tt, refl, (IsUtf8-are_ascii (codes "reason") refl, IsUtf8-are_ascii (codes "damaged") refl, refl, (IsUtf8-are_ascii (codes "want") refl, digits_utf8 want, refl, tt)))
-spelled (refusal.Damaged want (Some got)) said = (IsUtf8-are_ascii (codes "got") refl, digits_utf8 got, refl, (IsUtf8-are_ascii (codes "reason") refl, IsUtf8-are_ascii (codes "damaged") refl, refl, (IsUtf8-are_ascii (codes "want") refl, digits_utf8 want, refl, tt)))
+spelled (refusal.Damaged want None) said = (IsUtf8-are_ascii (codes "got") refl, tt, refl, (IsUtf8-are_ascii (codes "reason") refl, IsUtf8-are_ascii (codes "damaged") refl, refl, (IsUtf8-are_ascii (codes "want") refl, IsUtf8-encode_lower want, refl, tt)))
+spelled (refusal.Damaged want (Some got)) said = (IsUtf8-are_ascii (codes "got") refl, IsUtf8-encode_lower got, refl, (IsUtf8-are_ascii (codes "reason") refl, IsUtf8-are_ascii (codes "damaged") refl, refl, (IsUtf8-are_ascii (codes "want") refl, IsUtf8-encode_lower want, refl, tt)))
 spelled (refusal.BadDays days) said = absurd said
 
 shallow : (why : Refusal) → depth (refused_data why) ≤ 127

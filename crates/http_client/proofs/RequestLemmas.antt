@@ -1,5 +1,5 @@
 -- A request that is written for an order is read as that order. The key lemma is order_spelled, at the end.
-use Rattle.std.proofs.Common.{◌≡◌, ℕ, ◌^◌, ◌<◌, ◌≤◌, ◌&&◌, nat_lt, nat_le, Bool, true, false, List, [], ◌∷◌, ◌++◌, length, map, max, codes, refl, sym, ap, ap₂, subst, ◌∙◌, ◌==◌, if◌then◌else◌, lit≤, lit<, arith, Option, None, Some, Result, Ok, Err, All}
+use Rattle.std.proofs.Common.{◌≡◌, ℕ, ◌^◌, ◌<◌, ◌≤◌, ◌&&◌, nat_lt, Bool, true, false, List, [], ◌∷◌, ◌++◌, length, map, codes, refl, sym, ap, ap₂, subst, ◌∙◌, ◌==◌, if◌then◌else◌, lit≤, lit<, arith, Option, None, Some, Result, Ok, Err, All}
 use Rattle.std.specs.List.{list_all}
 use Rattle.std.proofs.lemmas.Bool.Decides.{nat_tests}
 use Rattle.std.proofs.lemmas.List.Elements.{All-head, All-tail}
@@ -11,16 +11,15 @@ use Rattle.hex.specs.Hex.{encode_lower, lower_digits}
 use Rattle.hex.proofs.HexLemmas.{IsAscii-encode_with, length-encode_with}
 use Rattle.httparse.specs.Grammar.{IsToken, RequestHead, is_token_byte, is_uri_byte}
 use Rattle.ids.specs.Digits.{is_lower_digit}
-use Rattle.ids.specs.declared.key.Kind.{Kind}
 use Rattle.ids.proofs.DigitsLemmas.{AllPass-encode_lower, IsAscii-lower_digits}
 use Rattle.ids.specs.declared.key.Kind.TheVariants.{Commit, Fs, Block}
-use Rattle.serde_json.specs.Data.{array, items_depth}
+use Rattle.serde_json.specs.Data.{array}
 use Rattle.serde_json.specs.View.{items_of}
 use Rattle.json_words.specs.Check.{each}
 use Rattle.json_words.specs.IdText.{id_data}
 use Rattle.json_words.proofs.FieldLemmas.{list_of-items_of}
 use Rattle.json_words.proofs.FoundLemmas.{id_in-found}
-use Rattle.json_words.proofs.WrittenLemmas.{AreSpelled, json_of-compact_text}
+use Rattle.json_words.proofs.WrittenLemmas.{AreSpelled, json_of-compact_text, flat_ids}
 use Rattle.library_state.specs.declared.refusal.Refusal.{Refusal}
 use Rattle.library_state.specs.declared.call.Op.{Op}
 use Rattle.http_front.specs.CallQuery.{IsClient, IsObjectId}
@@ -28,7 +27,7 @@ use Rattle.http_front.specs.IdArray.{array_text, id_at, ids_of, ids_of_value}
 use Rattle.http_front.specs.Order.{IsOrder, IsOrderAt, asks_objects, asks_to, asks_what_differs, asks_what_is_absent, updates}
 use Rattle.http_front.specs.Query.{client_asked, id_asked, op_asked, query_of}
 use Rattle.http_front.specs.RequestHead.{closes_by, expects, expects_after, expects_by, fields_of, judge, judged, method_of, wants_continue}
-use Rattle.http_front.specs.Route.{IsCall, IsLibrary, limit_at, limit_of, method_in, object_limit, route_limit, route_of}
+use Rattle.http_front.specs.Route.{IsCall, IsLibrary, limit_at, limit_of, method_in, route_limit, route_of}
 use Rattle.http_front.specs.declared.method.Method.{Method}
 use Rattle.http_front.specs.declared.method.Method.TheVariants as method
 use Rattle.http_front.specs.declared.order.Order.{Order}
@@ -40,9 +39,12 @@ use Rattle.http_front.proofs.CallLemmas.{id_reads, path_names}
 use Rattle.http_front.proofs.CallQueryLemmas.{check_asked, ids_asked, update_asked}
 use Rattle.http_client.specs.ReadOrder.{HasIds, IsLibraryOrNone, IsSecretOrNone, IsTyped, SpellsOrder}
 use Rattle.http_client.specs.RequestText.{HasRequest, IsAsked, IsHost, IsWithinLimit, NamesLibrary, body_in, is_host_byte, method_word, query_text, request_text, route_in, target_text}
-use Rattle.http_client.proofs.TargetTextLemmas.{is_visible, path_is, query_in, query_is, route_call, tail_of, target_short, target_some, target_visible, weaker}
+use Rattle.http_client.proofs.TargetTextLemmas.{is_visible, path_is, query_in, query_is, route_call, tail_of, target_short, target_some, target_visible, weaker, visible_ascii}
 use Rattle.http_client.proofs.HeadSizeLemmas.{SecretShort, few_so, head_short}
 use Rattle.http_client.proofs.WrittenHeadLemmas.{HasWord, SecretVisible, are_fields, closes_so, get, head_with, judged_so, post, put, request_printed, route_word, secret_so, told_length, told_size, waits_not, word_is}
+use Rattle.std.proofs.Math.Bool.{and-false}
+use Rattle.std.proofs.lemmas.Bool.{le-leb}
+use Rattle.http_front.proofs.UnfinishedLemmas.{limit_at_bound}
 
 -- ---- lists of ids
 
@@ -56,14 +58,10 @@ spelled : (ids : List (List ℕ)) → AreSpelled (items_of (map id_data ids))
 spelled [] = tt
 spelled (id ∷ ids) = (IsUtf8-from_ascii (encode_lower id) (IsAscii-encode_with lower_digits id IsAscii-lower_digits), spelled ids)
 
-shallow : (ids : List (List ℕ)) → items_depth (items_of (map id_data ids)) ≡ 0
-shallow [] = refl
-shallow (id ∷ ids) = ap (max 0) (shallow ids)
-
 pub ids_read_back : (ids : List (List ℕ)) → All IsObjectId ids → ids_of (array_text ids) ≡ Ok ids
 unfolding ids_of array_text ids_of_value
 ids_read_back ids are =
-    let depth_is = shallow ids in
+    let depth_is = flat_ids ids in
     rw (json_of-compact_text (array (items_of (map id_data ids))) (spelled ids) (omega (arith, depth_is)), list_of-items_of (map id_data ids), each_reads ids are) refl
 
 -- ---- the order
@@ -141,24 +139,6 @@ module _ (secret : Option (List ℕ)) where
 
 -- ---- the whole request
 
-small_limit : (r : Route) → route_limit r ≤ 67108864
-small_limit route.Version = lit≤ tt
-small_limit (route.Check lib) = lit≤ tt
-small_limit (route.Head lib) = lit≤ tt
-small_limit (route.Update lib) = lit≤ tt
-small_limit (route.Get lib key) = lit≤ tt
-small_limit (route.Put lib key) = object_small key.kind
-  where
-    object_small : (kind : Kind) → object_limit kind ≤ 67108864
-    object_small Commit = lit≤ tt
-    object_small Fs = lit≤ tt
-    object_small Block = lit≤ tt
-small_limit (route.CheckFs lib) = lit≤ tt
-small_limit (route.CheckBlocks lib) = lit≤ tt
-small_limit (route.PutFs lib) = lit≤ tt
-small_limit (route.GetFs lib) = lit≤ tt
-small_limit (route.Ids lib) = lit≤ tt
-
 -- what is asked for with GET has no body
 no_body : (lib : Option (List ℕ)) (w : What) → NamesLibrary lib w → IsAsked w → method_in (route_in lib w) ≡ method.Get → length (body_in w) ≡ 0
 no_body lib what.Version n a e = refl
@@ -178,10 +158,6 @@ no_body None (what.GetFs ids) n a e = absurd n
 no_body (Some lib) (what.GetFs ids) n a e = absurd (cc)
 no_body lib (what.Ids server client) n a e = refl
 
-and_false : (b : Bool) → (b && false) ≡ false
-and_false true = refl
-and_false false = refl
-
 host_visible : (b : ℕ) → is_host_byte b ≡ true → is_visible b ≡ true
 host_visible b is = grind (arith, nat_tests)
 
@@ -190,9 +166,6 @@ lower_visible b is = grind (arith, nat_tests)
 
 visible_uri : (b : ℕ) → is_visible b ≡ true → is_uri_byte b ≡ true
 visible_uri b is = grind (arith, nat_tests)
-
-visible_ascii : (b : ℕ) → is_visible b ≡ true → b < 128
-visible_ascii b is = grind (arith, nat_tests)
 
 secret_visible : (secret : Option (List ℕ)) → IsSecretOrNone secret → SecretVisible secret
 secret_visible None is = tt
@@ -214,17 +187,14 @@ limit_so : (m : Method) (target : List ℕ) (r : Route) → route_of m target �
 unfolding limit_of
 limit_so m target r named = ap limit_at named
 
-le_told : {a b : ℕ} → a ≤ b → nat_le a b ≡ true
-le_told less = grind (arith, nat_tests)
-
 accepted_by : (size limit : ℕ) → size ≤ limit → judged false (Some size) true limit ≡ Ok size
-accepted_by size limit fits = ap (λ (b : Bool). if b then Ok size else Err 413) (le_told fits)
+accepted_by size limit fits = ap (λ (b : Bool). if b then Ok size else Err 413) (le-leb size limit fits)
 
 never_waits : (size : ℕ) (h : RequestHead) → judge h ≡ Ok size → wants_continue (fields_of h) ≡ false → expects h ≡ false
 unfolding expects_by
 never_waits size h ok none =
     ap (λ (j : Result ℕ ℕ). expects_after j h) ok
-    ∙ ap (λ (w : Bool). ((h.minor == 1) && nat_lt 0 size) && w) none ∙ and_false ((h.minor == 1) && nat_lt 0 size)
+    ∙ ap (λ (w : Bool). ((h.minor == 1) && nat_lt 0 size) && w) none ∙ and-false ((h.minor == 1) && nat_lt 0 size)
 
 pub order_spelled : (order : Order) (host rest : List ℕ) (ends : Bool) → IsTyped order → HasRequest order → IsWithinLimit order → IsHost host
     → SpellsOrder (request_text order host ends ++ rest) order ends rest
@@ -237,7 +207,7 @@ order_spelled order host rest ends typed has within host_is =
     let size = length body in
     let call = route_call order.lib order.what typed.lib typed.ids has.library has.asked in
     let word = route_word r in
-    let limit = small_limit r in
+    let limit : route_limit r ≤ 67108864 = limit_at_bound (Some r) in
     let short = within.short in
     let small : size < 10 ^ 19 = omega (arith, limit, short) in
     let fits : size < 2 ^ 64 = omega (arith, limit, short) in

@@ -32,6 +32,7 @@ use Rattle.http_front.specs.declared.order.What.TheVariants as what
 use Rattle.library_state.specs.declared.call.Op.TheVariants.{Upload, Download}
 use Rattle.http_client.specs.ReadOrder.{HasIds, IsLibraryOrNone}
 use Rattle.http_client.specs.RequestText.{IsAsked, NamesLibrary, query_text, route_in, target_text}
+use Rattle.ids.proofs.BasicLemmas.{list_all-joined}
 
 -- visible ASCII
 abbrev pub is_visible : ℕ → Bool
@@ -44,10 +45,6 @@ is_path_byte b = is_visible b && not (b == 63)
 -- what a part is written with: no `/` either
 abbrev is_part_byte : ℕ → Bool
 is_part_byte b = is_path_byte b && not (b == 47)
-
-visible-append : (p : ℕ → Bool) (xs ys : List ℕ) → list_all p xs ≡ true → list_all p ys ≡ true → list_all p (xs ++ ys) ≡ true
-visible-append p [] ys a b = b
-visible-append p (x ∷ xs) ys a b = let both = and_parts (p x) (list_all p xs) a in and_from (p x) (list_all p (xs ++ ys)) both.0 (visible-append p xs ys both.1 b)
 
 pub weaker : (p q : ℕ → Bool) → ((b : ℕ) → p b ≡ true → q b ≡ true) → (xs : List ℕ) → list_all p xs ≡ true → list_all q xs ≡ true
 weaker p q f [] a = refl
@@ -73,7 +70,7 @@ library_are lib =
     list_all-from_AllPass is_part_byte text
     (All-from_get_or (λ c. IsTrue (is_part_byte c)) text 0 (λ k l. allowed_byte (is_hyphen_place k) (get_or text k 0) (form.each k (omega (arith, l, form.whole)))))
 
-visible_ascii : (b : ℕ) → is_visible b ≡ true → b < 128
+pub visible_ascii : (b : ℕ) → is_visible b ≡ true → b < 128
 visible_ascii b is = grind (arith, nat_tests)
 
 pub visible_utf8 : (text : List ℕ) → list_all is_visible text ≡ true → IsUtf8 text
@@ -82,9 +79,6 @@ visible_utf8 text are =
 
 part_path_byte : (b : ℕ) → is_part_byte b ≡ true → is_path_byte b ≡ true
 part_path_byte b is = (and_parts (is_path_byte b) (not (b == 47)) is).0
-
-pub library_utf8 : (lib : List ℕ) → IsUtf8 (hyphenated_text lower lib)
-library_utf8 lib = visible_utf8 (hyphenated_text lower lib) (weaker is_part_byte is_visible (λ b e. path_byte_visible b (part_path_byte b e)) (hyphenated_text lower lib) (library_are lib))
 
 -- ---- a path: its parts, each short and of path bytes, of which the last is some bytes that end in no slash
 
@@ -103,7 +97,7 @@ joined_bytes : (parts : List (List ℕ)) → AreParts parts → list_all is_path
 joined_bytes [] are = refl
 joined_bytes (part ∷ []) are = path_bytes_of part are.0
 joined_bytes (part ∷ next ∷ parts) are =
-    visible-append is_path_byte part (47 ∷ join_with_byte 47 (next ∷ parts)) (path_bytes_of part are.0) (joined_bytes (next ∷ parts) are.1)
+    list_all-joined is_path_byte part (47 ∷ join_with_byte 47 (next ∷ parts)) (path_bytes_of part are.0) (joined_bytes (next ∷ parts) are.1)
 
 joined_short : (parts : List (List ℕ)) → AreParts parts → length (join_with_byte 47 parts) ≤ 41 * length parts
 joined_short [] are = omega arith
@@ -321,7 +315,7 @@ query_text_is (what.PutFs rows) is = record { bytes = refl; short = lit≤ tt }
 query_text_is (what.GetFs ids) is = record { bytes = refl; short = lit≤ tt }
 query_text_is (what.Ids server None) is = record { bytes = digits_visible server is.0; short = let f = forty server is.0 in omega (arith, f) }
 query_text_is (what.Ids server (Some client)) is = record {
-  bytes = visible-append is_visible (encode_lower server) (38 ∷ part_of (codes "client-head") (encode_lower client)) (digits_visible server is.0) (digits_visible client is.1);
+  bytes = list_all-joined is_visible (encode_lower server) (38 ∷ part_of (codes "client-head") (encode_lower client)) (digits_visible server is.0) (digits_visible client is.1);
   short = let f = forty server is.0 in let g = forty client is.1 in omega (arith, f, g, length-append (encode_lower server) (38 ∷ part_of (codes "client-head") (encode_lower client)));
 }
 
@@ -329,7 +323,7 @@ query_text_is (what.Ids server (Some client)) is = record {
 
 pub target_visible : (lib : Option (List ℕ)) (w : What) → IsCall (route_in lib w) → HasIds w → list_all is_visible (target_text lib w) ≡ true
 target_visible lib w call ids =
-    visible-append is_visible (path_in (route_in lib w)) (query_text w)
+    list_all-joined is_visible (path_in (route_in lib w)) (query_text w)
     (weaker is_path_byte is_visible path_byte_visible (path_in (route_in lib w)) (path_bytes (route_in lib w) call)) (query_text_is w ids).bytes
 
 pub target_short : (lib : Option (List ℕ)) (w : What) → IsCall (route_in lib w) → HasIds w → length (target_text lib w) ≤ 325

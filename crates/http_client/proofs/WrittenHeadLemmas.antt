@@ -1,10 +1,10 @@
 -- The head that is written for an order, as a server reads it. The key lemmas are request_printed, are_fields, judged_so,
 -- closes_so and secret_so.
-use Rattle.std.proofs.Common.{◌≡◌, ℕ, ◌^◌, ◌<◌, ◌≤◌, nat_lt, nat_le, Bool, true, false, List, [], ◌∷◌, ◌++◌, length, map, reverse, refl, sym, ap, ap₂, ◌∙◌, subst, arith, lit<, append_assoc, append-nil, Option, None, Some, codes, decimal, All}
+use Rattle.std.proofs.Common.{◌≡◌, ℕ, ◌^◌, ◌<◌, nat_lt, nat_le, Bool, true, false, List, [], ◌∷◌, ◌++◌, length, map, reverse, refl, sym, ap, ap₂, ◌∙◌, subst, arith, lit<, append_assoc, append-nil, Option, None, Some, codes, decimal, All}
 use Rattle.std.specs.Prelude.{⊤}
 use Rattle.std.specs.List.{AllByRecursion, flat_map, list_all}
 use Rattle.std.specs.Char.{is_ascii_digit}
-use Rattle.std.proofs.lemmas.Bool.{and_parts}
+use Rattle.std.proofs.lemmas.Bool.{and_parts, le-leb}
 use Rattle.std.proofs.lemmas.Bool.Decides.{nat_tests}
 use Rattle.std.proofs.lemmas.Fmt.{decimal_is_IsNumeral, decimal_nonempty, length-decimal-le}
 use Rattle.std.proofs.lemmas.Grind.{flat_map-append}
@@ -289,14 +289,11 @@ secret_so m host secret size ends word is visible =
 number_so : (n : ℕ) → n < 10 ^ 19 → n < 2 ^ 64 → number_in (decimal n) ≡ Some n
 number_so n small fits =
     let some : nat_lt 0 (length (decimal n)) ≡ true = lt_told (decimal_nonempty n fits) in
-    let few : nat_le (length (decimal n)) 19 ≡ true = le_told (length-decimal-le 19 n (lit< tt) small fits) in
+    let few : nat_le (length (decimal n)) 19 ≡ true = le-leb _ _ (length-decimal-le 19 n (lit< tt) small fits) in
     rw (some, few, decimal_digits n fits) (ap Some (decimal_is_IsNumeral n fits).1)
   where
     lt_told : {a b : ℕ} → a < b → nat_lt a b ≡ true
     lt_told less = grind (arith, nat_tests)
-
-    le_told : {a b : ℕ} → a ≤ b → nat_le a b ≡ true
-    le_told less = grind (arith, nat_tests)
 
 pub told_size : (m : Method) (size : ℕ) → HasWord m → size < 10 ^ 19 → size < 2 ^ 64 → (m ≡ method.Get → size ≡ 0) → told_length m size ≡ Some size
 told_size _ size get small fits none = ap Some (sym (none refl))

@@ -1,18 +1,16 @@
 -- For private clauses: the refusal that a JSON value tells, reason by reason. Read first: RefusalReading.
 use Rattle.std.specs.Prelude.{ℕ, ◌==◌, ◌&&◌, Option, None, Some, List, [], codes, length, if◌then◌else◌, option_map}
-use Rattle.std.specs.List.{list_all, slice_split}
-use Rattle.std.specs.Option.{option_and_then, is_none}
+use Rattle.std.specs.Option.{option_and_then}
 use Rattle.std.specs.Result.{result_ok}
 use Rattle.std.specs.Str.{bytes_eq}
+use Rattle.ids.specs.Kind.{kind_of}
 use Rattle.ids.specs.declared.key.Key.{Key}
 use Rattle.ids.specs.declared.key.Kind.{Kind}
-use Rattle.ids.specs.declared.key.Kind.TheVariants.{Commit, Fs, Block}
 use Rattle.serde_json.specs.Data.{Data, null, string}
 use Rattle.serde_json.specs.Find.{get}
 use Rattle.json_words.specs.Fields.{number_field, text_field}
 use Rattle.json_words.specs.IdText.{library_id_of, object_id_of}
-use Rattle.tree_model.specs.Name.{name_fault}
-use Rattle.tree_model.specs.Path.{PathV}
+use Rattle.tree_model.specs.Path.{PathV, path_of}
 use Rattle.library_state.specs.declared.refusal.Refusal.{Refusal}
 use Rattle.library_state.specs.declared.refusal.Refusal.TheVariants as refusal
 use Rattle.http_front.specs.RefusalText.{refused_status}
@@ -37,14 +35,6 @@ id_at name d = option_and_then object_id_of (text_at name d)
 abbrev pub library_at : List ℕ → Data → Option (List ℕ)
 library_at name d = option_and_then library_id_of (text_at name d)
 
--- the kind of a word
-abbrev pub kind_of : List ℕ → Option Kind
-kind_of word =
-    if bytes_eq word (codes "commit") then Some Commit
-    else if bytes_eq word (codes "fs") then Some Fs
-    else if bytes_eq word (codes "block") then Some Block
-    else None
-
 abbrev pub key_of : Kind → List ℕ → Key
 key_of kind id = record { kind = kind; id = id }
 
@@ -52,16 +42,12 @@ key_of kind id = record { kind = kind; id = id }
 abbrev pub key_at : Data → Option Key
 key_at d = option_and_then (λ kind. option_map (key_of kind) (id_at (codes "id") d)) (option_and_then kind_of (text_at (codes "kind") d))
 
--- the path whose text this is: names that are good, with `/` between them
-abbrev pub good_path : List (List ℕ) → Option PathV
-good_path names = if list_all (λ name. is_none (name_fault name)) names then Some names else None
-
--- the text of the root has no names
-abbrev pub path_of : List ℕ → Option PathV
-path_of text = if length text == 0 then Some [] else good_path (slice_split (λ b. b == 47) text)
+-- the path that a text names. The text of the root has no bytes
+abbrev pub named_path : List ℕ → Option PathV
+named_path text = if length text == 0 then Some [] else path_of text
 
 abbrev pub path_at : Data → Option PathV
-path_at d = option_and_then path_of (text_at (codes "path") d)
+path_at d = option_and_then named_path (text_at (codes "path") d)
 
 -- an id, or that there is none, as null says
 abbrev pub id_or_none : Data → Option (Option (List ℕ))

@@ -1,5 +1,5 @@
 //! Which orders have a request, and how long its body is. Nothing is written for it.
-ghost use Rattle.std.specs.Prelude.{◌≡◌, ◌↔◌, ◌≤◌, ◌<◌, ◌+◌, ℕ, List, length, min, All, IsTrue};
+ghost use Rattle.std.specs.Prelude.{◌≡◌, ◌↔◌, ◌≤◌, ◌<◌, ◌+◌, ◌-◌, ◌^◌, ℕ, List, length, min, All, IsTrue};
 ghost use Rattle.std.specs.List.{list_all};
 ghost use Rattle.hex.specs.Hex.{encode_lower};
 ghost use Rattle.http_front.specs.CallQuery.{IsObjectId};
@@ -170,7 +170,7 @@ fn missing_limit(kind: Kind) -> u64
 
 /// The length of the body of the order's request, or 2^64 - 1 where that is more.
 pub fn body_size(order: &Order) -> u64
-    ensures value { result ≡ min (length (body_in order.now.what)) 18446744073709551615 }
+    ensures value { result ≡ min (length (body_in order.now.what)) (2 ^ 64 - 1) }
 {
     match &order.what {
         What::Put(_, bytes) => bytes.len() as u64,
@@ -188,7 +188,7 @@ pub fn body_size(order: &Order) -> u64
 
 /// The length of the text of an array of ids: of each its digits, two quotes and what follows it.
 fn array_size(ids: &[ObjId]) -> u64
-    ensures value { result ≡ min (length (array_text ids.now)) 18446744073709551615 }
+    ensures value { result ≡ min (length (array_text ids.now)) (2 ^ 64 - 1) }
 {
     let count = ids.len();
     if count == 0 {
@@ -204,7 +204,7 @@ fn array_size(ids: &[ObjId]) -> u64
 
 /// The length of the text of some rows.
 fn rows_size(rows: &[Row]) -> u64
-    ensures value { result ≡ min (length (rows_text rows.now)) 18446744073709551615 }
+    ensures value { result ≡ min (length (rows_text rows.now)) (2 ^ 64 - 1) }
 {
     let mut size: u64 = 0;
     for row in rows {
@@ -215,7 +215,7 @@ fn rows_size(rows: &[Row]) -> u64
 
 /// The length of the text of a row, or 2^64 - 1 where that is more.
 fn row_size(id: &ObjId, bytes: &[u8]) -> u64
-    ensures value { result ≡ min (40 + (4 + length bytes.now)) 18446744073709551615 }
+    ensures value { result ≡ min (40 + (4 + length bytes.now)) (2 ^ 64 - 1) }
     ensures digits { length (encode_lower id.now) ≡ 40 }
 {
     let digits = id.digits();

@@ -9,7 +9,6 @@ mod asked_ids;
 mod conditions;
 pub mod laws;
 mod outcome_reading;
-mod path_reading;
 mod refusal_due;
 mod refusal_reading;
 mod reply_front;

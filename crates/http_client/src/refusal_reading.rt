@@ -1,9 +1,8 @@
 //! The refusal that a JSON value tells.
 ghost use Rattle.std.specs.Prelude.{◌≡◌, option_map, IfOk};
 ghost use Rattle.serde_json.specs.View.{view};
-ghost use Rattle.http_client.specs.RefusalWords.{counted_of, damaged_in, got_at, id_at, id_or_none, key_at, keyed_of, kind_of, library_at, located_of, named_of, number_at, path_at, plain_of, refusal_for, refusal_in, stale_in, text_at, too_long_in};
+ghost use Rattle.http_client.specs.RefusalWords.{counted_of, damaged_in, got_at, id_at, id_or_none, key_at, keyed_of, library_at, located_of, named_of, named_path, number_at, path_at, plain_of, refusal_for, refusal_in, stale_in, text_at, too_long_in};
 
-use crate::path_reading::path_of;
 use ids::{Key, Kind, LibId, ObjId};
 use json_words::{library_id, number_field, object_id, text_field};
 use library_state::Refusal;
@@ -200,26 +199,12 @@ fn library_at(value: &Value, name: &str) -> Option<LibId>
     }
 }
 
-fn kind_of(word: &str) -> Option<Kind>
-    ensures value { result ≡ kind_of word.now }
-{
-    if word == "commit" {
-        Some(Kind::Commit)
-    } else if word == "fs" {
-        Some(Kind::Fs)
-    } else if word == "block" {
-        Some(Kind::Block)
-    } else {
-        None
-    }
-}
-
 /// The key of an object, by its kind and its id.
 fn key_at(value: &Value) -> Option<Key>
     ensures value { result ≡ key_at (view value.now) }
 {
     let kind = match text_at(value, "kind") {
-        Some(word) => kind_of(word)?,
+        Some(word) => Kind::of(word)?,
         None => return None,
     };
     let id = id_at(value, "id")?;
@@ -230,9 +215,19 @@ fn path_at(alloc: Global, value: &Value) -> Result<Option<Path>, AllocError>
     ensures value { IfOk result (λ told. told ≡ path_at (view value.now)) }
 {
     match text_at(value, "path") {
-        Some(text) => path_of(alloc, text),
+        Some(text) => named_path(alloc, text),
         None => Ok(None),
     }
+}
+
+/// The path that a text names. The text of the root has no bytes.
+fn named_path(alloc: Global, text: &str) -> Result<Option<Path>, AllocError>
+    ensures value { IfOk result (λ path. path ≡ named_path text.now) }
+{
+    if text.is_empty() {
+        return Ok(Some(Path::root(alloc)));
+    }
+    Path::read(alloc, text)
 }
 
 fn got_at(value: &Value) -> Option<Option<ObjId>>

@@ -7,11 +7,8 @@ ghost use Rattle.http_client.specs.Response.{IsResponse, front_of};
 use crate::outcome_reading::outcome_of;
 use crate::reply_front::{bad_place, may_become_head};
 use crate::reply_head::{SeenHead, head_at};
-use http_front::{Order, Outcome, Status, What};
+use http_front::{HEAD_LIMIT, Order, Outcome, Status, What};
 use std::alloc::{AllocError, Global};
-
-/// The most bytes that a head may have.
-const HEAD_LIMIT: usize = 16_384;
 
 /// What stands at the front of a buffer.
 #[derive(Debug, Drop)]

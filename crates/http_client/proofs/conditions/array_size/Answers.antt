@@ -1,11 +1,11 @@
-use Rattle.std.proofs.Common.{◌≡◌, ◌+◌, ◌*◌, ℕ, All, length, min, sym, ap, subst, ◌∙◌, take, arith}
+use Rattle.std.proofs.Common.{◌≡◌, ◌-◌, ◌^◌, ◌+◌, ◌*◌, ℕ, All, length, min, sym, ap, subst, ◌∙◌, take, arith}
 use Rattle.std.proofs.lemmas.List.{nil_from_length}
 use Rattle.http_client.proofs.AskedIdsLemmas.{next_id}
 use Rattle.http_client.proofs.BodySizeLemmas.{HasDigits, array_size, count_more, digits_more, none_size}
 use Rattle.http_client.proofs.conditions.array_size.Goals as goal
 
 abbrev most : ℕ
-most = 18446744073709551615
+most = 2 ^ 64 - 1
 
 pub returns-then-count-eq0 : goal.returns-then-count-eq0
 returns-then-count-eq0 c = record { value = none_size c.args.ids.now most (nil_from_length c.args.ids.now c.if-count-eq0.true) (omega arith) }

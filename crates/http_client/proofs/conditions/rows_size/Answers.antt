@@ -1,11 +1,11 @@
-use Rattle.std.proofs.Common.{◌≡◌, ◌+◌, ℕ, length, min, sym, ap, ap₂, ◌∙◌, take}
+use Rattle.std.proofs.Common.{◌≡◌, ◌-◌, ◌^◌, ◌+◌, ℕ, length, min, sym, ap, ap₂, ◌∙◌, take}
 use Rattle.std.proofs.lemmas.List.{take_all}
 use Rattle.http_front.specs.Rows.{rows_text}
 use Rattle.http_client.proofs.BodySizeLemmas.{min_more, row_more, row_next}
 use Rattle.http_client.proofs.conditions.rows_size.Goals as goal
 
 abbrev most : ℕ
-most = 18446744073709551615
+most = 2 ^ 64 - 1
 
 pub loop-row-preserved : goal.loop-row-preserved
 loop-row-preserved c =

@@ -1,6 +1,6 @@
 use Rattle.std.proofs.Common.{sym, ◌∙◌}
-use Rattle.std.proofs.lemmas.Bool.{false≢true}
-use Rattle.http_client.proofs.FrontLemmas.{from_not, from_not_false, never_other, never_over, newest_may, old_never}
+use Rattle.std.proofs.lemmas.Bool.{false≢true, not-false}
+use Rattle.http_client.proofs.FrontLemmas.{from_not, never_other, never_over, newest_may, old_never}
 use Rattle.http_client.proofs.reply_front.may_become_head.Goals as goal
 
 pub returns-in-Ok-Partial-clause-may : goal.returns-in-Ok-Partial-clause-may
@@ -12,7 +12,7 @@ pub returns-in-Ok-Partial-clause-none : goal.returns-in-Ok-Partial-clause-none
 returns-in-Ok-Partial-clause-none c = λ t. let told = rw c.in-Ok-Partial.field-0-is at c.in-Ok-Partial.ensures in told.partial
 
 pub returns-in-Ok-Partial-clause-broken : goal.returns-in-Ok-Partial-clause-broken
-returns-in-Ok-Partial-clause-broken c = λ e. old_never c.args.front.now (sym c.is_old.ensures.value ∙ from_not_false c.is_old.result e)
+returns-in-Ok-Partial-clause-broken c = λ e. old_never c.args.front.now (sym c.is_old.ensures.value ∙ not-false c.is_old.result e)
 
 pub returns-in-Ok-Complete-clause-may : goal.returns-in-Ok-Complete-clause-may
 returns-in-Ok-Complete-clause-may c = λ t. absurd (false≢true t)
