@@ -1,5 +1,5 @@
 -- Entries in the order of their paths. The key lemmas are Rises-entries, found_of, missed, tail_found, same_keys and fewer_keys.
-use Rattle.std.proofs.Common.{◌≡◌, inl, inr, suc, ◌≤◌, ◌&&◌, Bool, true, false, cond, if◌then◌else◌, List, [], ◌∷◌, length, map as map_list, refl, sym, ap, ◌∙◌, subst, Option, Some, None, is_some, true≢false, arith, Less, Equal, Greater, Ordering}
+use Rattle.std.proofs.Common.{◌≡◌, inl, inr, suc, ◌≤◌, Bool, true, false, cond, if◌then◌else◌, List, [], ◌∷◌, length, map as map_list, refl, sym, ap, ◌∙◌, subst, Option, Some, None, is_some, true≢false, arith, Less, Equal, Greater, Ordering}
 use Rattle.std.proofs.Math.Dec.{T}
 use Rattle.std.proofs.lemmas.List.Sums.{length-filter}
 use Rattle.std.specs.List.{filter, filter_map, cons_option, count_by}
@@ -10,7 +10,7 @@ use Rattle.tree_model.specs.Path.{PathV, path_cmp}
 use Rattle.tree_model.specs.PathOrder.{paths_total, paths_exact}
 use Rattle.tree_model.proofs.ListedLemmas.{same_path, same_path-true, same_path-itself}
 use Rattle.tree_model.proofs.MovingLemmas.{In}
-use Rattle.ids.proofs.BasicLemmas.{none_from_is_some, both_from_T, less_from_is_lt}
+use Rattle.ids.proofs.BasicLemmas.{both_from_T, less_from_is_lt}
 
 -- a path stands before every entry
 abbrev pub IsBefore : {X : Type 0} → PathV → List (PathV × X) → Type 0

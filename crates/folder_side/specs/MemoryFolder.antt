@@ -1,7 +1,7 @@
 -- A folder in memory, as contracts see it: what it holds, its spare, and which calls are to fail. Read Folder first.
-use Rattle.std.specs.Prelude.{◌⊎◌, ℕ, ◌+◌, ◌-◌, ◌^◌, ◌==◌, min, Bool, true, false, IsTrue, List, Option, Some, None, if◌then◌else◌}
-use Rattle.std.specs.List.{list_any}
+use Rattle.std.specs.Prelude.{◌⊎◌, ℕ, Bool, true, false, IsTrue, List, Option, Some, None, if◌then◌else◌}
 use Rattle.std.specs.FinMap as map
+use Rattle.ids.specs.FaultCount.{counted, is_due}
 use Rattle.tree_model.specs.Path.{PathV}
 use Rattle.folder_side.specs.declared.error.FolderFault.{FolderFault}
 use Rattle.folder_side.specs.declared.error.FolderFault.TheVariants.{Folder, NoMemory}
@@ -25,13 +25,9 @@ bytes_of (Some Other) = None
 abbrev pub with_nameless : PathV → ℕ → Contents → Contents
 with_nameless dir count c = record c { nameless = map.insert c.nameless dir count }
 
--- one more, up to 2 ^ 64 - 1
-abbrev pub counted : ℕ → ℕ
-counted n = min (n + 1) (2 ^ 64 - 1)
-
 -- the next call is to fail
-abbrev pub is_due : MemoryFolder → Bool
-is_due folder = list_any (λ number. number == folder.calls) folder.fails
+abbrev pub fails_next : MemoryFolder → Bool
+fails_next folder = is_due folder.fails folder.calls
 
 -- the folder after a call that changed nothing in it
 abbrev pub after_call : MemoryFolder → MemoryFolder
@@ -50,4 +46,4 @@ is_want NoMemory = true
 
 -- a call fails where it is to fail, and where it can't be
 abbrev pub FailsIf : MemoryFolder → Type 0 → Type 0
-FailsIf folder cannot = IsTrue (is_due folder) ⊎ cannot
+FailsIf folder cannot = IsTrue (fails_next folder) ⊎ cannot

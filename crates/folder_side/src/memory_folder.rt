@@ -7,7 +7,8 @@ ghost use Rattle.folder_side.specs.declared.error.FolderFault.TheVariants as fau
 ghost use Rattle.ids.specs.Outcome.{Exactly};
 ghost use Rattle.folder_side.specs.Folder.{Contents, IsFolder, Changes, PartAt, listing_at, with_file, with_dir, with_holding, without, at, is_dir_at, FolderFails, IsFree, TakesFile, IsRemovable, IsPart};
 ghost use Rattle.folder_side.specs.declared.holding.Holding.TheVariants.{File};
-ghost use Rattle.folder_side.specs.MemoryFolder.{nothing, bytes_of, with_nameless, counted, is_due, after_call, after_fault, is_want, FailsIf};
+ghost use Rattle.ids.specs.FaultCount.{counted};
+ghost use Rattle.folder_side.specs.MemoryFolder.{nothing, bytes_of, with_nameless, fails_next, after_call, after_fault, is_want, FailsIf};
 
 use crate::error::FolderFault;
 use crate::folder::{Folder, Listing};
@@ -93,7 +94,7 @@ impl MemoryFolder {
 
 /// Counts a call, and tells whether it is to fail.
 fn begin_call(folder: &mut MemoryFolder) -> bool
-    ensures value { result ≡ is_due folder.old }
+    ensures value { result ≡ fails_next folder.old }
     ensures ok { folder.new ≡ after_call folder.old }
 {
     let due = is_due_at(folder.fails.slice(), folder.calls);
@@ -175,7 +176,7 @@ impl Folder for MemoryFolder {
         ensures faults { FolderFails self.old.faults self.new.faults result }
 
         // It fails exactly where it is to fail.
-        ensures folder { Exactly is_want result fault.Folder (IsTrue (is_due self.old)) }
+        ensures folder { Exactly is_want result fault.Folder (IsTrue (fails_next self.old)) }
         ensures told { OnOk result (self.new ≡ record (after_call self.old) { spare = Some [] }) }
         ensures err { IfErr result (λ e. self.new ≡ after_fault e self.old) }
     {

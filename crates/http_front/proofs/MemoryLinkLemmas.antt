@@ -2,7 +2,8 @@
 use Rattle.std.proofs.Common.{◌≡◌, ℕ, ◌+◌, ◌≤◌, List, [], ◌∷◌, ◌++◌, length, take, drop, refl, sym, ap, arith, append-nil, Some}
 use Rattle.std.proofs.lemmas.List.{take-append-drop, drop-drop, drop-take, take-take, length-take-le}
 use Rattle.http_front.specs.Link.{Asked, GivesFront}
-use Rattle.http_front.specs.MemoryLink.{MemoryLinkState, after_failed_take, after_take, asked_more, counted}
+use Rattle.ids.specs.FaultCount.{counted}
+use Rattle.http_front.specs.MemoryLink.{MemoryLinkState, after_failed_take, after_take, asked_more}
 
 -- what was copied is the front of what is left
 pub left_by : (input copied : List ℕ) (place n : ℕ) → take n copied ≡ take n (drop place input)

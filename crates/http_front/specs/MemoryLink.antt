@@ -1,7 +1,7 @@
 -- A link and a sink in memory, as contracts see them: what was moved, what is left to move, and
 -- which calls are to fail. Read first: Link.
-use Rattle.std.specs.Prelude.{ℕ, ◌+◌, ◌-◌, ◌^◌, Bool, ◌||◌, ◌==◌, nat_lt, min, List, [], ◌∷◌, ◌++◌, length, take, drop, if◌then◌else◌}
-use Rattle.std.specs.List.{list_any}
+use Rattle.std.specs.Prelude.{ℕ, ◌-◌, Bool, ◌||◌, nat_lt, min, List, [], ◌∷◌, ◌++◌, length, take, drop, if◌then◌else◌}
+use Rattle.ids.specs.FaultCount.{counted, is_due}
 use Rattle.http_front.specs.Link.{Asked}
 
 -- `calls` counts the takes and gives so far, up to 2 ^ 64 - 1
@@ -22,14 +22,6 @@ pub record MemorySinkState : Type 0 where
   pub fails : List ℕ
   pub calls : ℕ
   pub faults : ℕ
-
--- one more, up to 2 ^ 64 - 1
-abbrev pub counted : ℕ → ℕ
-counted n = min (n + 1) (2 ^ 64 - 1)
-
--- the call of this number is to fail
-abbrev pub is_due : List ℕ → ℕ → Bool
-is_due fails number = list_any (λ n. n == number) fails
 
 -- how many bytes of a piece find room
 abbrev pub fitting : ℕ → List ℕ → List ℕ → ℕ

@@ -2,7 +2,8 @@
 ghost use Rattle.std.specs.Prelude.{◌≡◌, ◌+◌, ◌-◌, ◌<◌, ◌≤◌, ◌↔◌, IsTrue, if◌then◌else◌, is_err, List, [], ◌++◌, length, take, drop, min, IfOk, OnErr, IsErr, vec_len, vec_capacity};
 ghost use Rattle.std.specs.Io.KnownBytes.{IsAtEnd, append_known, prepend_known};
 ghost use Rattle.http_front.specs.Link.{CountsFaults, Gives, asked_once_more};
-ghost use Rattle.http_front.specs.MemoryLink.{after_failed_take, after_take, counted, fitting, give_fails, given_count, is_due};
+ghost use Rattle.ids.specs.FaultCount.{counted, is_due};
+ghost use Rattle.http_front.specs.MemoryLink.{after_failed_take, after_take, fitting, give_fails, given_count};
 
 use crate::link::{Link, LinkFailed};
 use http_server::Log;

@@ -1,7 +1,8 @@
 //! A sink in memory: its room and the puts that are to fail.
 ghost use Rattle.std.specs.Prelude.{◌≡◌, ◌↔◌, IsTrue, IsErr, is_err, if◌then◌else◌, [], ◌++◌, take, IfOk};
 ghost use Rattle.http_front.specs.Link.{CountsFaults, Gives};
-ghost use Rattle.http_front.specs.MemoryLink.{counted, give_fails, given_count};
+ghost use Rattle.ids.specs.FaultCount.{counted};
+ghost use Rattle.http_front.specs.MemoryLink.{give_fails, given_count};
 
 use crate::link::{LinkFailed, Sink};
 use crate::memory_link::{is_due_at, put_within};

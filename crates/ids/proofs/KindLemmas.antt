@@ -1,5 +1,5 @@
 -- The words of the kinds of objects. The key lemmas are kind_of-word and kind_of-has.
-use Rattle.std.proofs.Common.{◌≡◌, ℕ, List, Bool, true, false, if◌then◌else◌, Option, Some, None, codes, refl, ap, ◌∙◌}
+use Rattle.std.proofs.Common.{◌≡◌, ℕ, List, Bool, true, false, if◌then◌else◌, Some, None, codes, refl, ap, ◌∙◌}
 use Rattle.std.specs.Str.{bytes_eq}
 use Rattle.ids.specs.Kind.{kind_of, kind_word}
 use Rattle.ids.specs.declared.key.Kind.{Kind}

@@ -7,7 +7,7 @@ use Rattle.std.specs.FinMap as map
 use Rattle.std.specs.Ordering.{eq_by_cmp, is_gt, nat_cmp, ordering_then}
 use Rattle.std.specs.declared.cmp.Ordering.{Ordering}
 use Rattle.std.specs.declared.cmp.Ordering.TheVariants.{Less, Equal, Greater}
-use Rattle.ids.specs.FaultCount.{Rose}
+use Rattle.ids.specs.FaultCount.{Rose, counted}
 use Rattle.ids.specs.Key.{Objects, key_cmp}
 use Rattle.ids.specs.Kind.{kind_place}
 use Rattle.ids.specs.MapView.{IsAbove, IsNext}
@@ -17,7 +17,7 @@ use Rattle.ids.specs.declared.key.Kind.{Kind}
 use Rattle.ids.specs.declared.key.Kind.TheVariants.{Commit, Fs, Block}
 use Rattle.ids.proofs.KeyOrderLemmas.{key_cmp_total, key_cmp_exact}
 use Rattle.object_store.proofs.MapLemmas.{tied_key}
-use Rattle.object_store.specs.MemoryShelf.{FindsAt, FindsKey, HasIds, IsFirstFrom, IsFirstPast, IsLeastFrom, IsPast, MemoryShelfState, begun, counted, fails_next}
+use Rattle.object_store.specs.MemoryShelf.{FindsAt, FindsKey, HasIds, IsFirstFrom, IsFirstPast, IsLeastFrom, IsPast, MemoryShelfState, begun, fails_next}
 use Rattle.object_store.specs.Shelf.{FindsNext}
 use Rattle.object_store.specs.declared.shelf.Found.{Found}
 use Rattle.std.proofs.lemmas.Bool.{not-false}

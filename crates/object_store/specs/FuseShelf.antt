@@ -1,7 +1,8 @@
 -- A shelf that stops after so many calls, as contracts see it. Read first: MemoryShelf. Our own.
 use Rattle.std.specs.Prelude.{◌≡◌, ℕ, ◌-◌, ◌<◌, Bool, true, false, List, Option, Some, Result, Err, nat_lt, if◌then◌else◌, ⊤, refl}
 use Rattle.std.specs.Coded.{Coded, code_by, coded×, coded_bool, coded_ℕ}
-use Rattle.object_store.specs.MemoryShelf.{ShelfAnswers, MemoryShelfState, counted, memory_shelf_code, what_is_told}
+use Rattle.ids.specs.FaultCount.{counted}
+use Rattle.object_store.specs.MemoryShelf.{ShelfAnswers, MemoryShelfState, memory_shelf_code, what_is_told}
 use Rattle.object_store.specs.Shelf.{Contents, lies_in}
 use Rattle.object_store.specs.declared.shelf.ShelfFailed.{ShelfFailed}
 use Rattle.object_store.specs.declared.shelf.ShelfFailed.TheVariants.{Shelf, NoMemory}

@@ -1,11 +1,11 @@
 -- A shelf in memory, as contracts see it: what it holds, and which calls are to fail. Read first: Shelf. Our own.
-use Rattle.std.specs.Prelude.{ℕ, ◌≡◌, ◌+◌, ◌-◌, ◌^◌, ◌==◌, ◌↔◌, Bool, false, min, List, length, Option, None, Some, IsSome, option_map, unwrap_or, Result, Ok, Err, ⊤, if◌then◌else◌, IsTrue, refl}
+use Rattle.std.specs.Prelude.{ℕ, ◌≡◌, ◌↔◌, Bool, false, List, length, Option, None, Some, IsSome, option_map, unwrap_or, Result, Ok, Err, ⊤, if◌then◌else◌, IsTrue, refl}
 use Rattle.std.proofs.Common.{ap, ◌∙◌}
 use Rattle.std.specs.Coded.{Coded, code_by, coded×, coded_list, coded_ℕ}
 use Rattle.std.specs.FinMap as map
-use Rattle.std.specs.List.{list_any}
 use Rattle.std.specs.Ordering.{is_gt}
 use Rattle.std.specs.declared.cmp.Ordering.TheVariants.{Less}
+use Rattle.ids.specs.FaultCount.{counted, is_due}
 use Rattle.ids.specs.Key.{Objects, key_cmp}
 use Rattle.ids.specs.ObjectId.{nil}
 use Rattle.ids.specs.declared.key.Key.{Key}
@@ -29,14 +29,6 @@ abbrev pub memory_shelf_code : Coded MemoryShelfState
 memory_shelf_code = code_by (Contents × (List ℕ × (ℕ × (ℕ × ℕ)))) (coded× contents_code (coded× (coded_list coded_ℕ) (coded× coded_ℕ (coded× coded_ℕ coded_ℕ))))
     (λ shelf. (shelf.contents, (shelf.fails, (shelf.calls, (shelf.faults, shelf.texts)))))
     (λ t. record { contents = t.0; fails = t.1.0; calls = t.1.1.0; faults = t.1.1.1.0; texts = t.1.1.1.1 }) (λ _. refl)
-
--- one more, up to 2 ^ 64 - 1
-abbrev pub counted : ℕ → ℕ
-counted n = min (n + 1) (2 ^ 64 - 1)
-
--- the call of this number is to fail
-abbrev pub is_due : List ℕ → ℕ → Bool
-is_due fails number = list_any (λ n. n == number) fails
 
 -- the next call of the shelf is to fail
 abbrev pub fails_next : MemoryShelfState → Bool

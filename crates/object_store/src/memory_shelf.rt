@@ -1,7 +1,8 @@
 //! A shelf in memory, and the calls that are to fail.
 ghost use Rattle.std.specs.Prelude.{◌≡◌, ◌<◌, ◌^◌, ℕ, List, length, IfOk, IfErr, OnErr, Some, None, not, is_some, option_copied};
 ghost use Rattle.std.specs.FinMap as map;
-ghost use Rattle.object_store.specs.MemoryShelf.{ShelfAnswers, FindsAt, FindsKey, HasIds, IsLeastFrom, begun, fails_next, is_due};
+ghost use Rattle.ids.specs.FaultCount.{is_due};
+ghost use Rattle.object_store.specs.MemoryShelf.{ShelfAnswers, FindsAt, FindsKey, HasIds, IsLeastFrom, begun, fails_next};
 ghost use Rattle.object_store.specs.Shelf.{Changes, Contents, CountsFaults, FindsNext, GivesAlso, GivesNoMore, Tells, lies_in, put_known, removed_known, texts_after, with_put, without};
 
 use crate::shelf::{Found, Shelf, ShelfFailed, Slot};
