@@ -7,7 +7,7 @@ use Rattle.tree_model.specs.Path.{PathV}
 use Rattle.tree_model.specs.DirectorySurvival.{is_under, is_within}
 use Rattle.tree_model.proofs.BelowLemmas.{name_itself, under_of, under_within, within_of}
 use Rattle.tree_model.proofs.ListedLemmas.{same_path, same_path-apart, same_path-itself}
-use Rattle.tree_merge.specs.Opening.{IsClearAt, IsClearBelow, OpensBelow, OpensEntry, dirents_if, ids_in, is_settled, joined_in, kept_if, put_kept, settled_in, three_of}
+use Rattle.tree_merge.specs.Opening.{IsClearAt, IsClearBelow, OpensBelow, OpensEntry, dirents_if, ids_in, is_settled, joined_in, kept_if, part_in, put_kept, settled_in, three_of}
 use Rattle.tree_merge.specs.Telling.{AnswersWell}
 use Rattle.tree_walk.specs.declared.fault.WalkFault.{WalkFault}
 use Rattle.tree_merge.proofs.TellingLemmas.{well_more}
@@ -60,7 +60,7 @@ module _ (objects : Objects) (path : PathV) (trio : Trio) (old mid : Opened) (pu
     here = opens.other_joined path (no_under path) ∙ mid_here;
     kept_here =
         opens.other_kept path (no_under path) ∙ mid_kept path ∙ kept_at_root
-        ∙ sym (ap (λ (b : Bool). if b then kept_if objects own_ids.head else None) open_here);
+        ∙ sym (ap (λ (b : Bool). if b then kept_if objects (part_in own_ids) else None) open_here);
     below = λ n r.
         opens.joined n r
         ∙ sym (ap (λ (b : Bool). if b then None else joined_in objects (dirents_if objects own_ids.base) (dirents_if objects own_ids.head) (dirents_if objects own_ids.pushed) (n ∷ r)) open_here);
@@ -82,25 +82,25 @@ module _ (objects : Objects) (path : PathV) (trio : Trio) (old mid : Opened) (pu
           by true is = absurd (true≢false (sym (under_within path q is) ∙ out))
           by false is = is
 
-  pub entry_settled : (new : Opened) → is_settled (ids_in trio).base (ids_in trio).head (ids_in trio).pushed ≡ true → new ≡ record mid { kept = put_kept path (kept_if objects (ids_in trio).head) mid.kept }
+  pub entry_settled : (new : Opened) → is_settled (ids_in trio).base (ids_in trio).head (ids_in trio).pushed ≡ true → new ≡ record mid { kept = put_kept path (kept_if objects (part_in (ids_in trio))) mid.kept }
       → OpensEntry objects path trio old new
   entry_settled new settled is = record {
     here = joined path ∙ mid_here;
-    kept_here = kept path ∙ by_here (kept_if objects own_ids.head) ∙ sym (ap (λ (b : Bool). if b then kept_if objects own_ids.head else None) settled);
+    kept_here = kept path ∙ by_here (kept_if objects (part_in own_ids)) ∙ sym (ap (λ (b : Bool). if b then kept_if objects (part_in own_ids) else None) settled);
     below = λ n r.
         joined (path ++ n ∷ r) ∙ mid_below n r
         ∙ sym (ap (λ (b : Bool). if b then None else joined_in objects (dirents_if objects own_ids.base) (dirents_if objects own_ids.head) (dirents_if objects own_ids.pushed) (n ∷ r)) settled);
     kept_below = λ n r.
-        kept (path ++ n ∷ r) ∙ apart (kept_if objects own_ids.head) (path ++ n ∷ r) (longer n r) ∙ clear.kept (n ∷ r)
+        kept (path ++ n ∷ r) ∙ apart (kept_if objects (part_in own_ids)) (path ++ n ∷ r) (longer n r) ∙ clear.kept (n ∷ r)
         ∙ sym (ap (λ (b : Bool). if b then None else kept_if objects (settled_in objects (dirents_if objects own_ids.base) (dirents_if objects own_ids.head) (dirents_if objects own_ids.pushed) (n ∷ r))) settled);
     other_joined = λ q out. joined q ∙ mid_other q out;
-    other_kept = λ q out. kept q ∙ apart (kept_if objects own_ids.head) q (not_own q out);
+    other_kept = λ q out. kept q ∙ apart (kept_if objects (part_in own_ids)) q (not_own q out);
   }
     where
       joined : (q : PathV) → map.get new.joined q ≡ map.get mid.joined q
       joined q = ap (λ (o : Opened). map.get o.joined q) is
 
-      kept : (q : PathV) → map.get new.kept q ≡ map.get (put_kept path (kept_if objects own_ids.head) mid.kept) q
+      kept : (q : PathV) → map.get new.kept q ≡ map.get (put_kept path (kept_if objects (part_in own_ids)) mid.kept) q
       kept q = ap (λ (o : Opened). map.get o.kept q) is
 
       by_here : (o : Option Kept) → map.get (put_kept path o mid.kept) path ≡ o
@@ -114,13 +114,12 @@ module _ (objects : Objects) (path : PathV) (trio : Trio) (old mid : Opened) (pu
 -- the same of what a call answers, where the directories were told as three ids
 module _ (objects : Objects) (path : PathV) (trio : Trio) (old mid new : Opened) (ids : Ids) (same : ids ≡ ids_in trio) (put : mid ≡ record old { joined = map.insert old.joined path (three_of trio) })
     (clear : IsClearAt path old) (result : Result ⊤ WalkFault) where
-  pub entry_keeps : is_settled ids.base ids.head ids.pushed ≡ true → AnswersWell objects (λ done. new ≡ record mid { kept = put_kept path (kept_if objects ids.head) mid.kept }) result
-      → AnswersWell objects (λ done. OpensEntry objects path trio old new) result
-  entry_keeps =
-      subst (λ (i : Ids). is_settled i.base i.head i.pushed ≡ true → AnswersWell objects (λ (done : ⊤). new ≡ record mid { kept = put_kept path (kept_if objects i.head) mid.kept }) result
-      → AnswersWell objects (λ (done : ⊤). OpensEntry objects path trio old new) result) (sym same)
-      (λ settled answers. well_more objects (λ (done : ⊤). new ≡ record mid { kept = put_kept path (kept_if objects (ids_in trio).head) mid.kept }) (λ (done : ⊤). OpensEntry objects path trio old new) result
-      (λ done is. entry_settled objects path trio old mid put clear new settled is) answers)
+  pub entry_keeps : (part : Option (List ℕ)) → part ≡ part_in ids → is_settled ids.base ids.head ids.pushed ≡ true
+      → AnswersWell objects (λ done. new ≡ record mid { kept = put_kept path (kept_if objects part) mid.kept }) result → AnswersWell objects (λ done. OpensEntry objects path trio old new) result
+  entry_keeps part is settled answers =
+      well_more objects (λ (done : ⊤). new ≡ record mid { kept = put_kept path (kept_if objects part) mid.kept }) (λ (done : ⊤). OpensEntry objects path trio old new) result
+      (λ done kept. entry_settled objects path trio old mid put clear new (ap (λ (i : Ids). is_settled i.base i.head i.pushed) (sym same) ∙ settled)
+      (kept ∙ ap (λ (p : Option (List ℕ)). record mid { kept = put_kept path (kept_if objects p) mid.kept }) (is ∙ ap part_in same))) answers
 
   pub entry_goes : is_settled ids.base ids.head ids.pushed ≡ false → AnswersWell objects (λ done. OpensBelow objects path ids mid new) result
       → AnswersWell objects (λ done. OpensEntry objects path trio old new) result

@@ -26,8 +26,7 @@ use Rattle.tree_merge.proofs.FullMergeLemmas.{cut, full, full_named}
 use Rattle.tree_merge.proofs.JoinedSideLemmas.{AreTreesOf, same_some}
 use Rattle.tree_merge.proofs.ListedPathLemmas.{Distinct, Item, StandsBelow, lists_below}
 use Rattle.tree_merge.proofs.MadeLemmas.{kept_itself}
-use Rattle.tree_merge.proofs.OpeningLemmas.{settled_top}
-use Rattle.tree_merge.proofs.ShownPartLemmas.{below_head, complete_at, own_at}
+use Rattle.tree_merge.proofs.ShownPartLemmas.{below_part, complete_part, own_at}
 
 -- the paths of a list of what stands below a directory
 abbrev pub paths_in : Listed → List PathV
@@ -66,7 +65,7 @@ module _ (objects : Objects) (base head pushed : List ℕ) (complete : AreComple
   some_below d id is n q =
       ap is_some ((full_named objects base head pushed complete s are named told objects (kept_itself objects)).nodes (d ++ n ∷ q))
       ∙ same_some (node_of objects) (map.get (full objects base head pushed complete s are named) (d ++ n ∷ q))
-      ∙ ap is_some (below_head objects base head pushed complete s are named told kept no_root at d id is n q)
+      ∙ ap is_some (below_part objects base head pushed complete s are named told kept no_root at d id is n q)
 
   -- below a directory that is kept the merged tree has as many paths as are listed there
   pub kept_count : (d : PathV) (id : List ℕ) → kept_ids kept d ≡ Some id → paths_below (merged naming s) d ≡ length (paths_in (listed objects 100 id))
@@ -79,8 +78,7 @@ module _ (objects : Objects) (base head pushed : List ℕ) (complete : AreComple
     where
       whole : IsCompleteRoot objects id
       whole =
-          let top = settled_top objects (dirents_at objects base) (dirents_at objects head) (dirents_at objects pushed) d id (own_at objects base head pushed complete s are named told kept no_root at d id is).0 in
-          complete_at objects head complete.head_whole d id top.own
+          complete_part objects base head pushed complete s are named told kept no_root at d id (own_at objects base head pushed complete s are named told kept no_root at d id is).0
 
       stands : (r : PathV) → r ≢ [] → IsSome (entry_below objects r id) → (r ≢ []) × IsSome (map.get (merged naming s) (d ++ r))
       stands [] other there = absurd (other refl)

@@ -1,5 +1,5 @@
 -- What isn't shown of a merged tree lies below the directories that are kept. The key lemmas are covered, hides, kept_told and kept_sum.
-use Rattle.std.proofs.Common.{◌≡◌, ◌+◌, T, ◌⊎◌, inl, inr, ap₂, ◌&&◌, nat_eq, ℕ, zero, suc, option_and_then, length, ◌||◌, Bool, true, false, List, [], ◌∷◌, refl, sym, ap, ◌∙◌, subst, Option, Some, None, is_some, IsSome, option_map, true≢false, map as list_map}
+use Rattle.std.proofs.Common.{◌≡◌, ◌+◌, T, ◌⊎◌, inl, inr, ap₂, ◌&&◌, nat_eq, ℕ, zero, suc, length, ◌||◌, Bool, true, false, List, [], ◌∷◌, refl, sym, ap, ◌∙◌, subst, Option, Some, None, is_some, IsSome, option_map, true≢false, map as list_map}
 use Rattle.std.specs.Cmp.Lexicographic.{pointwise, bytes_decides}
 use Rattle.std.proofs.lemmas.Bool.{and_parts}
 use Rattle.std.specs.FinMap as map
@@ -17,10 +17,9 @@ use Rattle.tree_model.specs.ThreeWayMerge.{merged}
 use Rattle.tree_model.proofs.ListedLemmas.{is_in, same_path, same_path-itself, same_path-true}
 use Rattle.tree_model.proofs.ShownCountLemmas.{AreApart, is_below_any, shown_and_below}
 use Rattle.tree_model.proofs.BelowLemmas.{under_is}
-use Rattle.tree_merge.specs.TreeBuilding.{directory_id_in}
 use Rattle.conflict_names.specs.Naming.{naming}
 use Rattle.object_graph.specs.Listing.{Listed, listed}
-use Rattle.object_graph.specs.Objects.{dirents_at, entry_below, node_of}
+use Rattle.object_graph.specs.Objects.{dirents_at, node_of}
 use Rattle.object_graph.specs.Unchanged.{Keeps}
 use Rattle.tree_merge.specs.ConflictNaming.{IsNamedTree}
 use Rattle.tree_merge.specs.Merging.{AreComplete}
@@ -32,8 +31,8 @@ use Rattle.tree_merge.proofs.FullMergeLemmas.{cut, full, full_named, is_cut, tre
 use Rattle.tree_merge.proofs.JoinedSideLemmas.{AreTreesOf, same_some, seen_len}
 use Rattle.tree_merge.proofs.KeptCountLemmas.{kept_count, paths_in}
 use Rattle.tree_merge.proofs.MadeLemmas.{kept_itself}
-use Rattle.tree_merge.proofs.OpeningLemmas.{IsSettledTop, LiesBelow, entry_through, lies_below, settled_top}
-use Rattle.tree_merge.proofs.ShownPartLemmas.{complete_at, full_hidden, nothing_listed, of_none, own_at, told_at}
+use Rattle.tree_merge.proofs.OpeningLemmas.{IsTop, LiesBelow, lies_below, settled_top}
+use Rattle.tree_merge.proofs.ShownPartLemmas.{below_none_kept, own_at}
 
 left_part : (a b : Bool) → T (a && b) → T a
 left_part true b h = tt
@@ -129,24 +128,16 @@ module _ (objects : Objects) (base head pushed : List ℕ) (complete : AreComple
       l : LiesBelow objects (dirents_at objects base) (dirents_at objects head) (dirents_at objects pushed) q
       l = lies_below objects (dirents_at objects base) (dirents_at objects head) (dirents_at objects pushed) q hidden
 
-      stands : is_some (entry_below objects q head) ≡ true
+      stands : is_some (map.get (full objects base head pushed complete s are named) q) ≡ true
       stands =
-          ap is_some (sym (full_hidden objects base head pushed complete s are named told kept no_root at q hidden))
-          ∙ sym (same_some (node_of objects) (map.get (full objects base head pushed complete s are named) q))
+          sym (same_some (node_of objects) (map.get (full objects base head pushed complete s are named) q))
           ∙ ap is_some (sym ((full_named objects base head pushed complete s are named told objects (kept_itself objects)).nodes q)) ∙ there
 
-      nothing : kept_ids kept l.top ≡ None → entry_below objects q head ≡ None
+      nothing : kept_ids kept l.top ≡ None → map.get (full objects base head pushed complete s are named) q ≡ None
       nothing none =
           let under = under_is l.top q l.under in
-          ap (λ (p : PathV). entry_below objects p head) under.is ∙ entry_through objects (dirents_at objects head) l.top l.some under.name under.rest
-          ∙ of_id under.name under.rest (directory_id_in objects (dirents_at objects head) l.top) refl
-        where
-          of_id : (n : List ℕ) (r : PathV) (o : Option (List ℕ)) → directory_id_in objects (dirents_at objects head) l.top ≡ o → option_and_then (λ i. entry_below objects (n ∷ r) i) o ≡ None
-          of_id n r None e = refl
-          of_id n r (Some id) e =
-              nothing_listed objects id (complete_at objects head complete.head_whole l.top id e)
-              (of_none objects id (ap (λ (o : Option (List ℕ)). option_map (λ (own : Kept). own.id) (kept_if objects o)) (sym e ∙ sym l.told)
-              ∙ sym (told_at objects base head pushed complete s are named told kept no_root at l.top l.some) ∙ none)) (n ∷ r)
+          ap (map.get (full objects base head pushed complete s are named)) under.is
+          ∙ below_none_kept objects base head pushed complete s are named told kept no_root at l.top l.is_top none under.name under.rest
 
       by : (o : Option (List ℕ)) → kept_ids kept l.top ≡ o → is_below_any (map.keys kept) q ≡ true
       by None none = absurd (true≢false (sym stands ∙ ap is_some (nothing none)))
@@ -180,7 +171,7 @@ module _ (objects : Objects) (base head pushed : List ℕ) (complete : AreComple
             ]
       ]
     where
-      top_of : (p : PathV) (id : List ℕ) → kept_ids kept p ≡ Some id → IsSettledTop objects (dirents_at objects base) (dirents_at objects head) (dirents_at objects pushed) p id
+      top_of : (p : PathV) (id : List ℕ) → kept_ids kept p ≡ Some id → IsTop objects (dirents_at objects base) (dirents_at objects head) (dirents_at objects pushed) p
       top_of p id is =
           settled_top objects (dirents_at objects base) (dirents_at objects head) (dirents_at objects pushed) p id
           (own_at objects base head pushed complete s are named told kept no_root at p id is).0

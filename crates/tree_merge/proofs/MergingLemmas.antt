@@ -3,7 +3,6 @@
 use Rattle.std.proofs.Common.{◌≡◌, List, ℕ, None, Some, ap, sym, subst, ◌∙◌, Result, Ok, Err}
 use Rattle.std.specs.FinMap as map
 use Rattle.ids.specs.Key.{Objects}
-use Rattle.object_graph.specs.Objects.{dirents_at}
 use Rattle.object_graph.specs.Traversal.{IsCompleteRoot}
 use Rattle.object_graph.specs.Unchanged.{Keeps}
 use Rattle.object_graph.proofs.FittingLemmas.{root_fits}
@@ -34,9 +33,8 @@ use Rattle.tree_merge.proofs.MadeLemmas.{kept_itself}
 use Rattle.tree_merge.proofs.MergedEntryLemmas.{over}
 use Rattle.tree_merge.proofs.MergedOverLemmas.{is_merged, taken_built, taken_stored}
 use Rattle.tree_merge.proofs.NamedPartLemmas.{named_part}
-use Rattle.tree_merge.proofs.OpeningLemmas.{settled_top}
 use Rattle.tree_merge.proofs.SettledIdLemmas.{keeps_settled}
-use Rattle.tree_merge.proofs.ShownPartLemmas.{complete_at, own_at}
+use Rattle.tree_merge.proofs.ShownPartLemmas.{complete_part, own_at}
 
 -- of a build's refusal, as a merge tells it
 pub caused_as : (fault : BuildFault) → IsCausedInBuild fault → IsCaused (as_merge_fault fault)
@@ -84,9 +82,8 @@ module _ (objects : Objects) (base head pushed : List ℕ) (complete : AreComple
 
     kept_whole : (d : PathV) (id : List ℕ) → kept_ids opened.kept d ≡ Some id → IsCompleteRoot objects id
     kept_whole d id there =
-        let top = settled_top objects (dirents_at objects base) (dirents_at objects head) (dirents_at objects pushed) d id
-        (own_at objects base head pushed complete s are named told opened.kept is.root_opened is.kept d id there).0 in
-        complete_at objects head complete.head_whole d id top.own
+        complete_part objects base head pushed complete s are named told opened.kept is.root_opened is.kept d id
+        (own_at objects base head pushed complete s are named told opened.kept is.root_opened is.kept d id there).0
 
     -- what the builder is told
     in_part : IsPartOf objects opened.kept in_full named

@@ -11,12 +11,14 @@ use Rattle.fs_objects.specs.declared.dirent.Dirent.{Dirent}
 use Rattle.object_graph.specs.Objects.{directory_in, dirents_at, entry_in, entry_named, entry_of}
 use Rattle.object_graph.specs.declared.entry.Entry.{Entry}
 use Rattle.tree_merge.specs.Level.{Dirents, IsEmpty, IsTaken, IsWithout}
-use Rattle.tree_merge.specs.Opening.{IsClearAt, IsClearBelow, IsLevelOf, OpensBelow, OpensEntry, dirents_if, dirents_of, ids_in, is_settled, is_settled_at, is_shown, joined_in, kept_if, settled_in, three_of}
+use Rattle.tree_merge.specs.Opening.{IsClearAt, IsClearBelow, IsLevelOf, OpensBelow, OpensEntry, dirents_if, dirents_of, ids_in, is_settled, is_settled_at, is_shown, joined_in, kept_if, part_at, part_in, part_of, settled_in, three_of}
 use Rattle.tree_merge.specs.Sides.{join_of}
 use Rattle.tree_merge.specs.declared.level.Level.{Level}
 use Rattle.tree_merge.specs.declared.level.Trio.{Trio}
 use Rattle.tree_merge.specs.declared.opening.Ids.{Ids}
+use Rattle.tree_merge.specs.declared.opening.Kept.{Kept}
 use Rattle.tree_merge.specs.declared.opening.Opened.{Opened}
+use Rattle.tree_merge.specs.declared.sides.Three.{Three}
 
 -- ---- paths at and below an entry
 
@@ -97,10 +99,10 @@ module _ (objects : Objects) where
       shape false true = same
       shape false false = refl
 
-  kept_here : (n : List ℕ) (b h p : List Dirent) → kept_if objects (settled_in objects b h p (n ∷ [])) ≡ (if is_settled_at n b h p then kept_if objects (directory_in (entry_named n h)) else None)
+  kept_here : (n : List ℕ) (b h p : List Dirent) → kept_if objects (settled_in objects b h p (n ∷ [])) ≡ (if is_settled_at n b h p then kept_if objects (part_at n b h p) else None)
   kept_here n b h p = by (is_settled_at n b h p)
     where
-      by : (s : Bool) → kept_if objects (if s then directory_in (entry_named n h) else None) ≡ (if s then kept_if objects (directory_in (entry_named n h)) else None)
+      by : (s : Bool) → kept_if objects (if s then part_at n b h p else None) ≡ (if s then kept_if objects (part_at n b h p) else None)
       by true = refl
       by false = refl
 
@@ -125,21 +127,23 @@ module _ (objects : Objects) (d : PathV) (ids : Ids) where
   abbrev ps : List Dirent
   ps = dirents_if objects ids.pushed
 
+  -- what is left of a name, and what is written down of it
+  pub record StandsSo (b h p : Option Dirent) (joined : PathV → Option Three) (kept : PathV → Option Kept) (level : Level) (new : Opened) (n : List ℕ) : Type 0 where
+    pub base : map.get level.base (d ++ n ∷ []) ≡ b
+    pub head : map.get level.head (d ++ n ∷ []) ≡ h
+    pub pushed : map.get level.pushed (d ++ n ∷ []) ≡ p
+    pub joined_is : (r : PathV) → map.get new.joined (d ++ n ∷ r) ≡ joined r
+    pub kept_is : (r : PathV) → map.get new.kept (d ++ n ∷ r) ≡ kept r
+
   -- the entries of a name wait, and nothing is written down of them
-  pub record Waits (level : Level) (new : Opened) (n : List ℕ) : Type 0 where
-    pub base : map.get level.base (d ++ n ∷ []) ≡ entry_named n (dirents_if objects ids.base)
-    pub head : map.get level.head (d ++ n ∷ []) ≡ entry_named n (dirents_if objects ids.head)
-    pub pushed : map.get level.pushed (d ++ n ∷ []) ≡ entry_named n (dirents_if objects ids.pushed)
-    pub joined : (r : PathV) → map.get new.joined (d ++ n ∷ r) ≡ None
-    pub kept : (r : PathV) → map.get new.kept (d ++ n ∷ r) ≡ None
+  abbrev pub Waits : Level → Opened → List ℕ → Type 0
+  Waits level new n = StandsSo (entry_named n (dirents_if objects ids.base)) (entry_named n (dirents_if objects ids.head)) (entry_named n (dirents_if objects ids.pushed)) (λ r. None) (λ r. None) level new n
 
   -- or they were taken, and all is written down
-  pub record WasDone (level : Level) (new : Opened) (n : List ℕ) : Type 0 where
-    pub base : map.get level.base (d ++ n ∷ []) ≡ None
-    pub head : map.get level.head (d ++ n ∷ []) ≡ None
-    pub pushed : map.get level.pushed (d ++ n ∷ []) ≡ None
-    pub joined : (r : PathV) → map.get new.joined (d ++ n ∷ r) ≡ joined_in objects (dirents_if objects ids.base) (dirents_if objects ids.head) (dirents_if objects ids.pushed) (n ∷ r)
-    pub kept : (r : PathV) → map.get new.kept (d ++ n ∷ r) ≡ kept_if objects (settled_in objects (dirents_if objects ids.base) (dirents_if objects ids.head) (dirents_if objects ids.pushed) (n ∷ r))
+  abbrev pub WasDone : Level → Opened → List ℕ → Type 0
+  WasDone level new n =
+      StandsSo None None None (λ r. joined_in objects (dirents_if objects ids.base) (dirents_if objects ids.head) (dirents_if objects ids.pushed) (n ∷ r))
+      (λ r. kept_if objects (settled_in objects (dirents_if objects ids.base) (dirents_if objects ids.head) (dirents_if objects ids.pushed) (n ∷ r))) level new n
 
   pub record OpeningSo (level : Level) (old new : Opened) : Type 0 where
     pub each : (n : List ℕ) → Waits level new n ⊎ WasDone level new n
@@ -151,7 +155,7 @@ module _ (objects : Objects) (d : PathV) (ids : Ids) where
 
   pub opening_start : (level : Level) (old : Opened) → IsLevelOf objects d ids level → IsClearBelow d old → OpeningSo level old old
   opening_start level old of clear = record {
-    each = λ n. inl (record { base = of.base.named n; head = of.head.named n; pushed = of.pushed.named n; joined = clear.joined n; kept = clear.kept n });
+    each = λ n. inl (record { base = of.base.named n; head = of.head.named n; pushed = of.pushed.named n; joined_is = clear.joined n; kept_is = clear.kept n });
     only_base = of.base.only;
     only_head = of.head.only;
     only_pushed = of.pushed.only;
@@ -181,8 +185,8 @@ module _ (objects : Objects) (d : PathV) (ids : Ids) where
                 ∙ ap (λ (p : Option Dirent). record { base = entry_named n (dirents_if objects ids.base); head = entry_named n (dirents_if objects ids.head); pushed = p })
                 (taken.pushed ∙ ap (map.get level.pushed) is ∙ waits.pushed);
             clear = record {
-              joined = λ r. ap (λ q. map.get new.joined (q ++ r)) is ∙ ap (map.get new.joined) (child_below d n r) ∙ waits.joined r;
-              kept = λ r. ap (λ q. map.get new.kept (q ++ r)) is ∙ ap (map.get new.kept) (child_below d n r) ∙ waits.kept r;
+              joined = λ r. ap (λ q. map.get new.joined (q ++ r)) is ∙ ap (map.get new.joined) (child_below d n r) ∙ waits.joined_is r;
+              kept = λ r. ap (λ q. map.get new.kept (q ++ r)) is ∙ ap (map.get new.kept) (child_below d n r) ∙ waits.kept_is r;
             };
           }
           state (inr done) =
@@ -231,7 +235,7 @@ module _ (objects : Objects) (d : PathV) (ids : Ids) where
     own_kept : (r : PathV) → map.get more.kept (d ++ own.name ∷ r) ≡ kept_if objects (settled_in objects bs hs ps (own.name ∷ r))
     own_kept [] =
         ap (map.get more.kept) (sym own.is) ∙ opens.kept_here
-        ∙ ap (λ (t : Trio). if is_settled (ids_in t).base (ids_in t).head (ids_in t).pushed then kept_if objects (ids_in t).head else None) own.trio_is ∙ sym (kept_here objects own.name bs hs ps)
+        ∙ ap (λ (t : Trio). if is_settled (ids_in t).base (ids_in t).head (ids_in t).pushed then kept_if objects (part_in (ids_in t)) else None) own.trio_is ∙ sym (kept_here objects own.name bs hs ps)
     own_kept (m ∷ r) =
         ap (map.get more.kept) (sym (child_below d own.name (m ∷ r))) ∙ ap (λ q. map.get more.kept (q ++ m ∷ r)) (sym own.is) ∙ opens.kept_below m r
         ∙ ap (λ (t : Trio). if is_settled (ids_in t).base (ids_in t).head (ids_in t).pushed then None
@@ -258,29 +262,27 @@ module _ (objects : Objects) (d : PathV) (ids : Ids) where
           base = gone level.base after.base taken.left_base;
           head = gone level.head after.head taken.left_head;
           pushed = gone level.pushed after.pushed taken.left_pushed;
-          joined = own_joined;
-          kept = own_kept;
+          joined_is = own_joined;
+          kept_is = own_kept;
         }
 
-        other_name : (k : List ℕ) → own.name ≢ k → Waits level new k ⊎ WasDone level new k → Waits after more k ⊎ WasDone after more k
-        other_name k other (inl w) = inl (record {
+        -- what stands of another name stays
+        other_name : (k : List ℕ) → own.name ≢ k → (b h p : Option Dirent) (joined : PathV → Option Three) (kept : PathV → Option Kept) → StandsSo b h p joined kept level new k → StandsSo b h p joined kept after more k
+        other_name k other b h p joined kept w = record {
           base = stays level.base after.base taken.left_base k other ∙ w.base;
           head = stays level.head after.head taken.left_head k other ∙ w.head;
           pushed = stays level.pushed after.pushed taken.left_pushed k other ∙ w.pushed;
-          joined = λ r. (other_entry k other r).0 ∙ w.joined r;
-          kept = λ r. (other_entry k other r).1 ∙ w.kept r;
-        })
-        other_name k other (inr w) = inr (record {
-          base = stays level.base after.base taken.left_base k other ∙ w.base;
-          head = stays level.head after.head taken.left_head k other ∙ w.head;
-          pushed = stays level.pushed after.pushed taken.left_pushed k other ∙ w.pushed;
-          joined = λ r. (other_entry k other r).0 ∙ w.joined r;
-          kept = λ r. (other_entry k other r).1 ∙ w.kept r;
-        })
+          joined_is = λ r. (other_entry k other r).0 ∙ w.joined_is r;
+          kept_is = λ r. (other_entry k other r).1 ∙ w.kept_is r;
+        }
+
+        other_state : (k : List ℕ) → own.name ≢ k → Waits level new k ⊎ WasDone level new k → Waits after more k ⊎ WasDone after more k
+        other_state k other (inl w) = inl (other_name k other (entry_named k bs) (entry_named k hs) (entry_named k ps) (λ r. None) (λ r. None) w)
+        other_state k other (inr w) = inr (other_name k other None None None (λ r. joined_in objects bs hs ps (k ∷ r)) (λ r. kept_if objects (settled_in objects bs hs ps (k ∷ r))) w)
 
         by : (k : List ℕ) (b : Bool) → pointwise nat_eq own.name k ≡ b → Waits after more k ⊎ WasDone after more k
         by k true e = inr (subst (WasDone after more) ((bytes_decides own.name k).0 e) done)
-        by k false e = other_name k (λ same. true≢false (sym ((bytes_decides own.name k).1 same) ∙ e)) (so.each k)
+        by k false e = other_state k (λ same. true≢false (sym ((bytes_decides own.name k).1 same) ∙ e)) (so.each k)
 
   -- ---- no name is left
 
@@ -309,8 +311,9 @@ module _ (objects : Objects) (d : PathV) (ids : Ids) where
           by [] = (
             ap₂ (λ (x y : Option Dirent). join_of (option_map entry_of x) (option_map entry_of y) (option_map entry_of (entry_named n ps))) b h
                 ∙ ap (λ (x : Option Dirent). join_of None None (option_map entry_of x)) p,
-            kept_here objects n bs hs ps ∙ ap (λ (c : Bool). if c then kept_if objects (directory_in (entry_named n hs)) else None) settled
-                ∙ ap (λ (x : Option Dirent). kept_if objects (directory_in x)) h,
+            kept_here objects n bs hs ps ∙ ap (λ (c : Bool). if c then kept_if objects (part_at n bs hs ps) else None) settled
+                ∙ ap₂ (λ (x y : Option Dirent). kept_if objects (part_of (directory_in x) (directory_in y) (directory_in (entry_named n ps)))) b h
+                ∙ ap (λ (x : Option Dirent). kept_if objects (part_of None None (directory_in x))) p,
           )
           by (m ∷ r) = (
             joined_below objects n bs hs ps m r
@@ -323,5 +326,5 @@ module _ (objects : Objects) (d : PathV) (ids : Ids) where
           → (map.get new.joined (d ++ n ∷ r) ≡ joined_in objects bs hs ps (n ∷ r)) × (map.get new.kept (d ++ n ∷ r) ≡ kept_if objects (settled_in objects bs hs ps (n ∷ r)))
       at n r (inl w) =
           let own = nothing n (sym w.base ∙ none level.base (d ++ n ∷ []) empty.base) (sym w.head ∙ none level.head (d ++ n ∷ []) empty.head) (sym w.pushed ∙ none level.pushed (d ++ n ∷ []) empty.pushed) r in
-          (w.joined r ∙ sym own.0, w.kept r ∙ sym own.1)
-      at n r (inr w) = (w.joined r, w.kept r)
+          (w.joined_is r ∙ sym own.0, w.kept_is r ∙ sym own.1)
+      at n r (inr w) = (w.joined_is r, w.kept_is r)

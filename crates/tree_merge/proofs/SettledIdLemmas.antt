@@ -1,4 +1,4 @@
--- The settled directories of the head are the merged tree's. The key lemma is keeps_settled.
+-- The directories that have what is settled are the merged tree's. The key lemma is keeps_settled.
 use Rattle.std.proofs.Common.{◌≡◌, ◌≢◌, ℕ, zero, suc, List, [], ◌∷◌, refl, ap, ◌∙◌, Option, Some, option_map}
 use Rattle.std.specs.FinMap as map
 use Rattle.ids.specs.Key.{Objects}

@@ -22,18 +22,18 @@ use Rattle.object_graph.specs.declared.entry.Entry.TheVariants.{Dir, File}
 use Rattle.object_graph.proofs.ListingLemmas.{table_entries}
 use Rattle.tree_merge.specs.ConflictNaming.{IsNamedTree}
 use Rattle.tree_merge.specs.Merging.{AreComplete}
-use Rattle.tree_merge.specs.Opening.{is_shown, kept_by, kept_if, settled_in}
+use Rattle.tree_merge.specs.Opening.{is_left_alone, is_shown, kept_by, kept_if, part_of, settled_in}
 use Rattle.tree_merge.specs.Sides.{Entries}
 use Rattle.tree_merge.specs.TreeBuilding.{IsNilWhereEmpty, IsShownPart, IsSound, directory_id_in, kept_ids}
 use Rattle.tree_merge.specs.declared.conflict_copies.Named.{Named}
 use Rattle.tree_merge.specs.declared.opening.Kept.{Kept}
 use Rattle.tree_merge.proofs.SoundEntryLemmas.{below_none, nothing_below}
-use Rattle.tree_merge.proofs.FullMergeLemmas.{cut, full, full_named, full_of, get_full, is_cut, shown, trees}
+use Rattle.tree_merge.proofs.FullMergeLemmas.{complete_root, cut, full, full_hidden, full_named, full_of, full_shown, is_cut, root_of, shown, trees}
 use Rattle.tree_merge.proofs.JoinedSideLemmas.{AreTreesOf}
 use Rattle.tree_merge.proofs.ListedPathLemmas.{StandsBelow, lists_below}
 use Rattle.tree_merge.proofs.MadeLemmas.{kept_itself}
 use Rattle.tree_merge.proofs.MergedEntryLemmas.{sound}
-use Rattle.tree_merge.proofs.OpeningLemmas.{entry_through, lies_below, settled_top}
+use Rattle.tree_merge.proofs.OpeningLemmas.{IsTop, entry_through, lies_below, settled_top}
 use Rattle.tree_merge.proofs.StoredTreeLemmas.{entry_stays}
 use Rattle.tree_merge.proofs.WholeSideLemmas.{child_complete}
 
@@ -115,16 +115,8 @@ module _ (objects : Objects) (base head pushed : List ℕ) (complete : AreComple
   full_sound : IsSound W
   full_sound = sound objects base head pushed complete s are (full_of objects base head pushed complete s are named) (full_named objects base head pushed complete s are named told)
 
-  full_shown : (q : PathV) → shows q ≡ true → map.get W q ≡ map.get named.nodes q
-  full_shown q is =
-      get_full objects base head pushed complete s are named q
-      ∙ ap (λ (c : Bool). if c then map.get named.nodes q else map.get (map.from_entries {R = path_cmp} (listed objects 100 head)) q) is
-
-  pub full_hidden : (q : PathV) → shows q ≡ false → map.get W q ≡ entry_below objects q head
-  full_hidden q is =
-      get_full objects base head pushed complete s are named q
-      ∙ ap (λ (c : Bool). if c then map.get named.nodes q else map.get (map.from_entries {R = path_cmp} (listed objects 100 head)) q) is
-      ∙ table_entries true objects head complete.head_whole q
+  in_full : (q : PathV) → shows q ≡ true → map.get W q ≡ map.get named.nodes q
+  in_full = full_shown objects base head pushed complete s are named
 
   nodes_hidden : (q : PathV) → shows q ≡ false → map.get named.nodes q ≡ None
   nodes_hidden q is =
@@ -156,12 +148,50 @@ module _ (objects : Objects) (base head pushed : List ℕ) (complete : AreComple
   pub own_at : (d : PathV) (id : List ℕ) → kept_ids kept d ≡ Some id → (settles d ≡ Some id) × ((k : ℕ) × (length (listed objects 100 id) ≡ suc k))
   own_at d id is = of_kept objects (settles d) id (sym (told_at d (kept_some d id is)) ∙ is)
 
-  pub below_head : (d : PathV) (id : List ℕ) → kept_ids kept d ≡ Some id → (n : List ℕ) (q : PathV) → map.get W (d ++ n ∷ q) ≡ entry_below objects (n ∷ q) id
-  below_head d id is n q =
-      let top = settled_top objects (dirents_at objects base) (dirents_at objects head) (dirents_at objects pushed) d id (own_at d id is).0 in
-      full_hidden (d ++ n ∷ q) (top.below (d ++ n ∷ q) (under_of d n q))
-      ∙ entry_through objects (dirents_at objects head) d (kept_some d id is) n q
-      ∙ ap (option_and_then (λ i. entry_below objects (n ∷ q) i)) top.own
+  -- the ids of the three sides at a path
+  abbrev id_in : List ℕ → PathV → Option (List ℕ)
+  id_in root d = directory_id_in objects (dirents_at objects root) d
+
+  part_id : (d : PathV) → id_in (root_of objects base head pushed complete s are (is_left_alone (id_in base d) (id_in head d) (id_in pushed d))) d ≡ part_of (id_in base d) (id_in head d) (id_in pushed d)
+  part_id d = by (is_left_alone (id_in base d) (id_in head d) (id_in pushed d))
+    where
+      by : (c : Bool) → id_in (root_of objects base head pushed complete s are c) d ≡ (if c then id_in head d else id_in pushed d)
+      by true = refl
+      by false = refl
+
+  -- the directory that has what is settled is complete
+  pub complete_part : (d : PathV) (id : List ℕ) → settles d ≡ Some id → IsCompleteRoot objects id
+  complete_part d id is =
+      let top = settled_top objects (dirents_at objects base) (dirents_at objects head) (dirents_at objects pushed) d id is in
+      let c = is_left_alone (id_in base d) (id_in head d) (id_in pushed d) in
+      complete_at objects (root_of objects base head pushed complete s are c) (complete_root objects base head pushed complete s are c) d id (part_id d ∙ sym top.told ∙ is)
+
+  -- below a settled directory the whole tree has what its part has
+  below_top : (d : PathV) → IsTop objects (dirents_at objects base) (dirents_at objects head) (dirents_at objects pushed) d → (n : List ℕ) (q : PathV)
+      → map.get W (d ++ n ∷ q) ≡ option_and_then (λ i. entry_below objects (n ∷ q) i) (settles d)
+  below_top d top n q =
+      let c = is_left_alone (id_in base d) (id_in head d) (id_in pushed d) in
+      let root = root_of objects base head pushed complete s are c in
+      full_hidden objects base head pushed complete s are named (d ++ n ∷ q) (top.below (d ++ n ∷ q) (under_of d n q))
+      ∙ ap (λ (h : Bool). entry_below objects (d ++ n ∷ q) (root_of objects base head pushed complete s are h)) (top.heads (d ++ n ∷ q) (under_of d n q))
+      ∙ entry_through objects (dirents_at objects root) d top.some n q
+      ∙ ap (option_and_then (λ i. entry_below objects (n ∷ q) i)) (part_id d ∙ sym top.told)
+
+  pub below_part : (d : PathV) (id : List ℕ) → kept_ids kept d ≡ Some id → (n : List ℕ) (q : PathV) → map.get W (d ++ n ∷ q) ≡ entry_below objects (n ∷ q) id
+  below_part d id is n q =
+      let own = (own_at d id is).0 in
+      below_top d (settled_top objects (dirents_at objects base) (dirents_at objects head) (dirents_at objects pushed) d id own) n q
+      ∙ ap (option_and_then (λ i. entry_below objects (n ∷ q) i)) own
+
+  -- and nothing, where none is kept
+  pub below_none_kept : (d : PathV) → IsTop objects (dirents_at objects base) (dirents_at objects head) (dirents_at objects pushed) d → kept_ids kept d ≡ None → (n : List ℕ) (q : PathV) → map.get W (d ++ n ∷ q) ≡ None
+  below_none_kept d top none n q = below_top d top n q ∙ of_id (settles d) refl
+    where
+      of_id : (o : Option (List ℕ)) → settles d ≡ o → option_and_then (λ i. entry_below objects (n ∷ q) i) o ≡ None
+      of_id None e = refl
+      of_id (Some id) e =
+          nothing_listed objects id (complete_part d id e)
+          (of_none objects id (ap (λ (o : Option (List ℕ)). option_map (λ (own : Kept). own.id) (kept_if objects o)) (sym e) ∙ sym (told_at d top.some) ∙ none)) (n ∷ q)
 
   none_left : (d : PathV) (n : List ℕ) (q : PathV) → (d ≡ []) ⊎ IsSome (map.get named.nodes d) → kept_ids kept d ≡ None → map.get named.nodes (d ++ n ∷ []) ≡ None → map.get W (d ++ n ∷ q) ≡ None
   none_left d n q waits open_here away = by (shows (d ++ n ∷ [])) refl
@@ -169,26 +199,13 @@ module _ (objects : Objects) (base head pushed : List ℕ) (complete : AreComple
       d_shown : shows d ≡ true
       d_shown = elim waits [ inl root ↦ ap shows root | inr some ↦ nodes_shown d some ]
 
-      below_settled : d ≢ [] → ((r : PathV) → is_under d r ≡ true → shows r ≡ false) → settles d ≡ directory_id_in objects (dirents_at objects head) d → map.get W (d ++ n ∷ q) ≡ None
-      below_settled some hides settled =
-          full_hidden (d ++ n ∷ q) (hides (d ++ n ∷ q) (under_of d n q)) ∙ entry_through objects (dirents_at objects head) d some n q
-          ∙ of_id (directory_id_in objects (dirents_at objects head) d) refl
-        where
-          of_id : (o : Option (List ℕ)) → directory_id_in objects (dirents_at objects head) d ≡ o → option_and_then (λ i. entry_below objects (n ∷ q) i) o ≡ None
-          of_id None e = refl
-          of_id (Some id) e =
-              nothing_listed objects id (complete_at objects head complete.head_whole d id e)
-              (of_none objects id (ap (λ (o : Option (List ℕ)). option_map (λ (own : Kept). own.id) (kept_if objects o)) (sym e ∙ sym settled) ∙ sym (told_at d some) ∙ open_here)) (n ∷ q)
-
       by : (c : Bool) → shows (d ++ n ∷ []) ≡ c → map.get W (d ++ n ∷ q) ≡ None
-      by true is = below_none W full_sound d n q (full_shown (d ++ n ∷ []) is ∙ away)
+      by true is = below_none W full_sound d n q (in_full (d ++ n ∷ []) is ∙ away)
       by false is =
           let l = lies_below objects (dirents_at objects base) (dirents_at objects head) (dirents_at objects pushed) (d ++ n ∷ []) is in
           elim (under_parent l.top d n l.under) [
-            | inr under ↦ absurd (true≢false (sym d_shown ∙ l.below d under))
-            | inl same ↦ below_settled (λ root. l.some (same ∙ root))
-                (subst (λ (t : PathV). (r : PathV) → is_under t r ≡ true → shows r ≡ false) same l.below)
-                (subst (λ (t : PathV). settles t ≡ directory_id_in objects (dirents_at objects head) t) same l.told)
+            | inr under ↦ absurd (true≢false (sym d_shown ∙ l.is_top.below d under))
+            | inl same ↦ below_none_kept d (subst (IsTop objects (dirents_at objects base) (dirents_at objects head) (dirents_at objects pushed)) same l.is_top) open_here n q
           ]
 
   hidden_below : (d : PathV) (n : List ℕ) → IsSome (kept_ids kept d) → map.get named.nodes (d ++ n ∷ []) ≡ None
@@ -204,11 +221,11 @@ module _ (objects : Objects) (base head pushed : List ℕ) (complete : AreComple
   stands_there : (d : PathV) (id : List ℕ) → kept_ids kept d ≡ Some id → map.get named.nodes d ≡ Some Dir
   stands_there d id is =
       let top = settled_top objects (dirents_at objects base) (dirents_at objects head) (dirents_at objects pushed) d id (own_at d id is).0 in
-      sym (full_shown d top.top_shown) ∙ by (map.get W d) refl
+      sym (in_full d top.top_shown) ∙ by (map.get W d) refl
     where
       nothing : (map.get W d ≡ Some Dir → ⊥) → ⊥
       nothing no_dir =
-          some_listed objects id (own_at d id is).1.0 (own_at d id is).1.1 (λ m q. sym (below_head d id is m q) ∙ nothing_below W full_sound d m q (kept_some d id is) no_dir)
+          some_listed objects id (own_at d id is).1.0 (own_at d id is).1.1 (λ m q. sym (below_part d id is m q) ∙ nothing_below W full_sound d m q (kept_some d id is) no_dir)
 
       by : (o : Option Entry) → map.get W d ≡ o → map.get W d ≡ Some Dir
       by None e = absurd (nothing (λ dir. let both : None ≡ Some Dir = sym e ∙ dir in cc))
@@ -217,18 +234,18 @@ module _ (objects : Objects) (base head pushed : List ℕ) (complete : AreComple
 
   nil_never : (d : PathV) (id : List ℕ) → kept_ids kept d ≡ Some id → IsNilWhereEmpty W d id
   nil_never d id is = (
-    λ zeros n. below_head d id is n [] ∙ ap (λ (c : Bool). option_map entry_of (entry_named n (if c then [] else entries_of (fs_at objects id)))) ((bytes_decides id nil).1 zeros),
-    λ none. absurd (some_listed objects id (own_at d id is).1.0 (own_at d id is).1.1 (λ m q. sym (below_head d id is m q) ∙ below_none W full_sound d m q (none m))),
+    λ zeros n. below_part d id is n [] ∙ ap (λ (c : Bool). option_map entry_of (entry_named n (if c then [] else entries_of (fs_at objects id)))) ((bytes_decides id nil).1 zeros),
+    λ none. absurd (some_listed objects id (own_at d id is).1.0 (own_at d id is).1.1 (λ m q. sym (below_part d id is m q) ∙ below_none W full_sound d m q (none m))),
   )
 
   shown_sound : IsSound named.nodes
   shown_sound = record {
-    no_root = sym (full_shown [] refl) ∙ full_sound.no_root;
+    no_root = sym (in_full [] refl) ∙ full_sound.no_root;
     in_dirs = λ d n other some.
         let here = nodes_shown (d ++ n ∷ []) some in
         let up = is_cut objects base head pushed complete s are in
-        sym (full_shown d (up.up d n here)) ∙ full_sound.in_dirs d n other (ap is_some (full_shown (d ++ n ∷ []) here) ∙ some);
-    modes = λ path file there. full_sound.modes path file (full_shown path (nodes_shown path (ap is_some there)) ∙ there);
+        sym (in_full d (up.up d n here)) ∙ full_sound.in_dirs d n other (ap is_some (in_full (d ++ n ∷ []) here) ∙ some);
+    modes = λ path file there. full_sound.modes path file (in_full path (nodes_shown path (ap is_some there)) ∙ there);
   }
 
   -- what is shown of the merged entries, and the directories that are kept
@@ -237,12 +254,10 @@ module _ (objects : Objects) (base head pushed : List ℕ) (complete : AreComple
     sound = full_sound;
     nodes = shown_sound;
     top = none_at_root;
-    shown = λ q some. sym (full_shown q (nodes_shown q some));
+    shown = λ q some. sym (in_full q (nodes_shown q some));
     none = none_left;
     stands = stands_there;
     hidden = hidden_below;
-    below = λ d id is more keeps n q.
-        let top = settled_top objects (dirents_at objects base) (dirents_at objects head) (dirents_at objects pushed) d id (own_at d id is).0 in
-        entry_stays objects more keeps id (complete_at objects head complete.head_whole d id top.own) (n ∷ q) ∙ sym (below_head d id is n q);
+    below = λ d id is more keeps n q. entry_stays objects more keeps id (complete_part d id (own_at d id is).0) (n ∷ q) ∙ sym (below_part d id is n q);
     some = nil_never;
   }

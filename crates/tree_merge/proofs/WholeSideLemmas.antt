@@ -21,7 +21,7 @@ use Rattle.object_graph.proofs.SameBelowLemmas.{ran_root}
 use Rattle.tree_merge.specs.FileChoice.{IsWholeIf as IsWholeFile}
 use Rattle.tree_merge.specs.FileEntry.{as_entry, file_in}
 use Rattle.tree_merge.specs.Level.{IsDirectoryAt}
-use Rattle.tree_merge.specs.Opening.{AreWholeEntries, AreWholeSides, IsCompleteIf, IsDirectoryIf, IsWholeIf, dirents_if}
+use Rattle.tree_merge.specs.Opening.{AreWholeEntries, AreWholeSides, IsCompleteIf, IsDirectoryIf, IsWholeIf, dirents_if, is_left_alone, part_in}
 use Rattle.tree_merge.specs.Sides.{Entries}
 use Rattle.tree_merge.specs.Telling.{IsWhole}
 use Rattle.tree_merge.specs.declared.file_entry.FileEntry.{FileEntry}
@@ -159,3 +159,11 @@ module _ (objects : Objects) where
   pub complete_side : (room : ℕ) (o : Option (List ℕ)) → IsWholeIf objects room o → IsCompleteIf objects o
   complete_side room None whole = tt
   complete_side room (Some id) whole = whole.complete
+
+  -- of three whole sides that one is complete which has what is settled
+  pub complete_part_of : (room : ℕ) (ids : Ids) → AreWholeSides objects room ids → IsCompleteIf objects (part_in ids)
+  complete_part_of room ids whole = by (is_left_alone ids.base ids.head ids.pushed)
+    where
+      by : (c : Bool) → IsCompleteIf objects (if c then ids.head else ids.pushed)
+      by true = complete_side room ids.head whole.1
+      by false = complete_side room ids.pushed whole.2

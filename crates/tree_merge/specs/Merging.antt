@@ -77,7 +77,7 @@ pub record IsTaken (objects : Objects) (s : Sides) (id : List ℕ) : Type 0 wher
   pub within : IsDirectoryIn objects tree bytes
   pub clash : CannotStore objects tree id bytes
 
--- where pushed has the directory that the head has, or that base has, and the head's isn't empty, the merged tree has the head's own
+-- where what lies below a path is one side's, and its directory isn't empty, the merged tree has that directory itself
 abbrev pub KeepsSettled : Objects → (base head pushed : List ℕ) → Merged → Type 0
 KeepsSettled objects base head pushed merged = (more : Objects) → Keeps objects more → Keeps merged.made more → (dir : PathV) (id : List ℕ)
     → settled_in objects (dirents_at objects base) (dirents_at objects head) (dirents_at objects pushed) dir ≡ Some id → (extent_of objects id).paths ≢ 0

@@ -1,5 +1,5 @@
--- Which directories a merge opens, and what it takes of those that it doesn't. Our own. Read is_settled, then is_shown and kept_in.
-use Rattle.std.specs.Prelude.{◌≡◌, ◌≤◌, ℕ, zero, suc, ◌||◌, ◌&&◌, not, Bool, true, false, if◌then◌else◌, List, [], ◌∷◌, ◌++◌, length, Option, Some, None, IsSome, option_map, ⊤}
+-- Which directories a merge opens, and what it takes of those that it doesn't. Our own. Read is_settled and part_of, then is_shown and settled_in.
+use Rattle.std.specs.Prelude.{◌≡◌, ◌≤◌, ℕ, zero, suc, ◌||◌, ◌&&◌, not, Bool, true, false, if◌then◌else◌, List, [], ◌∷◌, ◌++◌, length, Option, Some, None, IsSome, is_some, option_map, ⊤}
 use Rattle.std.specs.FinMap as map
 use Rattle.ids.specs.Key.{Objects}
 use Rattle.tree_model.specs.Path.{PathV, path_cmp}
@@ -25,12 +25,27 @@ same_directory (Some left) None = false
 same_directory (Some left) (Some right) = same_id left right
 
 -- pushed has there the directory of the head, or that of base: what lies below is the head's
+abbrev pub is_left_alone : (base head pushed : Option (List ℕ)) → Bool
+is_left_alone base head pushed = same_directory pushed head || same_directory pushed base
+
+-- head has there the directory of base, and pushed has none, or there is none and pushed has one: what lies below is pushed's
+abbrev pub is_pusheds : (base head pushed : Option (List ℕ)) → Bool
+is_pusheds base head pushed = same_directory head base && not (is_some base && is_some pushed)
+
+-- what lies below is what one side has
 abbrev pub is_settled : (base head pushed : Option (List ℕ)) → Bool
-is_settled base head pushed = same_directory pushed head || same_directory pushed base
+is_settled base head pushed = is_left_alone base head pushed || is_pusheds base head pushed
+
+-- the directory of that side, if it has one
+abbrev pub part_of : (base head pushed : Option (List ℕ)) → Option (List ℕ)
+part_of base head pushed = if is_left_alone base head pushed then head else pushed
 
 -- the same at the entries of a name
 abbrev pub is_settled_at : List ℕ → (base head pushed : List Dirent) → Bool
 is_settled_at name base head pushed = is_settled (directory_in (entry_named name base)) (directory_in (entry_named name head)) (directory_in (entry_named name pushed))
+
+abbrev pub part_at : List ℕ → (base head pushed : List Dirent) → Option (List ℕ)
+part_at name base head pushed = part_of (directory_in (entry_named name base)) (directory_in (entry_named name head)) (directory_in (entry_named name pushed))
 
 module _ (objects : Objects) where
   -- the entries of a directory, if there is one
@@ -49,10 +64,10 @@ module _ (objects : Objects) where
   is_shown base head pushed (name ∷ next ∷ path) =
       not (is_settled_at name base head pushed) && is_shown (dirents_of name base) (dirents_of name head) (dirents_of name pushed) (next ∷ path)
 
-  -- the directory of the head at a path that is shown, where it is settled
+  -- the directory that has what lies below a path that is shown, where that is settled
   abbrev pub settled_in : (base head pushed : List Dirent) → PathV → Option (List ℕ)
   settled_in base head pushed [] = None
-  settled_in base head pushed (name ∷ []) = if is_settled_at name base head pushed then directory_in (entry_named name head) else None
+  settled_in base head pushed (name ∷ []) = if is_settled_at name base head pushed then part_at name base head pushed else None
   settled_in base head pushed (name ∷ next ∷ path) =
       if is_settled_at name base head pushed then None else settled_in (dirents_of name base) (dirents_of name head) (dirents_of name pushed) (next ∷ path)
 
@@ -61,6 +76,10 @@ module _ (objects : Objects) where
 -- the directories that three entries name, and what the entries are
 abbrev pub ids_in : Trio → Ids
 ids_in trio = record { base = directory_in trio.base; head = directory_in trio.head; pushed = directory_in trio.pushed }
+
+-- the directory that has what lies below, where it is settled
+abbrev pub part_in : Ids → Option (List ℕ)
+part_in ids = part_of ids.base ids.head ids.pushed
 
 abbrev pub three_of : Trio → Three
 three_of trio = record { base = option_map entry_of trio.base; head = option_map entry_of trio.head; pushed = option_map entry_of trio.pushed }
@@ -93,7 +112,7 @@ pub record IsLevelOf (objects : Objects) (path : PathV) (ids : Ids) (level : Lev
   pub head : Tells path (dirents_if objects ids.head) level.head
   pub pushed : Tells path (dirents_if objects ids.pushed) level.pushed
 
--- the head's directory at a settled path, if it isn't empty
+-- the directory that is kept at a settled path: that of its side, if it isn't empty
 abbrev pub kept_by : List ℕ → ℕ → Option Kept
 kept_by id zero = None
 kept_by id (suc n) = Some (record { id = id; paths = suc n })
@@ -128,7 +147,7 @@ pub record OpensBelow (objects : Objects) (path : PathV) (ids : Ids) (old new : 
 -- so is an entry, with what lies below it
 pub record OpensEntry (objects : Objects) (path : PathV) (trio : Trio) (old new : Opened) : Type 0 where
   pub here : map.get new.joined path ≡ Some (three_of trio)
-  pub kept_here : map.get new.kept path ≡ (if is_settled (ids_in trio).base (ids_in trio).head (ids_in trio).pushed then kept_if objects (ids_in trio).head else None)
+  pub kept_here : map.get new.kept path ≡ (if is_settled (ids_in trio).base (ids_in trio).head (ids_in trio).pushed then kept_if objects (part_in (ids_in trio)) else None)
   pub below : (name : List ℕ) (rest : PathV) → map.get new.joined (path ++ name ∷ rest)
       ≡ (if is_settled (ids_in trio).base (ids_in trio).head (ids_in trio).pushed then None
       else joined_in objects (dirents_if objects (ids_in trio).base) (dirents_if objects (ids_in trio).head) (dirents_if objects (ids_in trio).pushed) (name ∷ rest))
@@ -147,7 +166,7 @@ abbrev pub IsCompleteIf : Objects → Option (List ℕ) → Type 0
 IsCompleteIf objects None = ⊤
 IsCompleteIf objects (Some id) = IsCompleteRoot objects id
 
--- what three trees have that is shown, and the directories of the head that are settled
+-- what three trees have that is shown, and the directories that have what is settled
 pub record IsOpened (objects : Objects) (base head pushed : List ℕ) (opened : Opened) : Type 0 where
   pub no_root : map.get opened.joined [] ≡ None
   pub joined : (name : List ℕ) (rest : PathV) → map.get opened.joined (name ∷ rest)

@@ -7,7 +7,7 @@ ghost use Rattle.tree_walk.specs.KnownTrees.{Fits};
 ghost use Rattle.tree_walk.specs.Reading.{Reads};
 ghost use Rattle.tree_merge.specs.Level.{Tells};
 ghost use Rattle.tree_merge.specs.Merging.{AreComplete, AreFew};
-ghost use Rattle.tree_merge.specs.Opening.{AreWholeEntries, AreWholeSides, IsClearAt, IsClearBelow, IsCompleteIf, IsDirectoryIf, IsLevelOf, IsOpened, OpensBelow, OpensEntry, dirents_if, ids_in, is_settled, kept_if, put_kept, same_directory, three_of};
+ghost use Rattle.tree_merge.specs.Opening.{AreWholeEntries, AreWholeSides, IsClearAt, IsClearBelow, IsCompleteIf, IsDirectoryIf, IsLevelOf, IsOpened, OpensBelow, OpensEntry, dirents_if, ids_in, is_left_alone, is_pusheds, is_settled, kept_if, part_in, put_kept, same_directory, three_of};
 ghost use Rattle.tree_merge.specs.Telling.{AnswersWell};
 
 use crate::level::{Level, Trio, directory_of, entries_at, entry_in, next};
@@ -20,7 +20,7 @@ use std::alloc::{AllocError, Global};
 use tree_model::{MAX_NAMES, MAX_PATHS, Path, PathTable};
 use tree_walk::{Known, WalkFault, extent_at};
 
-/// A directory of the head that is taken as it stands, with the number of paths below it, of which there is at least one.
+/// A directory of one side that is taken as it stands, with the number of paths below it, of which there is at least one.
 #[derive(Drop)]
 pub(crate) struct Kept {
     pub id: ObjId,
@@ -32,7 +32,7 @@ pub(crate) struct Kept {
 pub(crate) struct Opened {
     /// What the three trees have in the directories that are opened.
     pub joined: PathTable<Three>,
-    /// The head's directories that are settled, and not empty.
+    /// The directories that have what is settled, if they aren't empty.
     pub kept: PathTable<Kept>,
 }
 
@@ -189,7 +189,8 @@ fn open_entry<S: Shelf>(
         Err(_) => return Err(WalkFault::Store(StoreFault::NoMemory)),
     }
     if is_settled(&ids) {
-        keep(alloc, store, known, path, &ids.head, opened)
+        let part = part_of(&ids);
+        keep(alloc, store, known, path, &part, opened)
     } else {
         open_directory(alloc, store, known, &path, &ids, room - 1, opened)
     }
@@ -206,11 +207,36 @@ fn ids_of(trio: &Trio) -> Ids
     }
 }
 
-/// Whether pushed has the directory of the head there, or that of base.
+/// Whether what lies below is what one side has: the head, or pushed.
 fn is_settled(ids: &Ids) -> bool
     ensures value { result ≡ is_settled ids.now.base ids.now.head ids.now.pushed }
 {
+    is_left_alone(ids) || is_pusheds(ids)
+}
+
+/// Whether pushed has the directory of the head there, or that of base.
+fn is_left_alone(ids: &Ids) -> bool
+    ensures value { result ≡ is_left_alone ids.now.base ids.now.head ids.now.pushed }
+{
     same_directory(&ids.pushed, &ids.head) || same_directory(&ids.pushed, &ids.base)
+}
+
+/// Whether pushed alone has a directory there, or pushed alone has lost the one of head and base.
+fn is_pusheds(ids: &Ids) -> bool
+    ensures value { result ≡ is_pusheds ids.now.base ids.now.head ids.now.pushed }
+{
+    same_directory(&ids.head, &ids.base) && !(ids.base.is_some() && ids.pushed.is_some())
+}
+
+/// The directory of the side that has what lies below, where that is settled.
+fn part_of(ids: &Ids) -> Option<ObjId>
+    ensures value { result ≡ part_in ids.now }
+{
+    if is_left_alone(ids) {
+        ids.head
+    } else {
+        ids.pushed
+    }
 }
 
 fn same_directory(left: &Option<ObjId>, right: &Option<ObjId>) -> bool
@@ -236,22 +262,22 @@ fn put_three(alloc: Global, opened: &mut Opened, path: &Path, trio: Trio) -> Res
     put(&mut opened.joined, path.copy(alloc)?, three)
 }
 
-/// Writes down a directory of the head that is settled, unless it is empty.
+/// Writes down the directory that has what is settled, unless it is empty.
 fn keep<S: Shelf>(
     alloc: Global,
     store: &mut Store<S>,
     known: &mut Known,
     path: Path,
-    head: &Option<ObjId>,
+    part: &Option<ObjId>,
     opened: &mut Opened,
 ) -> Result<(), WalkFault>
     requires known { (objects : Objects) → objects_of S.contents store.old ≡ Some objects → Fits objects known.old }
-    ensures value { (objects : Objects) → objects_of S.contents store.old ≡ Some objects → IsCompleteIf objects head.now
-        → AnswersWell objects (λ done. opened.new ≡ record opened.old { kept = put_kept path (kept_if objects head.now) opened.old.kept }) result }
+    ensures value { (objects : Objects) → objects_of S.contents store.old ≡ Some objects → IsCompleteIf objects part.now
+        → AnswersWell objects (λ done. opened.new ≡ record opened.old { kept = put_kept path (kept_if objects part.now) opened.old.kept }) result }
     ensures known { (objects : Objects) → objects_of S.contents store.old ≡ Some objects → Fits objects known.new }
     ensures stays { Reads S.contents S.may_give S.texts S.faults store.old store.new result }
 {
-    let id = match head {
+    let id = match part {
         Some(id) => id,
         None => return Ok(()),
     };

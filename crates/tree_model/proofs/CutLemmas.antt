@@ -1,6 +1,6 @@
--- A merge of trees from which is cut what lies below directories that pushed left alone. The key lemmas are conflicts_cut,
+-- A merge of trees from which is cut what lies below directories in which one side decides. The key lemmas are conflicts_cut,
 -- merged_cut and trees_cut.
-use Rattle.std.proofs.Common.{◌≡◌, ◌≢◌, ◌≤◌, ◌<◌, ◌+◌, ◌==◌, ◌||◌, ◌&&◌, not, ℕ, zero, suc, nat_eq, map as list_map, Bool, true, false, if◌then◌else◌, List, [], ◌∷◌, ◌++◌, length, refl, sym, ap, ap₂, ◌∙◌, subst, arith, append-nil, eqb-true, Option, Some, None, IsSome, is_some, option_map, true≢false, ◌⊎◌, inl, inr}
+use Rattle.std.proofs.Common.{◌≡◌, ◌≢◌, ◌≤◌, ◌<◌, ◌+◌, ◌==◌, ◌||◌, ◌&&◌, not, ℕ, zero, suc, nat_eq, map as list_map, Bool, true, false, if◌then◌else◌, List, [], ◌∷◌, ◌++◌, length, refl, sym, ap, ap₂, ◌∙◌, subst, arith, eqb-true, Option, Some, None, IsSome, is_some, option_map, true≢false, ◌⊎◌, inl, inr}
 use Rattle.std.specs.Bool.{one_answer}
 use Rattle.std.specs.Option.{option_or}
 use Rattle.std.specs.Cmp.Lexicographic.{pointwise, bytes_decides}
@@ -14,14 +14,14 @@ use Rattle.tree_model.specs.Path.{PathV, path_cmp, parent_of, last_name}
 use Rattle.tree_model.specs.PathOrder.{paths_total, paths_exact}
 use Rattle.tree_model.specs.FileMerge.{Choice, choice}
 use Rattle.tree_model.specs.Tree.{Tree, IsTree, file_at, file_of, has_dir, is_dir}
-use Rattle.tree_model.specs.DirectorySurvival.{Sides, choice_at, gets_file, kept_dir, keeps, main_at, stays, is_within, is_under, paths_of_all}
+use Rattle.tree_model.specs.DirectorySurvival.{Sides, choice_at, gets_file, kept_dir, keeps, stays, is_within, is_under, paths_of_all}
 use Rattle.tree_model.specs.ConflictCopies.{Naming, conflict_spot, conflicts, in_trees, is_gone, leaver_at, leavers, least_free, moves, tries}
 use Rattle.tree_model.specs.ThreeWayMerge.{file_moved, node_at, merged, IsNaming}
-use Rattle.tree_model.proofs.BelowLemmas.{dir_above, parent_last, some_of_dir, under_within, within_is, within_under, under_under}
-use Rattle.tree_model.proofs.ListedLemmas.{any_at, any_of, is_in, listed, same_path}
+use Rattle.tree_model.proofs.BelowLemmas.{dir_above, parent_last, some_of_dir, under_within}
+use Rattle.tree_model.proofs.ListedLemmas.{any_at, is_in, listed, same_path}
 use Rattle.tree_model.proofs.MovingLemmas.{In, least_before, least_from, least_is_free}
 use Rattle.tree_model.proofs.CopyLemmas.{enough, get-leavers, leaver_from, spots_apart}
-use Rattle.tree_model.proofs.MergeLemmas.{copies, get-merged}
+use Rattle.tree_model.proofs.MergeLemmas.{get-merged}
 use Rattle.tree_model.proofs.OneSideLemmas.{some_of_file}
 use Rattle.tree_model.proofs.ResultTreeLemmas.{IsCopy, any_keeps, not_root, origin}
 use Rattle.tree_model.proofs.SettledLemmas.{IsSettled, none_leaves}
@@ -32,8 +32,9 @@ pub record IsHidden (s : Sides) (shown : PathV → Bool) (q : PathV) : Type 0 wh
   pub under : is_under top q ≡ true
   pub top_shown : shown top ≡ true
   pub below : (r : PathV) → is_under top r ≡ true → shown r ≡ false
-  pub settled : IsSettled s top
-  pub kept : kept_dir s top ≡ has_dir s.head top
+  pub of : Tree
+  pub settled : IsSettled s of top
+  pub kept : kept_dir s top ≡ has_dir of top
 
 -- three trees without what isn't shown: of a directory all entries are shown, or none
 pub record IsCut (s c : Sides) (shown : PathV → Bool) : Type 0 where
@@ -146,26 +147,18 @@ module _ (naming : Naming) (is_naming : IsNaming naming) (s c : Sides) (shown : 
 
   -- ---- directories survive the same
 
-  head_in : (q : PathV) → IsSome (map.get s.head q) → in_trees s q ≡ true
-  head_in q there = second (is_some (map.get s.base q)) (is_some (map.get s.head q)) (is_some (map.get s.pushed q)) there
-    where
-      second : (a b d : Bool) → b ≡ true → (a || (b || d)) ≡ true
-      second true b d is = refl
-      second false true d is = refl
-      second false false d is = cc
-
-  -- a directory of the head makes those above it survive
-  stays_by_head : (d e : PathV) → is_within d e ≡ true → shown e ≡ true → kept_dir s e ≡ has_dir s.head e → has_dir s.head e ≡ true → stays c d ≡ true
-  stays_by_head d e within is kept dir =
-      any_keeps c d e (in_trees_shown e is ∙ head_in e (some_of_dir (map.get s.head e) dir))
+  -- a directory of one of the trees makes those above it survive
+  stays_by_side : (d e : PathV) (x : Tree) → in_trees s e ≡ true → is_within d e ≡ true → shown e ≡ true → kept_dir s e ≡ has_dir x e → has_dir x e ≡ true → stays c d ≡ true
+  stays_by_side d e x known within is kept dir =
+      any_keeps c d e (in_trees_shown e is ∙ known)
       (keeps_shown d e is ∙ ap (λ b. b || (is_under d e && gets_file s e)) (ap₂ ◌&&◌ within (kept ∙ dir)))
 
-  -- what is hidden below a directory that is shown makes it survive only where a settled directory of the head does
-  by_hidden : (d r : PathV) → d ≢ [] → shown d ≡ true → is_within d r ≡ true → IsHidden s shown r → IsSome (map.get s.head r) → stays c d ≡ true
+  -- what is hidden below a directory that is shown makes it survive only where a settled directory does
+  by_hidden : (d r : PathV) → d ≢ [] → shown d ≡ true → is_within d r ≡ true → (h : IsHidden s shown r) → IsSome (map.get h.of r) → stays c d ≡ true
   by_hidden d r some is within h there =
       let above : is_within d h.top ≡ true = chain d h.top r within h.under (λ u. true≢false (sym is ∙ h.below d u)) in
-      let dir : has_dir s.head h.top ≡ true = dir_above s.head head h.top r (not_empty h.top above) h.under there in
-      stays_by_head d h.top above h.top_shown h.kept dir
+      let dir : has_dir h.of h.top ≡ true = dir_above h.of h.settled.tree h.top r (not_empty h.top above) h.under there in
+      stays_by_side d h.top h.of (h.settled.given h.top (some_of_dir (map.get h.of h.top) dir)) above h.top_shown h.kept dir
     where
       not_empty : (e : PathV) → is_within d e ≡ true → e ≢ []
       not_empty e above is_empty = at_end d some (ap (is_within d) (sym is_empty) ∙ above)
@@ -197,9 +190,6 @@ module _ (naming : Naming) (is_naming : IsNaming naming) (s c : Sides) (shown : 
           let r : PathV = found.path in
           by r (sym (listed s r) ∙ found.there) found.passes (shown r) refl
         where
-          hide : (r : PathV) → shown r ≡ false → is_within d r ≡ true → IsSome (map.get s.head r) → stays c d ≡ true
-          hide r none within at = by_hidden d r some is within (cut.hidden r none) at
-
           or_none : (b : Bool) → (b || false) ≡ true → b ≡ true
           or_none true e = refl
           or_none false e = e
@@ -211,12 +201,12 @@ module _ (naming : Naming) (is_naming : IsNaming naming) (s c : Sides) (shown : 
               elim (or_cases (is_within d r && kept_dir s r) (is_under d r && gets_file s r) passes) [
                 | inl kept ↦
                     let parts = and_parts (is_within d r) (kept_dir s r) kept in
-                    hide r at parts.0 (some_of_dir (map.get s.head r) (sym (h.settled.dirs r h.under) ∙ parts.1))
+                    by_hidden d r some is parts.0 h (some_of_dir (map.get h.of r) (sym (h.settled.dirs r h.under) ∙ parts.1))
                 | inr gets ↦
                     let parts = and_parts (is_under d r) (gets_file s r) gets in
-                    let file : is_some (file_at s.head r) ≡ true =
-                    or_none (is_some (file_at s.head r)) (sym (ap (λ (k : Choice). is_some k.main || is_some k.side) (h.settled.files r h.under)) ∙ parts.1) in
-                    hide r at (under_within d r parts.0) (some_of_file (map.get s.head r) file)
+                    let file : is_some (file_at h.of r) ≡ true =
+                    or_none (is_some (file_at h.of r)) (sym (ap (λ (k : Choice). is_some k.main || is_some k.side) (h.settled.files r h.under)) ∙ parts.1) in
+                    by_hidden d r some is (under_within d r parts.0) h (some_of_file (map.get h.of r) file)
               ]
 
       back : stays c d ≡ true → stays s d ≡ true
@@ -245,7 +235,7 @@ module _ (naming : Naming) (is_naming : IsNaming naming) (s c : Sides) (shown : 
       none : (b : Bool) → in_trees s q ≡ b → shown q ≡ false → None ≡ (if b then leaver_at s q else None)
       none true known is =
           let h = cut.hidden q is in
-          sym (none_from_is_some (leaver_at s q) (none_leaves naming is_naming s base head pushed h.top h.settled q h.under))
+          sym (none_from_is_some (leaver_at s q) (none_leaves naming is_naming s base head pushed h.of h.top h.settled q h.under))
       none false known is = refl
 
       by : (b : Bool) → shown q ≡ b → (if in_trees c q then leaver_at c q else None) ≡ (if in_trees s q then leaver_at s q else None)

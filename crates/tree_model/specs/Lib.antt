@@ -1,5 +1,6 @@
 pub mod ConflictCopies
 pub mod DirectorySurvival
+pub mod EmptyPart
 pub mod FileMerge
 pub mod Name
 pub mod Path

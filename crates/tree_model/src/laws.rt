@@ -8,6 +8,7 @@ ghost use Rattle.tree_model.specs.Tree.{Tree, IsTree, Fits, IsAlike, file_at};
 ghost use Rattle.tree_model.specs.ConflictCopies.{stands_in, copies_alone, leavers, Naming, conflicts, in_trees, places_of, IsLeastFree};
 ghost use Rattle.tree_model.specs.ThreeWayMerge.{merge, merged, MergedTree, MergesLike, IsNaming, HasVersion, IsFirstLong, IsFromSide, TooLong, node_at};
 ghost use Rattle.tree_model.specs.DirectorySurvival.{Sides, AgreeBelow, Stays, stays, kept_dir, HasKeptEntry, is_under};
+ghost use Rattle.tree_model.specs.EmptyPart.{IsEmptyBelow};
 ghost use Rattle.tree_model.specs.PathCounts.{CountsAddUp};
 ghost use Rattle.tree_model.specs.FileMerge.{same_file};
 ghost use Rattle.tree_model.specs.declared.node.FileVersion.{FileVersion};
@@ -92,6 +93,13 @@ pub fn a_part_that_pushed_left_alone_is_the_heads()
     ensures { (naming : Naming) → (s : Sides) → IsNaming naming → IsTree s.base → IsTree s.head → IsTree s.pushed
         → (dir : PathV) → (AgreeBelow dir s.pushed s.base) ⊎ (AgreeBelow dir s.pushed s.head)
         → (path : PathV) → is_under dir path ≡ true → map.get (merged naming s) path ≡ map.get s.head path }
+{}
+
+/// What lies below a directory is pushed's, as it is, where head has there what base has, and base or pushed has nothing.
+pub fn a_part_that_pushed_alone_changed_is_pusheds()
+    ensures { (naming : Naming) → (s : Sides) → IsNaming naming → IsTree s.base → IsTree s.head → IsTree s.pushed
+        → (dir : PathV) → AgreeBelow dir s.head s.base → (IsEmptyBelow dir s.base) ⊎ (IsEmptyBelow dir s.pushed)
+        → (path : PathV) → is_under dir path ≡ true → map.get (merged naming s) path ≡ map.get s.pushed path }
 {}
 
 /// The copies of a directory's files are named as if no file of another directory left its name.

@@ -1,11 +1,11 @@
 -- A directory is opened name by name; an entry of it is settled, or its directories are opened in turn.
-use Rattle.std.proofs.Common.{◌-◌, refl, sym, ◌∙◌, subst, arith, Ok, rules}
+use Rattle.std.proofs.Common.{◌-◌, refl, sym, ap, ◌∙◌, subst, arith, Ok, rules}
 use Rattle.tree_walk.proofs.ReadsLemmas.{reads_then, told_after, told_before}
-use Rattle.tree_merge.specs.Opening.{AreWholeSides, IsCompleteIf, ids_in}
+use Rattle.tree_merge.specs.Opening.{AreWholeSides, IsCompleteIf, ids_in, part_in}
 use Rattle.tree_merge.specs.declared.opening.Ids.{Ids}
 use Rattle.tree_merge.proofs.EntryOpenedLemmas.{clear_below, entry_goes, entry_keeps}
 use Rattle.tree_merge.proofs.OpenedLemmas.{opening_end, opening_more, opening_start, takes}
-use Rattle.tree_merge.proofs.WholeSideLemmas.{complete_side, directory_side, whole_entries_of}
+use Rattle.tree_merge.proofs.WholeSideLemmas.{complete_part_of, directory_side, whole_entries_of}
 use Rattle.tree_merge.proofs.opening.+opening.Goals as goal
 
 pub open_directory-returns-in-Err-clause-value : goal.open_directory-returns-in-Err-clause-value
@@ -58,9 +58,11 @@ open_directory-returns-clause-value g t c objects told whole clear = (
 pub open_entry-returns-then-is_settled-clause-value : goal.open_entry-returns-then-is_settled-clause-value
 open_entry-returns-then-is_settled-clause-value g t c objects told whole clear =
     let own = whole.below (c.args.room - 1) (omega (arith, whole.some_room)) in
+    let part = c.part_of-part.ensures.value in
     entry_keeps objects c.args.path c.args.trio c.args.opened.now c.put_three.new.opened c.keep.new.opened c.ids_of-ids.result c.ids_of-ids.ensures.value c.in-Ok.ensures.ok clear c.keep.result
-    (sym c.is_settled.ensures.value ∙ c.if-is_settled.true)
-    (c.keep.ensures.value objects told (subst (λ (i : Ids). IsCompleteIf objects i.head) (sym c.ids_of-ids.ensures.value) (complete_side objects (c.args.room - 1) (ids_in c.args.trio).head own.1)))
+    c.part_of-part.result part (sym c.is_settled.ensures.value ∙ c.if-is_settled.true)
+    (c.keep.ensures.value objects told
+    (subst (IsCompleteIf objects) (sym (part ∙ ap part_in c.ids_of-ids.ensures.value)) (complete_part_of objects (c.args.room - 1) (ids_in c.args.trio) own)))
 
 pub open_entry-returns-else-is_settled-clause-value : goal.open_entry-returns-else-is_settled-clause-value
 open_entry-returns-else-is_settled-clause-value g t c objects told whole clear =
