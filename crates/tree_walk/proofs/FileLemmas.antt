@@ -1,24 +1,22 @@
 -- Files: what is wrong with them, their sizes and their bytes. The key lemmas are file_walk, sizes_end, joins_end and
 -- blocks_of_file.
-use Rattle.std.proofs.Common.{◌≡◌, ◌≢◌, ◌≤◌, ◌<◌, ◌+◌, ◌^◌, ◌==◌, ◌&&◌, ℕ, Bool, true, false, nat_eq, nat_lt, if◌then◌else◌, is_some, List, [], ◌∷◌, ◌++◌, length, refl, sym, ap, ap₂, ◌∙◌, subst, Option, None, Some, Result, Ok, Err, option_map, unwrap_or, arith, length-append, append_assoc, append-nil, eqb-true, eq-eqb, ne_eqb, ltb-false, le-ltb, lt-ltb, take, drop, min, take-append-drop, length-take, length-drop, drop-drop, subst₂}
+use Rattle.std.proofs.Common.{◌≡◌, ◌≢◌, ◌≤◌, ◌<◌, ◌+◌, ◌^◌, ◌==◌, ℕ, Bool, true, false, nat_lt, if◌then◌else◌, is_some, List, [], ◌∷◌, ◌++◌, length, refl, sym, ap, ap₂, ◌∙◌, subst, Option, None, Some, Result, Ok, Err, option_map, unwrap_or, arith, length-append, append_assoc, append-nil, eqb-true, eq-eqb, ne_eqb, ltb-false, le-ltb, lt-ltb}
 use Rattle.std.specs.FinMap as map
-use Rattle.std.specs.Cmp.Lexicographic.{bytes_decides}
 use Rattle.ids.specs.Key.{Objects}
 use Rattle.ids.specs.declared.key.Key.{Key}
 use Rattle.tree_model.specs.Path.{PathV}
 use Rattle.fs_objects.specs.declared.file_object.FileObject.{FileObject}
 use Rattle.fs_objects.specs.declared.fs_object.FsObject.{FsObject}
 use Rattle.fs_objects.specs.declared.fs_object.FsObject.TheVariants as fs
-use Rattle.object_graph.specs.Objects.{block_bytes, block_key, blocks_at, blocks_of, contents_of, fs_at, fs_key, is_nil, joined, same_id}
+use Rattle.object_graph.specs.Objects.{block_bytes, block_key, blocks_at, blocks_of, fs_at, fs_key, is_nil, joined}
 use Rattle.object_graph.specs.Traversal.{Walk, start, visited, failed, then_walk, then_read, walk_blocks, walk_below, walk_file, walk_file_at, walk_found, walk_object, sized}
 use Rattle.object_graph.specs.declared.fault.TreeFault.{TreeFault}
 use Rattle.object_graph.specs.declared.fault.TreeFault.TheVariants.{Incomplete, WrongSize}
 use Rattle.object_graph.proofs.SchemeLemmas.{goes_on, stands_still}
-use Rattle.tree_walk.specs.Files.{added, added_all, as_file, blocks_due, file_at, file_due, files_due, first_due, fitting, size_due, rest_of, AreReady, Fronts, GoesOn}
-use Rattle.tree_walk.specs.Reading.{Answers, AnswersRead, IsDue, stored_at, stored_in}
+use Rattle.tree_walk.specs.Files.{added, added_all, as_file, blocks_due, file_at, file_due, first_due, fitting, size_due}
+use Rattle.tree_walk.specs.Reading.{AnswersRead, IsDue, stored_at, stored_in}
 use Rattle.tree_walk.specs.declared.fault.WalkFault.{WalkFault}
-use Rattle.tree_walk.specs.declared.unread.Unread.{Unread}
-use Rattle.tree_walk.proofs.StepsLemmas.{due_anywhere, due_first, due_of, due_unread}
+use Rattle.tree_walk.proofs.StepsLemmas.{due_anywhere, due_of, due_unread}
 
 -- ---- what is wrong with a file
 
@@ -227,151 +225,3 @@ joins_stop objects all rest id key bytes fault joins at read = by (map.get objec
 
 pub joins_end : (objects : Objects) (all : List (List ℕ)) (bytes : List ℕ) → Joins objects all [] bytes → blocks_due objects all ≡ None × bytes ≡ joined objects all
 joins_end objects all bytes joins = (sym joins.due, sym (append-nil bytes) ∙ joins.joins)
-
--- ---- two files
-
-pub second_due : (objects : Objects) (left right : List ℕ) → (walk_file_at objects left start).fault ≡ None → files_due objects left right ≡ (walk_file_at objects right start).fault
-second_due objects left right none =
-    ap (λ (v : Walk). v.fault) (goes_on (walk_file_at objects left start) (walk_file_at objects right) none)
-    ∙ walk_due objects right (walk_file_at objects left start) none ∙ sym (walk_due objects right start refl)
-
-pub first_stops : (objects : Objects) (left right : List ℕ) (fault : WalkFault) → IsDue objects (walk_file_at objects left start).fault fault → IsDue objects (files_due objects left right) fault
-first_stops objects left right fault is = due_first objects (walk_file_at objects left start) (walk_file_at objects right) fault is
-
-pub second_stops : (objects : Objects) (left right : List ℕ) (fault : WalkFault) → (walk_file_at objects left start).fault ≡ None
-    → IsDue objects (walk_file_at objects right start).fault fault → IsDue objects (files_due objects left right) fault
-second_stops objects left right fault none is = due_of objects (walk_file_at objects right start).fault (files_due objects left right) (λ due at. second_due objects left right none ∙ at) fault is
-
-pub same_itself : (xs : List ℕ) → same_id xs xs ≡ true
-same_itself xs = (bytes_decides xs xs).1 refl
-
--- bytes of two lengths differ
-pub other_lengths : (xs ys : List ℕ) → length xs ≢ length ys → same_id xs ys ≡ false
-other_lengths xs ys other = by (same_id xs ys) refl
-  where
-    by : (b : Bool) → same_id xs ys ≡ b → same_id xs ys ≡ false
-    by true is = absurd (other (ap length ((bytes_decides xs ys).0 is)))
-    by false is = is
-
-pub contents_are : (objects : Objects) (id : List ℕ) (file : FileObject) → file_at objects id ≡ Ok file → contents_of objects id ≡ joined objects file.blocks
-contents_are objects id file read = ap (joined objects) (blocks_of_file objects id file read)
-
--- ---- fronts of both
-
-same_append : (p q x y : List ℕ) → length p ≡ length q → same_id (p ++ x) (q ++ y) ≡ (same_id p q && same_id x y)
-same_append [] [] x y e = refl
-same_append [] (b ∷ q) x y e = absurd (omega arith)
-same_append (a ∷ p) [] x y e = absurd (omega arith)
-same_append (a ∷ p) (b ∷ q) x y e = ap (λ c. nat_eq a b && c) (same_append p q x y (omega arith)) ∙ and_assoc (nat_eq a b) (same_id p q) (same_id x y)
-  where
-    and_assoc : (a b c : Bool) → (a && (b && c)) ≡ ((a && b) && c)
-    and_assoc true b c = refl
-    and_assoc false b c = refl
-
-pub fronts_same : (l r x y : List ℕ) (n : ℕ) → n ≡ min (length l) (length r) → take n l ≡ take n r → same_id (drop n l ++ x) (drop n r ++ y) ≡ same_id (l ++ x) (r ++ y)
-fronts_same l r x y n is same =
-    sym (ap₂ (λ (a b : List ℕ). same_id (a ++ x) (b ++ y)) (sym (take-append-drop n l)) (sym (take-append-drop n r))
-    ∙ ap₂ same_id (append_assoc (take n l) (drop n l) x) (append_assoc (take n r) (drop n r) y)
-    ∙ same_append (take n l) (take n r) (drop n l ++ x) (drop n r ++ y) (ap length same)
-    ∙ ap (λ b. b && same_id (drop n l ++ x) (drop n r ++ y)) (ap (λ xs. same_id (take n l) xs) (sym same) ∙ same_itself (take n l)))
-
-pub fronts_differ : (l r x y : List ℕ) → same_id (take (min (length l) (length r)) l) (take (min (length l) (length r)) r) ≡ false → same_id (l ++ x) (r ++ y) ≡ false
-fronts_differ l r x y differ =
-    let n : ℕ = min (length l) (length r) in
-    let lengths : length (take n l) ≡ length (take n r) = omega (arith, length-take {A = ℕ}) in
-    ap₂ (λ (a b : List ℕ). same_id (a ++ x) (b ++ y)) (sym (take-append-drop n l)) (sym (take-append-drop n r))
-    ∙ ap₂ same_id (append_assoc (take n l) (drop n l) x) (append_assoc (take n r) (drop n r) y)
-    ∙ same_append (take n l) (take n r) (drop n l ++ x) (drop n r ++ y) lengths
-    ∙ ap (λ b. b && same_id (drop n l ++ x) (drop n r ++ y)) differ
-
--- the bytes of a whole file
-pub bytes_of_file : (objects : Objects) (id : List ℕ) (file : FileObject) (result : Result (List ℕ) WalkFault) → (walk_file_at objects id start).fault ≡ None → file_at objects id ≡ Ok file
-    → Answers objects (blocks_due objects file.blocks) (λ bytes. bytes ≡ joined objects file.blocks) result → Answers objects (walk_file_at objects id start).fault (λ bytes. bytes ≡ contents_of objects id) result
-bytes_of_file objects id file (Ok bytes) none read is = (none, is.1 ∙ sym (contents_are objects id file read))
-bytes_of_file objects id file (Err fault) none read is =
-    due_anywhere objects (walk_file_at objects id start).fault fault
-    (subst (λ due. IsDue objects due fault) (no_block_due objects id file (sym (whole_due objects id file read) ∙ none)) is)
-
--- ---- steps of a comparison
-
--- the same bytes at the front of both
-pub step_on : (objects : Objects) (l r : Unread) (count : ℕ) → AreReady objects l r → Fronts (drop l.place l.block) (drop r.place r.block) (Some count)
-    → GoesOn objects l r (record l { place = l.place + count }) (record r { place = r.place + count })
-step_on objects l r count ready fronts =
-    let x : List ℕ = joined objects l.blocks.now in
-    let y : List ℕ = joined objects r.blocks.now in
-    let at_left : drop (l.place + count) l.block ≡ drop count (drop l.place l.block) = dropped l.place count l.block in
-    let at_right : drop (r.place + count) r.block ≡ drop count (drop r.place r.block) = dropped r.place count r.block in
-    let same : same_id (drop (l.place + count) l.block ++ x) (drop (r.place + count) r.block ++ y) ≡ same_id (rest_of objects l) (rest_of objects r) =
-    ap₂ (λ (a b : List ℕ). same_id (a ++ x) (b ++ y)) at_left at_right ∙ fronts_same (drop l.place l.block) (drop r.place r.block) x y count fronts.0 fronts.1 in
-    let left_less : length (drop count (drop l.place l.block)) + count ≡ length (drop l.place l.block) = omega (arith, length-drop count (drop l.place l.block), fronts.0) in
-    let right_less : length (drop count (drop r.place r.block)) + count ≡ length (drop r.place r.block) = omega (arith, length-drop count (drop r.place r.block), fronts.0) in
-    let before : length (drop l.place l.block) + length x ≡ length (drop r.place r.block) + length y =
-    sym (length-append (drop l.place l.block) x) ∙ ready.bound ∙ length-append (drop r.place r.block) y in
-    let after : length (drop count (drop l.place l.block)) + length x ≡ length (drop count (drop r.place r.block)) + length y = omega (arith, left_less, right_less, before) in
-    record {
-      ready = record {
-        left_stored = ready.left_stored;
-        right_stored = ready.right_stored;
-        bound =
-            ap (λ a. length (a ++ x)) at_left ∙ length-append (drop count (drop l.place l.block)) x ∙ after
-            ∙ sym (length-append (drop count (drop r.place r.block)) y) ∙ ap (λ b. length (b ++ y)) (sym at_right);
-      };
-      same = same;
-    }
-  where
-    dropped : (p n : ℕ) (xs : List ℕ) → drop (p + n) xs ≡ drop n (drop p xs)
-    dropped p n xs = sym (drop-drop n p xs)
-
-pub step_apart : (objects : Objects) (l r : Unread) → Fronts (drop l.place l.block) (drop r.place r.block) None → false ≡ same_id (rest_of objects l) (rest_of objects r)
-step_apart objects l r fronts = sym (fronts_differ (drop l.place l.block) (drop r.place r.block) (joined objects l.blocks.now) (joined objects r.blocks.now) fronts)
-
--- ---- two whole files
-
--- a file that was read whole
-pub record IsWhole (objects : Objects) (id : List ℕ) (file : FileObject) : Type 0 where
-  pub none : (walk_file_at objects id start).fault ≡ None
-  pub read : file_at objects id ≡ Ok file
-
-pub due_of_whole : (objects : Objects) (id : List ℕ) (file : FileObject) → IsWhole objects id file → file_due objects id file ≡ None
-due_of_whole objects id file whole = sym (whole_due objects id file whole.read) ∙ whole.none
-
-pub one_file : (objects : Objects) (left right : List ℕ) (l r : FileObject) → IsWhole objects left l → IsWhole objects right r → left ≡ right
-    → files_due objects left right ≡ None × true ≡ same_id (contents_of objects left) (contents_of objects right)
-one_file objects left right l r whole other same = (
-  second_due objects left right whole.none ∙ other.none,
-  subst (λ id. true ≡ same_id (contents_of objects left) (contents_of objects id)) same (sym (same_itself (contents_of objects left))),
-)
-
-pub two_sizes : (objects : Objects) (left right : List ℕ) (l r : FileObject) → IsWhole objects left l → IsWhole objects right r → l.size ≢ r.size
-    → files_due objects left right ≡ None × false ≡ same_id (contents_of objects left) (contents_of objects right)
-two_sizes objects left right l r whole other apart = (
-  second_due objects left right whole.none ∙ other.none,
-  sym (ap₂ same_id (contents_are objects left l whole.read) (contents_are objects right r other.read)
-      ∙ other_lengths (joined objects l.blocks) (joined objects r.blocks)
-      (λ same. apart (whole_size objects left l (due_of_whole objects left l whole) ∙ same ∙ sym (whole_size objects right r (due_of_whole objects right r other))))),
-)
-
-pub blocks_compared : (objects : Objects) (left right : List ℕ) (l r : FileObject) (result : Result Bool WalkFault) → IsWhole objects left l → IsWhole objects right r
-    → Answers objects None (λ same. same ≡ same_id (joined objects l.blocks) (joined objects r.blocks)) result
-    → Answers objects (files_due objects left right) (λ same. same ≡ same_id (contents_of objects left) (contents_of objects right)) result
-blocks_compared objects left right l r (Ok same) whole other is = (
-  second_due objects left right whole.none ∙ other.none,
-  is.1 ∙ ap₂ same_id (sym (contents_are objects left l whole.read)) (sym (contents_are objects right r other.read)),
-)
-blocks_compared objects left right l r (Err fault) whole other is = due_anywhere objects (files_due objects left right) fault is
-
-pub compared : (objects : Objects) (left right : List ℕ) (l r : FileObject) (xs ys : List (List ℕ)) (result : Result Bool WalkFault) → IsWhole objects left l → IsWhole objects right r
-    → xs ≡ l.blocks → ys ≡ r.blocks → l.size ≡ r.size
-    → (blocks_due objects xs ≡ None → blocks_due objects ys ≡ None → length (joined objects xs) ≡ length (joined objects ys) → Answers objects None (λ same. same ≡ same_id (joined objects xs) (joined objects ys)) result)
-    → Answers objects (files_due objects left right) (λ same. same ≡ same_id (contents_of objects left) (contents_of objects right)) result
-compared objects left right l r xs ys result whole other at_left at_right sizes answers =
-    let none_left : blocks_due objects l.blocks ≡ None = no_block_due objects left l (due_of_whole objects left l whole) in
-    let none_right : blocks_due objects r.blocks ≡ None = no_block_due objects right r (due_of_whole objects right r other) in
-    let lengths : length (joined objects l.blocks) ≡ length (joined objects r.blocks) =
-    sym (whole_size objects left l (due_of_whole objects left l whole)) ∙ sizes ∙ whole_size objects right r (due_of_whole objects right r other) in
-    let is : Answers objects None (λ same. same ≡ same_id (joined objects xs) (joined objects ys)) result =
-    answers (ap (blocks_due objects) at_left ∙ none_left) (ap (blocks_due objects) at_right ∙ none_right)
-    (ap (λ ids. length (joined objects ids)) at_left ∙ lengths ∙ ap (λ ids. length (joined objects ids)) (sym at_right)) in
-    blocks_compared objects left right l r result whole other
-    (subst₂ (λ (us vs : List (List ℕ)). Answers objects None (λ same. same ≡ same_id (joined objects us) (joined objects vs)) result) at_left at_right is)

@@ -1,4 +1,5 @@
 pub mod CheckingLemmas
+pub mod ContentsLemmas
 pub mod ExtentLemmas
 pub mod FileLemmas
 pub mod KnownLemmas

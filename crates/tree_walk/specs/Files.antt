@@ -1,5 +1,5 @@
 -- File objects and the bytes of their blocks. Our own. Read file_at, blocks_due and file_due first.
-use Rattle.std.specs.Prelude.{◌≡◌, ℕ, ◌+◌, ◌^◌, ◌<◌, ◌==◌, nat_lt, Bool, true, false, if◌then◌else◌, is_some, List, [], ◌∷◌, ◌++◌, drop, take, min, length, Option, None, Some, Result, Ok, Err, ⊤}
+use Rattle.std.specs.Prelude.{◌≡◌, ℕ, ◌+◌, ◌^◌, ◌<◌, ◌≤◌, ◌==◌, nat_lt, Bool, true, false, if◌then◌else◌, is_some, IfSome, List, [], ◌∷◌, ◌++◌, drop, take, min, length, Option, None, Some, Result, Ok, Err, ⊤}
 use Rattle.std.specs.FinMap as map
 use Rattle.ids.specs.Key.{Objects}
 use Rattle.fs_objects.specs.declared.file_object.FileObject.{FileObject}
@@ -65,8 +65,14 @@ added_all objects total (id ∷ ids) = added_all objects (added total (length (b
 abbrev pub rest_of : Objects → Unread → List ℕ
 rest_of objects u = drop u.place u.block ++ joined objects u.blocks.now
 
--- the blocks to come are stored, and as many bytes are left of both
+-- the block in memory has the bytes that are stored under its id
+abbrev pub IsHeld : Objects → Unread → Type 0
+IsHeld objects u = IfSome u.held (λ id. block_bytes objects id ≡ u.block)
+
+-- what is in memory is as it is stored, the blocks to come are stored, and as many bytes are left of both
 pub record AreReady (objects : Objects) (left right : Unread) : Type 0 where
+  pub left_held : IsHeld objects left
+  pub right_held : IsHeld objects right
   pub left_stored : blocks_due objects left.blocks.now ≡ None
   pub right_stored : blocks_due objects right.blocks.now ≡ None
   pub bound : length (rest_of objects left) ≡ length (rest_of objects right)
@@ -82,8 +88,17 @@ StepsSo objects left right later_left later_right (Ok None) = GoesOn objects lef
 StepsSo objects left right later_left later_right (Ok (Some same)) = same ≡ same_id (rest_of objects left) (rest_of objects right)
 StepsSo objects left right later_left later_right (Err fault) = IsDue objects None fault
 
+-- nothing is left in memory of either, and the next block of both is the same, before these
+pub record HaveSameNext (left right : Unread) (left_rest right_rest : List (List ℕ)) : Type 0 where
+  pub left_end : length left.block ≤ left.place
+  pub right_end : length right.block ≤ right.place
+  pub id : List ℕ
+  pub left_next : left.blocks.now ≡ id ∷ left_rest
+  pub right_next : right.blocks.now ≡ id ∷ right_rest
+
 -- what a load leaves: the next block is in memory, or there is none
 pub record IsLoaded (objects : Objects) (old new : Unread) : Type 0 where
+  pub held : IsHeld objects new
   pub rest : rest_of objects new ≡ rest_of objects old
   pub stored : blocks_due objects new.blocks.now ≡ None
 

@@ -1,10 +1,10 @@
 //! The contents of files.
-ghost use Rattle.std.specs.Prelude.{◌≡◌, ◌↔◌, ◌<◌, ◌+◌, IfOk, IsTrue, None, Some, length, min};
+ghost use Rattle.std.specs.Prelude.{◌≡◌, ◌↔◌, ◌<◌, ◌+◌, IfOk, IfSome, IsTrue, None, Some, length, min};
 ghost use Rattle.ids.specs.Key.{Objects};
 ghost use Rattle.object_graph.specs.Objects.{contents_of, joined, same_id};
 ghost use Rattle.object_graph.specs.Traversal.{start, walk_file_at};
 ghost use Rattle.object_store.specs.StoreView.{objects_of};
-ghost use Rattle.tree_walk.specs.Files.{AreReady, Fronts, Lighter, StepsSo, blocks_due, files_due};
+ghost use Rattle.tree_walk.specs.Files.{AreReady, Fronts, HaveSameNext, Lighter, StepsSo, blocks_due, files_due};
 ghost use Rattle.tree_walk.specs.Reading.{Answers, Reads};
 
 use crate::fault::WalkFault;
@@ -50,8 +50,8 @@ fn join<S: Shelf>(alloc: Global, store: &mut Store<S>, blocks: &[ObjId]) -> Resu
 
 /// Whether two files have the same bytes. At most one block of each is in memory.
 ///
-/// The first fault of the left file's traversal is answered, and then that of the right one's. No block is read where both
-/// are one file, or where their sizes differ.
+/// The first fault of the left file's traversal is answered, and then that of the right one's. No block is read where their
+/// sizes differ, or where both list the same blocks.
 pub fn same_file<S: Shelf>(
     alloc: Global,
     store: &mut Store<S>,
@@ -62,32 +62,27 @@ pub fn same_file<S: Shelf>(
         → Answers objects (files_due objects left right) (λ same. same ≡ same_id (contents_of objects left) (contents_of objects right)) result }
     ensures stays { Reads S.contents S.may_give S.texts S.faults store.old store.new result }
 {
-    let left = &left;
-    let right = &right;
-    let left_file = whole_file_at(alloc, store, left)?;
-    let right_file = match whole_file_at(alloc, store, right) {
+    let left_file = whole_file_at(alloc, store, &left)?;
+    let right_file = match whole_file_at(alloc, store, &right) {
         Ok(file) => file,
         Err(fault) => return Err(fault),
     };
-    if is_one(left, right) {
-        return Ok(true);
-    }
     if left_file.size != right_file.size {
         return Ok(false);
     }
-    same_blocks(
-        alloc,
-        store,
-        left_file.blocks.slice(),
-        right_file.blocks.slice(),
-    )
+    let left_blocks = left_file.blocks.slice();
+    let right_blocks = right_file.blocks.slice();
+    if are_one(left_blocks, right_blocks) {
+        return Ok(true);
+    }
+    same_blocks(alloc, store, left_blocks, right_blocks)
 }
 
-/// Whether two ids are one.
-fn is_one(left: &ObjId, right: &ObjId) -> bool
+/// Whether two lists have the same ids in the same order.
+fn are_one(left: &[ObjId], right: &[ObjId]) -> bool
     ensures value { IsTrue result ↔ (left.now ≡ right.now) }
 {
-    *left == *right
+    left == right
 }
 
 /// Whether blocks that are stored have the same bytes joined, where they have as many.
@@ -103,11 +98,13 @@ fn same_blocks<S: Shelf>(
     ensures stays { Reads S.contents S.may_give S.texts S.faults store.old store.new result }
 {
     let mut left = Unread {
+        held: None,
         block: Bytes::new(alloc),
         place: 0,
         blocks: left,
     };
     let mut right = Unread {
+        held: None,
         block: Bytes::new(alloc),
         place: 0,
         blocks: right,
@@ -120,7 +117,8 @@ fn same_blocks<S: Shelf>(
     }
 }
 
-/// One step of a comparison: a block is read into memory, or what is in memory of both is compared.
+/// One step of a comparison: the next block is passed over, which is the same of both; or a block is read into memory; or what
+/// is in memory of both is compared.
 fn step<S: Shelf>(
     alloc: Global,
     store: &mut Store<S>,
@@ -132,6 +130,11 @@ fn step<S: Shelf>(
     ensures bound { IfOk result (Lighter left.old right.old left.new right.new) }
     ensures stays { Reads S.contents S.may_give S.texts S.faults store.old store.new result }
 {
+    if let Some((left_rest, right_rest)) = after_same_block(left, right) {
+        left.blocks = left_rest;
+        right.blocks = right_rest;
+        return Ok(None);
+    }
     if left.place >= left.block.len() {
         return match load(alloc, store, left)? {
             true => Ok(None),
@@ -151,6 +154,29 @@ fn step<S: Shelf>(
             Ok(None)
         }
         None => Ok(Some(false)),
+    }
+}
+
+/// The blocks after the next one of both, where nothing is left in memory of either, and the next block is the same.
+fn after_same_block<'a, 'b>(
+    left: &Unread<'a>,
+    right: &Unread<'b>,
+) -> Option<(&'a [ObjId], &'b [ObjId])>
+    ensures value { IfSome result (λ rests. HaveSameNext left.now right.now rests.0.now rests.1.now) }
+{
+    if left.place < left.block.len() {
+        return None;
+    }
+    if right.place < right.block.len() {
+        return None;
+    }
+    match (left.blocks.split_first(), right.blocks.split_first()) {
+        (Some((one, left_rest)), Some((other, right_rest))) => if *one == *other {
+            Some((left_rest, right_rest))
+        } else {
+            None
+        },
+        _ => None,
     }
 }
 

@@ -3,7 +3,7 @@ use Rattle.std.proofs.Common.{◌≡◌, subst}
 use Rattle.object_graph.specs.Objects.{joined}
 use Rattle.tree_walk.specs.Files.{blocks_due}
 use Rattle.tree_walk.specs.Reading.{Answers}
-use Rattle.tree_walk.proofs.FileLemmas.{bytes_of_file}
+use Rattle.tree_walk.proofs.ContentsLemmas.{bytes_of_file}
 use Rattle.tree_walk.proofs.ReadsLemmas.{told_after}
 use Rattle.tree_walk.proofs.contents.file_bytes.Goals as goal
 
