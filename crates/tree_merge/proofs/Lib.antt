@@ -25,7 +25,7 @@ pub mod JoinedSideLemmas
 pub mod MergedEntryLemmas
 pub mod MergingLemmas
 pub mod BuiltLemmas
-pub mod FileContentsLemmas
+pub mod ComparedLemmas
 pub mod OpeningLemmas
 pub mod LevelLemmas
 pub mod OpenedLemmas

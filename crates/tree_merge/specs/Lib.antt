@@ -5,6 +5,7 @@ pub mod TreeBuilding
 pub mod ConflictNaming
 pub mod Decision
 pub mod Telling
+pub mod Compared
 pub mod Merging
 pub mod MergedObjects
 pub mod Opening

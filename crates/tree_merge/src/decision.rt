@@ -9,12 +9,14 @@ ghost use Rattle.tree_model.specs.Path.{PathV};
 ghost use Rattle.tree_model.specs.FileMerge.{Choice};
 ghost use Rattle.tree_model.specs.DirectorySurvival.{Sides};
 ghost use Rattle.tree_walk.specs.Reading.{Reads};
+ghost use Rattle.tree_merge.specs.Compared.{AreCompared, StayCompared};
 ghost use Rattle.tree_merge.specs.FileEntry.{as_entry};
 ghost use Rattle.tree_merge.specs.FileChoice.{IsChoice, IsWholeIf, IsWholeThree, IsWholeAt};
 ghost use Rattle.tree_merge.specs.Sides.{AreSeen, AreTrees};
 ghost use Rattle.tree_merge.specs.Decision.{choice_in, kept_by, IsPlaced, HasSettled, HasGrown, IsDecided, IsDecidedAt, IsWholeDecided, IsWholePlacing};
 ghost use Rattle.tree_merge.specs.Telling.{AnswersWell};
 
+use crate::compared::Compared;
 use crate::file_entry::{FileEntry, file_in, is_directory};
 use crate::file_merge::{Chosen, choose};
 use crate::sides::Three;
@@ -63,6 +65,7 @@ pub(crate) fn decide<S: Shelf>(
     ensures root { IfOk result (λ decided. map.get joined [] ≡ None → map.get decided.leavers [] ≡ None) }
     ensures stays { Reads S.contents S.may_give S.texts S.faults store.old store.new result }
 {
+    let mut compared = Compared::new(alloc);
     let mut staying = PathTable::new(alloc);
     let mut decided = Decided {
         nodes: PathTable::new(alloc),
@@ -70,7 +73,15 @@ pub(crate) fn decide<S: Shelf>(
         known: PathTable::new(alloc),
     };
     while let Some((path, three)) = joined.pop_last() {
-        match decide_at(alloc, store, path, three, &mut staying, &mut decided) {
+        match decide_at(
+            alloc,
+            store,
+            &mut compared,
+            path,
+            three,
+            &mut staying,
+            &mut decided,
+        ) {
             Ok(()) => {}
             Err(fault) => return Err(fault),
         }
@@ -82,20 +93,22 @@ pub(crate) fn decide<S: Shelf>(
 fn decide_at<S: Shelf>(
     alloc: Global,
     store: &mut Store<S>,
+    compared: &mut Compared,
     path: Path,
     three: Three,
     staying: &mut PathTable<()>,
     decided: &mut Decided,
 ) -> Result<(), WalkFault>
     ensures value { (objects : Objects) → objects_of S.contents store.old ≡ Some objects
-        → (more : Objects) → Keeps objects more → IsWholeThree objects three
+        → AreCompared objects compared.old → (more : Objects) → Keeps objects more → IsWholeThree objects three
         → AnswersWell objects (λ done. IsDecidedAt more path three staying.old staying.new decided.old decided.new) result }
     ensures whole { OnOk result ((objects : Objects) → IsWholeThree objects three → IsWholeDecided objects decided.old → IsWholeDecided objects decided.new) }
     ensures bound { OnOk result (HasGrown path decided.old decided.new) }
+    ensures known { StayCompared (objects_of S.contents store.old) compared.old compared.new }
     ensures stays { Reads S.contents S.may_give S.texts S.faults store.old store.new result }
 {
     let is_marked = staying.has(&path);
-    match place(alloc, store, three, is_marked) {
+    match place(alloc, store, compared, three, is_marked) {
         Ok(placing) => settle(alloc, path, placing, staying, decided),
         Err(fault) => Err(fault),
     }
@@ -105,18 +118,27 @@ fn decide_at<S: Shelf>(
 fn place<S: Shelf>(
     alloc: Global,
     store: &mut Store<S>,
+    compared: &mut Compared,
     three: Three,
     is_marked: bool,
 ) -> Result<Placing, WalkFault>
     ensures value { (objects : Objects) → objects_of S.contents store.old ≡ Some objects
-        → (more : Objects) → Keeps objects more → IsWholeThree objects three
+        → AreCompared objects compared.old → (more : Objects) → Keeps objects more → IsWholeThree objects three
         → AnswersWell objects (IsPlaced more (choice_in more three) (kept_by three || is_marked)) result }
     ensures whole { IfOk result (λ placing. (objects : Objects) → IsWholeThree objects three → IsWholePlacing objects placing) }
+    ensures known { StayCompared (objects_of S.contents store.old) compared.old compared.new }
     ensures stays { Reads S.contents S.may_give S.texts S.faults store.old store.new result }
 {
     let stays = is_kept(&three) | is_marked;
     let Three { base, head, pushed } = three;
-    let chosen = choose(alloc, store, file_in(base), file_in(head), file_in(pushed))?;
+    let chosen = choose(
+        alloc,
+        store,
+        compared,
+        file_in(base),
+        file_in(head),
+        file_in(pushed),
+    )?;
     Ok(placing_of(chosen, stays))
 }
 

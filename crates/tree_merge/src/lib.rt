@@ -5,9 +5,9 @@
 //! private parts: specs/Decision.antt and specs/ConflictNaming.antt. It reads files only to compare them, and stores nothing.
 #![tactic(auto)]
 
+mod compared;
 mod conflict_copies;
 mod decision;
-mod file_contents;
 mod file_entry;
 mod file_merge;
 mod level;

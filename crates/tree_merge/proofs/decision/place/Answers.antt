@@ -3,8 +3,8 @@ use Rattle.tree_merge.specs.FileChoice.{IsWholeIf}
 use Rattle.tree_merge.proofs.decision.place.Goals as goal
 
 pub returns-clause-value : goal.returns-clause-value
-returns-clause-value g c objects told more keeps whole =
-    let chosen = c.in_ok-chosen.ensures.value objects told more keeps
+returns-clause-value g c objects told compared more keeps whole =
+    let chosen = c.in_ok-chosen.ensures.value objects told compared more keeps
     (subst (IsWholeIf objects) (sym c.file_in.ensures.value) whole.0)
     (subst (IsWholeIf objects) (sym c.file_in-2.ensures.value) whole.1)
     (subst (IsWholeIf objects) (sym c.file_in-3.ensures.value) whole.2) in (
