@@ -1,4 +1,5 @@
-//! How many objects an update fetches, of an open library of forty directories with ten files each.
+//! How many objects an update fetches, of an open library of forty directories with ten files each, and of one of a file under a
+//! hundred names.
 use depot::Depot;
 use ids::{Bytes, Items, Key, Kind, LibId, ObjId, Text};
 use library_state::{Act, Call, Reply, Secret};
@@ -204,12 +205,23 @@ fn put_commit(
     last: u8,
 ) -> Result<(), Fail> {
     let root = put_root(alloc, depot, first, last)?;
+    put_commit_of(alloc, depot, commit, parent, &root)
+}
+
+/// Puts the commit of this name, with this root.
+fn put_commit_of(
+    alloc: Global,
+    depot: &mut Library,
+    commit: &ObjId,
+    parent: &ObjId,
+    root: &ObjId,
+) -> Result<(), Fail> {
     let mut text = String::from_str(alloc, COMMIT_HEAD)?;
     push_id(&mut text, commit)?;
     text.push_str(COMMIT_PARENT)?;
     push_id(&mut text, parent)?;
     text.push_str(COMMIT_ROOT)?;
-    push_id(&mut text, &root)?;
+    push_id(&mut text, root)?;
     text.push_str(ENTRY_TAIL)?;
     put_as(alloc, depot, Kind::Commit, commit, text.as_bytes())
 }
@@ -281,5 +293,63 @@ fn an_update_that_is_merged_fetches_fewer_than_forty_objects_too(
     rt: HostRuntime,
 ) -> Result<(), Fail> {
     assert!(rt; is_few(rt.alloc(), true)?);
+    Ok(())
+}
+
+/// Puts a root of a hundred files, all of which are this version of one.
+fn put_names(alloc: Global, depot: &mut Library, version: u8) -> Result<ObjId, Fail> {
+    let file = put_file(alloc, depot, [0, version])?;
+    let mut text = String::from_str(alloc, DIRECTORY_HEAD)?;
+    push_entry(&mut text, &file, FILE_ENTRY, 0)?;
+    for place in 1..100 {
+        text.push(',')?;
+        push_entry(&mut text, &file, FILE_ENTRY, place)?;
+    }
+    text.push_str(DIRECTORY_TAIL)?;
+    put(alloc, depot, Kind::Fs, text.as_bytes())
+}
+
+/// Puts the commit of this name, with the hundred files in this version.
+fn put_version(
+    alloc: Global,
+    depot: &mut Library,
+    commit: &ObjId,
+    parent: &ObjId,
+    version: u8,
+) -> Result<(), Fail> {
+    let root = put_names(alloc, depot, version)?;
+    put_commit_of(alloc, depot, commit, parent, &root)
+}
+
+/// The library after two updates, of which the second changed the file under all names, with the objects of a third, which
+/// changes it over the first in another way.
+fn before_third_version(alloc: Global) -> Result<Library, Fail> {
+    let mut depot = library(alloc)?;
+    let opening = head_of(&depot);
+    put_version(alloc, &mut depot, &named(1), &opening, 1)?;
+    let _ = update(&mut depot, &named(1))?;
+    put_version(alloc, &mut depot, &named(2), &named(1), 2)?;
+    let _ = update(&mut depot, &named(2))?;
+    put_version(alloc, &mut depot, &named(3), &named(1), 3)?;
+    Ok(depot)
+}
+
+/// Whether the third update, which is merged, fetches fewer than forty objects.
+fn is_few_under_all_names(alloc: Global) -> Result<bool, Fail> {
+    let without = before_third_version(alloc)?.close().end().fetches;
+    let mut depot = before_third_version(alloc)?;
+    let head = update(&mut depot, &named(3))?;
+    if is_third(&head) {
+        return Err(Fail::from("the third update was not merged"));
+    }
+    Ok(depot.close().end().fetches < without.saturating_add(40))
+}
+
+// A merge that read the versions at each name would fetch more than six hundred.
+#[test]
+fn a_merge_of_one_file_under_a_hundred_names_fetches_fewer_than_forty_objects(
+    rt: HostRuntime,
+) -> Result<(), Fail> {
+    assert!(rt; is_few_under_all_names(rt.alloc())?);
     Ok(())
 }
