@@ -20,7 +20,7 @@ pub fn ask_one<H: Host>(
 ) -> Outcome
     requires ready { H.ready host.now pass.old }
     ensures ready { H.ready host.now pass.new }
-    ensures asked { (operations : List H.Operation)
+    ensures asks { (operations : List H.Operation)
         × AskedSo (AtAMoment (H.shows host.now) H.asks) (H.view pass.old) lib (call_of secret act) result operations (H.view pass.new) }
 {
     told_of(host.ask(alloc, pass, lib, Call { secret, act }))
@@ -37,7 +37,7 @@ pub fn put_each<H: Host>(
 ) -> Outcome
     requires ready { H.ready host.now pass.old }
     ensures ready { H.ready host.now pass.new }
-    ensures asked { (operations : List H.Operation)
+    ensures asks { (operations : List H.Operation)
         × PutsEach (AtAMoment (H.shows host.now) H.asks) lib secret (H.view pass.old) rows result operations (H.view pass.new) }
 {
     let mut left = rows.into_vec();
@@ -100,7 +100,7 @@ pub fn get_each<H: Host>(
 ) -> Outcome
     requires ready { H.ready host.now pass.old }
     ensures ready { H.ready host.now pass.new }
-    ensures asked { (operations : List H.Operation)
+    ensures asks { (operations : List H.Operation)
         × (GetsEach (AtAMoment (H.shows host.now) H.asks) lib secret (H.view pass.old) ids.now [] result operations (H.view pass.new)
         ⊎ NotAsked (H.view pass.old) (Outcome.Refused Refusal.NoMemory) result operations (H.view pass.new)) }
     ensures bound { SparesReading H.too_much (H.view pass.old) lib secret ids.now result (H.view pass.new) }
@@ -131,7 +131,7 @@ pub fn get_each<H: Host>(
 
 /// Whether so many bytes more fit in a reply.
 fn is_room(packed: u64, size: u64) -> bool
-    requires within { packed ≤ most_packed }
+    requires fits { packed ≤ most_packed }
     ensures value { result ≡ nat_le (packed + size) most_packed }
 {
     size <= MOST_PACKED - packed

@@ -44,7 +44,7 @@ pub fn read_head<L: Link>(alloc: Global, link: &mut L, buffer: &mut Buffer) -> R
         → IsEnd rest end) }
     ensures status { IfErr result HasBadStatus }
     ensures to_read { to_read buffer.new (L.left link.new) ≡ to_read buffer.old (L.left link.old) }
-    ensures reads { ReadsOn WantsHead buffer.old buffer.new (told_by L.taken L.given L.asked link.old) (told_by L.taken L.given L.asked link.new) }
+    ensures reading { ReadsOn WantsHead buffer.old buffer.new (told_by L.taken L.given L.asked link.old) (told_by L.taken L.given L.asked link.new) }
     ensures last { ReadAsked result (told_by L.taken L.given L.asked link.old) (told_by L.taken L.given L.asked link.new) (L.left link.old) (L.left link.new) }
     ensures faults { CountsRead (L.faults link.old) (L.faults link.new) result }
 {
@@ -99,7 +99,7 @@ fn look_for_head(
 /// Whether it is time to look for a head again: nothing was looked at, or less than half of what is there, or a line ended, or
 /// there are as many bytes as a head may have.
 fn is_due(front: &[u8], seen: usize, known: usize) -> bool
-    requires behind { seen ≤ length front.now }
+    requires bound { seen ≤ length front.now }
     requires within { known ≤ length front.now }
     ensures value { result ≡ is_due seen known front.now }
 {
@@ -170,7 +170,7 @@ pub fn read_body<L: Link>(
         → IsBodyEnd (used + body) rest end) }
     ensures status { IfErr result HasBadStatus }
     ensures to_read { to_read buffer.new (L.left link.new) ≡ to_read buffer.old (L.left link.old) }
-    ensures reads { ReadsOn (WantsBytes (used + body)) buffer.old buffer.new (told_by L.taken L.given L.asked link.old) (told_by L.taken L.given L.asked link.new) }
+    ensures reading { ReadsOn (WantsBytes (used + body)) buffer.old buffer.new (told_by L.taken L.given L.asked link.old) (told_by L.taken L.given L.asked link.new) }
     ensures last { ReadAsked result (told_by L.taken L.given L.asked link.old) (told_by L.taken L.given L.asked link.new) (L.left link.old) (L.left link.new) }
     ensures faults { CountsRead (L.faults link.old) (L.faults link.new) result }
 {

@@ -48,9 +48,9 @@ pub fn next_request<L: Link>(
 fn give_interim<L: Link>(link: &mut L, waits: bool) -> Result<(), LinkFailed>
     ensures given { Gives (L.given link.old) (L.given link.new) (interim_due waits) result }
     ensures fails { OnErr result (IsTrue waits) }
-    ensures left { L.left link.new ≡ L.left link.old }
-    ensures taken { L.taken link.new ≡ L.taken link.old }
-    ensures asked { L.asked link.new ≡ L.asked link.old }
+    ensures stays_left { L.left link.new ≡ L.left link.old }
+    ensures stays_taken { L.taken link.new ≡ L.taken link.old }
+    ensures stays_asked { L.asked link.new ≡ L.asked link.old }
     ensures faults { CountsFaults (L.faults link.old) (L.faults link.new) result }
 {
     if !waits {
@@ -63,9 +63,9 @@ fn give_interim<L: Link>(link: &mut L, waits: bool) -> Result<(), LinkFailed>
 fn stop<L: Link>(alloc: Global, link: &mut L, end: End) -> Served
     requires status { HasBadStatus end }
     ensures value { StopsSo end (L.given link.old) (L.given link.new) result }
-    ensures left { L.left link.new ≡ L.left link.old }
-    ensures taken { L.taken link.new ≡ L.taken link.old }
-    ensures asked { L.asked link.new ≡ L.asked link.old }
+    ensures stays_left { L.left link.new ≡ L.left link.old }
+    ensures stays_taken { L.taken link.new ≡ L.taken link.old }
+    ensures stays_asked { L.asked link.new ≡ L.asked link.old }
     ensures faults { CountsGive (L.faults link.old) (L.faults link.new) result }
 {
     match end {
@@ -81,9 +81,9 @@ fn stop<L: Link>(alloc: Global, link: &mut L, end: End) -> Served
 fn refuse<L: Link>(alloc: Global, link: &mut L, status: u16) -> Served
     requires fits { IsTrue (is_bad_status status) }
     ensures value { RefusesSo status (L.given link.old) (L.given link.new) result }
-    ensures left { L.left link.new ≡ L.left link.old }
-    ensures taken { L.taken link.new ≡ L.taken link.old }
-    ensures asked { L.asked link.new ≡ L.asked link.old }
+    ensures stays_left { L.left link.new ≡ L.left link.old }
+    ensures stays_taken { L.taken link.new ≡ L.taken link.old }
+    ensures stays_asked { L.asked link.new ≡ L.asked link.old }
     ensures faults { CountsGive (L.faults link.old) (L.faults link.new) result }
 {
     let text = match bad_bytes(alloc, status) {

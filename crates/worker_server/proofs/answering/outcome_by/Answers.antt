@@ -8,7 +8,7 @@ use Rattle.worker_server.proofs.answering.outcome_by.Goals as goal
 
 pub returns-in-GetFs-clause-serves : goal.returns-in-GetFs-clause-serves
 returns-in-GetFs-clause-serves g c =
-    let asked = c.get_each.ensures.asked in
+    let asked = c.get_each.ensures.asks in
     let rules = rules_at (g.H.Host.shows c.args.host.now) g.H.Host.asks g.H.Host.too_much in
     let is : c.args.what ≡ what.GetFs c.slice.result.now = c.in-GetFs.is ∙ ap what.GetFs (sym c.slice.ensures.value) in (
       asked.0,

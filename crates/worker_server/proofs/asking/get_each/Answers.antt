@@ -11,8 +11,8 @@ use Rattle.worker_server.specs.Calls.{AtAMoment, GetsEach, IsWant, most_packed, 
 use Rattle.worker_server.proofs.EachLemmas.{GetsEach-given, GetsEach-over, GetsEach-refused, first_of, first_spared, got_no_want, none_so_far, packed_fit, packed_now, packed_over, spares_by, spares_none}
 use Rattle.worker_server.proofs.asking.get_each.Goals as goal
 
-pub returns-in-Err-row_of-clause-asked : goal.returns-in-Err-row_of-clause-asked
-returns-in-Err-row_of-clause-asked g c =
+pub returns-in-Err-row_of-clause-asks : goal.returns-in-Err-row_of-clause-asks
+returns-in-Err-row_of-clause-asks g c =
     let asked = c.get_next-answer.ensures.asks in
     let id = c.id-item.result in
     let rest = drop (c.loop-id.id-index + 1) c.args.ids.now in
@@ -23,8 +23,8 @@ returns-in-Err-row_of-clause-asked g c =
     (whole.0, inl (subst (λ (o : Outcome). GetsEach (AtAMoment (g.H.Host.shows c.args.host.now) g.H.Host.asks) c.args.lib c.args.secret (g.H.Host.view c.args.pass.now) c.args.ids.now [] o whole.0 (g.H.Host.view c.get_next-answer.new.pass)) (sym c.in-Err-row_of.ensures.refused) whole.1))
 
 -- with this row they are more than fit: the outcome is want of memory
-pub returns-then-not-is_room-clause-asked : goal.returns-then-not-is_room-clause-asked
-returns-then-not-is_room-clause-asked g c =
+pub returns-then-not-is_room-clause-asks : goal.returns-then-not-is_room-clause-asks
+returns-then-not-is_room-clause-asks g c =
     let asked = c.get_next-answer.ensures.asks in
     let id = c.id-item.result in
     let bytes = c.in-Ok-row_of.row.bytes in
@@ -63,8 +63,8 @@ loop-id-preserved g c = record {
       got_no_want c.get_next-answer.result.reply c.in-Ok-row_of.row.bytes c.in-Ok-row_of.ensures.got told.0);
 }
 
-pub returns-clause-asked : goal.returns-clause-asked
-returns-clause-asked g c =
+pub returns-clause-asks : goal.returns-clause-asks
+returns-clause-asks g c =
     let none : drop c.loop-id.id-index c.args.ids.now ≡ [] = drop_all c.loop-id.id-index c.args.ids.now c.loop-id-test.false in
     let whole = c.loop-id.invariant.goes_on (Packed c.loop-id.rows.items) [] (g.H.Host.view c.loop-id.pass)
     (subst (λ (ids : List (List ℕ)). GetsEach (AtAMoment (g.H.Host.shows c.args.host.now) g.H.Host.asks) c.args.lib c.args.secret (g.H.Host.view c.loop-id.pass) ids c.loop-id.rows.items (Packed c.loop-id.rows.items) [] (g.H.Host.view c.loop-id.pass)) (sym none) (refl, refl, refl)) in

@@ -14,8 +14,8 @@ loop-row-init g c = record {
       (more, subst (λ (rows : List Row). PutsEach (AtAMoment (g.H.Host.shows c.args.host.now) g.H.Host.asks) c.args.lib c.args.secret (g.H.Host.view c.args.pass.now) rows o more v) all rest);
 }
 
-pub returns-then-not-is_stored-clause-asked : goal.returns-then-not-is_stored-clause-asked
-returns-then-not-is_stored-clause-asked g c =
+pub returns-then-not-is_stored-clause-asks : goal.returns-then-not-is_stored-clause-asks
+returns-then-not-is_stored-clause-asks g c =
     let asked = c.put_one-answer.ensures.asks in
     let left = one_taken c.loop-row.left.items c.pop.new.self.items c.in-Some.row c.in-Some.ensures.items in
     let refused = sym c.is_stored.ensures ∙ c.if-not-is_stored.true in
@@ -36,8 +36,8 @@ loop-row-preserved g c = record {
       (PutsEach-stored (AtAMoment (g.H.Host.shows c.args.host.now) g.H.Host.asks) c.args.lib c.args.secret _ _ v c.in-Some.row (reverse c.pop.new.self.items) c.put_one-answer.result asked.0 more o asked.1 stored rest));
 }
 
-pub returns-clause-asked : goal.returns-clause-asked
-returns-clause-asked g c =
+pub returns-clause-asks : goal.returns-clause-asks
+returns-clause-asks g c =
     let none : reverse c.loop-row.left.items ≡ [] = nothing_left c.loop-row.left.items (nil_from_length c.loop-row.left.items (sym c.loop-row.left.ok.0 ∙ c.in_default.ensures.cases.0)) in
     c.loop-row.invariant.goes_on all_stored [] (g.H.Host.view c.loop-row.pass)
     (subst (λ (rows : List Row). PutsEach (AtAMoment (g.H.Host.shows c.args.host.now) g.H.Host.asks) c.args.lib c.args.secret (g.H.Host.view c.loop-row.pass) rows all_stored [] (g.H.Host.view c.loop-row.pass)) (sym none) (refl, refl, refl))

@@ -8,7 +8,7 @@ use Rattle.worker_server.proofs.reading.look_for_head.Goals as goal
 
 pub is_due-requires : goal.is_due-requires
 is_due-requires c = record {
-  behind = scanned_within c.args.seen c.args.known c.args.front.now c.requires.known;
+  bound = scanned_within c.args.seen c.args.known c.args.front.now c.requires.known;
   within = c.requires.known.within;
 }
 

@@ -8,14 +8,14 @@ use Rattle.worker_server.proofs.reading.read_body.Goals as goal
 pub returns-in-Err-clause-err : goal.returns-in-Err-clause-err
 returns-in-Err-clause-err g c = λ rest e. (c.in-Err.ensures.err rest (c.args.used + c.args.body)).1
 
-pub returns-in-Ok-eq0-clause-reads : goal.returns-in-Ok-eq0-clause-reads
-returns-in-Ok-eq0-clause-reads g c =
+pub returns-in-Ok-eq0-clause-reading : goal.returns-in-Ok-eq0-clause-reading
+returns-in-Ok-eq0-clause-reading g c =
     let s = c.loop-link.invariant in
     let short : length c.loop-link.buffer - c.args.used < c.args.body = subst (λ (n : ℕ). n - c.args.used < c.args.body) c.len.ensures c.loop-link-test.true in
     ReadsOn-more (WantsBytes (c.args.used + c.args.body)) _ _ _ _ _ _ s.reads (wants_bytes c.loop-link.buffer c.args.used c.args.body s.fits short) c.in-Ok-eq0.ensures.fills
 
-pub returns-in-Err-clause-reads : goal.returns-in-Err-clause-reads
-returns-in-Err-clause-reads g c =
+pub returns-in-Err-clause-reading : goal.returns-in-Err-clause-reading
+returns-in-Err-clause-reading g c =
     let s = c.loop-link.invariant in
     let short : length c.loop-link.buffer - c.args.used < c.args.body = subst (λ (n : ℕ). n - c.args.used < c.args.body) c.len.ensures c.loop-link-test.true in
     ReadsOn-more (WantsBytes (c.args.used + c.args.body)) _ _ _ _ _ _ s.reads (wants_bytes c.loop-link.buffer c.args.used c.args.body s.fits short) c.in-Err.ensures.fills

@@ -59,13 +59,13 @@ pub returns-in-Err-fill-clause-err : goal.returns-in-Err-fill-clause-err
 returns-in-Err-fill-clause-err g c = λ rest e. (c.in-Err-fill.ensures.err rest 0).0
 
 -- each fill comes where no head stands in the buffer yet
-pub returns-in-Ok-eq0-clause-reads : goal.returns-in-Ok-eq0-clause-reads
-returns-in-Ok-eq0-clause-reads g c =
+pub returns-in-Ok-eq0-clause-reading : goal.returns-in-Ok-eq0-clause-reading
+returns-in-Ok-eq0-clause-reading g c =
     let begun = told_of _ _ _ (look.Open c.in-Ok-Open.now) c.front-front.ensures c.in-Ok-Open.field-0-is c.in-Ok-Open.ensures.value in
     ReadsOn-more WantsHead _ _ _ _ _ _ c.loop-now.invariant.reads (c.in-Ok-Open.now, begun) c.in-Ok-eq0.ensures.fills
 
-pub returns-in-Err-fill-clause-reads : goal.returns-in-Err-fill-clause-reads
-returns-in-Err-fill-clause-reads g c =
+pub returns-in-Err-fill-clause-reading : goal.returns-in-Err-fill-clause-reading
+returns-in-Err-fill-clause-reading g c =
     let begun = told_of _ _ _ (look.Open c.in-Ok-Open.now) c.front-front.ensures c.in-Ok-Open.field-0-is c.in-Ok-Open.ensures.value in
     ReadsOn-more WantsHead _ _ _ _ _ _ c.loop-now.invariant.reads (c.in-Ok-Open.now, begun) c.in-Err-fill.ensures.fills
 
