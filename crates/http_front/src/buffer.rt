@@ -1,5 +1,5 @@
 //! The bytes that were taken from a link and not yet used.
-ghost use Rattle.std.specs.Prelude.{◌≡◌, ◌≢◌, ◌+◌, ◌≤◌, ◌↔◌, IsTrue, [], length, drop, IfOk, IfErr, OnErr};
+ghost use Rattle.std.specs.Prelude.{◌≡◌, ◌≢◌, ◌+◌, ◌≤◌, ◌↔◌, IsTrue, [], length, drop, take, IfOk, IfErr, OnOk, OnErr};
 ghost use Rattle.std.specs.Io.KnownBytes.{IsAtEnd};
 ghost use Rattle.http_front.specs.Buffer.{Fills, to_read};
 ghost use Rattle.http_front.specs.Link.{AskedInVain, told_by};
@@ -7,8 +7,10 @@ ghost use Rattle.http_front.specs.Limits.{piece_limit};
 ghost use Rattle.ids.specs.FaultCount.{Rose};
 
 use crate::link::Link;
+use ids::Bytes;
 use std::alloc::{AllocError, Global};
 use std::marker::Model;
+use std::mem;
 
 /// The most bytes that one fill takes from its link.
 pub const PIECE: usize = 65_536;
@@ -24,8 +26,8 @@ pub enum FillFault {
 
 /// A queue of bytes: filled from a link at its back, used from its front.
 ///
-/// Each byte is moved at most twice on average, whatever is skipped at a time: the rest moves to
-/// the front only when as many bytes lie used before it.
+/// Each byte is moved at most twice on average, whatever is skipped at a time: as it is filled, the rest moves to the
+/// front only when as many bytes lie used before it.
 #[derive(Drop)]
 pub struct Buffer {
     bytes: Vec<u8>,
@@ -87,6 +89,24 @@ impl Buffer {
         self.from += used;
     }
 
+    /// Uses the first `count` bytes. They are handed over with the memory in which they lie, to whose front they are
+    /// moved, and what follows them is copied. Where there is no memory for what follows, all is as it was.
+    pub fn take_front(&mut self, count: usize) -> Result<Bytes, AllocError>
+        requires fits { count ≤ length self.old }
+        ensures value { IfOk result (λ taken. taken ≡ take count self.old) }
+        ensures left { OnOk result (self.new ≡ drop count self.old) }
+        ensures err { OnErr result (self.new ≡ self.old) }
+    {
+        let from = self.from;
+        match self.bytes.split_off(from + count) {
+            Ok(rest) => {
+                self.from = 0;
+                Ok(bytes_from(mem::replace(&mut self.bytes, rest), from))
+            }
+            Err(error) => Err(error),
+        }
+    }
+
     /// Takes one piece of at most 65,536 bytes from the link, and says how many bytes came: none
     /// at the end of input. Where it fails, nothing was taken.
     pub fn fill<L: Link>(&mut self, link: &mut L) -> Result<usize, FillFault>
@@ -129,4 +149,15 @@ impl Buffer {
             self.from = 0;
         }
     }
+}
+
+/// The bytes from a place on, moved to the front of their memory.
+fn bytes_from(mut bytes: Vec<u8>, from: usize) -> Bytes
+    requires within { from ≤ length bytes.items }
+    ensures value { result ≡ drop from bytes.items }
+{
+    let rest = bytes.len() - from;
+    bytes.copy_within(from.., 0);
+    bytes.truncate(rest);
+    Bytes::from_vec(bytes)
 }

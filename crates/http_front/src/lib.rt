@@ -1,8 +1,8 @@
 //! HTTP/1.1 as this server speaks it: links, the buffer, request heads, the stream of requests, what a request asks
 //! for, and the bytes of each reply.
 //!
-//! Shown upward: `Link`, `Sink` and their kinds in memory; `next_head`, `order_of`; `reply_bytes`, `interim_bytes`,
-//! `bad_bytes`; and laws.rt. It answers no call itself.
+//! Shown upward: `Link`, `Sink` and their kinds in memory; `next_head`, `order_of`, `order_of_own`; `reply_bytes`,
+//! `interim_bytes`, `bad_bytes`; and laws.rt. It answers no call itself.
 #![tactic(auto)]
 
 mod buffer;
@@ -42,7 +42,7 @@ pub use link::{Link, LinkFailed, Sink};
 pub use memory_link::MemoryLink;
 pub use memory_sink::MemorySink;
 pub use method::Method;
-pub use order::{Order, OrderFault, What, order_of};
+pub use order::{Order, OrderFault, What, order_of, order_of_own};
 pub use outcome::Outcome;
 pub use refusal_text::refused_status;
 pub use reply_text::{bad_bytes, interim_bytes, reply_bytes};

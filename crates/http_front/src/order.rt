@@ -71,7 +71,46 @@ pub fn order_of(alloc: Global, head: &Head, body: &[u8]) -> Result<Order, OrderF
     order_in(alloc, head.method, head.target.slice(), head.token, body)
 }
 
+/// The same of a body that is handed over. The bytes of an object that is to be stored are moved into the order, not
+/// copied.
+pub fn order_of_own(alloc: Global, head: &Head, body: Bytes) -> Result<Order, OrderFault>
+    ensures value { OrdersAs result (IsOrder head.now.method head.now.target head.now.token body) }
+{
+    own_order_in(alloc, head.method, head.target.slice(), head.token, body)
+}
+
 /// The same, by the parts of a head that count.
+fn own_order_in(
+    alloc: Global,
+    method: Method,
+    target: &str,
+    secret: Option<Secret>,
+    body: Bytes,
+) -> Result<Order, OrderFault>
+    ensures value { OrdersAs result (IsOrder method target.now secret body) }
+{
+    match route_of(method, target) {
+        None => Err(OrderFault::Refused(refusal_without_call(method))),
+        Some(route) => own_order_at(alloc, route, secret, query_of(target), body),
+    }
+}
+
+fn own_order_at(
+    alloc: Global,
+    route: Route,
+    secret: Option<Secret>,
+    query: &str,
+    body: Bytes,
+) -> Result<Order, OrderFault>
+    ensures { OrdersAs result (IsOrderAt (Some route) Method.Get secret query.now body) }
+{
+    match route {
+        Route::Put(lib, key) => Ok(asked_of(lib, secret, What::Put(key, body))),
+        other => order_at(alloc, other, secret, query, body.slice()),
+    }
+}
+
+/// The order of a request, by the parts of its head that count.
 fn order_in(
     alloc: Global,
     method: Method,
