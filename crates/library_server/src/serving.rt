@@ -86,8 +86,8 @@ fn answer<S: Shelf>(depot: &mut Depot<S>, lib: LibId, call: &Call, moment: u64) 
     depot.answer(call, moment)
 }
 
-/// The reply to a call for a file or directory, after which more will be asked for. `NoLibrary` comes exactly where the library is not the one
-/// that is served.
+/// The reply to a call for a file or directory, after which more will be asked for. `NoLibrary` comes exactly where the
+/// library is not the one that is served.
 fn answer_first<S: Shelf>(
     depot: &mut Depot<S>,
     lib: LibId,
@@ -135,8 +135,8 @@ pub fn serve_link<S: Shelf, L: Link, C: Clock>(
     ensures write_fault { result ≡ Served.WriteFault → Rose (L.faults link.old) (L.faults link.new) }
     ensures faults { CountsEnd (L.faults link.old) (L.faults link.new) result }
 
-    // Where the link tells what it was asked: a take that failed was the last of it, and where a give failed bytes came as it
-    // was asked last, or it was at its end.
+    // Where the link tells what it was asked: a take that failed was the last of it, and where a give failed bytes came
+    // as it was asked last, or it was at its end.
     ensures last { EndsAsked result (told_by L.taken L.given L.asked link.old) (told_by L.taken L.given L.asked link.new) (L.left link.new) }
 {
     let host = Alone {

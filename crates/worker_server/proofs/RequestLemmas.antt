@@ -1,6 +1,6 @@
 -- One request: what was read, asked and given makes one turn of the connection.
 -- The key lemmas are AnswersNext-from_reply, StopsAsked-from_front and OneMore-from_reply.
-use Rattle.std.proofs.Common.{◌≡◌, ℕ, ◌+◌, ◌-◌, ◌==◌, Bool, ◌||◌, List, ◌++◌, length, take, drop, Option, Some, refl, sym, ap, subst, ◌∙◌, arith, append_assoc, length-append}
+use Rattle.std.proofs.Common.{◌≡◌, ℕ, ◌+◌, ◌-◌, ◌≤◌, ◌==◌, Bool, ◌||◌, List, ◌++◌, length, take, drop, Option, Some, refl, sym, ap, subst, ◌∙◌, arith, append_assoc, length-append}
 use Rattle.std.proofs.lemmas.List.{drop_at, take_at}
 use Rattle.std.specs.List.{slice_range}
 use Rattle.std.specs.Io.KnownBytes.{append_known}
@@ -46,6 +46,13 @@ after_is : (bytes : List ℕ) (h : Head) (r : Request) (after : List ℕ) → St
 after_is bytes h r after s =
     rw (s.is.head.reads.1, s.used, s.body) (after_at (print_request r.head) r.body after)
 
+-- both stand in the buffer
+pub stands_there : (bytes : List ℕ) (h : Head) (r : Request) (after : List ℕ) → StandsAt bytes h r after → h.used + h.body ≤ length bytes
+stands_there bytes h r after s =
+    let whole : length bytes ≡ length (print_request r.head) + length (r.body ++ after) =
+    ap length s.is.head.reads.1 ∙ length-append (print_request r.head) (r.body ++ after) in
+    omega (arith, whole, length-append r.body after, s.used, s.body)
+
 pub closes_as : (n : ℕ) (bytes : List ℕ) (h : Head) (r : Request) (after : List ℕ) → StandsAt bytes h r after
     → (closed : Bool) → closed ≡ (h.closes || n == 9999) → closed ≡ closes_at n r
 closes_as n bytes h r after s closed is = is ∙ ap (λ b. b || n == 9999) s.closes_is
@@ -65,13 +72,6 @@ module _ {V Operation : Type 0} (rules : HostRules V Operation) where
             (subst (λ z. Serves rules u (IsOrder h.method z h.token r.body) o operations v) s.target
             (subst (λ z. Serves rules u (IsOrder h.method h.target h.token z) o operations v) body served)),
       )
-
-  -- the call was made of what the buffer told
-  pub Serves-at : (front bytes : List ℕ) (h : Head) (u v : V) (o : Outcome) (operations : List Operation) → front ≡ bytes
-      → Serves rules u (IsOrder h.method h.target h.token (slice_range front h.used (h.used + h.body))) o operations v
-      → Serves rules u (IsOrder h.method h.target h.token (slice_range bytes h.used (h.used + h.body))) o operations v
-  Serves-at front bytes h u v o operations same served =
-      subst (λ z. Serves rules u (IsOrder h.method h.target h.token (slice_range z h.used (h.used + h.body))) o operations v) same served
 
   -- the request whose reply was made
   unfoldable pub AnswersNext-from_reply : (bytes : List ℕ) (left : Option (List ℕ)) (rest : List ℕ) (h : Head) (r : Request) (after : List ℕ)

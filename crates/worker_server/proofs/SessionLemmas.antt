@@ -248,9 +248,9 @@ module _ {V Operation : Type 0} (rules : HostRules V Operation) where
 
   -- the connection stops in place of a next reply
   pub Session-stopped : (how : Served) (n : ℕ) (input buffer : List ℕ) (old now : LinkTells) (ahead : Option (List ℕ)) (u v : V)
-      → (so_far : SoFar n input buffer old now ahead u v) → n < 10000 → (held : List ℕ) (later : LinkTells) (left : Option (List ℕ)) (w : V)
-      → to_read held left ≡ Some so_far.rest → OneStop rules n so_far.rest buffer held v w now later how → SessionInTime rules input old later u w how
-  Session-stopped how n input buffer old now ahead u v so_far few held later left w still stop =
+      → (so_far : SoFar n input buffer old now ahead u v) → n < 10000 → (later : LinkTells) (left : Option (List ℕ)) (w : V)
+      → OneStop rules n so_far.rest buffer left v w now later how → SessionInTime rules input old later u w how
+  Session-stopped how n input buffer old now ahead u v so_far few later left w stop =
       let counted : Stops rules how (length so_far.exchanges) so_far.rest v w now.given later.given =
       subst (λ k. Stops rules how k so_far.rest v w now.given later.given) (sym so_far.count) stop.stops in
       let placed : Stops rules how (length so_far.exchanges) so_far.rest v w (append_known old.given (texts 0 so_far.exchanges)) later.given =
@@ -258,13 +258,13 @@ module _ {V Operation : Type 0} (rules : HostRules V Operation) where
       let fits : length so_far.exchanges < 10000 = omega (arith, so_far.count, few) in
       let t = so_far.so_taken in
       let r = stop.reading in
-      let ahead_now = to_read-some held left so_far.rest still in
+      let ahead_now = to_read-some stop.held left so_far.rest stop.still in
       let split : t.left ≡ r.piece ++ ahead_now.0 = left_of buffer t.left r.piece ahead_now.0 (
       sym t.left_is ∙ ahead_now.2 ∙ ap (λ b. b ++ ahead_now.0) r.grown ∙ append_assoc buffer r.piece ahead_now.0
       ) in
       let taken_is : later.taken ≡ append_known old.taken (t.taken ++ r.piece) =
       r.taken ∙ ap (λ (z : Option (List ℕ)). append_known z r.piece) t.taken_is ∙ append_known-more old.taken t.taken r.piece in
-      let in_time = AsksFor-turn input t.taken buffer held ahead_now.0 so_far.exchanges [] old now later t.taken_is so_far.text fits so_far.all_open
+      let in_time = AsksFor-turn input t.taken buffer stop.held ahead_now.0 so_far.exchanges [] old now later t.taken_is so_far.text fits so_far.all_open
       t.holds t.asked r (t.whole ∙ ap (λ l. t.taken ++ l) split) in
       let never : NeverWaits input so_far.exchanges old later = NeverWaits-from_asks input so_far.exchanges old later (t.taken ++ r.piece) taken_is
       (subst (λ (ys : List (Exchange Operation)). AsksFor (InTimeFor input ys) old later (t.taken ++ r.piece)) (append-nil so_far.exchanges) in_time) in (
@@ -285,8 +285,10 @@ module _ {V Operation : Type 0} (rules : HostRules V Operation) where
   unfolding SoFar-begin
   Session-unbegun input old left u is =
       let ahead : to_read [] left ≡ Some input = ap (to_read []) is in
-      let stop : OneStop rules 0 input [] [] u u old old served.NoMemory = record {
+      let stop : OneStop rules 0 input [] left u u old old served.NoMemory = record {
         stops = inl (refl, ([], not_yet refl, sym (append_known-nil old.given)));
+        held = [];
+        still = ahead;
         reading = record {
           piece = [];
           grown = refl;
@@ -294,4 +296,4 @@ module _ {V Operation : Type 0} (rules : HostRules V Operation) where
           asks = AsksFor-none (λ come gave. IsUnfinished ([] ++ come) gave) old old refl;
         };
       } in
-      Session-stopped served.NoMemory 0 input [] old old (to_read [] left) u u (SoFar-begin input old (to_read [] left) u ahead) (omega arith) [] old left u ahead stop
+      Session-stopped served.NoMemory 0 input [] old old (to_read [] left) u u (SoFar-begin input old (to_read [] left) u ahead) (omega arith) old left u stop

@@ -5,6 +5,7 @@ use Rattle.std.specs.Io.KnownBytes.{append_known}
 use Rattle.std.specs.List.{list_any}
 use Rattle.httparse.specs.Grammar.{HasNoRequest, LineEnd, print_blank, print_end, print_request}
 use Rattle.ids.specs.FaultCount.{Rose}
+use Rattle.http_front.specs.Buffer.{to_read}
 use Rattle.http_front.specs.declared.head.Head.{Head}
 use Rattle.http_front.specs.declared.head.Next.TheVariants as next
 use Rattle.http_front.specs.Limits.{head_limit}
@@ -221,12 +222,15 @@ module _ {V Operation : Type 0} (rules : HostRules V Operation) where
     pub closes_is : closed ≡ closes_at n exchange.request
     pub reading : AsksUnfinished buffer ((print_request exchange.request.head ++ exchange.request.body) ++ held) old new
 
-  -- the connection stops here. What it read until then it asked for in time
-  pub record OneStop (n : ℕ) (rest buffer held : List ℕ) (u v : V) (old new : LinkTells) (how : Served) : Type 0 where
+  -- the connection stops here. What it read until then it asked for in time. `held` is what had been taken and not yet used, a
+  -- request that was asked among it
+  pub record OneStop (n : ℕ) (rest buffer : List ℕ) (left : Option (List ℕ)) (u v : V) (old new : LinkTells) (how : Served) : Type 0 where
     pub stops : Stops rules how n rest u v old.given new.given
+    pub held : List ℕ
+    pub still : to_read held left ≡ Some rest
     pub reading : AsksUnfinished buffer held old new
 
   -- one turn of the connection: a request more, or its stop
   abbrev pub OneServed : ℕ → List ℕ → List ℕ → List ℕ → Option (List ℕ) → V → V → LinkTells → LinkTells → Result Bool Served → Type 0
-  OneServed n rest buffer held left u v old new (Ok closed) = OneMore n rest buffer held left u v old new closed
-  OneServed n rest buffer held left u v old new (Err how) = OneStop n rest buffer held u v old new how
+  OneServed n rest buffer held left u v old new (Ok closed) = OneMore n rest buffer held (to_read held left) u v old new closed
+  OneServed n rest buffer held left u v old new (Err how) = OneStop n rest buffer left u v old new how

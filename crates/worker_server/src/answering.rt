@@ -1,33 +1,39 @@
 //! Answering one request: its calls are asked of the host, and its reply is written.
-ghost use Rattle.std.specs.Prelude.{◌≡◌, List, Some, IfSome};
-ghost use Rattle.http_front.specs.Order.{IsOrder};
+ghost use Rattle.std.specs.Prelude.{◌≡◌, ◌+◌, ◌≤◌, List, Some, length, drop, IfSome};
+ghost use Rattle.std.specs.List.{slice_range};
+ghost use Rattle.http_front.specs.Order.{IsOrder, OrdersAs};
 ghost use Rattle.http_front.specs.ReplyText.{text};
 ghost use Rattle.worker_server.specs.Calls.{Serves, ServesOrder, outcome_without_library, refusal_of, rules_at};
 
 use crate::asking::{ask_one, get_each, put_each};
 use crate::host::Host;
-use http_front::{Head, Order, OrderFault, Outcome, What, order_of, reply_bytes};
+use http_front::{
+    Buffer, Head, Order, OrderFault, Outcome, What, order_of, order_of_own, reply_bytes,
+};
 use ids::{Bytes, LibId};
 use library_state::{Act, Refusal, Secret};
 use std::alloc::Global;
 
-/// Asks what a request wants, and makes the reply to it. It is None where there was no memory for the text of the
-/// outcome, nor for that of the refusal for want of memory.
+/// Asks what the request with this head wants, which stands at the front of the buffer and is used, and makes the reply
+/// to it. It is None where there was no memory for the text of the outcome, nor for that of the refusal for want of
+/// memory.
 pub fn reply_to<H: Host>(
     alloc: Global,
     host: &H,
     pass: &mut H::Pass,
     head: &Head,
-    body: &[u8],
+    buffer: &mut Buffer,
     closes: bool,
 ) -> Option<Bytes>
     requires ready { H.ready host.now pass.old }
+    requires fits { head.now.used + head.now.body ≤ length buffer.old }
     ensures ready { H.ready host.now pass.new }
     ensures serves { (outcome : Outcome) × (operations : List H.Operation)
-        × Serves (rules_at (H.shows host.now) H.asks H.too_much) (H.view pass.old) (IsOrder head.now.method head.now.target head.now.token body.now) outcome operations (H.view pass.new)
+        × Serves (rules_at (H.shows host.now) H.asks H.too_much) (H.view pass.old) (IsOrder head.now.method head.now.target head.now.token (slice_range buffer.old head.now.used (head.now.used + head.now.body))) outcome operations (H.view pass.new)
         × IfSome result (λ bytes. bytes ≡ text outcome closes) }
+    ensures left { buffer.new ≡ drop (head.now.used + head.now.body) buffer.old }
 {
-    let outcome = outcome_of(alloc, host, pass, head, body);
+    let outcome = outcome_of(alloc, host, pass, head, buffer);
     match reply_bytes(alloc, &outcome, closes) {
         Ok(bytes) => Some(bytes),
         Err(_) => refusal_for_memory(alloc, closes),
@@ -44,22 +50,62 @@ fn refusal_for_memory(alloc: Global, closes: bool) -> Option<Bytes>
     }
 }
 
-/// Reads what a request asks for, and asks it. A request that is refused as it is read has no call.
+/// Reads what the request asks for, and asks it. A request that is refused as it is read has no call.
 fn outcome_of<H: Host>(
     alloc: Global,
     host: &H,
     pass: &mut H::Pass,
     head: &Head,
-    body: &[u8],
+    buffer: &mut Buffer,
 ) -> Outcome
     requires ready { H.ready host.now pass.old }
+    requires fits { head.now.used + head.now.body ≤ length buffer.old }
     ensures ready { H.ready host.now pass.new }
     ensures serves { (operations : List H.Operation)
-        × Serves (rules_at (H.shows host.now) H.asks H.too_much) (H.view pass.old) (IsOrder head.now.method head.now.target head.now.token body.now) result operations (H.view pass.new) }
+        × Serves (rules_at (H.shows host.now) H.asks H.too_much) (H.view pass.old) (IsOrder head.now.method head.now.target head.now.token (slice_range buffer.old head.now.used (head.now.used + head.now.body))) result operations (H.view pass.new) }
+    ensures left { buffer.new ≡ drop (head.now.used + head.now.body) buffer.old }
 {
-    match order_of(alloc, head, body) {
+    match next_order(alloc, head, buffer) {
         Ok(order) => outcome_in(alloc, host, pass, order),
         Err(fault) => Outcome::Refused(refusal_of(fault)),
+    }
+}
+
+/// The longest body that is lent to the reader of its order, which copies what it keeps.
+const MOST_LENT: usize = 65_536;
+
+/// What the request with this head asks for, which stands at the front of the buffer and is used.
+fn next_order(alloc: Global, head: &Head, buffer: &mut Buffer) -> Result<Order, OrderFault>
+    requires fits { head.now.used + head.now.body ≤ length buffer.old }
+    ensures value { OrdersAs result (IsOrder head.now.method head.now.target head.now.token (slice_range buffer.old head.now.used (head.now.used + head.now.body))) }
+    ensures left { buffer.new ≡ drop (head.now.used + head.now.body) buffer.old }
+{
+    let size = head.body as usize;
+    if size > MOST_LENT {
+        return own_order(alloc, head, buffer);
+    }
+    let front = buffer.front();
+    let start = head.used as usize;
+    let end = start + size;
+    let order = order_of(alloc, head, &front[start..end]);
+    buffer.skip(end);
+    order
+}
+
+/// The same of a long body: it is taken out of the buffer, and so an object is not copied.
+fn own_order(alloc: Global, head: &Head, buffer: &mut Buffer) -> Result<Order, OrderFault>
+    requires fits { head.now.used + head.now.body ≤ length buffer.old }
+    ensures value { OrdersAs result (IsOrder head.now.method head.now.target head.now.token (slice_range buffer.old head.now.used (head.now.used + head.now.body))) }
+    ensures left { buffer.new ≡ drop (head.now.used + head.now.body) buffer.old }
+{
+    let size = head.body as usize;
+    buffer.skip(head.used as usize);
+    match buffer.take_front(size) {
+        Ok(body) => order_of_own(alloc, head, body),
+        Err(_) => {
+            buffer.skip(size);
+            Err(OrderFault::NoMemory)
+        }
     }
 }
 

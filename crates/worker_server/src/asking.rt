@@ -88,8 +88,8 @@ fn put_one<H: Host>(
 const MOST_PACKED: u64 = 268_435_456;
 
 /// Asks for each file and directory in turn, up to the first that is not given, whose answer is the outcome, or with
-/// which they are more than fit in one reply, which is want of memory. Where the host knows so before, it is that, and the view
-/// stays. Where there is no room for as many rows, nothing is asked.
+/// which they are more than fit in one reply, which is want of memory. Where the host knows so before, it is that, and
+/// the view stays. Where there is no room for as many rows, nothing is asked.
 pub fn get_each<H: Host>(
     alloc: Global,
     host: &H,

@@ -1,5 +1,5 @@
 //! A connection: one request after another is read, answered and replied to.
-ghost use Rattle.std.specs.Prelude.{◌≡◌, ◌==◌, ◌||◌, ℕ, List, Some, OnErr};
+ghost use Rattle.std.specs.Prelude.{◌≡◌, ◌==◌, ◌||◌, ℕ, List, Some};
 ghost use Rattle.ids.specs.FaultCount.{Rose};
 ghost use Rattle.http_front.specs.Buffer.{to_read};
 ghost use Rattle.http_front.specs.Link.{told_by};
@@ -22,8 +22,9 @@ const MOST_REQUESTS: u64 = 10_000;
 ///
 /// The interim reply of a head that waits for one is given before its reply, also where its body is then cut short. What is
 /// no request is refused with its status: 400, 413, 431 or 501. No reply waits for more input. One request, what was
-/// answered to it, the bytes of its reply and a piece of 65,536 bytes are in memory at a time; a reply packs files and directories of at most 268,435,456 bytes. After a
-/// write fault a front of the last reply was given, and every other was given whole.
+/// answered to it, the bytes of its reply and a piece of 65,536 bytes are in memory at a time; a reply packs files and
+/// directories of at most 268,435,456 bytes. After a write fault a front of the last reply was given, and every other was
+/// given whole.
 pub fn serve_session<H: Host, L: Link>(
     alloc: Global,
     host: &H,
@@ -47,8 +48,8 @@ pub fn serve_session<H: Host, L: Link>(
     ensures write_fault { result ≡ Served.WriteFault → Rose (L.faults link.old) (L.faults link.new) }
     ensures faults { CountsEnd (L.faults link.old) (L.faults link.new) result }
 
-    // Where the link tells what it was asked: a take that failed was the last of it, and where a give failed bytes came as it
-    // was asked last, or it was at its end.
+    // Where the link tells what it was asked: a take that failed was the last of it, and where a give failed bytes came
+    // as it was asked last, or it was at its end.
     ensures last { EndsAsked result (told_by L.taken L.given L.asked link.old) (told_by L.taken L.given L.asked link.new) (L.left link.new) }
 {
     let mut buffer = match Buffer::new(alloc) {
@@ -80,9 +81,8 @@ fn serve_one<H: Host, L: Link>(
     requires ready { H.ready host.now pass.old }
     ensures ready { H.ready host.now pass.new }
     ensures one { (rest : List ℕ) → to_read buffer.old (L.left link.old) ≡ Some rest
-        → OneServed (rules_at (H.shows host.now) H.asks H.too_much) number rest buffer.old buffer.new (to_read buffer.new (L.left link.new))
+        → OneServed (rules_at (H.shows host.now) H.asks H.too_much) number rest buffer.old buffer.new (L.left link.new)
         (H.view pass.old) (H.view pass.new) (told_by L.taken L.given L.asked link.old) (told_by L.taken L.given L.asked link.new) result }
-    ensures still { OnErr result (to_read buffer.new (L.left link.new) ≡ to_read buffer.old (L.left link.old)) }
     ensures ran { (calls : List (Told H.Operation)) × Ran (AtAMoment (H.shows host.now) H.asks) (H.view pass.old) calls (H.view pass.new) }
     ensures last { StepAsked result (told_by L.taken L.given L.asked link.old) (told_by L.taken L.given L.asked link.new) (L.left link.old) (L.left link.new) }
     ensures faults { CountsServed (L.faults link.old) (L.faults link.new) result }
@@ -92,10 +92,7 @@ fn serve_one<H: Host, L: Link>(
         Err(how) => return Err(how),
     };
     let closes = closes_at(&head, number);
-    let front = buffer.front();
-    let start = head.used as usize;
-    let end = start + head.body as usize;
-    let reply = match reply_to(alloc, host, pass, &head, &front[start..end], closes) {
+    let reply = match reply_to(alloc, host, pass, &head, buffer, closes) {
         Some(reply) => reply,
         None => return Err(Served::NoMemory),
     };
@@ -103,7 +100,6 @@ fn serve_one<H: Host, L: Link>(
         Ok(()) => {}
         Err(_) => return Err(Served::WriteFault),
     }
-    buffer.skip(end);
     Ok(closes)
 }
 

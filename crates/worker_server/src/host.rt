@@ -48,8 +48,8 @@ pub trait Host {
     // A call on a library, asked at this moment, may be answered so.
     ghost asks: { View → List ℕ → Call → ℕ → Answer → List Operation → View → Type 0 };
 
-    // As the host knows, these files and directories of a library, asked for with this secret, have together more than so
-    // many bytes.
+    // As the host knows, these files and directories of a library, asked for with this secret, have together more than
+    // so many bytes.
     ghost too_much: { View → List ℕ → Option (List ℕ) → List (List ℕ) → ℕ → Type 0 };
 
     /// Asks a call of a library, at a moment that the clock shows.
@@ -61,7 +61,8 @@ pub trait Host {
 
     /// Asks a library for a file or directory, and tells that `more` will be asked for after it, one after another.
     ///
-    /// Where the host knows that they have together more than `most` bytes, the answer is want of memory, and the view stays.
+    /// Where the host knows that they have together more than `most` bytes, the answer is want of memory, and the view
+    /// stays.
     fn ask_first(
         &self,
         alloc: Global,

@@ -36,8 +36,9 @@ enum Look {
 
 /// Reads until a head stands at the front of the buffer.
 ///
-/// It is looked at again where a line of it ends, and where less than half of what is there was looked at, each time from its
-/// first byte. Of empty lines in front of it each is looked at once, until more follows. No clause speaks of time.
+/// It is looked at again where a line of it ends, and where less than half of what is there was looked at, each time
+/// from its first byte. Of empty lines in front of it each is looked at once, until more follows. No clause speaks of
+/// time.
 pub fn read_head<L: Link>(alloc: Global, link: &mut L, buffer: &mut Buffer) -> Result<Head, End>
     ensures ok { IfOk result (λ head. (request : RequestHead) × IsHeadOf (front_of buffer.new) head request) }
     ensures err { IfErr result (λ end. (rest : List ℕ) → to_read buffer.old (L.left link.old) ≡ Some rest
@@ -69,8 +70,8 @@ pub fn read_head<L: Link>(alloc: Global, link: &mut L, buffer: &mut Buffer) -> R
     }
 }
 
-/// Looks for a head, where it is time to. The first `seen` bytes were looked at, and up to `known` no line ended after them.
-/// The first `blank` bytes are empty lines.
+/// Looks for a head, where it is time to. The first `seen` bytes were looked at, and up to `known` no line ended after
+/// them. The first `blank` bytes are empty lines.
 fn look_for_head(
     alloc: Global,
     front: &[u8],
@@ -96,8 +97,8 @@ fn look_for_head(
     }
 }
 
-/// Whether it is time to look for a head again: nothing was looked at, or less than half of what is there, or a line ended, or
-/// there are as many bytes as a head may have.
+/// Whether it is time to look for a head again: nothing was looked at, or less than half of what is there, or a line
+/// ended, or there are as many bytes as a head may have.
 fn is_due(front: &[u8], seen: usize, known: usize) -> bool
     requires bound { seen ≤ length front.now }
     requires within { known ≤ length front.now }

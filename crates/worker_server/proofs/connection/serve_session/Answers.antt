@@ -25,7 +25,7 @@ returns-in-Err-serve_one-clause-session g c = λ input e.
     let s = c.loop-number.invariant.so_far input e in
     let stops = c.in-Err-serve_one.ensures.one s.rest s.ahead_is in
     let few : c.loop-number.number < 10000 = omega (arith, c.loop-number-test.true) in
-    Session-stopped (rules_at (g.H.Host.shows c.args.host.now) g.H.Host.asks g.H.Host.too_much) c.in-Err-serve_one.how _ input _ _ _ _ _ _ s few _ _ _ _ (c.in-Err-serve_one.ensures.still ∙ s.ahead_is) stops
+    Session-stopped (rules_at (g.H.Host.shows c.args.host.now) g.H.Host.asks g.H.Host.too_much) c.in-Err-serve_one.how _ input _ _ _ _ _ _ s few _ _ _ stops
 
 pub returns-in-Err-serve_one-clause-ran : goal.returns-in-Err-serve_one-clause-ran
 returns-in-Err-serve_one-clause-ran g c =
@@ -62,7 +62,7 @@ returns-clause-session g c = λ input e.
     let s = SoFar-counted (rules_at (g.H.Host.shows c.args.host.now) g.H.Host.asks g.H.Host.too_much) _ 9999 input _ _ _ _ _ _ last (c.loop-number.invariant.so_far input e) in
     let stops = c.in-Err-serve_one-2.ensures.one s.rest s.ahead_is in
     let few : 9999 < 10000 = omega arith in
-    Session-stopped (rules_at (g.H.Host.shows c.args.host.now) g.H.Host.asks g.H.Host.too_much) c.in-Err-serve_one-2.how 9999 input _ _ _ _ _ _ s few _ _ _ _ (c.in-Err-serve_one-2.ensures.still ∙ s.ahead_is) stops
+    Session-stopped (rules_at (g.H.Host.shows c.args.host.now) g.H.Host.asks g.H.Host.too_much) c.in-Err-serve_one-2.how 9999 input _ _ _ _ _ _ s few _ _ _ stops
 
 pub returns-clause-ran : goal.returns-clause-ran
 returns-clause-ran g c =
