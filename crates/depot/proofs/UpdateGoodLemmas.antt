@@ -30,10 +30,11 @@ use Rattle.depot.specs.Answering.{AnswersBySome, MayAnswer, MayAnswerSo, Serves,
 use Rattle.depot.specs.DepotView.{at_rest, DepotView, library, state_of, Holds, IsGood}
 use Rattle.depot.specs.ObjectCalls.{Counts, IsToldDamageOf}
 use Rattle.depot.specs.UpdateInstall.{IsCarriedOut, IsWriteFault, LeftBehind, StoresPart, held_in, stopped, unsure, with_all}
-use Rattle.depot.specs.UpdatePlan.{IsPlan, IsPlanFault, objects_in}
+use Rattle.depot.specs.Plan.{objects_in}
+use Rattle.depot.specs.UpdatePlan.{IsPlan, IsPlanFault}
 use Rattle.depot.specs.NextState.{Follows, answered}
 use Rattle.depot.specs.Writing.{IsWritten, LeftBy, ReadsBack, settled}
-use Rattle.depot.specs.declared.update_plan.Plan.{Plan}
+use Rattle.depot.specs.declared.plan.Plan.{Plan}
 use Rattle.depot.proofs.GoodLemmas.{none_fresh, sound_at, sound_told}
 use Rattle.depot.proofs.GrownLemmas.{kept_status, sound_grown}
 use Rattle.depot.proofs.ToldLemmas.{mapped_at}

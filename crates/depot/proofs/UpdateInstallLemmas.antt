@@ -18,7 +18,7 @@ use Rattle.object_store.specs.declared.shelf.Slot.{Slot as ShelfSlot}
 use Rattle.depot.specs.Answering.{MayRefuseUpdate}
 use Rattle.depot.specs.ObjectCalls.{IsToldRefusal, is_of_store}
 use Rattle.depot.specs.UpdateInstall.{ArePuttable, ArePuttableIn, Held, IsCarriedOut, LeftBehind, StoresPart, StoresSo, unsure, with_all}
-use Rattle.depot.specs.UpdatePlan.{AreNamed}
+use Rattle.depot.specs.Plan.{AreNamed}
 use Rattle.depot.specs.Writing.{IsWritten, LeftBy, SettlesSo, Slot, Writes, again, leaves_open, nothing, open_next, open_present, settled, RewritesSo}
 use Rattle.depot.proofs.UpdateBaseLemmas.{damage_apart}
 use Rattle.depot.specs.Refusals.{store_refusal}

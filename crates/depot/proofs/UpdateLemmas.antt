@@ -28,8 +28,9 @@ use Rattle.depot.specs.Answering.{AnswersBySome, MayAnswerSo, with_install}
 use Rattle.depot.specs.DepotView.{library}
 use Rattle.depot.specs.ObjectCalls.{Counts, IsToldRefusal}
 use Rattle.depot.specs.UpdateInstall.{IsFront}
-use Rattle.depot.specs.UpdatePlan.{IsPlan, IsPlanFault, MergeRefuses, objects_in}
-use Rattle.depot.specs.declared.update_plan.Plan.{Plan}
+use Rattle.depot.specs.Plan.{objects_in}
+use Rattle.depot.specs.UpdatePlan.{IsPlan, IsPlanFault, MergeRefuses}
+use Rattle.depot.specs.declared.plan.Plan.{Plan}
 use Rattle.depot.proofs.AnsweringLemmas.{damage_differs, fault_answers, said_answers, says_answers}
 use Rattle.std.proofs.lemmas.Bool.{or_left}
 use Rattle.ids.proofs.BasicLemmas.{contains_more}

@@ -13,7 +13,7 @@ use Rattle.library_rules.specs.LibraryState.{is_stored}
 use Rattle.library_rules.specs.declared.entry.Stored.{Stored}
 use Rattle.library_rules.proofs.KeepingLemmas.{grown}
 use Rattle.object_graph.proofs.KeyLemmas.{same_key, same_key-itself, same_key-true}
-use Rattle.depot.specs.UpdatePlan.{listed}
+use Rattle.depot.specs.Plan.{listed}
 use Rattle.depot.proofs.UpdatePlanLemmas.{all_gone_after}
 use Rattle.ids.proofs.BasicLemmas.{apart_from_is_lt}
 

@@ -53,9 +53,10 @@ use Rattle.depot.specs.Answering.{MayRefuseUpdate}
 use Rattle.depot.specs.DepotView.{library}
 use Rattle.depot.specs.ObjectCalls.{IsToldDamageOf}
 use Rattle.depot.specs.UpdateMerge.{AreComplete, HasRoot, HasRoots, IsPlanOf, PlansMade, TextSo, commit_over, has_copies}
-use Rattle.depot.specs.UpdatePlan.{MergeRefuses, MergesSo, listed, objects_in, own_object}
+use Rattle.depot.specs.Plan.{listed, objects_in, own_object}
+use Rattle.depot.specs.UpdatePlan.{MergeRefuses, MergesSo}
 use Rattle.depot.specs.declared.update_merge.Roots.{Roots}
-use Rattle.depot.specs.declared.update_plan.Plan.{Plan}
+use Rattle.depot.specs.declared.plan.Plan.{Plan}
 use Rattle.depot.proofs.UpdateBaseLemmas.{may_refuse, none_due, told_merge, walk_not_damaged}
 use Rattle.depot.proofs.UpdateListedLemmas.{all_join, found_added, found_in, found_last, found_listed, listed_all, listed_once, once_pushed}
 use Rattle.depot.specs.Refusals.{merge_refusal, walk_refusal}

@@ -33,9 +33,10 @@ use Rattle.depot.specs.ObjectCalls.{IsToldRefusal}
 use Rattle.depot.specs.UpdateBase.{FindsSo}
 use Rattle.depot.specs.UpdateInstall.{ArePuttable}
 use Rattle.depot.specs.UpdateMerge.{AreComplete}
-use Rattle.depot.specs.UpdatePlan.{AreNamed, DecidesCall, DecidesSo, HasNames, IsPlan, IsPlanFault, MergesSo, PlansDue, PlansSo, listed, objects_in, own_object}
+use Rattle.depot.specs.Plan.{AreNamed, HasNames, listed, objects_in, own_object}
+use Rattle.depot.specs.UpdatePlan.{DecidesCall, DecidesSo, IsPlan, IsPlanFault, MergesSo, PlansDue, PlansSo}
 use Rattle.depot.specs.declared.update_base.Found.{Found}
-use Rattle.depot.specs.declared.update_plan.Plan.{Plan}
+use Rattle.depot.specs.declared.plan.Plan.{Plan}
 use Rattle.depot.proofs.UpdateBaseLemmas.{told_after_base}
 use Rattle.library_rules.proofs.CallsLemmas.{update_due-is}
 

@@ -12,6 +12,7 @@ pub mod Answering
 pub mod Changing
 pub mod Missing
 pub mod UpdateBase
+pub mod Plan
 pub mod UpdatePlan
 pub mod UpdateMerge
 pub mod UpdateInstall

@@ -18,7 +18,7 @@ use Rattle.tree_walk.specs.Reading.{AnswersRead, IsDue}
 use Rattle.tree_walk.specs.declared.fault.WalkFault.{WalkFault}
 use Rattle.depot.specs.ObjectCalls.{IsToldRefusal}
 use Rattle.depot.specs.declared.update_merge.Roots.{Roots}
-use Rattle.depot.specs.declared.update_plan.Plan.{Plan}
+use Rattle.depot.specs.declared.plan.Plan.{Plan}
 
 -- the merge base, the head and the pushed commit are complete
 pub record AreComplete (objects : Objects) (base head pushed : List ℕ) : Type 0 where

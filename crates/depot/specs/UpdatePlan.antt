@@ -1,12 +1,8 @@
--- What an update is to do, found by reading alone. Our own. Read objects_in, then PlansSo.
-use Rattle.std.specs.Prelude.{◌≡◌, ◌⊎◌, ℕ, true, false, List, [], ◌∷◌, ◌++◌, Option, None, Some, Result, Ok, Err, map as map_list}
-use Rattle.std.specs.FinMap as map
-use Rattle.std.specs.List.{AllByRecursion}
-use Rattle.ids.specs.declared.key.Key.{Key}
+-- What an update is to do, found by reading alone. Our own. Read PlansSo.
+use Rattle.std.specs.Prelude.{◌≡◌, ◌⊎◌, ℕ, true, false, List, [], Option, None, Some, Result, Ok, Err}
 use Rattle.library_rules.specs.Calls.{Due, Denies, Says, Stores, Installs, Merges}
 use Rattle.library_rules.specs.LibraryState.{State, head_of, is_kept}
 use Rattle.library_rules.specs.MergeCommit.{Clashes, Makes, OfTrees}
-use Rattle.library_rules.specs.declared.entry.Stored.{Stored}
 use Rattle.library_state.specs.declared.call.Act.TheVariants as act
 use Rattle.library_state.specs.declared.call.Call.{Call}
 use Rattle.library_state.specs.declared.refusal.Refusal.{Refusal}
@@ -14,35 +10,14 @@ use Rattle.library_state.specs.declared.refusal.Refusal.TheVariants as refusal
 use Rattle.library_state.specs.declared.reply.Reply.TheVariants as reply
 use Rattle.library_state.specs.declared.state.LibState.{LibState}
 use Rattle.library_state.specs.declared.token.Token.{Token}
-use Rattle.object_graph.specs.Objects.{commit_key}
-use Rattle.object_store.specs.Store.{name_refusal}
 use Rattle.object_store.specs.StoreView.{Index}
 use Rattle.object_store.specs.declared.shelf.Slot.{Slot as ShelfSlot}
 use Rattle.tree_model.specs.ThreeWayMerge as merged
 use Rattle.depot.specs.Answering.{MayAnswer, decided, update_decided}
 use Rattle.depot.specs.ObjectCalls.{IsToldRefusal}
-use Rattle.depot.specs.declared.update_plan.Plan.{Plan}
+use Rattle.depot.specs.Plan.{HasNames, objects_in}
+use Rattle.depot.specs.declared.plan.Plan.{Plan}
 use Rattle.conflict_names.specs.Naming.{merge_of}
-
--- the objects of a table, in the order of their keys
-abbrev pub listed : List (Key × List ℕ) → List Stored
-listed entries = map_list (λ entry. record { key = entry.0; bytes = entry.1 }) entries
-
--- the object of a commit that is made here, where its text isn't stored yet
-abbrev pub own_object : List ℕ → Option (List ℕ) → List Stored
-own_object head None = []
-own_object head (Some text) = record { key = commit_key head; bytes = text } ∷ []
-
--- the objects that a plan stores, in this order: directories, and then the head
-abbrev pub objects_in : Plan → List Stored
-objects_in plan = listed (map.entries plan.dirs) ++ own_object plan.head plan.text
-
--- no object of a plan is forbidden by its name
-abbrev pub AreNamed : List Stored → Type 0
-AreNamed added = AllByRecursion (λ x. name_refusal x.key x.bytes ≡ None) added
-
-abbrev pub HasNames : Plan → Type 0
-HasNames plan = AreNamed (objects_in plan)
 
 -- ---- a merge
 

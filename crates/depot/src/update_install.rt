@@ -10,11 +10,11 @@ ghost use Rattle.object_store.specs.StoreView.{AddsNoStray, StraysBy, objects_of
 ghost use Rattle.depot.specs.Answering.{with_install};
 ghost use Rattle.depot.specs.Giving.{GivesBy, IsNamedObject, IsOfUpdate, IsOwnText};
 ghost use Rattle.depot.specs.UpdateInstall.{ArePuttableIn, CarriesSo, IsWriteFault, StoresSo, held_in};
-ghost use Rattle.depot.specs.UpdatePlan.{AreNamed, listed, objects_in, own_object};
+ghost use Rattle.depot.specs.Plan.{AreNamed, listed, objects_in, own_object};
 ghost use Rattle.depot.specs.Writing.{ReadsBack, RewritesSo};
 
 use crate::depot::Parts;
-use crate::update_plan::Plan;
+use crate::plan::Plan;
 use ids::{Bytes, Key, KeyTable, Kind, ObjId};
 use library_state::{History, Install, LibState};
 use object_store::{Shelf, Store, StoreFault};

@@ -12,11 +12,11 @@ ghost use Rattle.depot.specs.DepotView.{library};
 ghost use Rattle.depot.specs.ObjectCalls.{IsToldDamageOf};
 ghost use Rattle.depot.specs.UpdateBase.{ReadsOnly};
 ghost use Rattle.depot.specs.UpdateMerge.{PlansMade, StoredSo, commit_over};
-ghost use Rattle.depot.specs.UpdatePlan.{HasNames};
+ghost use Rattle.depot.specs.Plan.{HasNames};
 
 use crate::history::head_of;
+use crate::plan::Plan;
 use crate::refusals::store_refusal;
-use crate::update_plan::Plan;
 use commit_objects::Commit;
 use ids::{Key, Kind, ObjId, Text};
 use library_state::{LibState, Refusal};

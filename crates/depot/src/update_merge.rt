@@ -9,12 +9,13 @@ ghost use Rattle.depot.specs.DepotView.{FitsIn, library};
 ghost use Rattle.depot.specs.ObjectCalls.{IsToldDamageOf};
 ghost use Rattle.depot.specs.UpdateBase.{ReadsOnly};
 ghost use Rattle.depot.specs.UpdateMerge.{AreComplete, RootSo, RootsSo};
-ghost use Rattle.depot.specs.UpdatePlan.{HasNames, MergesSo};
+ghost use Rattle.depot.specs.Plan.{HasNames};
+ghost use Rattle.depot.specs.UpdatePlan.{MergesSo};
 
 use crate::history::head_of;
+use crate::plan::Plan;
 use crate::refusals::{merge_refusal, walk_refusal};
 use crate::update_made::plan_merged;
-use crate::update_plan::Plan;
 use ids::{ObjId, Text};
 use library_state::{LibState, Refusal};
 use object_store::{Shelf, Store};

@@ -12,28 +12,19 @@ ghost use Rattle.depot.specs.Answering.{MayAsk, MayRefuseUpdate};
 ghost use Rattle.depot.specs.DepotView.{FitsIn, IsSoundIn, library};
 ghost use Rattle.depot.specs.ObjectCalls.{IsToldDamageOf};
 ghost use Rattle.depot.specs.UpdateBase.{ReadsOnly};
-ghost use Rattle.depot.specs.UpdatePlan.{DecidesCall, DecidesSo, HasNames, PlansDue, PlansSo};
+ghost use Rattle.depot.specs.Plan.{HasNames};
+ghost use Rattle.depot.specs.UpdatePlan.{DecidesCall, DecidesSo, PlansDue, PlansSo};
 
 use crate::history::{is_head, is_kept};
+use crate::plan::Plan;
 use crate::refusals::walk_refusal;
 use crate::update_base::{Found, find_base};
 use crate::update_merge::plan_merge;
-use ids::{Bytes, KeyTable, ObjId, Text};
+use ids::{KeyTable, ObjId, Text};
 use library_state::{LibState, Refusal, Token};
 use object_store::{Shelf, Store};
 use std::alloc::Global;
 use tree_walk::{Known, check};
-
-/// What an update that is not refused does.
-#[derive(Drop)]
-pub(crate) struct Plan {
-    /// The commit that becomes the head.
-    pub head: ObjId,
-    /// The directories that are stored before it.
-    pub dirs: KeyTable<Bytes>,
-    /// The head's text, where it is made here and not stored yet.
-    pub text: Option<Bytes>,
-}
 
 /// The plan of an update by the token at a place, which may write.
 pub(crate) fn plan_of<S: Shelf>(

@@ -6,7 +6,7 @@ use Rattle.std.proofs.lemmas.Map.Iter.{rest_more}
 use Rattle.ids.specs.declared.key.Key.{Key}
 use Rattle.std.specs.Prelude.{ℕ}
 use Rattle.object_store.specs.StoreView.{objects_of}
-use Rattle.depot.specs.UpdatePlan.{listed}
+use Rattle.depot.specs.Plan.{listed}
 use Rattle.depot.proofs.UpdateInstallLemmas.{IsPutting, putting_next}
 use Rattle.depot.proofs.GivingLemmas.{then_by}
 use Rattle.depot.proofs.update_install.put_dirs.Goals as goal

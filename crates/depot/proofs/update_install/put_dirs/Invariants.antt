@@ -3,7 +3,7 @@ use Rattle.std.proofs.Common.{◌≡◌}
 use Rattle.std.specs.FinMap as map
 use Rattle.object_store.specs.StoreView.{AddsNoStray, objects_of, status_of}
 use Rattle.depot.specs.Giving.{GivesBy, IsNamedObject}
-use Rattle.depot.specs.UpdatePlan.{listed}
+use Rattle.depot.specs.Plan.{listed}
 use Rattle.depot.proofs.UpdateInstallLemmas.{IsPutting}
 use Rattle.depot.proofs.update_install.put_dirs.Given as goal
 

@@ -1,7 +1,7 @@
 -- The directories are put first, and then the head.
 use Rattle.std.specs.FinMap as map
 use Rattle.object_store.specs.StoreView.{objects_of}
-use Rattle.depot.specs.UpdatePlan.{listed, own_object}
+use Rattle.depot.specs.Plan.{listed, own_object}
 use Rattle.depot.proofs.UpdateInstallLemmas.{named_back, named_front, puttable_back, puttable_front, stores_then}
 use Rattle.depot.proofs.StrayLemmas.{strays_then}
 use Rattle.depot.proofs.GivingLemmas.{then_by}

@@ -1,7 +1,7 @@
 -- The text, if there is one, is the object that is put.
 use Rattle.std.proofs.Common.{subst}
 use Rattle.depot.specs.UpdateInstall.{ArePuttable}
-use Rattle.depot.specs.UpdatePlan.{AreNamed, own_object}
+use Rattle.depot.specs.Plan.{AreNamed, own_object}
 use Rattle.depot.proofs.update_install.put_text.Goals as goal
 
 pub put_one-requires-clause-named : goal.put_one-requires-clause-named

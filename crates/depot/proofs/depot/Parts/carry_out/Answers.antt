@@ -5,7 +5,7 @@ use Rattle.library_state.specs.declared.state.LibState.{LibState}
 use Rattle.object_store.specs.StoreView.{status_of}
 use Rattle.depot.specs.Answering.{with_install}
 use Rattle.depot.specs.UpdateInstall.{held_in}
-use Rattle.depot.specs.UpdatePlan.{objects_in}
+use Rattle.depot.specs.Plan.{objects_in}
 use Rattle.depot.specs.Writing.{ReadsBack}
 use Rattle.depot.proofs.UpdateInstallLemmas.{carried_out, left_unsure}
 use Rattle.depot.specs.Giving.{GivesBy, IsOwnText}

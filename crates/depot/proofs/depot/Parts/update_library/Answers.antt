@@ -11,7 +11,7 @@ use Rattle.object_store.specs.Store.{CountsShelf}
 use Rattle.depot.specs.Answering.{Serves, with_install}
 use Rattle.depot.specs.DepotView.{DepotView, library}
 use Rattle.depot.specs.UpdateInstall.{CarriesSo, held_in}
-use Rattle.depot.specs.UpdatePlan.{objects_in}
+use Rattle.depot.specs.Plan.{objects_in}
 use Rattle.depot.proofs.GoodLemmas.{sound_at}
 use Rattle.depot.proofs.FitsLemmas.{fits_carried, fits_same}
 use Rattle.depot.proofs.GrownLemmas.{good_kept, kept_status}
