@@ -1,4 +1,5 @@
--- What a call that writes no text answers and leaves. The key lemmas are permitted_by, serves_said and serves_put.
+-- What a call that writes no text answers and leaves. The key lemmas are permitted_by, denied_serves,
+-- serves_said and serves_put.
 use Rattle.std.proofs.Common.{◌≡◌, inl, inr, ℕ, Bool, true, false, not, ◌&&◌, ◌||◌, if◌then◌else◌, List, [], ◌∷◌, ◌++◌, refl, sym, ap, ◌∙◌, subst, true≢false, Option, None, Some, is_some, option_map}
 use Rattle.std.specs.FinMap as map
 use Rattle.std.specs.FinSet as set
@@ -89,6 +90,26 @@ denied_told contents faults old call moment lacks s is =
     let at = mapped_at (running_library old.state old.running (faults old.store.shelf)) (objects_of contents old.store) s is in
     subst (AnswersBySome s call moment (reply.Refused refusal.Denied)) (sym is)
     (denied_answers s call moment (due_denies s call (subst (λ (st : State). permits (token_of st.state.tokens call.secret) call.act ≡ false) at.gives lacks)))
+
+denied_decided : (state : LibState) (call : Call) → permits (token_of state.tokens call.secret) call.act ≡ false → decided state call ≡ Some (reply.Refused refusal.Denied)
+denied_decided state call lacks = by (token_of state.tokens call.secret) lacks
+  where
+    by : (o : Option Token) → permits o call.act ≡ false → token_decided state call.act o ≡ Some (reply.Refused refusal.Denied)
+    by None e = refl
+    by (Some token) e = ap (λ b. if b then act_decided state token call.act else Some (reply.Refused refusal.Denied)) e
+
+pub denied_serves : {S : Type 0} (contents : S → Option Contents) (may_give : S → ShelfSlot → Option (List ℕ) → Type 0) (texts faults : S → ℕ) (old : DepotView S) (call : Call) (moment : ℕ)
+    → permits (token_of old.state.tokens call.secret) call.act ≡ false → Serves contents may_give texts faults (at_rest old) call moment (reply.Refused refusal.Denied) (at_rest old)
+denied_serves contents may_give texts faults old call moment lacks = record {
+  told = denied_told contents faults (at_rest old) call moment lacks;
+  may_come = subst (λ o. MayAnswer old.store.index (may_give old.store.shelf) call.act o (reply.Refused refusal.Denied)) (sym (denied_decided old.state call lacks)) (inl refl);
+  damage = λ objects told. tt;
+  count = refl;
+  left = refl;
+  fresh = refl;
+  lying = λ _ key stray. stray;
+  slot = unwritten refl refl refl refl;
+}
 
 -- ---- a call that touches nothing, whether a collection runs or not
 

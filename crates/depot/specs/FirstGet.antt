@@ -1,5 +1,5 @@
 -- Several files and directories that are asked for one after another, and how much the index tells them to have. Our own.
-use Rattle.std.specs.Prelude.{ℕ, ◌<◌, List, Option, None, Some, sum_by}
+use Rattle.std.specs.Prelude.{ℕ, List, Option, None, Some, sum_by}
 use Rattle.std.specs.FinMap as map
 use Rattle.ids.specs.declared.key.Kind.TheVariants.{Fs}
 use Rattle.library_state.specs.declared.call.Act.{Act}

@@ -55,7 +55,7 @@ impl<S: Shelf> Depot<S> {
     }
 
     /// Answers a call of one who may ask it, by the token at a place.
-    fn answer_permitted(&mut self, call: &Call, place: usize, moment: u64) -> Reply
+    pub(crate) fn answer_permitted(&mut self, call: &Call, place: usize, moment: u64) -> Reply
         requires who { MayAsk self.old.state.tokens call.now.secret call.now.act place }
         ensures value { Serves S.contents S.may_give S.texts S.faults self.old call.now moment result self.new }
         ensures gives { GivesBy (MayLay self.old.state.lib call.now.act) (S.may_give self.old.store.shelf) (S.may_give self.new.store.shelf) }

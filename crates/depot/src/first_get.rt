@@ -1,9 +1,8 @@
 //! The first of several files and directories that are asked for one after another.
-ghost use Rattle.std.specs.Prelude.{true, false, ◌≡◌, ◌<◌, ◌&&◌, ◌∷◌, not, nat_le};
+ghost use Rattle.std.specs.Prelude.{true, false, ◌≡◌, ◌<◌, ◌∷◌, nat_le};
 ghost use Rattle.library_rules.specs.Calls.{token_of};
-ghost use Rattle.library_state.specs.declared.call.Act.TheVariants as act;
 ghost use Rattle.object_store.specs.Shelf.{GivesNoMore};
-ghost use Rattle.depot.specs.Answering.{Serves, ServesAct, permits};
+ghost use Rattle.depot.specs.Answering.{Serves, permits};
 ghost use Rattle.depot.specs.DepotView.{IsGood};
 ghost use Rattle.depot.specs.FirstGet.{fs_call, fs_get, size_of, sizes_of};
 
@@ -35,38 +34,25 @@ impl<S: Shelf> Depot<S> {
         ensures untouched { permits (token_of self.old.state.tokens secret.now) (fs_get id) ≡ true → most < sizes_of self.old.store.index (id ∷ more.now)
             → self.new ≡ self.old }
     {
-        let key = Key { kind: Kind::Fs, id };
         let call = Call {
             secret: *secret,
-            act: Act::Get(key),
+            act: Act::Get(Key { kind: Kind::Fs, id }),
         };
-        if self.wants_too_much(&call, &id, more, most) {
-            return self.want_memory(&key);
+        let place = match permitted_place(
+            self.parts.state.tokens.slice(),
+            &call.secret,
+            &call.act,
+        ) {
+            Some(place) => place,
+            None => return Reply::Refused(Refusal::Denied),
+        };
+        if !fit(&self.parts.store, &id, more, most) {
+            return Reply::Refused(Refusal::NoMemory);
         }
-        self.answer(&call, moment)
-    }
-
-    /// Whether one who may ask this wants more than `most` bytes by it and those that follow.
-    fn wants_too_much(&self, call: &Call, id: &ObjId, more: &[ObjId], most: u64) -> bool
-        ensures value { result ≡ (permits (token_of self.now.state.tokens call.now.secret) call.now.act && not (nat_le (sizes_of self.now.store.index (id.now ∷ more.now)) most)) }
-    {
-        match permitted_place(self.parts.state.tokens.slice(), &call.secret, &call.act) {
-            Some(_) => !fit(&self.parts.store, id, more, most),
-            None => false,
-        }
-    }
-
-    /// Want of memory, in the place of what is stored under a key.
-    fn want_memory(&mut self, key: &Key) -> Reply
-        ensures value { ServesAct S.contents S.may_give S.texts S.faults self.old (act.Get key.now) result self.new }
-        ensures refused { result ≡ Reply.Refused Refusal.NoMemory }
-        ensures untouched { self.new ≡ self.old }
-        ensures stands { IsGood S.contents S.faults self.new }
-    {
-        let _ = key;
+        let reply = self.answer_permitted(&call, place, moment);
         // Tells the proof that the library is good.
         let _ = &self.parts;
-        Reply::Refused(Refusal::NoMemory)
+        reply
     }
 }
 

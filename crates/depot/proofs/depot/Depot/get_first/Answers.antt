@@ -1,23 +1,36 @@
--- One who may ask is answered with want of memory.
-use Rattle.std.proofs.Common.{◌≡◌, Bool, true, false, ◌&&◌, refl, subst, sym}
-use Rattle.object_store.specs.Shelf.{GivesNoMore}
+-- One who may not ask is denied, and want of memory may come in the place of what is stored.
+use Rattle.std.proofs.Common.{◌∙◌, None, ap, inr, refl, subst, sym}
+use Rattle.std.specs.Prelude.{List}
+use Rattle.ids.specs.declared.key.Kind.TheVariants.{Fs}
+use Rattle.library_rules.specs.Calls.{token_of}
+use Rattle.library_state.specs.declared.refusal.Refusal.TheVariants as refusal
+use Rattle.library_state.specs.declared.reply.Reply.TheVariants as reply
+use Rattle.library_state.specs.declared.token.Token.{Token}
+use Rattle.depot.specs.Answering.{Serves, permits}
 use Rattle.depot.specs.DepotView.{DepotView}
-use Rattle.depot.specs.FirstGet.{fs_call}
+use Rattle.depot.specs.FirstGet.{fs_call, fs_get}
+use Rattle.depot.proofs.ActLemmas.{get_serves}
 use Rattle.depot.proofs.GivingLemmas.{no_more_by}
+use Rattle.depot.proofs.ServingLemmas.{denied_serves}
 use Rattle.depot.proofs.depot.Depot.get_first.Goals as goal
 
-both_hold : (a b : Bool) → true ≡ (a && b) → a ≡ true
-both_hold true b e = refl
-both_hold false b e = sym e
+pub returns-in-None-clause-serves : goal.returns-in-None-clause-serves
+returns-in-None-clause-serves g c =
+    let inside : DepotView g.row.S.Denot = record { store = c.self.inside.parts.store; state = c.self.inside.parts.state; unsettled = c.self.inside.parts.unsettled; running = None } in
+    subst (λ (d : DepotView g.row.S.Denot). Serves g.S.Shelf.contents g.S.Shelf.may_give g.S.Shelf.texts g.S.Shelf.faults d (fs_call c.args.secret.now c.args.id) c.args.moment (reply.Refused refusal.Denied) d)
+    c.self.view_is
+    (denied_serves g.S.Shelf.contents g.S.Shelf.may_give g.S.Shelf.texts g.S.Shelf.faults inside (fs_call c.args.secret.now c.args.id) c.args.moment
+    (ap (λ (tokens : List Token). permits (token_of tokens c.args.secret.now) (fs_get c.args.id)) (sym c.slice.ensures.value) ∙ c.in-None.ensures.absent))
 
-pub returns-then-wants_too_much-clause-serves : goal.returns-then-wants_too_much-clause-serves
-returns-then-wants_too_much-clause-serves g c =
-    c.want_memory.ensures.value (fs_call c.args.secret.now c.args.id) c.args.moment (both_hold _ _ c.if-wants_too_much.ensures.value) refl
-
--- nothing is read
-pub returns-then-wants_too_much-clause-gives : goal.returns-then-wants_too_much-clause-gives
-returns-then-wants_too_much-clause-gives g c =
-    subst (λ (new : DepotView g.row.S.Denot). GivesNoMore (g.S.Shelf.may_give c.args.self.now.store.shelf) (g.S.Shelf.may_give new.store.shelf)) (sym c.want_memory.ensures.untouched) (λ slot given is. is)
+pub returns-then-not-fit-clause-serves : goal.returns-then-not-fit-clause-serves
+returns-then-not-fit-clause-serves g c =
+    let inside : DepotView g.row.S.Denot = record { store = c.self.inside.parts.store; state = c.self.inside.parts.state; unsettled = c.self.inside.parts.unsettled; running = None } in
+    subst (λ (d : DepotView g.row.S.Denot). Serves g.S.Shelf.contents g.S.Shelf.may_give g.S.Shelf.texts g.S.Shelf.faults d (fs_call c.args.secret.now c.args.id) c.args.moment (reply.Refused refusal.NoMemory) d)
+    c.self.view_is
+    (get_serves g.S.Shelf.contents g.S.Shelf.may_give g.S.Shelf.texts g.S.Shelf.faults inside (fs_call c.args.secret.now c.args.id) c.args.moment
+    (ap (λ (tokens : List Token). permits (token_of tokens c.args.secret.now) (fs_get c.args.id)) (sym c.slice.ensures.value) ∙ c.in-Some.ensures.found.right)
+    (record { kind = Fs; id = c.args.id }) refl
+    c.self.inside.parts.store (reply.Refused refusal.NoMemory) (record { index = refl; shelf = refl; objects = refl }) refl (λ objects told. inr tt) tt (λ objects told. tt) refl)
 
 pub returns-clause-gives : goal.returns-clause-gives
-returns-clause-gives g c = no_more_by c.answer.ensures.gives
+returns-clause-gives g c = no_more_by c.answer_permitted-reply.ensures.gives
