@@ -2,6 +2,7 @@
 ghost use Rattle.std.specs.Prelude.{◌≡◌, ◌<◌};
 ghost use Rattle.library_rules.specs.LibraryState.{head_of};
 
+use crate::history::head_of;
 use ids::{LibId, ObjId};
 use library_state::LibState;
 use object_store::{Shelf, Store};
@@ -56,8 +57,7 @@ impl<S: Shelf> Depot<S> {
     pub fn head(&self) -> ObjId
         ensures value { result ≡ head_of self.now.state.kept }
     {
-        let kept = self.parts.state.kept.slice();
-        kept[kept.len() - 1].head
+        head_of(self.parts.state.kept.slice())
     }
 
     /// How often the library was opened. It takes no memory.

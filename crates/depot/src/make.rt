@@ -62,7 +62,7 @@ impl<S: Shelf> Depot<S> {
         ensures faults { IfErr result (λ refused. FailsBy {T = ⊤} is_make_counted (S.faults store.shelf) (S.faults refused.0.shelf) (Err refused.1)) }
     {
         let mut store = store;
-        match create(alloc, &mut store, lib, name, user, secret, moment) {
+        match make_in(alloc, &mut store, lib, name, user, secret, moment) {
             Ok(state) => Ok(Depot {
                 parts: Parts {
                     alloc,
@@ -78,7 +78,7 @@ impl<S: Shelf> Depot<S> {
 }
 
 /// Makes what a new library holds, and puts it onto the shelf.
-fn create<S: Shelf>(
+fn make_in<S: Shelf>(
     alloc: Global,
     store: &mut Store<S>,
     lib: LibId,

@@ -33,7 +33,7 @@ impl<S: Shelf> Depot<S> {
         ensures lying { IfOk result (λ depot. AddsNoStray S.contents store depot.store) }
         ensures err_lying { IfErr result (λ refused. AddsNoStray S.contents store refused.0) }
         ensures settled { IfOk result (λ depot. depot.unsettled ≡ false) }
-        ensures given { IfOk result (λ depot. IsNextOf (S.may_give store.shelf) depot.state) }
+        ensures any { IfOk result (λ depot. IsNextOf (S.may_give store.shelf) depot.state) }
         ensures gives { IfOk result (λ depot. GivesAlso (S.may_give store.shelf) (S.may_give depot.store.shelf) slots.Status (Some (text_of depot.state))) }
         ensures idle { IfOk result (λ depot. depot.running ≡ None) }
         ensures err { IfErr result (λ refused. LeftUnopenedBy S.contents store refused.0 refused.1) }
@@ -48,7 +48,7 @@ impl<S: Shelf> Depot<S> {
     {
         let mut store = store;
         let mut known = Known::new(alloc);
-        match open(alloc, &mut store, &mut known) {
+        match start_in(alloc, &mut store, &mut known) {
             Ok(state) => Ok(Depot {
                 parts: Parts {
                     alloc,
@@ -64,7 +64,7 @@ impl<S: Shelf> Depot<S> {
 }
 
 /// Reads the state, checks what it keeps, and counts the opening.
-fn open<S: Shelf>(
+fn start_in<S: Shelf>(
     alloc: Global,
     store: &mut Store<S>,
     known: &mut Known,
@@ -74,7 +74,7 @@ fn open<S: Shelf>(
     ensures value { IfOk result (IsOpened S.contents S.faults store.old store.new) }
     ensures some_kept { IfOk result (λ state. state.kept ≢ []) }
     ensures sound { IfOk result (IsSoundIn S.contents store.new) }
-    ensures given { IfOk result (IsNextOf (S.may_give store.old.shelf)) }
+    ensures any { IfOk result (IsNextOf (S.may_give store.old.shelf)) }
     ensures gives { IfOk result (λ state. GivesAlso (S.may_give store.old.shelf) (S.may_give store.new.shelf) slots.Status (Some (text_of state))) }
     ensures err { IfErr result (LeftUnopenedBy S.contents store.old store.new) }
     ensures lying { AddsNoStray S.contents store.old store.new }
@@ -105,7 +105,7 @@ fn open<S: Shelf>(
 pub fn read_state<S: Shelf>(alloc: Global, store: &mut Store<S>) -> Result<LibState, StartFault>
     ensures value { IfOk result (IsFound S.contents store.old) }
     ensures proper { IfOk result IsProper }
-    ensures given { IfOk result (IsGiven (S.may_give store.old.shelf)) }
+    ensures any { IfOk result (IsGiven (S.may_give store.old.shelf)) }
     ensures reads { ReadsShelf S.may_give S.texts store.old.shelf store.new.shelf }
     ensures stays { Keeps S.contents store.old store.new }
     ensures refused { (objects : Objects) → (status : Option (List ℕ)) → status_of S.contents store.old ≡ Some status

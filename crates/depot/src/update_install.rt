@@ -104,7 +104,7 @@ fn text_with(alloc: Global, state: &mut LibState, kept: &mut History) -> Result<
     ensures state { state.new ≡ state.old }
     ensures stays { kept.new ≡ kept.old }
     ensures value { IfOk result (λ text. text ≡ text_of (record state.old { kept = kept.old })) }
-    ensures reads { IfOk result (λ text. ReadsBack (record state.old { kept = kept.old })) }
+    ensures reads_back { IfOk result (λ text. ReadsBack (record state.old { kept = kept.old })) }
 {
     mem::swap(&mut state.kept, kept);
     let text = state.write(alloc);

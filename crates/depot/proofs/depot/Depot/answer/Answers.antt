@@ -17,7 +17,7 @@ returns-in-None-clause-shown g c =
     (subst (λ (old : DepotView g.row.S.Denot). permits (token_of old.state.tokens c.args.call.now.secret) c.args.call.now.act ≡ false) c.self.view_is
     (ap (λ (tokens : List Token). permits (token_of tokens c.args.call.now.secret) c.args.call.now.act) (sym c.slice.ensures.value) ∙ c.in-None.ensures.absent))
 
-pub returns-in-None-clause-fresh : goal.returns-in-None-clause-fresh
-returns-in-None-clause-fresh g c =
+pub returns-in-None-clause-running : goal.returns-in-None-clause-running
+returns-in-None-clause-running g c =
     subst (λ (old : DepotView g.row.S.Denot). RunsOn old.store.index old.store.index (told_there old.store.index c.args.call.now.act (reply.Refused refusal.Denied)) old.running old.running)
     c.self.view_is refl

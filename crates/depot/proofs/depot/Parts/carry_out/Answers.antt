@@ -19,7 +19,7 @@ returns-in-Err-write_installed-clause-value g c =
     = c.slice-2.ensures.value ∙ c.in-Ok-text_with.ensures.value
     ∙ ap (λ kept. text_of (record c.args.self.now.state { kept = kept })) (c.in-Ok.ensures.value ∙ ap (λ kept. kept ++ c.args.install ∷ []) c.slice.ensures.value) in
     let reads : ReadsBack next
-    = subst (λ kept. ReadsBack (record c.args.self.now.state { kept = kept })) (c.in-Ok.ensures.value ∙ ap (λ kept. kept ++ c.args.install ∷ []) c.slice.ensures.value) c.in-Ok-text_with.ensures.reads in
+    = subst (λ kept. ReadsBack (record c.args.self.now.state { kept = kept })) (c.in-Ok.ensures.value ∙ ap (λ kept. kept ++ c.args.install ∷ []) c.slice.ensures.value) c.in-Ok-text_with.ensures.reads_back in
     left_unsure c.in-Err-write_installed.fault c.args.self.now.unsettled c.write_installed.new.self.unsettled c.args.self.now.state c.text_with.new.state next (objects_in c.args.plan.now)
     (held_in g.S.Shelf.contents g.S.Shelf.texts c.args.self.now.store) (held_in g.S.Shelf.contents g.S.Shelf.texts c.write_installed.new.self.store) (status_of g.S.Shelf.contents c.put_plan.new.store)
     c.in-Err-write_installed.ensures.free (c.in-Err-write_installed.ensures.stays ∙ c.in-Ok-put_plan.ensures.value) c.in-Ok-text_with.ensures.state c.in-Ok-put_plan.ensures.stays
@@ -32,7 +32,7 @@ returns-clause-value g c =
     = c.slice-2.ensures.value ∙ c.in-Ok-text_with.ensures.value
     ∙ ap (λ kept. text_of (record c.args.self.now.state { kept = kept })) (c.in-Ok.ensures.value ∙ ap (λ kept. kept ++ c.args.install ∷ []) c.slice.ensures.value) in
     let reads : ReadsBack next
-    = subst (λ kept. ReadsBack (record c.args.self.now.state { kept = kept })) (c.in-Ok.ensures.value ∙ ap (λ kept. kept ++ c.args.install ∷ []) c.slice.ensures.value) c.in-Ok-text_with.ensures.reads in
+    = subst (λ kept. ReadsBack (record c.args.self.now.state { kept = kept })) (c.in-Ok.ensures.value ∙ ap (λ kept. kept ++ c.args.install ∷ []) c.slice.ensures.value) c.in-Ok-text_with.ensures.reads_back in
     carried_out c.args.self.now.unsettled c.write_installed.new.self.unsettled c.args.self.now.state c.text_with.new.state next (objects_in c.args.plan.now)
     (held_in g.S.Shelf.contents g.S.Shelf.texts c.args.self.now.store) (held_in g.S.Shelf.contents g.S.Shelf.texts c.write_installed.new.self.store) (status_of g.S.Shelf.contents c.put_plan.new.store)
     (c.in-Ok-write_installed.ensures.stays ∙ c.in-Ok-put_plan.ensures.value) c.in-Ok-text_with.ensures.state c.in-Ok-put_plan.ensures.stays

@@ -3,7 +3,7 @@ use Rattle.std.proofs.Common.{◌∙◌, refl, sym}
 use Rattle.depot.proofs.StartLemmas.{left_unopened, opened_over, same_status, state_cause}
 use Rattle.object_store.proofs.StrayLemmas.{strays_kept}
 use Rattle.depot.proofs.GivingLemmas.{also_read}
-use Rattle.depot.proofs.start.open.Goals as goal
+use Rattle.depot.proofs.start.start_in.Goals as goal
 
 pub check_state-requires : goal.check_state-requires
 check_state-requires g c = record { known = λ objects told. c.requires.known objects (sym c.in-Ok.ensures.stays.objects ∙ told) }
@@ -28,12 +28,12 @@ returns-in-Err-write_text-clause-err g c =
     (same_status g.S.Shelf.contents c.args.store.now c.read_state.new.store c.check_state.new.store c.in-Ok.ensures.stays c.in-Ok-check_state.ensures.stays)
     c.in-Err-write_text.ensures.value
 
-pub returns-in-Ok-write_text-clause-given : goal.returns-in-Ok-write_text-clause-given
-returns-in-Ok-write_text-clause-given g c = record { found = c.in-Ok.state; given = c.in-Ok.ensures.given; next = refl }
+pub returns-in-Ok-write_text-clause-any : goal.returns-in-Ok-write_text-clause-any
+returns-in-Ok-write_text-clause-any g c = record { found = c.in-Ok.state; given = c.in-Ok.ensures.any; next = refl }
 
 pub returns-in-Err-check_state-clause-cause : goal.returns-in-Err-check_state-clause-cause
 returns-in-Err-check_state-clause-cause g c =
-    state_cause (g.S.Shelf.may_give c.args.store.now.shelf) (g.S.Shelf.may_give c.read_state.new.store.shelf) c.in-Ok.state c.in-Err-check_state.fault c.in-Ok.ensures.given
+    state_cause (g.S.Shelf.may_give c.args.store.now.shelf) (g.S.Shelf.may_give c.read_state.new.store.shelf) c.in-Ok.state c.in-Err-check_state.fault c.in-Ok.ensures.any
     c.in-Ok.ensures.reads.gives c.in-Err-check_state.ensures.cause
 
 pub returns-in-Err-clause-lying : goal.returns-in-Err-clause-lying

@@ -7,7 +7,7 @@ use Rattle.library_state.specs.declared.state.LibState.{LibState}
 use Rattle.depot.specs.Giving.{GivesBy, IsOfMaking}
 use Rattle.depot.specs.Make.{first_state}
 use Rattle.depot.proofs.GivingLemmas.{no_more, read_by}
-use Rattle.depot.proofs.make.create.Goals as goal
+use Rattle.depot.proofs.make.make_in.Goals as goal
 
 pub returns-in-Err-clause-lying : goal.returns-in-Err-clause-lying
 returns-in-Err-clause-lying g c free = strays_kept g.S.Shelf.contents c.args.store.now c.check_empty.new.store c.in-Err.ensures.stays.index c.in-Err.ensures.stays.shelf
