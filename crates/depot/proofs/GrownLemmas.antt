@@ -1,4 +1,5 @@
--- A depot stays good as objects come, and where a call writes nothing. The key lemmas are good_kept and good_put.
+-- A depot stays good as objects come, and where a call writes nothing. The key lemmas are good_kept,
+-- good_put and holds_grown.
 use Rattle.std.proofs.Common.{◌≡◌, ◌⊎◌, inl, inr, ℕ, Bool, true, false, List, [], ◌∷◌, refl, sym, ap, ◌∙◌, subst, true≢false, Option, None, option_map}
 use Rattle.ids.specs.Key.{Objects}
 use Rattle.library_rules.specs.Changes.{put_new}
@@ -18,7 +19,7 @@ pub sound_grown : (state : LibState) (count : ℕ) (objects : Objects) (x : Stor
 sound_grown state count objects x sound =
     sound_moved (library state count objects) (x ∷ []) [] (λ key e. absurd (true≢false (sym e))) (λ key e. absurd (true≢false (sym e))) (inr refl) sound
 
-holds_grown : (unsettled : Bool) (state : LibState) (objects : Objects) (x : Stored) (status : Option (List ℕ)) → Holds unsettled state objects status → Holds unsettled state (put_new objects x) status
+pub holds_grown : (unsettled : Bool) (state : LibState) (objects : Objects) (x : Stored) (status : Option (List ℕ)) → Holds unsettled state objects status → Holds unsettled state (put_new objects x) status
 holds_grown true state objects x status (inl is) = inl is
 holds_grown true state objects x status (inr held) = inr (record {
   other = held.other;

@@ -7,6 +7,7 @@ pub mod CompleteLemmas
 pub mod StartLemmas
 pub mod ObjectCallLemmas
 pub mod AnsweringLemmas
+pub mod RefusalsLemmas
 pub mod GrownLemmas
 pub mod FitsLemmas
 pub mod ServingLemmas

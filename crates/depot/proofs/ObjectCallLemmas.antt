@@ -1,11 +1,12 @@
--- A put that the store refuses, and the cause of each refusal. The key lemmas are put_refused, put_damage, stored_may and
--- refused_may.
-use Rattle.std.proofs.Common.{◌≡◌, ◌⊎◌, inl, inr, ℕ, Bool, true, false, not, ◌||◌, if◌then◌else◌, List, [], ◌∷◌, refl, sym, ap, ◌∙◌, subst, true≢false, Option, None, Some, option_map, is_some, is_none}
+-- A put that the store refuses, or takes, and the cause of each answer. The key lemmas are put_refused, new_done, same_done,
+-- put_damage, new_may, same_may and refused_may.
+use Rattle.std.proofs.Common.{◌≡◌, ◌⊎◌, inl, inr, ℕ, Bool, true, false, not, ◌||◌, if◌then◌else◌, cond, List, [], ◌∷◌, refl, sym, ap, ◌∙◌, subst, true≢false, Option, None, Some, option_map, is_some}
 use Rattle.std.specs.Bool.{then_some}
 use Rattle.std.specs.FinMap as map
 use Rattle.sha1.specs.Sha1.{sha1}
 use Rattle.ids.specs.Key.{Objects}
 use Rattle.ids.specs.declared.key.Key.{Key}
+use Rattle.ids.proofs.KeyOrderLemmas.{key_cmp_total}
 use Rattle.library_rules.specs.Calls.{Says, Stores, first_refusal, other_bytes}
 use Rattle.library_rules.proofs.CallsLemmas.{put_after, put_by, taken}
 use Rattle.library_rules.specs.LibraryState.{State, is_stored}
@@ -15,17 +16,23 @@ use Rattle.library_state.specs.declared.refusal.Refusal.TheVariants as refusal
 use Rattle.library_state.specs.declared.reply.Reply.{Reply}
 use Rattle.library_state.specs.declared.reply.Reply.TheVariants as reply
 use Rattle.object_graph.specs.Objects.{is_nil}
-use Rattle.object_store.specs.Store.{IsFoundSame, IsGetFault, IsOfStored, IsPutFault, damage_at, damage_of, first_refusal as first_fault, has_other_name, is_free, is_want, put_refusal, same_bytes, stored_refusal}
-use Rattle.object_store.specs.StoreView.{Index}
-use Rattle.object_store.specs.declared.put.Put.{Put}
+use Rattle.object_graph.proofs.KeyLemmas.{same_key-itself}
+use Rattle.object_store.specs.Store.{IsGetFault, IsOfStored, IsPutFault, damage_at, damage_of, first_refusal as first_fault, has_other_name, is_free, is_want, put_refusal, same_bytes, stored_refusal}
+use Rattle.object_store.specs.Shelf.{Contents}
+use Rattle.object_store.specs.StoreView.{Index, StoreView, indexed, objects_of}
+use Rattle.object_store.proofs.MapLemmas.{get-retained}
 use Rattle.object_store.specs.declared.put.Put.TheVariants.{New, Same}
 use Rattle.object_store.specs.declared.error.StoreFault.{StoreFault}
 use Rattle.object_store.specs.declared.error.StoreFault.TheVariants.{Taken, Wrong, Damaged, Shelf, NoMemory}
 use Rattle.object_store.specs.declared.shelf.Slot.{Slot}
+use Rattle.object_store.specs.declared.shelf.Slot.TheVariants.{Object}
 use Rattle.depot.specs.Answering.{MayAnswer, MayGet, MayPut}
 use Rattle.depot.specs.ObjectCalls.{DoneSo, IsFault, IsToldDamage, own_name, store_decided, store_due}
 use Rattle.depot.specs.Refusals.{store_refusal}
 use Rattle.depot.proofs.AnsweringLemmas.{damage_other}
+use Rattle.depot.proofs.RefusalsLemmas.{free_told}
+use Rattle.depot.proofs.ToldLemmas.{mapped_at}
+use Rattle.depot.proofs.WritingLemmas.{put_is_new}
 
 -- ---- what is due of a put
 
@@ -96,13 +103,6 @@ damage_told objects key (Some stored) fault e at = by (has_other_name key stored
         is_damage fault is (at ∙ e)
     by false e at = cc
 
-free_told : (objects : Objects) (fault : StoreFault) → is_free fault ≡ true → IsFault objects (reply.Refused (store_refusal fault))
-free_told objects (Taken id) e = absurd (true≢false (sym e))
-free_told objects (Wrong id) e = absurd (true≢false (sym e))
-free_told objects (Damaged want got) e = absurd (true≢false (sym e))
-free_told objects Shelf e = tt
-free_told objects NoMemory e = tt
-
 pub put_refused : (s : State) (key : Key) (bytes : List ℕ) (fault : StoreFault) (after : Option Objects)
     → (put_refusal s.objects key bytes ≡ Some fault) ⊎ (is_free fault ≡ true) → after ≡ Some s.objects
     → DoneSo s.objects (store_due s key bytes) (reply.Refused (store_refusal fault)) after
@@ -115,6 +115,59 @@ put_refused s key bytes fault after (inl due) is = by (refused_by key bytes faul
         subst (λ d. DoneSo s.objects d (reply.Refused (store_refusal fault)) after) (sym (store_due-is s key bytes))
         (due_refused s key bytes (first_refusal (own_name key bytes ∷ taken s key bytes ∷ [])) (store_refusal fault) after refused is)
     by (inr damage) = put_fault s key bytes (reply.Refused (store_refusal fault)) after (damage_told s.objects key (map.get s.objects key) fault damage refl) is
+
+-- ---- a put that isn't refused
+
+none_stored : (key : Key) (c d : Bool) (damaged : StoreFault) → (if c then Some damaged else if d then None else Some (Taken key.id)) ≡ None
+    → first_refusal (None ∷ then_some (not d) (refusal.Taken key.id) ∷ []) ≡ None
+none_stored key true d damaged e = cc
+none_stored key false true damaged e = refl
+none_stored key false false damaged e = cc
+
+none_by : (key : Key) (bytes : List ℕ) (a b : Bool) (o : Option (List ℕ))
+    → first_fault (if a then Some (Wrong (sha1 bytes)) else if b then Some (Taken key.id) else None) (stored_refusal key bytes o) ≡ None
+    → first_refusal (then_some a (refusal.Wrong (sha1 bytes)) ∷ then_some (b || other_bytes o bytes) (refusal.Taken key.id) ∷ []) ≡ None
+none_by key bytes true b o e = cc
+none_by key bytes false true o e = cc
+none_by key bytes false false None e = refl
+none_by key bytes false false (Some stored) e = none_stored key (has_other_name key stored) (same_bytes stored bytes) (Damaged key.id (Some (sha1 stored))) e
+
+module _ (s : State) (key : Key) (bytes : List ℕ) (free : put_refusal s.objects key bytes ≡ None) where
+  due_by : (b : Bool) → is_stored s.objects key ≡ b → store_due s key bytes ≡ (if b then Says (reply.Stored false) else Stores (record { key = key; bytes = bytes }))
+  due_by b is =
+      store_due-is s key bytes ∙ ap (put_by s key bytes) (none_by key bytes (has_other_name key bytes) (same_bytes key.id _) (map.get s.objects key) free)
+      ∙ ap (λ c. if c then Says (reply.Stored false) else Stores (record { key = key; bytes = bytes })) is
+
+  -- an object that wasn't stored, and one that was
+  pub new_done : (after : Option Objects) → is_stored s.objects key ≡ false → after ≡ Some (map.insert s.objects key bytes) → DoneSo s.objects (store_due s key bytes) (reply.Stored true) after
+  new_done after absent grown =
+      subst (λ d. DoneSo s.objects d (reply.Stored true) after) (sym (due_by false absent)) (inl (refl, grown ∙ ap Some (put_is_new s.objects key bytes free)))
+
+  pub same_done : (after : Option Objects) → is_stored s.objects key ≡ true → after ≡ Some s.objects → DoneSo s.objects (store_due s key bytes) (reply.Stored false) after
+  same_done after there kept = subst (λ d. DoneSo s.objects d (reply.Stored false) after) (sym (due_by true there)) (inl refl, kept)
+
+-- what a put tells of the index
+pub new_unknown : (b : Bool) → New ≡ (if b then Same else New) → b ≡ false
+new_unknown true e = cc
+new_unknown false e = refl
+
+pub same_known : (b : Bool) → Same ≡ (if b then Same else New) → b ≡ true
+same_known true e = refl
+same_known false e = cc
+
+-- an object whose key the index lacks isn't stored, and one whose put changes nothing is
+pub unknown_absent : {S : Type 0} (contents : S → Option Contents) (store : StoreView S) (objects : Objects) (key : Key) → objects_of contents store ≡ Some objects
+    → is_some (map.get store.index key) ≡ false → is_stored objects key ≡ false
+unknown_absent contents store objects key told unknown =
+    let at = mapped_at (indexed store.index) (contents store.shelf) objects told in
+    ap (λ (o : Objects). is_some (map.get o key)) (sym at.gives) ∙ ap is_some (get-retained at.value.objects store.index key)
+    ∙ ap (λ b. is_some (cond b (map.get at.value.objects key) None)) unknown
+
+pub same_stored : (objects : Objects) (key : Key) (bytes : List ℕ) → Some (map.insert objects key bytes) ≡ Some objects → is_stored objects key ≡ true
+same_stored objects key bytes e =
+    let same : map.insert objects key bytes ≡ objects = cc in
+    ap (λ (o : Objects). is_some (map.get o key)) (sym same) ∙ ap is_some (map.get-insert key_cmp_total objects key bytes key)
+    ∙ ap (λ b. is_some (cond b (Some bytes) (map.get objects key))) (same_key-itself key)
 
 -- ---- damage
 
@@ -169,18 +222,16 @@ module _ (index : Index) (may_give : Slot → Option (List ℕ) → Type 0) (key
     free_name false true no_a no_b r may = absurd (no_b refl)
     free_name false false no_a no_b r may = may
 
-    stored_by : (size : Option ℕ) (put : Put) → map.get index key ≡ size → put ≡ (if is_some size then Same else New) → IsFoundSame may_give key bytes put
-        → MayPut index may_give key bytes (reply.Stored (is_none size))
-    stored_by None put known told found = ap is_some known
-    stored_by (Some size) put known told found = (ap is_some known, subst (IsFoundSame may_give key bytes) told found)
-
     -- what was stored
-    pub stored_may : (put : Put) → put ≡ (if is_some (map.get index key) then Same else New) → IsFoundSame may_give key bytes put
-        → (has_other_name key bytes ≡ true → ⊥) → (is_nil key.id ≡ true → ⊥)
-        → MayAnswer index may_give (act.Put key bytes) (store_decided key bytes) (reply.Stored (is_none (map.get index key)))
+    pub new_may : New ≡ (if is_some (map.get index key) then Same else New) → (has_other_name key bytes ≡ true → ⊥) → (is_nil key.id ≡ true → ⊥)
+        → MayAnswer index may_give (act.Put key bytes) (store_decided key bytes) (reply.Stored true)
     unfolding by_name
-    stored_may put told found own named =
-        free_name (has_other_name key bytes) (is_nil key.id) own named (reply.Stored (is_none (map.get index key))) (stored_by (map.get index key) put refl told found)
+    new_may told own named = free_name (has_other_name key bytes) (is_nil key.id) own named (reply.Stored true) (new_unknown (is_some (map.get index key)) told)
+
+    pub same_may : Same ≡ (if is_some (map.get index key) then Same else New) → may_give (Object key) (Some bytes) → (has_other_name key bytes ≡ true → ⊥) → (is_nil key.id ≡ true → ⊥)
+        → MayAnswer index may_give (act.Put key bytes) (store_decided key bytes) (reply.Stored false)
+    unfolding by_name
+    same_may told found own named = free_name (has_other_name key bytes) (is_nil key.id) own named (reply.Stored false) (same_known (is_some (map.get index key)) told, found)
 
     taken_may : (id : List ℕ) → (is_nil key.id ≡ false) → IsPutFault may_give key bytes (Taken id) → IsOfStored (map.get index key) key (Taken id)
         → MayPut index may_give key bytes (reply.Refused (refusal.Taken id))

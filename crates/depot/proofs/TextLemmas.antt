@@ -1,5 +1,5 @@
 -- What a call answers and leaves that writes the state text. The key lemmas are serves_changed and good_changed.
-use Rattle.std.proofs.Common.{◌≡◌, ◌≢◌, inl, inr, ℕ, ◌≤◌, Bool, false, if◌then◌else◌, List, [], ◌∷◌, refl, sym, ap, ◌∙◌, subst, true≢false, Option, None, Some, option_map, Result, Ok, Err}
+use Rattle.std.proofs.Common.{◌≡◌, ◌≢◌, inl, inr, ℕ, ◌≤◌, Bool, false, if◌then◌else◌, List, [], ◌∷◌, refl, sym, ap, ◌∙◌, subst, true≢false, Option, None, Some, option_map, IsTrue, Result, Ok, Err}
 use Rattle.std.specs.Bool.{MatchBool}
 use Rattle.std.specs.Prelude.{⊤, OnOk, OnErr}
 use Rattle.ids.specs.FaultCount.{Rose}
@@ -12,7 +12,6 @@ use Rattle.library_rules.specs.Permitted.{DuePermits}
 use Rattle.library_rules.specs.declared.entry.Step.TheVariants as step
 use Rattle.library_rules.proofs.UnmovedLemmas.{lone_apply}
 use Rattle.library_state.specs.declared.call.Call.{Call}
-use Rattle.library_state.specs.declared.refusal.Refusal.TheVariants as refusal
 use Rattle.library_state.specs.declared.reply.Reply.{Reply}
 use Rattle.library_state.specs.declared.reply.Reply.TheVariants as reply
 use Rattle.library_state.specs.declared.state.LibState.{LibState}
@@ -22,7 +21,7 @@ use Rattle.object_store.specs.StoreView.{AddsNoStray, StoreView, objects_of, sta
 use Rattle.object_store.specs.declared.error.StoreFault.{StoreFault}
 use Rattle.object_store.specs.declared.error.StoreFault.TheVariants.{Taken, Wrong, Damaged, Shelf, NoMemory}
 use Rattle.object_store.specs.declared.shelf.Slot.{Slot as ShelfSlot}
-use Rattle.depot.specs.Answering.{AnswersBySome, MayAnswer, MayAnswerSo, Serves, Would, decided, next_state, refused, rewritten, unwritten}
+use Rattle.depot.specs.Answering.{AnswersBySome, MayAnswer, MayAnswerSo, Serves, Would, decided, is_free_reply, next_state, refused, rewritten, unwritten}
 use Rattle.depot.specs.Changing.{TextSo, same, changed}
 use Rattle.depot.specs.DepotView.{at_rest, DepotView, library, state_of, IsGood}
 use Rattle.depot.specs.ObjectCalls.{Counts, IsFault, IsToldDamage, is_counted}
@@ -140,6 +139,22 @@ module _ {S : Type 0} (contents : S → Option Contents) (may_give : S → Shelf
     ),
   ))
 
+  -- a failure of the shelf, or want of memory, where the text was to be another
+  unwritten_changed : (fault : StoreFault) → ((objects : Objects) → IsFault objects (answer_of said (Err fault))) → IsTrue (is_free_reply (answer_of said (Err fault)))
+      → ((objects : Objects) → IsToldDamage objects (answer_of said (Err fault))) → Counts (faults old.store.shelf) (faults store.shelf) (answer_of said (Err fault))
+      → state ≡ old.state → next ≢ old.state → LeftBy fault old.unsettled old.state next (status_of contents old.store) still (status_of contents store)
+      → Serves contents may_give texts faults (at_rest old) call moment (answer_of said (Err fault)) (record { store = store; state = state; unsettled = still; running = None })
+  unwritten_changed fault is_fault free damage count stays apart writes = record {
+    told = refused_by fault is_fault count stays;
+    may_come = subst (λ o. MayAnswer old.store.index (may_give store.shelf) call.act o (answer_of said (Err fault))) (sym is_decided) (inr free);
+    damage = λ objects told. damage objects;
+    count = count;
+    left = stays;
+    fresh = refl;
+    lying = λ _. lying;
+    slot = refused fault refl said plain would (λ same. apart (sym is_next ∙ same)) (subst (λ st. LeftBy fault old.unsettled old.state st (status_of contents old.store) still (status_of contents store)) (sym is_next) writes);
+  }
+
   -- an answer, or a failure of the shelf or want of memory
   pub serves_changed : (result : Result ⊤ StoreFault) → OnOk result (state ≡ next) → OnErr result (state ≡ old.state)
       → TextSo old.unsettled old.state next (status_of contents old.store) still (status_of contents store) result
@@ -172,26 +187,8 @@ module _ {S : Type 0} (contents : S → Option Contents) (may_give : S → Shelf
   serves_changed (Err (Taken id)) ok err (same is settles text written good) count = cc
   serves_changed (Err (Wrong id)) ok err (same is settles text written good) count = cc
   serves_changed (Err (Damaged want got)) ok err (same is settles text written good) count = cc
-  serves_changed (Err Shelf) ok err (changed apart writes) count = record {
-    told = refused_by Shelf (λ objects. tt) count err;
-    may_come = subst (λ o. MayAnswer old.store.index (may_give store.shelf) call.act o (reply.Refused refusal.Store)) (sym is_decided) (inr refl);
-    damage = λ objects told. tt;
-    count = count;
-    left = err;
-    fresh = refl;
-    lying = λ _. lying;
-    slot = refused Shelf refl said plain would (λ stays. apart (sym is_next ∙ stays)) (subst (λ st. LeftBy Shelf old.unsettled old.state st (status_of contents old.store) still (status_of contents store)) (sym is_next) writes);
-  }
-  serves_changed (Err NoMemory) ok err (changed apart writes) count = record {
-    told = refused_by NoMemory (λ objects. tt) count err;
-    may_come = subst (λ o. MayAnswer old.store.index (may_give store.shelf) call.act o (reply.Refused refusal.NoMemory)) (sym is_decided) (inr refl);
-    damage = λ objects told. tt;
-    count = count;
-    left = err;
-    fresh = refl;
-    lying = λ _. lying;
-    slot = refused NoMemory refl said plain would (λ stays. apart (sym is_next ∙ stays)) (subst (λ st. LeftBy NoMemory old.unsettled old.state st (status_of contents old.store) still (status_of contents store)) (sym is_next) writes);
-  }
+  serves_changed (Err Shelf) ok err (changed apart writes) count = unwritten_changed Shelf (λ objects. tt) refl (λ objects. tt) count err apart writes
+  serves_changed (Err NoMemory) ok err (changed apart writes) count = unwritten_changed NoMemory (λ objects. tt) refl (λ objects. tt) count err apart writes
   serves_changed (Err (Taken id)) ok err (changed apart writes) count = absurd writes
   serves_changed (Err (Wrong id)) ok err (changed apart writes) count = absurd writes
   serves_changed (Err (Damaged want got)) ok err (changed apart writes) count = absurd writes

@@ -1,18 +1,15 @@
--- The search for a merge base, commit by commit, and faults of a reading as refusals. The key lemmas are base_here,
--- base_on, base_ends, finds_fault, complete_refused and reads_only_then.
-use Rattle.std.proofs.Common.{◌≡◌, ◌≢◌, ◌⊎◌, inl, inr, ℕ, zero, suc, ◌+◌, ◌-◌, ◌<◌, ◌≤◌, Bool, true, false, not, ◌&&◌, ◌||◌, true≢false, cond, List, [], ◌∷◌, Option, None, Some, is_some, Result, Ok, Err, refl, sym, ap, ◌∙◌, subst, arith}
+-- The search for a merge base, commit by commit, and calls that read before an update is refused. The key lemmas are
+-- base_here, base_on, base_ends, finds_fault, complete_refused and reads_only_then.
+use Rattle.std.proofs.Common.{◌≡◌, ◌⊎◌, inl, inr, ℕ, zero, suc, ◌+◌, ◌-◌, ◌<◌, ◌≤◌, Bool, true, false, not, ◌||◌, cond, List, [], ◌∷◌, Option, None, Some, Result, Ok, Err, refl, sym, ap, ◌∙◌, subst, arith}
 use Rattle.std.specs.Bool.{MatchBool}
 use Rattle.std.specs.Prelude.{⊤}
 use Rattle.std.specs.List.{list_any}
-use Rattle.sha1.specs.Sha1.{sha1}
 use Rattle.ids.specs.FaultCount.{FailsBy, Rose}
 use Rattle.ids.specs.Key.{Objects}
-use Rattle.ids.specs.declared.key.Key.{Key}
 use Rattle.commit_objects.specs.declared.commit.Commit.{Commit}
 use Rattle.library_rules.specs.Calls.{Installs, Merges, complete_due}
 use Rattle.library_rules.specs.LibraryState.{State, head_of, is_kept, kept_commits}
 use Rattle.library_rules.specs.MergeBase.{Based, Base, NoBase, base_from, base_of, by_commit, by_parent, refusal_of}
-use Rattle.library_rules.proofs.MemberLemmas.{same_id-itself}
 use Rattle.library_state.specs.declared.history.Install.{Install}
 use Rattle.library_state.specs.declared.refusal.Refusal.{Refusal}
 use Rattle.library_state.specs.declared.refusal.Refusal.TheVariants as refusal
@@ -21,51 +18,17 @@ use Rattle.object_graph.specs.Objects.{commit_at, same_id}
 use Rattle.object_graph.specs.declared.fault.TreeFault.{TreeFault}
 use Rattle.object_graph.specs.declared.fault.TreeFault.TheVariants as tree
 use Rattle.object_store.specs.Shelf.{Contents}
-use Rattle.object_store.specs.Store.{IsDamage, IsOther, is_named_by_bytes, same_bytes}
-use Rattle.object_store.specs.StoreView.{Index, Keeps, StoreView}
-use Rattle.object_store.specs.declared.error.StoreFault.{StoreFault}
-use Rattle.object_store.specs.declared.error.StoreFault.TheVariants as store
+use Rattle.object_store.specs.StoreView.{StoreView}
 use Rattle.object_store.specs.declared.shelf.Slot.{Slot}
-use Rattle.tree_walk.specs.Reading.{AnswersRead, IsCause, IsDue, IsReadFault, IsStoreDue, Reads, is_counted}
+use Rattle.tree_walk.specs.Reading.{AnswersRead, IsDue, Reads}
 use Rattle.tree_walk.specs.declared.fault.WalkFault.{WalkFault}
-use Rattle.tree_walk.specs.declared.fault.WalkFault.TheVariants as walk
-use Rattle.depot.specs.Answering.{MayRefuseUpdate}
 use Rattle.depot.specs.ObjectCalls.{IsToldDamageOf, IsToldRefusal, is_of_store}
 use Rattle.depot.specs.UpdateBase.{FindsSo, HasParent, LooksSo, ReadsOnly}
 use Rattle.depot.specs.UpdatePlan.{IsPlanFault, MergeRefuses}
-use Rattle.depot.specs.Refusals.{store_refusal, walk_refusal}
+use Rattle.depot.specs.Refusals.{walk_refusal}
 use Rattle.depot.specs.declared.update_base.Look.{Look}
 use Rattle.tree_walk.proofs.ReadsLemmas.{keeps_then}
-
--- ---- faults of a reading as refusals
-
-pub store_told : (objects : Objects) (fault : StoreFault) → IsStoreDue objects fault → IsToldRefusal objects (store_refusal fault)
-store_told objects (store.Taken id) is = absurd is
-store_told objects (store.Wrong id) is = absurd is
-store_told objects (store.Damaged want got) is = is
-store_told objects store.Shelf is = tt
-store_told objects store.NoMemory is = tt
-
--- where no fault is due
-pub none_due : (objects : Objects) (fault : WalkFault) → IsDue objects None fault → IsToldRefusal objects (walk_refusal fault)
-none_due objects (walk.Incomplete key) is = cc
-none_due objects (walk.Unreadable key) is = cc
-none_due objects (walk.WrongKind id) is = cc
-none_due objects (walk.WrongSize id) is = cc
-none_due objects (walk.TooDeep path) is = cc
-none_due objects (walk.TooMany paths) is = cc
-none_due objects (walk.Store fault) is = store_told objects fault is
-
--- where one is due
-pub one_due : (objects : Objects) (due : TreeFault) (fault : WalkFault) → IsDue objects (Some due) fault
-    → (refusal_of due ≡ walk_refusal fault) ⊎ IsToldRefusal objects (walk_refusal fault)
-one_due objects due (walk.Incomplete key) is = let same : due ≡ tree.Incomplete key = cc in inl (ap refusal_of same)
-one_due objects due (walk.Unreadable key) is = let same : due ≡ tree.Unreadable key = cc in inl (ap refusal_of same)
-one_due objects due (walk.WrongKind id) is = let same : due ≡ tree.WrongKind id = cc in inl (ap refusal_of same)
-one_due objects due (walk.WrongSize id) is = let same : due ≡ tree.WrongSize id = cc in inl (ap refusal_of same)
-one_due objects due (walk.TooDeep path) is = let same : due ≡ tree.TooDeep path = cc in inl (ap refusal_of same)
-one_due objects due (walk.TooMany paths) is = let same : due ≡ tree.TooMany paths = cc in inl (ap refusal_of same)
-one_due objects due (walk.Store fault) is = inr (store_told objects fault is)
+use Rattle.depot.proofs.RefusalsLemmas.{counted_alike, none_due, one_due, told_damage}
 
 -- ---- the search
 
@@ -182,23 +145,9 @@ module _ (s : State) where
       if_not_damaged (is_kept s.state.kept id) id (by_commit (base_from s left (n + 1)) n (commit_at s.objects id))
       (commit_not_damaged (base_from s left (n + 1)) n (commit_at s.objects id) (base_not_damaged left (n + 1)))
 
-pub told_damage : (objects : Objects) (why : Refusal) → IsToldRefusal objects why → IsToldDamageOf objects why
-told_damage objects (refusal.Damaged want got) is = is
-told_damage objects other is = tt
-
 pub fault_not_damaged : (s : State) (pushed : List ℕ) (why : Refusal) → (base_of s pushed ≡ NoBase why) ⊎ IsToldRefusal s.objects why → IsToldDamageOf s.objects why
 fault_not_damaged s pushed why (inl none) = subst (NotDamaged s.objects) none (base_not_damaged s 128 0 pushed)
 fault_not_damaged s pushed why (inr told) = told_damage s.objects why told
-
--- the first fault of a commit isn't damage, unless the store tells it
-pub walk_not_damaged : (objects : Objects) (o : Option TreeFault) (fault : WalkFault) → IsDue objects o fault → IsToldDamageOf objects (walk_refusal fault)
-walk_not_damaged objects o (walk.Incomplete key) is = tt
-walk_not_damaged objects o (walk.Unreadable key) is = tt
-walk_not_damaged objects o (walk.WrongKind id) is = tt
-walk_not_damaged objects o (walk.WrongSize id) is = tt
-walk_not_damaged objects o (walk.TooDeep path) is = tt
-walk_not_damaged objects o (walk.TooMany paths) is = tt
-walk_not_damaged objects o (walk.Store fault) is = told_damage objects (store_refusal fault) (store_told objects fault is)
 
 -- ---- what is due then
 
@@ -226,58 +175,7 @@ module _ (s : State) (moment : ℕ) (user : List ℕ) where
   told_after_base pushed base None why is = told_complete base pushed (same_id base (head_of s.state.kept)) why is
   told_after_base pushed base (Some due) why is = inr is
 
--- ---- over any shelf
-
--- what is damaged isn't what was wanted
-and_false : (a b : Bool) → b ≡ true → (a && not b) ≡ true → ⊥
-and_false true true is e = true≢false (sym e)
-and_false true false is e = true≢false (sym is)
-and_false false b is e = true≢false (sym e)
-
-pub damage_apart : (may_give : Slot → Option (List ℕ) → Type 0) (key : Key) (want : List ℕ) (got : Option (List ℕ)) → IsDamage may_give key want got → got ≢ Some want
-damage_apart may_give key want got is same = by is.given is.other
-  where
-    by : (given : Option (List ℕ)) → IsOther key given got → ⊥
-    by None none = let e : None ≡ Some want = sym none ∙ same in cc
-    by (Some bytes) other =
-        let e : Some (sha1 bytes) ≡ Some key.id = sym other.1 ∙ same ∙ ap Some is.named in
-        let name : sha1 bytes ≡ key.id = cc in
-        and_false (is_named_by_bytes key.kind) (same_bytes (sha1 bytes) key.id) (ap (same_bytes (sha1 bytes)) (sym name) ∙ same_id-itself (sha1 bytes)) other.0
-
--- a fault of a reading may refuse an update
-pub may_refuse : (index : Index) (may_give : Slot → Option (List ℕ) → Type 0) (fault : WalkFault) → IsCause index may_give fault → MayRefuseUpdate index may_give (walk_refusal fault)
-may_refuse index may_give (walk.Incomplete key) cause = ap is_some cause
-may_refuse index may_give (walk.Unreadable key) cause = tt
-may_refuse index may_give (walk.WrongKind id) cause = tt
-may_refuse index may_give (walk.WrongSize id) cause = tt
-may_refuse index may_give (walk.TooDeep path) cause = tt
-may_refuse index may_give (walk.TooMany paths) cause = tt
-may_refuse index may_give (walk.Store fault) cause = by fault cause
-  where
-    by : (f : StoreFault) → IsReadFault index may_give f → MayRefuseUpdate index may_give (store_refusal f)
-    by (store.Taken id) is = absurd is
-    by (store.Wrong id) is = absurd is
-    by (store.Damaged want got) is = (damage_apart may_give is.key want got is.damage, is.key, is.damage)
-    by store.Shelf is = tt
-    by store.NoMemory is = tt
-
 -- ---- calls that read, one after another
-
-counted_alike : (fault : WalkFault) → is_counted fault ≡ is_of_store (walk_refusal fault)
-counted_alike (walk.Incomplete key) = refl
-counted_alike (walk.Unreadable key) = refl
-counted_alike (walk.WrongKind id) = refl
-counted_alike (walk.WrongSize id) = refl
-counted_alike (walk.TooDeep path) = refl
-counted_alike (walk.TooMany paths) = refl
-counted_alike (walk.Store fault) = by fault
-  where
-    by : (f : StoreFault) → is_counted (walk.Store f) ≡ is_of_store (store_refusal f)
-    by (store.Taken id) = refl
-    by (store.Wrong id) = refl
-    by (store.Damaged want got) = refl
-    by store.Shelf = refl
-    by store.NoMemory = refl
 
 module _ {S : Type 0} {contents : S → Option Contents} {may_give : S → Slot → Option (List ℕ) → Type 0} {texts faults : S → ℕ} where
   -- a reading that failed, as a refusal

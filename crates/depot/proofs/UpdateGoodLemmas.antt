@@ -1,6 +1,6 @@
 -- What an update leaves of a library that is kept, and that it stays good. The key lemmas are serves_refused, serves_kept,
 -- serves_done and serves_failed, and good_done and good_failed.
-use Rattle.std.proofs.Common.{◌≡◌, ◌≢◌, inl, inr, ℕ, ◌+◌, ◌≤◌, arith, length, length-append, Bool, true, false, if◌then◌else◌, List, [], ◌∷◌, ◌++◌, refl, sym, ap, ◌∙◌, subst, true≢false, Option, None, Some, option_map, IsTrue, Err}
+use Rattle.std.proofs.Common.{◌≡◌, ◌≢◌, inl, ℕ, ◌+◌, ◌≤◌, arith, length, length-append, Bool, true, false, if◌then◌else◌, List, [], ◌∷◌, ◌++◌, refl, sym, ap, ◌∙◌, subst, Option, None, Some, option_map, IsTrue, Err}
 use Rattle.std.specs.Bool.{MatchBool}
 use Rattle.std.specs.Prelude.{⊤}
 use Rattle.ids.specs.FaultCount.{Rose}
@@ -24,7 +24,6 @@ use Rattle.object_store.specs.Store.{CountsShelf, is_free, is_of_shelf}
 use Rattle.object_store.specs.StoreView.{AddsNoStray, Keeps, StoreView, objects_of, status_of}
 use Rattle.object_store.proofs.StrayLemmas.{strays_kept}
 use Rattle.object_store.specs.declared.error.StoreFault.{StoreFault}
-use Rattle.object_store.specs.declared.error.StoreFault.TheVariants.{Taken, Wrong, Damaged, Shelf, NoMemory}
 use Rattle.object_store.specs.declared.shelf.Slot.{Slot as ShelfSlot}
 use Rattle.depot.specs.Answering.{AnswersBySome, MayAnswer, MayAnswerSo, Serves, SlotSo, Would, decided, next_by, next_state, refused, rewritten, unwritten, with_install}
 use Rattle.depot.specs.DepotView.{at_rest, DepotView, library, state_of, Holds, IsGood}
@@ -36,9 +35,9 @@ use Rattle.depot.specs.NextState.{Follows, answered}
 use Rattle.depot.specs.Writing.{IsWritten, LeftBy, ReadsBack, settled}
 use Rattle.depot.specs.declared.plan.Plan.{Plan}
 use Rattle.depot.proofs.GoodLemmas.{none_fresh, sound_at, sound_told}
-use Rattle.depot.proofs.GrownLemmas.{kept_status, sound_grown}
+use Rattle.depot.proofs.GrownLemmas.{holds_grown, kept_status}
 use Rattle.depot.proofs.ToldLemmas.{mapped_at}
-use Rattle.depot.proofs.UpdateInstallLemmas.{counted_same, free_told}
+use Rattle.depot.proofs.RefusalsLemmas.{counted_same, free_told, told_damage}
 use Rattle.depot.proofs.UpdateLemmas.{done_answers, done_may, kept_answers, refused_answers, stopped_answers}
 use Rattle.depot.specs.Refusals.{store_refusal}
 use Rattle.depot.proofs.WritingLemmas.{holds_after, written_at}
@@ -64,27 +63,12 @@ sound_answered s t call moment r sound (changes, answers) =
     some_same : {x y : State} → Some x ≡ Some y → x ≡ y
     some_same e = cc
 
-holds_more : (unsettled : Bool) (state : LibState) (objects : Objects) (x : Stored) (status : Option (List ℕ)) → Holds unsettled state objects status → Holds unsettled state (put_new objects x) status
-holds_more true state objects x status (inl is) = inl is
-holds_more true state objects x status (inr held) = inr (record {
-  other = held.other;
-  follows = held.follows;
-  text = held.text;
-  reads = held.reads;
-  sound = λ count. sound_grown held.other count objects x (held.sound count);
-})
-holds_more false state objects x status is = is
-
 holds_added : (unsettled : Bool) (state : LibState) (objects : Objects) (added : List Stored) (status : Option (List ℕ)) → Holds unsettled state objects status → Holds unsettled state (with_added objects added) status
 holds_added unsettled state objects [] status holds = holds
-holds_added unsettled state objects (x ∷ added) status holds = holds_added unsettled state (put_new objects x) added status (holds_more unsettled state objects x status holds)
+holds_added unsettled state objects (x ∷ added) status holds = holds_added unsettled state (put_new objects x) added status (holds_grown unsettled state objects x status holds)
 
 free_not_damage : (objects : Objects) (fault : StoreFault) → IsTrue (is_free fault) → IsToldDamageOf objects (store_refusal fault)
-free_not_damage objects (Taken id) free = tt
-free_not_damage objects (Wrong id) free = tt
-free_not_damage objects (Damaged want got) free = absurd (true≢false (sym free))
-free_not_damage objects Shelf free = tt
-free_not_damage objects NoMemory free = tt
+free_not_damage objects fault free = told_damage objects (store_refusal fault) (free_told objects fault free)
 
 pub fault_counts : (before now : ℕ) (fault : StoreFault) → CountsShelf {T = ⊤} before now (Err fault) → Counts before now (reply.Refused (store_refusal fault))
 fault_counts before now fault counts = subst (λ b. MatchBool b ((before ≤ now) × Rose before now) (now ≡ before)) (counted_same fault) counts

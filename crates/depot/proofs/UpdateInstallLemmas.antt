@@ -10,17 +10,16 @@ use Rattle.library_rules.specs.Changes.{put_new, with_added}
 use Rattle.library_rules.specs.declared.entry.Stored.{Stored}
 use Rattle.library_state.specs.declared.state.LibState.{LibState}
 use Rattle.object_graph.specs.Objects.{is_nil}
-use Rattle.object_store.specs.Store.{IsPutFault, has_other_name, is_free, is_of_shelf, name_refusal, put_refusal, same_bytes}
+use Rattle.object_store.specs.Store.{IsPutFault, has_other_name, is_free, name_refusal, put_refusal, same_bytes}
 use Rattle.object_store.specs.StoreView.{Index, with_object}
 use Rattle.object_store.specs.declared.error.StoreFault.{StoreFault}
 use Rattle.object_store.specs.declared.error.StoreFault.TheVariants.{Taken, Wrong, Damaged, Shelf, NoMemory}
 use Rattle.object_store.specs.declared.shelf.Slot.{Slot as ShelfSlot}
 use Rattle.depot.specs.Answering.{MayRefuseUpdate}
-use Rattle.depot.specs.ObjectCalls.{IsToldRefusal, is_of_store}
 use Rattle.depot.specs.UpdateInstall.{ArePuttable, ArePuttableIn, Held, IsCarriedOut, LeftBehind, StoresPart, StoresSo, unsure, with_all}
 use Rattle.depot.specs.Plan.{AreNamed}
 use Rattle.depot.specs.Writing.{IsWritten, LeftBy, SettlesSo, Slot, Writes, again, leaves_open, nothing, open_next, open_present, settled, RewritesSo}
-use Rattle.depot.proofs.UpdateBaseLemmas.{damage_apart}
+use Rattle.depot.proofs.AnsweringLemmas.{damage_other}
 use Rattle.depot.specs.Refusals.{store_refusal}
 use Rattle.depot.proofs.WritingLemmas.{stored_as_put}
 
@@ -103,7 +102,7 @@ may_refuse_put index may_give key bytes (Taken id) named (at, inl zeros) = inl (
 may_refuse_put index may_give key bytes (Taken id) named (at, inr other) = inr (inr (record { key = key; named = at; bytes = bytes; other = other }))
 may_refuse_put index may_give key bytes (Wrong id) named cause =
     absurd (other_not (has_other_name key bytes) (same_bytes key.id nil) (Wrong (sha1 bytes)) (Taken key.id) named cause.1)
-may_refuse_put index may_give key bytes (Damaged want got) named cause = (damage_apart may_give key want got cause, key, cause)
+may_refuse_put index may_give key bytes (Damaged want got) named cause = (damage_other may_give key want got cause, key, cause)
 may_refuse_put index may_give key bytes Shelf named cause = tt
 may_refuse_put index may_give key bytes NoMemory named cause = tt
 
@@ -112,27 +111,13 @@ pub free_put : (o : Objects) (key : Key) (bytes : List ℕ) (fault : StoreFault)
 free_put o key bytes fault none (inl due) = let e : None ≡ Some fault = sym none ∙ due in cc
 free_put o key bytes fault none (inr free) = free
 
--- a free fault is one of the store's that may come in any place, and refuses an update
-pub free_told : (o : Objects) (fault : StoreFault) → IsTrue (is_free fault) → IsToldRefusal o (store_refusal fault)
-free_told o (Taken id) free = absurd (true≢false (sym free))
-free_told o (Wrong id) free = absurd (true≢false (sym free))
-free_told o (Damaged want got) free = absurd (true≢false (sym free))
-free_told o Shelf free = tt
-free_told o NoMemory free = tt
-
+-- a free fault may refuse an update
 pub free_refuses : (index : Index) (may_give : ShelfSlot → Option (List ℕ) → Type 0) (fault : StoreFault) → IsTrue (is_free fault) → MayRefuseUpdate index may_give (store_refusal fault)
 free_refuses index may_give (Taken id) free = absurd (true≢false (sym free))
 free_refuses index may_give (Wrong id) free = absurd (true≢false (sym free))
 free_refuses index may_give (Damaged want got) free = absurd (true≢false (sym free))
 free_refuses index may_give Shelf free = tt
 free_refuses index may_give NoMemory free = tt
-
-pub counted_same : (fault : StoreFault) → is_of_shelf fault ≡ is_of_store (store_refusal fault)
-counted_same (Taken id) = refl
-counted_same (Wrong id) = refl
-counted_same (Damaged want got) = refl
-counted_same Shelf = refl
-counted_same NoMemory = refl
 
 -- ---- the text
 

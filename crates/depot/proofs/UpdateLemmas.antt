@@ -1,6 +1,6 @@
 -- What an update leaves, by what was planned and what was stored. The key lemmas are kept_answers, refused_answers,
 -- done_answers and stopped_answers.
-use Rattle.std.proofs.Common.{◌≡◌, ◌≢◌, inl, inr, ℕ, suc, true, false, if◌then◌else◌, List, [], ◌∷◌, ◌++◌, refl, sym, ap, ◌∙◌, subst, arith, Some}
+use Rattle.std.proofs.Common.{◌≡◌, ◌≢◌, inl, inr, ℕ, true, false, if◌then◌else◌, List, [], ◌∷◌, ◌++◌, refl, sym, ap, ◌∙◌, subst, arith, Some}
 use Rattle.std.specs.List.{AllByRecursion, Contains, IsDistinct}
 use Rattle.std.specs.Ordering.{eq_by_cmp}
 use Rattle.ids.specs.Key.{Objects, key_cmp}

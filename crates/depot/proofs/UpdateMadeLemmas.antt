@@ -32,7 +32,7 @@ use Rattle.depot.specs.Answering.{IsTakenBy}
 use Rattle.depot.specs.ObjectCalls.{IsToldDamageOf}
 use Rattle.depot.specs.UpdateMerge.{StoredSo}
 use Rattle.depot.specs.Plan.{AreNamed, HasNames, listed}
-use Rattle.depot.proofs.UpdateBaseLemmas.{store_told, told_damage}
+use Rattle.depot.proofs.RefusalsLemmas.{store_told, told_damage}
 use Rattle.depot.specs.Refusals.{store_refusal}
 use Rattle.depot.proofs.UpdateListedLemmas.{all_join, listed_all}
 

@@ -5,7 +5,6 @@ use Rattle.std.specs.Prelude.{⊤}
 use Rattle.std.specs.List.{AllByRecursion, IsDistinct}
 use Rattle.std.specs.Ordering.{eq_by_cmp}
 use Rattle.std.specs.Str.{bytes_eq}
-use Rattle.std.specs.Cmp.Lexicographic.{same_text}
 use Rattle.sha1.specs.Sha1.{sha1}
 use Rattle.ids.specs.Key.{Objects, key_cmp}
 use Rattle.ids.specs.ObjectId.{nil}
@@ -57,7 +56,8 @@ use Rattle.depot.specs.Plan.{listed, objects_in, own_object}
 use Rattle.depot.specs.UpdatePlan.{MergeRefuses, MergesSo}
 use Rattle.depot.specs.declared.update_merge.Roots.{Roots}
 use Rattle.depot.specs.declared.plan.Plan.{Plan}
-use Rattle.depot.proofs.UpdateBaseLemmas.{may_refuse, none_due, told_merge, walk_not_damaged}
+use Rattle.depot.proofs.RefusalsLemmas.{may_refuse, none_due, walk_not_damaged}
+use Rattle.depot.proofs.UpdateBaseLemmas.{told_merge}
 use Rattle.depot.proofs.UpdateListedLemmas.{all_join, found_added, found_in, found_last, found_listed, listed_all, listed_once, once_pushed}
 use Rattle.depot.specs.Refusals.{merge_refusal, walk_refusal}
 use Rattle.depot.proofs.UpdateMadeLemmas.{commit_complete, commit_reads, copies_is, root_needed}

@@ -1,6 +1,6 @@
 -- What a library that is kept answers, and what a call leaves of it. Our own. Read AnswersSo, then decided and MayAnswer,
 -- then SlotSo; what is left of the state is in NextState.
-use Rattle.std.specs.Prelude.{◌≡◌, ◌≢◌, ◌⊎◌, ℕ, Bool, true, false, if◌then◌else◌, List, [], ◌∷◌, ◌++◌, Option, None, Some, is_some, filter, not, IsSome, IsNone, IsTrue, ⊤}
+use Rattle.std.specs.Prelude.{◌≡◌, ◌≢◌, ◌⊎◌, ℕ, Bool, true, false, List, [], Option, None, Some, is_some, filter, not, IsSome, IsNone, IsTrue, ⊤}
 use Rattle.std.specs.FinMap as map
 use Rattle.ids.specs.Key.{Objects}
 use Rattle.ids.specs.declared.key.Key.{Key}

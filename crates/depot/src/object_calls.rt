@@ -20,7 +20,7 @@ use fs_objects::{BadFs, FsObject};
 use ids::{Key, Kind, LibId, ObjId};
 use json_words::ReadFault;
 use library_state::{Refusal, Reply};
-use object_store::{Shelf, Store, StoreFault};
+use object_store::{Put, Shelf, Store, StoreFault};
 use std::alloc::Global;
 
 impl<S: Shelf> Depot<S> {
@@ -105,9 +105,9 @@ fn store_object<S: Shelf>(store: &mut Store<S>, key: &Key, bytes: &[u8]) -> Repl
     ensures gives { GivesBy (IsObject key.now bytes.now) (S.may_give store.old.shelf) (S.may_give store.new.shelf) }
     ensures faults { Counts (S.faults store.old.shelf) (S.faults store.new.shelf) result }
 {
-    let new = store.has(*key).is_none();
     match store.put(*key, bytes) {
-        Ok(_) => Reply::Stored(new),
+        Ok(Put::New) => Reply::Stored(true),
+        Ok(Put::Same) => Reply::Stored(false),
         Err(fault) => Reply::Refused(store_refusal(fault)),
     }
 }

@@ -5,7 +5,8 @@ use Rattle.depot.specs.DepotView.{library}
 use Rattle.depot.specs.Answering.{MayRefuseUpdate}
 use Rattle.depot.specs.ObjectCalls.{IsToldDamageOf}
 use Rattle.depot.specs.UpdatePlan.{MergeRefuses}
-use Rattle.depot.proofs.UpdateBaseLemmas.{none_due, told_damage, told_merge}
+use Rattle.depot.proofs.RefusalsLemmas.{none_due, told_damage}
+use Rattle.depot.proofs.UpdateBaseLemmas.{told_merge}
 use Rattle.depot.proofs.UpdateMergeLemmas.{at_head, merge_damage, merge_may, merge_refuses, merges_so, roots_at, roots_whole}
 use Rattle.depot.specs.Refusals.{walk_refusal}
 use Rattle.depot.proofs.update_merge.plan_merge.Goals as goal
