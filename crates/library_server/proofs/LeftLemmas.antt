@@ -18,7 +18,7 @@ use Rattle.object_store.specs.Shelf.{Contents}
 use Rattle.object_store.specs.StoreView.{StoreView, indexed, objects_of, status_of}
 use Rattle.object_store.specs.Store.{is_of_shelf}
 use Rattle.object_store.specs.declared.error.StoreFault.{StoreFault}
-use Rattle.library_server.specs.LibraryOpening.{LeavesOpened, LeavesShelf, LeftUnstarted}
+use Rattle.library_server.specs.Starting.{LeavesOpened, LeavesShelf, LeftUnstarted}
 use Rattle.library_server.specs.Making.{LeavesText, first_of}
 use Rattle.library_server.specs.declared.making.NewLibrary.{NewLibrary}
 use Rattle.library_server.specs.declared.not_done.NotStarted.{NotStarted}

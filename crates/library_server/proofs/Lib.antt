@@ -1,7 +1,7 @@
 pub mod StandingLemmas
 pub mod DepotLemmas
 pub mod LeftLemmas
-pub mod OpeningLemmas
+pub mod StartingLemmas
 pub mod NamesLemmas
 pub mod TokenLemmas
 pub mod WholeLemmas

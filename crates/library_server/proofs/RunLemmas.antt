@@ -15,8 +15,8 @@ use Rattle.server_words.specs.declared.fault.Fault.TheVariants as fault
 use Rattle.server_words.specs.declared.line.Line.TheVariants as line
 use Rattle.worker_server.specs.declared.served.Served.{Served}
 use Rattle.worker_server.specs.declared.served.Served.TheVariants as served
-use Rattle.library_server.specs.Connections.{LinkView, ServesOpened, opened, status_of, unopened}
-use Rattle.library_server.specs.Lines.{fault_of_not_added, fault_of_not_made, fault_of_not_opened}
+use Rattle.library_server.specs.Connections.{LinkView, ServesOpened, opened, status_of, unbrought}
+use Rattle.library_server.specs.Lines.{fault_of_not_added, fault_of_not_made, fault_of_not_brought}
 use Rattle.server_words.specs.declared.command.Location.{Location}
 use Rattle.library_server.specs.Adding.{IsAddedTo, IsNotAdded, is_unadded_counted}
 use Rattle.library_server.specs.Making.{IsNotMade, RoseWhere, is_unmade_counted}
@@ -103,8 +103,8 @@ module _ {S : Type 0} (contents : S → Option Contents) (may_give : S → Slot 
       absurd (no_print (line_printed (added_line added.added)) out_before out_now status added.prints (no_addition added.added) two)
   runs_usage command old new before now out_before out_now status (serves location lib is (opened depot after state opens service good back) out) two =
       absurd (no_service depot after before now status service two)
-  runs_usage command old new before now out_before out_now status (serves location lib is (unopened why refused code left) out) two =
-      absurd (no_fault (fault_of_not_opened why) (sym code ∙ two))
+  runs_usage command old new before now out_before out_now status (serves location lib is (unbrought why refused code left) out) two =
+      absurd (no_fault (fault_of_not_brought why) (sym code ∙ two))
   runs_usage command old new before now out_before out_now status (prints printed is (whole put kept code) same left) two =
       let alone = usage_alone command printed is (sym code ∙ two) in
       (alone.0, put ∙ ap (append_known out_before.given) alone.1)

@@ -50,7 +50,7 @@ use Rattle.library_server.proofs.DepotLemmas.{mapped_from}
 use Rattle.library_server.proofs.NamesLemmas.{names_new, names_stepped}
 use Rattle.library_server.proofs.TokenLemmas.{freed}
 use Rattle.library_server.specs.Answering.{AnswersOn, NamesIn, NeverFails, is_storage_reply}
-use Rattle.library_server.specs.LibraryOpening.{IsDueOpening, IsOpenedFrom, is_unstarted_counted, opening_refusal, read_refusal}
+use Rattle.library_server.specs.Starting.{IsDueOpening, IsOpenedFrom, is_unstarted_counted, opening_refusal, read_refusal}
 use Rattle.library_server.specs.Lines.{fault_of_make, fault_of_not_added, fault_of_not_made, fault_of_not_started, fault_of_shelf, fault_of_store, fault_of_token, fault_of_tree, is_storage_fault}
 use Rattle.library_server.specs.Making.{no_objects}
 use Rattle.library_server.specs.Runs.{added_line, created_line}

@@ -15,7 +15,7 @@ use Rattle.object_store.specs.Shelf.{Contents}
 use Rattle.object_store.specs.Store.{is_free, is_of_shelf}
 use Rattle.object_store.specs.declared.shelf.Slot.{Slot}
 use Rattle.server_words.specs.declared.command.Location.{Location}
-use Rattle.library_server.specs.LibraryOpening.{IsNotOpened, IsOpenedState, OpensTo, RefusesOpening, is_unopened_counted}
+use Rattle.library_server.specs.Starting.{IsNotBrought, IsOpenedState, OpensTo, RefusesOpening, is_unbrought_counted}
 use Rattle.library_server.specs.Standing.{StandsAs}
 use Rattle.library_server.specs.declared.adding.NewToken.{NewToken}
 use Rattle.library_server.specs.declared.not_done.NotAdded.{NotAdded}
@@ -44,7 +44,7 @@ RefusesToken new s (token.Store why) after = IsTrue (is_free why) × (StandsWith
 abbrev pub AddsSo : Location → List ℕ → (ℕ → Type 0) → NewToken → Standing → Result ⊤ NotAdded → Option Standing → Type 0
 AddsSo location lib shows new standing (Ok done) after = (s : State) × OpensTo location lib shows standing s × StandsAs after (with_new new s)
 AddsSo location lib shows new standing (Err (unadded.Refused why)) after = (s : State) × OpensTo location lib shows standing s × RefusesToken new s why after
-AddsSo location lib shows new standing (Err (unadded.Unopened why)) after = RefusesOpening location lib shows standing why after
+AddsSo location lib shows new standing (Err (unadded.Unbrought why)) after = RefusesOpening location lib shows standing why after
 
 -- why a token is refused by the state that was opened: another token has its secret, or there are 1,000
 abbrev pub IsTokenRefused : LibState → NewToken → TokenFault → Type 0
@@ -58,10 +58,10 @@ IsAddedTo gives location lib shows new = (state : LibState) × IsOpenedState giv
 
 -- the cause of each refusal, over any ground, in what the named library may give as it is handed out
 abbrev pub IsNotAdded : (Slot → Option (List ℕ) → Type 0) → Location → List ℕ → (ℕ → Type 0) → NewToken → NotAdded → Type 0
-IsNotAdded gives location lib shows new (unadded.Unopened why) = IsNotOpened gives location lib shows why
+IsNotAdded gives location lib shows new (unadded.Unbrought why) = IsNotBrought gives location lib shows why
 IsNotAdded gives location lib shows new (unadded.Refused why) = (state : LibState) × IsOpenedState gives location lib shows state × IsTokenRefused state new why
 
 -- the failure that the storage counts
 abbrev pub is_unadded_counted : NotAdded → Bool
-is_unadded_counted (unadded.Unopened why) = is_unopened_counted why
+is_unadded_counted (unadded.Unbrought why) = is_unbrought_counted why
 is_unadded_counted (unadded.Refused why) = is_token_counted why

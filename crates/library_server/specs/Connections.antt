@@ -14,11 +14,11 @@ use Rattle.worker_server.specs.ServedConnection.{CountsEnd, EndsAsked, SessionIn
 use Rattle.worker_server.specs.declared.served.Served.{Served}
 use Rattle.worker_server.specs.declared.served.Served.TheVariants.{Ended, Limit, Cut, Refused, ReadFault, WriteFault, NoMemory}
 use Rattle.library_server.specs.Answering.{AnswersOn, AsksTooMuch}
-use Rattle.library_server.specs.LibraryOpening.{IsNotOpened, IsOpenedState, OpensTo, RefusesOpening, is_unopened_counted}
-use Rattle.library_server.specs.Lines.{fault_of_not_opened}
+use Rattle.library_server.specs.Starting.{IsNotBrought, IsOpenedState, OpensTo, RefusesOpening, is_unbrought_counted}
+use Rattle.library_server.specs.Lines.{fault_of_not_brought}
 use Rattle.library_server.specs.Making.{RoseWhere}
 use Rattle.library_server.specs.Standing.{ComesBack, GroundView, Returned}
-use Rattle.library_server.specs.declared.not_done.NotOpened.{NotOpened}
+use Rattle.library_server.specs.declared.not_done.NotBrought.{NotBrought}
 
 -- what is seen of a link: the bytes that it has left, what it tells of those that it moved, and its count of faults
 pub record LinkView : Type 0 where
@@ -49,11 +49,11 @@ pub record ServesOpened {S : Type 0} (contents : S → Option Contents) (may_giv
 
 -- why no library was opened: the refusal, its cause in what the named library may give, and that the storage's count rose
 -- where it failed
-pub record IsUnopened {S : Type 0} (contents : S → Option Contents) (gives : Slot → Option (List ℕ) → Type 0)
-    (location : Location) (lib : List ℕ) (shows : ℕ → Type 0) (old new : GroundView) (why : NotOpened) : Type 0 where
+pub record IsUnbrought {S : Type 0} (contents : S → Option Contents) (gives : Slot → Option (List ℕ) → Type 0)
+    (location : Location) (lib : List ℕ) (shows : ℕ → Type 0) (old new : GroundView) (why : NotBrought) : Type 0 where
   pub told : (standing : Standing) → old.stands (location_text location) lib ≡ Some standing → RefusesOpening location lib shows standing why (new.stands (location_text location) lib)
-  pub cause : IsNotOpened gives location lib shows why
-  pub count : RoseWhere (is_unopened_counted why) old.faults new.faults
+  pub cause : IsNotBrought gives location lib shows why
+  pub count : RoseWhere (is_unbrought_counted why) old.faults new.faults
   pub back : Returned contents old.stands new.stands (location_text location) lib
 
 -- one connection with the library that a command names, and with no other: it was opened, served and is back, with what its
@@ -65,6 +65,6 @@ pub data ServesLocation {S : Type 0} (contents : S → Option Contents) (may_giv
       → ServesOpened contents may_give texts faults shows depot after before now status
       → IsGood contents faults after → ComesBack old.stands new.stands (location_text location) lib (contents after.store.shelf)
       → ServesLocation contents may_give texts faults gives location lib shows old new before now status
-  unopened : (why : NotOpened) → IsUnopened contents (gives (location_text location) lib) location lib shows old new why
-      → status ≡ fault_status (fault_of_not_opened why) → now ≡ before
+  unbrought : (why : NotBrought) → IsUnbrought contents (gives (location_text location) lib) location lib shows old new why
+      → status ≡ fault_status (fault_of_not_brought why) → now ≡ before
       → ServesLocation contents may_give texts faults gives location lib shows old new before now status

@@ -3,7 +3,7 @@ pub mod Standing
 pub mod Answering
 pub mod Whole
 pub mod Making
-pub mod LibraryOpening
+pub mod Starting
 pub mod Creating
 pub mod Adding
 pub mod Connections

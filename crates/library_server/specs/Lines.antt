@@ -1,4 +1,4 @@
--- The fault that is printed where a command was not done. Our own. Read fault_of_not_opened first, and the words of
+-- The fault that is printed where a command was not done. Our own. Read fault_of_not_brought first, and the words of
 -- each fault in server_words.
 use Rattle.std.specs.Prelude.{Bool, true, false}
 use Rattle.depot.specs.declared.error.MakeFault.{MakeFault}
@@ -20,8 +20,8 @@ use Rattle.library_server.specs.declared.not_done.NotAdded.{NotAdded}
 use Rattle.library_server.specs.declared.not_done.NotAdded.TheVariants as added
 use Rattle.library_server.specs.declared.not_done.NotMade.{NotMade}
 use Rattle.library_server.specs.declared.not_done.NotMade.TheVariants as made
-use Rattle.library_server.specs.declared.not_done.NotOpened.{NotOpened}
-use Rattle.library_server.specs.declared.not_done.NotOpened.TheVariants as opened
+use Rattle.library_server.specs.declared.not_done.NotBrought.{NotBrought}
+use Rattle.library_server.specs.declared.not_done.NotBrought.TheVariants as opened
 use Rattle.library_server.specs.declared.not_done.NotStarted.{NotStarted}
 use Rattle.library_server.specs.declared.not_done.NotStarted.TheVariants as unstarted
 
@@ -73,14 +73,14 @@ fault_of_not_made (made.Storage failed) = fault_of_shelf failed
 fault_of_not_made made.Exists = fault.LibraryExists
 fault_of_not_made (made.Refused why) = fault_of_make why
 
-abbrev pub fault_of_not_opened : NotOpened → Fault
-fault_of_not_opened (opened.Storage failed) = fault_of_shelf failed
-fault_of_not_opened opened.Absent = fault.NoLibrary
-fault_of_not_opened (opened.Refused why) = fault_of_not_started why
-fault_of_not_opened (opened.Unmade why) = fault_of_not_made why
+abbrev pub fault_of_not_brought : NotBrought → Fault
+fault_of_not_brought (opened.Storage failed) = fault_of_shelf failed
+fault_of_not_brought opened.Absent = fault.NoLibrary
+fault_of_not_brought (opened.Refused why) = fault_of_not_started why
+fault_of_not_brought (opened.Unmade why) = fault_of_not_made why
 
 abbrev pub fault_of_not_added : NotAdded → Fault
-fault_of_not_added (added.Unopened why) = fault_of_not_opened why
+fault_of_not_added (added.Unbrought why) = fault_of_not_brought why
 fault_of_not_added (added.Refused why) = fault_of_token why
 
 -- the faults of the storage: it failed, or what it gave is damaged

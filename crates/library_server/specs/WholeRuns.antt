@@ -10,8 +10,8 @@ use Rattle.server_words.specs.declared.line.Line.{Line}
 use Rattle.server_words.specs.declared.line.Line.TheVariants as line
 use Rattle.worker_server.specs.Calls.{Told}
 use Rattle.library_server.specs.Answering.{is_storage_reply}
-use Rattle.library_server.specs.Connections.{LinkView, ServesLocation, opened, unopened}
-use Rattle.library_server.specs.Lines.{fault_of_not_opened, is_storage_fault}
+use Rattle.library_server.specs.Connections.{LinkView, ServesLocation, opened, unbrought}
+use Rattle.library_server.specs.Lines.{fault_of_not_brought, is_storage_fault}
 use Rattle.library_server.specs.Runs.{RunsSo, SinkView, added_line, adds, created_line, creates, prints, serves, unread}
 use Rattle.library_server.specs.Standing.{GroundView}
 
@@ -29,7 +29,7 @@ abbrev pub ServesWhole : {S : Type 0} {contents : S → Option Contents} {may_gi
     {location : Location} {lib : List ℕ} {shows : ℕ → Type 0} {old new : GroundView} {before now : LinkView} {status : ℕ}
     → ServesLocation contents may_give texts faults gives location lib shows old new before now status → Type 0
 ServesWhole (opened depot after state opens service good back) = NoneOfStorage service.ran.0
-ServesWhole (unopened why refused code left) = is_storage_fault (fault_of_not_opened why) ≡ false
+ServesWhole (unbrought why refused code left) = is_storage_fault (fault_of_not_brought why) ≡ false
 
 -- of what a command did: the line that it put tells no fault of the storage, or it served so; a text and a status alone tell
 -- none

@@ -11,7 +11,7 @@ ghost use Rattle.library_server.specs.Standing.{Returned};
 ghost use Rattle.library_server.specs.Whole.{IsWhole, NotOfStorage};
 
 use crate::not_done::NotAdded;
-use crate::opening::{bring_back, folder_word, open_library};
+use crate::starting::{bring_back, folder_word, start_library};
 use folder_storage::Ground;
 use ids::{LibId, Text};
 use library_state::{Clock, Right, Secret};
@@ -26,7 +26,7 @@ pub(crate) struct NewToken {
     pub right: Right,
 }
 
-/// Opens a library and adds a token to it. What was handed out is back.
+/// Starts a library and adds a token to it. What was handed out is back.
 pub(crate) fn add_token<G: Ground, C: Clock>(
     alloc: Global,
     libraries: &mut G,
@@ -45,9 +45,9 @@ pub(crate) fn add_token<G: Ground, C: Clock>(
     ensures steady { NeverFails G.S.faults → (standing : Standing) → G.stands libraries.old (location_text location.now) lib ≡ Some standing → IsWhole standing
         → NotOfStorage fault_of_not_added result }
 {
-    let mut depot = match open_library(alloc, libraries, location, lib, clock) {
+    let mut depot = match start_library(alloc, libraries, location, lib, clock) {
         Ok(depot) => depot,
-        Err(fault) => return Err(NotAdded::Unopened(fault)),
+        Err(fault) => return Err(NotAdded::Unbrought(fault)),
     };
     match depot.add_token(&token.user, token.secret, token.right) {
         Ok(()) => {

@@ -12,7 +12,7 @@ ghost use Rattle.library_server.specs.Whole.{IsWhole, NotOfStorage};
 
 use crate::making::{NewLibrary, make_library};
 use crate::not_done::NotMade;
-use crate::opening::bring_back;
+use crate::starting::bring_back;
 use folder_storage::Ground;
 use ids::ObjId;
 use std::alloc::Global;

@@ -9,8 +9,8 @@ ghost use Rattle.library_server.specs.Standing.{GroundView};
 ghost use Rattle.library_server.specs.Whole.{IsWhole};
 ghost use Rattle.library_server.specs.WholeRuns.{ServesWhole};
 
-use crate::opening::{bring_back, folder_word, open_library};
 use crate::serving::serve_link;
+use crate::starting::{bring_back, folder_word, start_library};
 use depot::Depot;
 use folder_storage::Ground;
 use http_front::Link;
@@ -21,7 +21,7 @@ use server_words::{Line, Location};
 use std::alloc::Global;
 use worker_server::Served;
 
-/// Opens a library, serves one connection with it, and gives the status. It prints nothing. What was handed out is back.
+/// Starts a library, serves one connection with it, and gives the status. It prints nothing. What was handed out is back.
 pub(crate) fn inetd<G: Ground, L: Link, C: Clock>(
     alloc: Global,
     libraries: &mut G,
@@ -38,7 +38,7 @@ pub(crate) fn inetd<G: Ground, L: Link, C: Clock>(
         × (NeverFails G.S.faults → (standing : Standing) → G.stands libraries.old (location_text location.now) lib ≡ Some standing → IsWhole standing
         → ServesWhole service) }
 {
-    let mut depot = match open_library(alloc, libraries, location, lib, clock) {
+    let mut depot = match start_library(alloc, libraries, location, lib, clock) {
         Ok(depot) => depot,
         Err(fault) => return Line::Fault(fault.fault()).status(),
     };
@@ -47,7 +47,7 @@ pub(crate) fn inetd<G: Ground, L: Link, C: Clock>(
     status
 }
 
-/// Serves one connection with a library that was opened.
+/// Serves one connection with a library that was started.
 fn serve_opened<S: Shelf, L: Link, C: Clock>(
     alloc: Global,
     depot: &mut Depot<S>,

@@ -10,9 +10,9 @@ mod creating;
 mod inetd;
 mod making;
 mod not_done;
-mod opening;
 mod running;
 mod serving;
+mod starting;
 
 pub use crate::running::{run, run_in_memory};
 pub use crate::serving::serve_link;

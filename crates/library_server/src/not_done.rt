@@ -1,6 +1,6 @@
 //! Why a command was not done, and the line that tells it.
 ghost use Rattle.std.specs.Prelude.{◌≡◌};
-ghost use Rattle.library_server.specs.Lines.{fault_of_make, fault_of_not_added, fault_of_not_made, fault_of_not_opened, fault_of_not_started, fault_of_shelf, fault_of_start, fault_of_store, fault_of_token, fault_of_tree};
+ghost use Rattle.library_server.specs.Lines.{fault_of_make, fault_of_not_added, fault_of_not_made, fault_of_not_brought, fault_of_not_started, fault_of_shelf, fault_of_start, fault_of_store, fault_of_token, fault_of_tree};
 
 use depot::{MakeFault, StartFault, TokenFault};
 use library_state::StateKey;
@@ -19,23 +19,23 @@ pub enum NotMade {
     Refused(MakeFault),
 }
 
-/// Why what lies on a library's shelf was not opened.
+/// Why the library of a shelf was not started.
 #[derive(Debug, Drop)]
 pub enum NotStarted {
-    /// It could not be opened.
+    /// It could not be started.
     Fault(StartFault),
     /// It is another library than the one that was named.
     Other,
 }
 
-/// Why a library was not opened.
+/// Why the library that a command names was not brought from its place and started.
 #[derive(Debug, Drop)]
-pub enum NotOpened {
+pub enum NotBrought {
     /// What libraries are kept in failed, or had no memory.
     Storage(ShelfFailed),
     /// The library is not there.
     Absent,
-    /// It could not be opened from its shelf.
+    /// It was not started from its shelf.
     Refused(NotStarted),
     /// The library, which was not there and is in memory, was not made.
     Unmade(NotMade),
@@ -44,8 +44,8 @@ pub enum NotOpened {
 /// Why a token was not added.
 #[derive(Debug, Drop)]
 pub enum NotAdded {
-    /// The library was not opened.
-    Unopened(NotOpened),
+    /// The library was not brought.
+    Unbrought(NotBrought),
     /// The library refused it.
     Refused(TokenFault),
 }
@@ -63,16 +63,16 @@ impl NotMade {
     }
 }
 
-impl NotOpened {
+impl NotBrought {
     /// As it is printed.
     pub fn fault(self) -> Fault
-        ensures value { result ≡ fault_of_not_opened self }
+        ensures value { result ≡ fault_of_not_brought self }
     {
         match self {
-            NotOpened::Storage(failed) => fault_of_shelf(failed),
-            NotOpened::Absent => Fault::NoLibrary,
-            NotOpened::Refused(why) => fault_of_not_started(why),
-            NotOpened::Unmade(fault) => fault.fault(),
+            NotBrought::Storage(failed) => fault_of_shelf(failed),
+            NotBrought::Absent => Fault::NoLibrary,
+            NotBrought::Refused(why) => fault_of_not_started(why),
+            NotBrought::Unmade(fault) => fault.fault(),
         }
     }
 }
@@ -83,7 +83,7 @@ impl NotAdded {
         ensures value { result ≡ fault_of_not_added self }
     {
         match self {
-            NotAdded::Unopened(fault) => fault.fault(),
+            NotAdded::Unbrought(fault) => fault.fault(),
             NotAdded::Refused(fault) => fault_of_token(fault),
         }
     }

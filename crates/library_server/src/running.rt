@@ -21,7 +21,7 @@ use crate::creating::create;
 use crate::inetd::inetd;
 use crate::making::NewLibrary;
 use crate::not_done::{NotAdded, NotMade};
-use crate::opening::folder_word;
+use crate::starting::folder_word;
 use folder_storage::{Ground, MemoryGround};
 use http_front::{Link, Sink};
 use ids::{LibId, ObjId, Text};

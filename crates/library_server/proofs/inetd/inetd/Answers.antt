@@ -1,7 +1,7 @@
 -- What was opened comes back, and its end gives the status.
 use Rattle.std.proofs.Common.{◌∙◌, ap, refl}
 use Rattle.server_words.specs.Lines.{fault_status}
-use Rattle.library_server.specs.Connections.{opened, unopened}
+use Rattle.library_server.specs.Connections.{opened, unbrought}
 use Rattle.library_server.proofs.StandingLemmas.{comes_back}
 use Rattle.library_server.proofs.WholeLemmas.{calls_whole}
 use Rattle.library_server.proofs.inetd.inetd.Goals as goal
@@ -9,7 +9,7 @@ use Rattle.library_server.proofs.inetd.inetd.Goals as goal
 pub returns-in-Err : goal.returns-in-Err
 returns-in-Err g c = record {
   serves = (
-    unopened c.in-Err.fault (record {
+    unbrought c.in-Err.fault (record {
       told = c.in-Err.ensures.shown;
       cause = c.in-Err.ensures.cause;
       count = c.in-Err.ensures.faults;

@@ -23,13 +23,13 @@ use Rattle.object_store.specs.StoreView.{StoreView, status_of}
 use Rattle.object_store.specs.declared.shelf.Slot.{Slot}
 use Rattle.object_store.specs.declared.shelf.Slot.TheVariants.{Status}
 use Rattle.server_words.specs.declared.command.Location.{Location}
-use Rattle.library_server.specs.LibraryOpening.{GivesOther, IsDueOpening, IsNotOpened, IsNotStarted, IsOpenedState, IsTextOf, memory_library, of_new, of_text, opening_refusal, read_refusal}
+use Rattle.library_server.specs.Starting.{GivesOther, IsDueOpening, IsNotBrought, IsNotStarted, IsOpenedState, IsTextOf, memory_library, of_new, of_text, opening_refusal, read_refusal}
 use Rattle.library_server.specs.Making.{IsNotMade}
 use Rattle.library_server.specs.declared.making.NewLibrary.{NewLibrary}
 use Rattle.library_server.specs.declared.not_done.NotMade.{NotMade}
 use Rattle.library_server.specs.declared.not_done.NotMade.TheVariants as unmade
-use Rattle.library_server.specs.declared.not_done.NotOpened.{NotOpened}
-use Rattle.library_server.specs.declared.not_done.NotOpened.TheVariants as unopened
+use Rattle.library_server.specs.declared.not_done.NotBrought.{NotBrought}
+use Rattle.library_server.specs.declared.not_done.NotBrought.TheVariants as unbrought
 use Rattle.library_server.specs.declared.not_done.NotStarted.{NotStarted}
 use Rattle.library_server.specs.declared.not_done.NotStarted.TheVariants as unstarted
 use Rattle.ids.proofs.BasicLemmas.{apart_from_bytes_eq}
@@ -80,23 +80,23 @@ unmade_before new moment (unmade.Storage failed) gives is = tt
 unmade_before new moment unmade.Exists gives is = tt
 unmade_before new moment (unmade.Refused fault) gives is = make_before gives (opening_object (opening_commit new.lib new.user moment)) fault is
 
-unopened_before : {before now : Slot → Option (List ℕ) → Type 0} (location : Location) (lib : List ℕ) (shows : ℕ → Type 0) (why : NotOpened)
-    → GivesNoMore before now → IsNotOpened now location lib shows why → IsNotOpened before location lib shows why
-unopened_before location lib shows (unopened.Storage failed) gives is = tt
-unopened_before location lib shows unopened.Absent gives is = is
-unopened_before location lib shows (unopened.Refused why) gives is = unstarted_before lib why gives is
-unopened_before location lib shows (unopened.Unmade why) gives is = (is.0, is.1, is.2, unmade_before (memory_library lib) is.1 why gives is.3)
+unbrought_before : {before now : Slot → Option (List ℕ) → Type 0} (location : Location) (lib : List ℕ) (shows : ℕ → Type 0) (why : NotBrought)
+    → GivesNoMore before now → IsNotBrought now location lib shows why → IsNotBrought before location lib shows why
+unbrought_before location lib shows (unbrought.Storage failed) gives is = tt
+unbrought_before location lib shows unbrought.Absent gives is = is
+unbrought_before location lib shows (unbrought.Refused why) gives is = unstarted_before lib why gives is
+unbrought_before location lib shows (unbrought.Unmade why) gives is = (is.0, is.1, is.2, unmade_before (memory_library lib) is.1 why gives is.3)
 
 -- the same where it was looked for first, and is not there
-pub absent_given : {S : Type 0} {before now : Slot → Option (List ℕ) → Type 0} (location : Location) (lib : List ℕ) (shows : ℕ → Type 0) (result : Result (DepotView S) NotOpened)
+pub absent_given : {S : Type 0} {before now : Slot → Option (List ℕ) → Type 0} (location : Location) (lib : List ℕ) (shows : ℕ → Type 0) (result : Result (DepotView S) NotBrought)
     → GivesNoMore before now → IfOk result (λ depot. IsOpenedState now location lib shows depot.state) → IfOk result (λ depot. IsOpenedState before location lib shows depot.state)
 absent_given location lib shows (Ok depot) gives is = opened_before location lib shows depot.state gives is
 absent_given location lib shows (Err why) gives is = tt
 
-pub absent_cause : {S : Type 0} {before now : Slot → Option (List ℕ) → Type 0} (location : Location) (lib : List ℕ) (shows : ℕ → Type 0) (result : Result (DepotView S) NotOpened)
-    → GivesNoMore before now → IfErr result (IsNotOpened now location lib shows) → IfErr result (IsNotOpened before location lib shows)
+pub absent_cause : {S : Type 0} {before now : Slot → Option (List ℕ) → Type 0} (location : Location) (lib : List ℕ) (shows : ℕ → Type 0) (result : Result (DepotView S) NotBrought)
+    → GivesNoMore before now → IfErr result (IsNotBrought now location lib shows) → IfErr result (IsNotBrought before location lib shows)
 absent_cause location lib shows (Ok depot) gives is = tt
-absent_cause location lib shows (Err why) gives is = unopened_before location lib shows why gives is
+absent_cause location lib shows (Err why) gives is = unbrought_before location lib shows why gives is
 
 ok_same : (a b : LibState) → ◌≡◌ {A = Result LibState StateKey} (Ok a) (Ok b) → a ≡ b
 ok_same a b e = cc

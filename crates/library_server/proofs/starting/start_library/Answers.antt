@@ -1,20 +1,20 @@
--- What was found is opened, and comes back where it isn't.
+-- What was found is started, and comes back where it isn't.
 use Rattle.std.proofs.Common.{◌∙◌}
-use Rattle.library_server.specs.LibraryOpening.{reopened}
+use Rattle.library_server.specs.Starting.{reopened}
 use Rattle.library_server.specs.Standing.{came_back}
 use Rattle.library_server.proofs.LeftLemmas.{left_kept}
-use Rattle.library_server.proofs.OpeningLemmas.{absent_cause, absent_given, opened_state, unstarted_before}
+use Rattle.library_server.proofs.StartingLemmas.{absent_cause, absent_given, opened_state, unstarted_before}
 use Rattle.library_server.proofs.StandingLemmas.{comes_back, hands_after}
 use Rattle.std.proofs.Common.{Err, Some, ap, subst}
 use Rattle.std.specs.Prelude.{⊤}
-use Rattle.library_server.specs.LibraryOpening.{is_unstarted_counted}
+use Rattle.library_server.specs.Starting.{is_unstarted_counted}
 use Rattle.library_server.specs.Whole.{IsWhole}
 use Rattle.library_server.proofs.WholeLemmas.{names_of, opened_names, started_whole, steady_count, want_whole, whole_in}
-use Rattle.library_server.proofs.opening.open_library.Goals as goal
+use Rattle.library_server.proofs.starting.start_library.Goals as goal
 
 pub returns-in-Ok-None-clause-back : goal.returns-in-Ok-None-clause-back
 returns-in-Ok-None-clause-back g c =
-    hands_after g.G.S.Shelf.contents _ _ _ _ _ c.open_absent.result (rw c.in-Ok-None.field-0-is at c.in-Ok-None.ensures.ok) c.open_absent.ensures.back
+    hands_after g.G.S.Shelf.contents _ _ _ _ _ c.start_absent.result (rw c.in-Ok-None.field-0-is at c.in-Ok-None.ensures.ok) c.start_absent.ensures.back
 
 pub returns-in-Ok-clause-shown : goal.returns-in-Ok-clause-shown
 returns-in-Ok-clause-shown g c = λ standing there.
@@ -22,19 +22,19 @@ returns-in-Ok-clause-shown g c = λ standing there.
     let opens = c.in-Ok.ensures.shown found.0 found.2 in
     (opens.0, opens.1, reopened found.0 found.1 opens.2)
 
-pub returns-in-Err-open_on-clause-shown : goal.returns-in-Err-open_on-clause-shown
-returns-in-Err-open_on-clause-shown g c = λ standing there.
+pub returns-in-Err-start_on-clause-shown : goal.returns-in-Err-start_on-clause-shown
+returns-in-Err-start_on-clause-shown g c = λ standing there.
     let found = (rw c.in-Ok-Some.field-0-is at (rw c.folder_word-folder.ensures.value at c.in-Ok-Some.ensures.found)) standing there in
     let back = comes_back _ _ _ _ _ _
     (rw c.in-Ok-Some.field-0-is at (rw c.folder_word-folder.ensures.value at c.in-Ok-Some.ensures.ok))
     (rw c.folder_word-folder.ensures.value at c.give_back.ensures.ok) in
-    let left = c.in-Err-open_on.ensures.left found.0 found.2 in
-    let kept = left_kept c.in-Err-open_on.why found.0 _ left in
-    (found.0, found.1, c.in-Err-open_on.ensures.refused found.0 found.2, (kept.0, back.here standing kept.0 there kept.1, kept.2))
+    let left = c.in-Err-start_on.ensures.left found.0 found.2 in
+    let kept = left_kept c.in-Err-start_on.why found.0 _ left in
+    (found.0, found.1, c.in-Err-start_on.ensures.refused found.0 found.2, (kept.0, back.here standing kept.0 there kept.1, kept.2))
 
-pub returns-in-Err-open_on-clause-back : goal.returns-in-Err-open_on-clause-back
-returns-in-Err-open_on-clause-back g c =
-    came_back c.in-Err-open_on.shelf (comes_back _ _ _ _ _ _
+pub returns-in-Err-start_on-clause-back : goal.returns-in-Err-start_on-clause-back
+returns-in-Err-start_on-clause-back g c =
+    came_back c.in-Err-start_on.shelf (comes_back _ _ _ _ _ _
     (rw c.in-Ok-Some.field-0-is at (rw c.folder_word-folder.ensures.value at c.in-Ok-Some.ensures.ok))
     (rw c.folder_word-folder.ensures.value at c.give_back.ensures.ok))
 
@@ -45,20 +45,20 @@ pub returns-in-Ok-clause-given : goal.returns-in-Ok-clause-given
 returns-in-Ok-clause-given g c =
     opened_state c.args.location.now c.args.lib _ _ (rw c.in-Ok-Some.field-0-is at (rw c.folder_word-folder.ensures.value at c.in-Ok-Some.ensures.handed)) c.in-Ok.ensures.given c.in-Ok.ensures.named
 
-pub returns-in-Err-open_on-clause-cause : goal.returns-in-Err-open_on-clause-cause
-returns-in-Err-open_on-clause-cause g c =
-    unstarted_before c.args.lib c.in-Err-open_on.why (rw c.in-Ok-Some.field-0-is at (rw c.folder_word-folder.ensures.value at c.in-Ok-Some.ensures.handed)) c.in-Err-open_on.ensures.cause
+pub returns-in-Err-start_on-clause-cause : goal.returns-in-Err-start_on-clause-cause
+returns-in-Err-start_on-clause-cause g c =
+    unstarted_before c.args.lib c.in-Err-start_on.why (rw c.in-Ok-Some.field-0-is at (rw c.folder_word-folder.ensures.value at c.in-Ok-Some.ensures.handed)) c.in-Err-start_on.ensures.cause
 
 pub returns-in-Ok-None-clause-given : goal.returns-in-Ok-None-clause-given
-returns-in-Ok-None-clause-given g c = absent_given c.args.location.now c.args.lib _ c.open_absent.result (c.in-Ok-None.ensures.gives _ _) c.open_absent.ensures.given
+returns-in-Ok-None-clause-given g c = absent_given c.args.location.now c.args.lib _ c.start_absent.result (c.in-Ok-None.ensures.gives _ _) c.start_absent.ensures.given
 
 pub returns-in-Ok-None-clause-cause : goal.returns-in-Ok-None-clause-cause
-returns-in-Ok-None-clause-cause g c = absent_cause c.args.location.now c.args.lib _ c.open_absent.result (c.in-Ok-None.ensures.gives _ _) c.open_absent.ensures.cause
+returns-in-Ok-None-clause-cause g c = absent_cause c.args.location.now c.args.lib _ c.start_absent.result (c.in-Ok-None.ensures.gives _ _) c.start_absent.ensures.cause
 
 pub returns-in-Ok-None-clause-steady : goal.returns-in-Ok-None-clause-steady
 returns-in-Ok-None-clause-steady g c = λ steady standing there whole.
     let absent = (rw c.in-Ok-None.field-0-is at (rw c.folder_word-folder.ensures.value at c.in-Ok-None.ensures.found)) standing there in
-    c.open_absent.ensures.steady steady ((rw c.in-Ok-None.field-0-is at c.in-Ok-None.ensures.ok) _ _ ∙ there ∙ ap Some absent)
+    c.start_absent.ensures.steady steady ((rw c.in-Ok-None.field-0-is at c.in-Ok-None.ensures.ok) _ _ ∙ there ∙ ap Some absent)
 
 pub returns-in-Err-clause-steady : goal.returns-in-Err-clause-steady
 returns-in-Err-clause-steady g c = λ steady standing there whole.
@@ -70,9 +70,9 @@ returns-in-Ok-clause-steady g c = λ steady standing there whole.
     let opens = c.in-Ok.ensures.shown found.0 found.2 in
     names_of g.G.S.Shelf.contents g.G.S.Shelf.faults c.in-Ok.depot opens.0 opens.1 (opened_names c.args.lib found.0 opens.0 opens.2 (subst IsWhole found.1 whole))
 
-pub returns-in-Err-open_on-clause-steady : goal.returns-in-Err-open_on-clause-steady
-returns-in-Err-open_on-clause-steady g c = λ steady standing there whole.
+pub returns-in-Err-start_on-clause-steady : goal.returns-in-Err-start_on-clause-steady
+returns-in-Err-start_on-clause-steady g c = λ steady standing there whole.
     let found = (rw c.in-Ok-Some.field-0-is at (rw c.folder_word-folder.ensures.value at c.in-Ok-Some.ensures.found)) standing there in
-    started_whole c.args.lib found.0.objects found.0.status c.in-Err-open_on.why (subst IsWhole found.1 whole)
-    (steady_count {T = ⊤} is_unstarted_counted _ _ (Err c.in-Err-open_on.why) (steady _) (steady _) c.in-Err-open_on.ensures.faults)
-    (c.in-Err-open_on.ensures.refused found.0 found.2)
+    started_whole c.args.lib found.0.objects found.0.status c.in-Err-start_on.why (subst IsWhole found.1 whole)
+    (steady_count {T = ⊤} is_unstarted_counted _ _ (Err c.in-Err-start_on.why) (steady _) (steady _) c.in-Err-start_on.ensures.faults)
+    (c.in-Err-start_on.ensures.refused found.0 found.2)

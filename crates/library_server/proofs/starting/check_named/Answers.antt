@@ -1,7 +1,7 @@
 -- The text that was read is that of the library, or another one's.
 use Rattle.std.proofs.Common.{inl}
-use Rattle.library_server.proofs.OpeningLemmas.{faulted, is_other, is_same, other_due}
-use Rattle.library_server.proofs.opening.check_named.Goals as goal
+use Rattle.library_server.proofs.StartingLemmas.{faulted, is_other, is_same, other_due}
+use Rattle.library_server.proofs.starting.check_named.Goals as goal
 
 pub returns-else-ne-clause-named : goal.returns-else-ne-clause-named
 returns-else-ne-clause-named g c = λ status there. record {

@@ -1,7 +1,7 @@
 -- What was opened is the library of the text.
 use Rattle.std.proofs.Common.{◌∙◌, sym}
-use Rattle.library_server.proofs.OpeningLemmas.{gives_other, is_other, is_same, no_other, started_fault, started_none}
-use Rattle.library_server.proofs.opening.start_named.Goals as goal
+use Rattle.library_server.proofs.StartingLemmas.{gives_other, is_other, is_same, no_other, started_fault, started_none}
+use Rattle.library_server.proofs.starting.start_named.Goals as goal
 
 pub returns-else-ne-clause-named : goal.returns-else-ne-clause-named
 returns-else-ne-clause-named g c = sym c.lib.ensures.value ∙ is_same _ _ c.if-ne.ensures

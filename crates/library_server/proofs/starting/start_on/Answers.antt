@@ -5,8 +5,8 @@ use Rattle.library_rules.specs.Recovery.{opened}
 use Rattle.object_store.proofs.ShelfLemmas.{reads_then}
 use Rattle.object_store.specs.Shelf.{Contents}
 use Rattle.library_server.proofs.LeftLemmas.{keeps_all, left_checked, left_unstarted}
-use Rattle.library_server.proofs.OpeningLemmas.{found_named, next_before, unstarted_before}
-use Rattle.library_server.proofs.opening.open_on.Goals as goal
+use Rattle.library_server.proofs.StartingLemmas.{found_named, next_before, unstarted_before}
+use Rattle.library_server.proofs.starting.start_on.Goals as goal
 
 pub returns-in-Ok-start_named-clause-shown : goal.returns-in-Ok-start_named-clause-shown
 returns-in-Ok-start_named-clause-shown g c = λ held there.

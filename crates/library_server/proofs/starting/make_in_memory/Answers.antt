@@ -1,9 +1,9 @@
 -- The library that was made is the one of memory.
 use Rattle.std.proofs.Common.{refl}
 use Rattle.folder_storage.specs.Ground.{Absent}
-use Rattle.library_server.specs.LibraryOpening.{made, memory_library, of_new}
+use Rattle.library_server.specs.Starting.{made, memory_library, of_new}
 use Rattle.library_server.specs.Making.{library_of}
-use Rattle.library_server.proofs.opening.make_in_memory.Goals as goal
+use Rattle.library_server.proofs.starting.make_in_memory.Goals as goal
 
 pub returns-in-Ok-make_library-clause-shown : goal.returns-in-Ok-make_library-clause-shown
 returns-in-Ok-make_library-clause-shown g c = λ absent.

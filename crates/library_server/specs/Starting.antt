@@ -1,5 +1,5 @@
--- A library that a command opens, and why it doesn't. Our own. Read OpensTo first, then opening_refusal, OpensSo and
--- IsNotOpened.
+-- A library that a command starts: which it opens, and why it doesn't. Our own. Read OpensTo first, then opening_refusal,
+-- OpensSo and IsNotBrought.
 use Rattle.std.specs.Prelude.{◌≡◌, ◌≢◌, ◌⊎◌, ℕ, Bool, false, if◌then◌else◌, List, Option, None, Some, option_map, IsTrue, Result, Ok, Err, codes, replicate, ⊤}
 use Rattle.std.specs.Str.{bytes_eq}
 use Rattle.ids.specs.Key.{Objects}
@@ -22,8 +22,8 @@ use Rattle.server_words.specs.declared.command.Location.{Location}
 use Rattle.server_words.specs.declared.command.Location.TheVariants.{Memory, Folder}
 use Rattle.library_server.specs.Making.{IsNotMade, RefusesNew, first_of, is_unmade_counted, library_of}
 use Rattle.library_server.specs.declared.making.NewLibrary.{NewLibrary}
-use Rattle.library_server.specs.declared.not_done.NotOpened.{NotOpened}
-use Rattle.library_server.specs.declared.not_done.NotOpened.TheVariants as unopened
+use Rattle.library_server.specs.declared.not_done.NotBrought.{NotBrought}
+use Rattle.library_server.specs.declared.not_done.NotBrought.TheVariants as unbrought
 use Rattle.library_server.specs.declared.not_done.NotStarted.{NotStarted}
 use Rattle.library_server.specs.declared.not_done.NotStarted.TheVariants as unstarted
 
@@ -150,29 +150,29 @@ LeavesKept why held after = (h : Contents) × (after ≡ Some (Kept h)) × Leave
 
 -- over told libraries, as one stood before and stands after, why none is opened. A failure of the storage and want of
 -- memory may come in any other's place
-abbrev pub RefusesOpening : Location → List ℕ → (ℕ → Type 0) → Standing → NotOpened → Option Standing → Type 0
-RefusesOpening location lib shows standing (unopened.Storage failed) after = after ≡ Some standing
-RefusesOpening location lib shows standing unopened.Absent after = IsFolder location × (standing ≡ Absent) × (after ≡ Some standing)
-RefusesOpening location lib shows standing (unopened.Refused why) after =
+abbrev pub RefusesOpening : Location → List ℕ → (ℕ → Type 0) → Standing → NotBrought → Option Standing → Type 0
+RefusesOpening location lib shows standing (unbrought.Storage failed) after = after ≡ Some standing
+RefusesOpening location lib shows standing unbrought.Absent after = IsFolder location × (standing ≡ Absent) × (after ≡ Some standing)
+RefusesOpening location lib shows standing (unbrought.Refused why) after =
     (held : Contents) × (standing ≡ Kept held) × IsDueOpening lib held.objects held.status why × LeavesKept why held after
-RefusesOpening location lib shows standing (unopened.Unmade why) after =
+RefusesOpening location lib shows standing (unbrought.Unmade why) after =
     IsMemory location × (standing ≡ Absent) × (moment : ℕ) × shows moment × RefusesNew (memory_library lib) moment standing why after
 
 -- over told libraries: what is opened, or that refusal
-abbrev pub OpensSo : {S : Type 0} → (S → Option Contents) → (S → ℕ) → Location → List ℕ → (ℕ → Type 0) → Standing → Result (DepotView S) NotOpened → Option Standing → Type 0
+abbrev pub OpensSo : {S : Type 0} → (S → Option Contents) → (S → ℕ) → Location → List ℕ → (ℕ → Type 0) → Standing → Result (DepotView S) NotBrought → Option Standing → Type 0
 OpensSo contents faults location lib shows standing (Ok depot) after = (s : State) × (state_of contents faults depot ≡ Some s) × OpensTo location lib shows standing s
 OpensSo contents faults location lib shows standing (Err why) after = RefusesOpening location lib shows standing why after
 
 -- the cause of each refusal, over any ground, in what the named library may give as it is handed out
-abbrev pub IsNotOpened : (Slot → Option (List ℕ) → Type 0) → Location → List ℕ → (ℕ → Type 0) → NotOpened → Type 0
-IsNotOpened gives location lib shows (unopened.Storage failed) = ⊤
-IsNotOpened gives location lib shows unopened.Absent = IsFolder location
-IsNotOpened gives location lib shows (unopened.Refused why) = IsNotStarted gives lib why
-IsNotOpened gives location lib shows (unopened.Unmade why) = IsMemory location × (moment : ℕ) × shows moment × IsNotMade gives (memory_library lib) moment why
+abbrev pub IsNotBrought : (Slot → Option (List ℕ) → Type 0) → Location → List ℕ → (ℕ → Type 0) → NotBrought → Type 0
+IsNotBrought gives location lib shows (unbrought.Storage failed) = ⊤
+IsNotBrought gives location lib shows unbrought.Absent = IsFolder location
+IsNotBrought gives location lib shows (unbrought.Refused why) = IsNotStarted gives lib why
+IsNotBrought gives location lib shows (unbrought.Unmade why) = IsMemory location × (moment : ℕ) × shows moment × IsNotMade gives (memory_library lib) moment why
 
 -- the failure that the storage counts
-abbrev pub is_unopened_counted : NotOpened → Bool
-is_unopened_counted (unopened.Storage failed) = is_counted failed
-is_unopened_counted unopened.Absent = false
-is_unopened_counted (unopened.Refused why) = is_unstarted_counted why
-is_unopened_counted (unopened.Unmade why) = is_unmade_counted why
+abbrev pub is_unbrought_counted : NotBrought → Bool
+is_unbrought_counted (unbrought.Storage failed) = is_counted failed
+is_unbrought_counted unbrought.Absent = false
+is_unbrought_counted (unbrought.Refused why) = is_unstarted_counted why
+is_unbrought_counted (unbrought.Unmade why) = is_unmade_counted why

@@ -1,4 +1,4 @@
-//! How a command opens the library that it names.
+//! How a command starts the library that it names.
 ghost use Rattle.std.specs.Prelude.{◌≡◌, ℕ, List, IfOk, IfErr, OnOk, Option, Some, Err, ⊤, false, codes};
 ghost use Rattle.ids.specs.FaultCount.{FailsBy};
 ghost use Rattle.ids.specs.Key.{Objects};
@@ -9,14 +9,14 @@ ghost use Rattle.object_store.specs.Shelf.{Contents};
 ghost use Rattle.object_store.specs.StoreView.{Keeps, ReadsShelf, objects_of, status_of};
 ghost use Rattle.server_words.specs.Spelling.{location_text};
 ghost use Rattle.library_server.specs.Answering.{NeverFails};
-ghost use Rattle.library_server.specs.LibraryOpening.{IsDueOpening, IsMemory, IsNotOpened, IsNotStarted, IsOpenedState, IsTextOf, LeavesShelf, LeftUnstarted, OpensAs, OpensFrom, OpensSo, is_unopened_counted, is_unstarted_counted, memory_library};
-ghost use Rattle.library_server.specs.Lines.{fault_of_not_opened};
+ghost use Rattle.library_server.specs.Starting.{IsDueOpening, IsMemory, IsNotBrought, IsNotStarted, IsOpenedState, IsTextOf, LeavesShelf, LeftUnstarted, OpensAs, OpensFrom, OpensSo, is_unbrought_counted, is_unstarted_counted, memory_library};
+ghost use Rattle.library_server.specs.Lines.{fault_of_not_brought};
 ghost use Rattle.library_server.specs.Making.{RoseWhere};
 ghost use Rattle.library_server.specs.Standing.{HandsOutOr};
 ghost use Rattle.library_server.specs.Whole.{IsWhole, OutWhole};
 
 use crate::making::{NewLibrary, make_library};
-use crate::not_done::{NotMade, NotOpened, NotStarted};
+use crate::not_done::{NotBrought, NotMade, NotStarted};
 use depot::{Depot, StartFault, read_state};
 use folder_storage::Ground;
 use ids::{LibId, Text};
@@ -35,45 +35,45 @@ pub(crate) fn folder_word(location: &Location) -> &str
     }
 }
 
-/// Opens the library that a command names. One that is not there is made first where its place is memory, and then used
-/// as it was made. What lies there and is another library is not opened, and nothing is written.
+/// Starts the library that a command names. One that is not there is made first where its place is memory, and then used
+/// as it was made. What lies there and is another library is not started, and nothing is written.
 ///
 /// After a refusal what was handed out is back.
-pub(crate) fn open_library<G: Ground, C: Clock>(
+pub(crate) fn start_library<G: Ground, C: Clock>(
     alloc: Global,
     libraries: &mut G,
     location: &Location,
     lib: LibId,
     clock: &C,
-) -> Result<Depot<G::S>, NotOpened>
+) -> Result<Depot<G::S>, NotBrought>
     ensures given { IfOk result (λ depot. IsOpenedState (G.may_give libraries.old (location_text location.now) lib) location.now lib (C.shows clock.now) depot.state) }
     ensures settled { IfOk result (λ depot. depot.unsettled ≡ false) }
     ensures shown { (standing : Standing) → G.stands libraries.old (location_text location.now) lib ≡ Some standing
         → OpensSo G.S.contents G.S.faults location.now lib (C.shows clock.now) standing result (G.stands libraries.new (location_text location.now) lib) }
     ensures back { HandsOutOr G.S.contents (G.stands libraries.old) (G.stands libraries.new) (location_text location.now) lib result }
-    ensures cause { IfErr result (IsNotOpened (G.may_give libraries.old (location_text location.now) lib) location.now lib (C.shows clock.now)) }
-    ensures faults { IfErr result (λ why. RoseWhere (is_unopened_counted why) (G.faults libraries.old) (G.faults libraries.new)) }
+    ensures cause { IfErr result (IsNotBrought (G.may_give libraries.old (location_text location.now) lib) location.now lib (C.shows clock.now)) }
+    ensures faults { IfErr result (λ why. RoseWhere (is_unbrought_counted why) (G.faults libraries.old) (G.faults libraries.new)) }
     ensures steady { NeverFails G.S.faults → (standing : Standing) → G.stands libraries.old (location_text location.now) lib ≡ Some standing → IsWhole standing
-        → OutWhole fault_of_not_opened G.S.contents result }
+        → OutWhole fault_of_not_brought G.S.contents result }
     ensures good { IfOk result (IsGood G.S.contents G.S.faults) }
     ensures count { OnOk result (G.faults libraries.new ≡ G.faults libraries.old) }
 {
     let folder = folder_word(location);
     let shelf = match libraries.find(folder, lib) {
         Ok(Some(shelf)) => shelf,
-        Ok(None) => return open_absent(alloc, libraries, location, lib, clock),
-        Err(failed) => return Err(NotOpened::Storage(failed)),
+        Ok(None) => return start_absent(alloc, libraries, location, lib, clock),
+        Err(failed) => return Err(NotBrought::Storage(failed)),
     };
-    match open_on(alloc, shelf, &lib) {
+    match start_on(alloc, shelf, &lib) {
         Ok(depot) => Ok(depot),
         Err((shelf, why)) => {
             libraries.give_back(folder, lib, shelf);
-            Err(NotOpened::Refused(why))
+            Err(NotBrought::Refused(why))
         }
     }
 }
 
-/// Gives back the shelf of a library that was opened or made. Where it tells what it holds, it stands for a library.
+/// Gives back the shelf of a library that was started or made. Where it tells what it holds, it stands for a library.
 pub(crate) fn bring_back<G: Ground>(libraries: &mut G, folder: &str, lib: LibId, depot: Depot<G::S>)
     ensures ok { TakesBack (G.stands libraries.old) (G.stands libraries.new) folder.now lib (G.S.contents depot.store.shelf) }
     ensures good { IsGood G.S.contents G.S.faults depot }
@@ -82,27 +82,27 @@ pub(crate) fn bring_back<G: Ground>(libraries: &mut G, folder: &str, lib: LibId,
     libraries.give_back(folder, lib, depot.close().end());
 }
 
-/// Opens a library that is not there: it is made in memory, and nowhere else.
-fn open_absent<G: Ground, C: Clock>(
+/// Starts a library that is not there: it is made in memory, and nowhere else.
+fn start_absent<G: Ground, C: Clock>(
     alloc: Global,
     libraries: &mut G,
     location: &Location,
     lib: LibId,
     clock: &C,
-) -> Result<Depot<G::S>, NotOpened>
+) -> Result<Depot<G::S>, NotBrought>
     ensures given { IfOk result (λ depot. IsOpenedState (G.may_give libraries.old (location_text location.now) lib) location.now lib (C.shows clock.now) depot.state) }
     ensures settled { IfOk result (λ depot. depot.unsettled ≡ false) }
     ensures shown { G.stands libraries.old (location_text location.now) lib ≡ Some Absent
         → OpensSo G.S.contents G.S.faults location.now lib (C.shows clock.now) Absent result (G.stands libraries.new (location_text location.now) lib) }
     ensures back { HandsOutOr G.S.contents (G.stands libraries.old) (G.stands libraries.new) (location_text location.now) lib result }
-    ensures cause { IfErr result (IsNotOpened (G.may_give libraries.old (location_text location.now) lib) location.now lib (C.shows clock.now)) }
-    ensures faults { IfErr result (λ why. RoseWhere (is_unopened_counted why) (G.faults libraries.old) (G.faults libraries.new)) }
-    ensures steady { NeverFails G.S.faults → G.stands libraries.old (location_text location.now) lib ≡ Some Absent → OutWhole fault_of_not_opened G.S.contents result }
+    ensures cause { IfErr result (IsNotBrought (G.may_give libraries.old (location_text location.now) lib) location.now lib (C.shows clock.now)) }
+    ensures faults { IfErr result (λ why. RoseWhere (is_unbrought_counted why) (G.faults libraries.old) (G.faults libraries.new)) }
+    ensures steady { NeverFails G.S.faults → G.stands libraries.old (location_text location.now) lib ≡ Some Absent → OutWhole fault_of_not_brought G.S.contents result }
     ensures good { IfOk result (IsGood G.S.contents G.S.faults) }
     ensures count { OnOk result (G.faults libraries.new ≡ G.faults libraries.old) }
 {
     match location {
-        Location::Folder(_) => Err(NotOpened::Absent),
+        Location::Folder(_) => Err(NotBrought::Absent),
         Location::Memory => make_in_memory(alloc, libraries, lib, clock),
     }
 }
@@ -113,25 +113,25 @@ fn make_in_memory<G: Ground, C: Clock>(
     libraries: &mut G,
     lib: LibId,
     clock: &C,
-) -> Result<Depot<G::S>, NotOpened>
+) -> Result<Depot<G::S>, NotBrought>
     ensures given { IfOk result (λ depot. IsOpenedState (G.may_give libraries.old (codes ":memory:") lib) Location.Memory lib (C.shows clock.now) depot.state) }
     ensures settled { IfOk result (λ depot. depot.unsettled ≡ false) }
     ensures shown { G.stands libraries.old (codes ":memory:") lib ≡ Some Absent
         → OpensSo G.S.contents G.S.faults Location.Memory lib (C.shows clock.now) Absent result (G.stands libraries.new (codes ":memory:") lib) }
     ensures back { HandsOutOr G.S.contents (G.stands libraries.old) (G.stands libraries.new) (codes ":memory:") lib result }
-    ensures cause { IfErr result (IsNotOpened (G.may_give libraries.old (codes ":memory:") lib) Location.Memory lib (C.shows clock.now)) }
-    ensures faults { IfErr result (λ why. RoseWhere (is_unopened_counted why) (G.faults libraries.old) (G.faults libraries.new)) }
-    ensures steady { NeverFails G.S.faults → G.stands libraries.old (codes ":memory:") lib ≡ Some Absent → OutWhole fault_of_not_opened G.S.contents result }
+    ensures cause { IfErr result (IsNotBrought (G.may_give libraries.old (codes ":memory:") lib) Location.Memory lib (C.shows clock.now)) }
+    ensures faults { IfErr result (λ why. RoseWhere (is_unbrought_counted why) (G.faults libraries.old) (G.faults libraries.new)) }
+    ensures steady { NeverFails G.S.faults → G.stands libraries.old (codes ":memory:") lib ≡ Some Absent → OutWhole fault_of_not_brought G.S.contents result }
     ensures good { IfOk result (IsGood G.S.contents G.S.faults) }
     ensures count { OnOk result (G.faults libraries.new ≡ G.faults libraries.old) }
 {
     let new = match memory_library(alloc, lib) {
         Ok(new) => new,
-        Err(_) => return Err(NotOpened::Storage(ShelfFailed::NoMemory)),
+        Err(_) => return Err(NotBrought::Storage(ShelfFailed::NoMemory)),
     };
     match make_library(alloc, libraries, ":memory:", &new, clock.now()) {
         Ok(depot) => Ok(depot),
-        Err(fault) => Err(NotOpened::Unmade(fault)),
+        Err(fault) => Err(NotBrought::Unmade(fault)),
     }
 }
 
@@ -150,8 +150,8 @@ fn memory_library(alloc: Global, lib: LibId) -> Result<NewLibrary, AllocError>
     })
 }
 
-/// Opens the library of a shelf, which is this one. After a refusal the shelf is given back.
-fn open_on<S: Shelf>(alloc: Global, shelf: S, lib: &LibId) -> Result<Depot<S>, (S, NotStarted)>
+/// Starts the library of a shelf, which is this one. After a refusal the shelf is given back.
+fn start_on<S: Shelf>(alloc: Global, shelf: S, lib: &LibId) -> Result<Depot<S>, (S, NotStarted)>
     ensures settled { IfOk result (λ depot. depot.unsettled ≡ false) }
     ensures named { IfOk result (λ depot. depot.state.lib ≡ lib.now) }
     ensures given { IfOk result (λ depot. IsNextOf (S.may_give shelf) depot.state) }
@@ -197,7 +197,7 @@ fn check_named<S: Shelf>(alloc: Global, store: &mut Store<S>, lib: &LibId) -> Re
     }
 }
 
-/// Opens the library of a store, unless it is another one.
+/// Starts the library of a store, unless it is another one.
 fn start_named<S: Shelf>(
     alloc: Global,
     store: Store<S>,
