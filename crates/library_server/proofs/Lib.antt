@@ -4,5 +4,6 @@ pub mod LeftLemmas
 pub mod StartingLemmas
 pub mod NamesLemmas
 pub mod TokenLemmas
+pub mod CauseLemmas
 pub mod WholeLemmas
 pub mod RunLemmas

@@ -1,9 +1,12 @@
 -- What the library that is served alone answers to a call. Our own. Read AnswersOn first, and AsksTooMuch at the end.
 use Rattle.std.specs.Prelude.{◌≡◌, ◌≢◌, ◌<◌, ℕ, Bool, true, false, List, [], ◌∷◌, Option, Some, ⊤}
+use Rattle.std.specs.List.{AllByRecursion}
 use Rattle.ids.specs.Key.{Objects}
+use Rattle.ids.specs.declared.key.Key.{Key}
 use Rattle.depot.specs.Answering.{Serves, permits}
 use Rattle.depot.specs.DepotView.{DepotView, IsGood}
 use Rattle.depot.specs.FirstGet.{fs_get, sizes_of}
+use Rattle.depot.specs.Giving.{GivesBy, MayLay}
 use Rattle.library_rules.specs.Calls.{token_of}
 use Rattle.library_state.specs.declared.call.Call.{Call}
 use Rattle.library_state.specs.declared.refusal.Refusal.{Refusal}
@@ -11,18 +14,36 @@ use Rattle.library_state.specs.declared.refusal.Refusal.TheVariants as refusal
 use Rattle.library_state.specs.declared.reply.Reply.{Reply}
 use Rattle.library_state.specs.declared.reply.Reply.TheVariants as reply
 use Rattle.object_store.specs.Shelf.{Contents}
-use Rattle.object_store.specs.Store.{HasNames}
+use Rattle.object_store.specs.Store.{HasNames, IsDamage}
 use Rattle.object_store.specs.StoreView.{objects_of}
 use Rattle.object_store.specs.declared.shelf.Slot.{Slot}
+use Rattle.worker_server.specs.Calls.{Told}
 use Rattle.worker_server.specs.declared.host.Answer.{Answer}
 
 -- the library answered: by the rules where its shelf tells what it holds, and over every shelf with its cause; one who may
--- not ask is denied whatever the shelf does; and what is left stands for a library, where its shelf tells what it holds
+-- not ask is denied whatever the shelf does; what is left stands for a library, where its shelf tells what it holds; and the
+-- shelf may give no more than before, but what the call may lay onto it
 pub record IsAnswered {S : Type 0} (contents : S → Option Contents) (may_give : S → Slot → Option (List ℕ) → Type 0) (texts faults : S → ℕ)
     (old : DepotView S) (call : Call) (moment : ℕ) (r : Reply) (new : DepotView S) : Type 0 where
   pub serves : Serves contents may_give texts faults old call moment r new
   pub denied : permits (token_of old.state.tokens call.secret) call.act ≡ false → r ≡ reply.Refused refusal.Denied
   pub good : IsGood contents faults new
+  pub gives : GivesBy (MayLay old.state.lib call.act) (may_give old.store.shelf) (may_give new.store.shelf)
+
+-- ---- the cause of damage
+
+-- where a refusal tells damage this may be given for a key of the wanted id: nothing, or bytes of the other name that is told
+abbrev pub IsCaused : (Slot → Option (List ℕ) → Type 0) → Refusal → Type 0
+IsCaused gives (refusal.Damaged want got) = (got ≢ Some want) × (key : Key) × IsDamage gives key want got
+IsCaused gives other = ⊤
+
+abbrev pub IsCausedReply : (Slot → Option (List ℕ) → Type 0) → Reply → Type 0
+IsCausedReply gives (reply.Refused why) = IsCaused gives why
+IsCausedReply gives other = ⊤
+
+-- the same of the reply to each of some calls
+abbrev pub AreCaused : (Slot → Option (List ℕ) → Type 0) → List (Told ⊤) → Type 0
+AreCaused gives calls = AllByRecursion (λ t. IsCausedReply gives t.answer.reply) calls
 
 -- ---- storage that never fails
 

@@ -1,6 +1,7 @@
 -- The command that serves one connection, and its status. Our own. Read ServesLocation first, at the end.
 use Rattle.std.specs.Prelude.{◌≡◌, ℕ, List, Option, Some, ⊤}
 use Rattle.depot.specs.DepotView.{DepotView, IsGood, state_of}
+use Rattle.depot.specs.Giving.{GivesBy}
 use Rattle.folder_storage.specs.Ground.{MayGive, Standing}
 use Rattle.http_front.specs.Link.{LinkTells}
 use Rattle.library_rules.specs.LibraryState.{State}
@@ -13,8 +14,8 @@ use Rattle.worker_server.specs.Calls.{AtAMoment, Told, Ran, rules_at}
 use Rattle.worker_server.specs.ServedConnection.{CountsEnd, EndsAsked, SessionInTime}
 use Rattle.worker_server.specs.declared.served.Served.{Served}
 use Rattle.worker_server.specs.declared.served.Served.TheVariants.{Ended, Limit, Cut, Refused, ReadFault, WriteFault, NoMemory}
-use Rattle.library_server.specs.Answering.{AnswersOn, AsksTooMuch}
-use Rattle.library_server.specs.Starting.{IsNotBrought, IsOpenedState, OpensTo, RefusesOpening, is_unbrought_counted}
+use Rattle.library_server.specs.Answering.{AnswersOn, AreCaused, AsksTooMuch}
+use Rattle.library_server.specs.Starting.{IsNotBrought, IsOfOpening, IsOpenedState, OpensTo, RefusesOpening, is_unbrought_counted}
 use Rattle.library_server.specs.Lines.{fault_of_not_brought}
 use Rattle.library_server.specs.Making.{RoseWhere}
 use Rattle.library_server.specs.Standing.{ComesBack, GroundView, Returned}
@@ -42,7 +43,7 @@ pub record ServesOpened {S : Type 0} (contents : S → Option Contents) (may_giv
   pub how : Served
   pub session : (input : List ℕ) → before.left ≡ Some input
       → SessionInTime (rules_at shows (AnswersOn contents may_give texts faults) AsksTooMuch) input before.tells now.tells depot after how
-  pub ran : (calls : List (Told ⊤)) × Ran (AtAMoment shows (AnswersOn contents may_give texts faults)) depot calls after
+  pub ran : (calls : List (Told ⊤)) × Ran (AtAMoment shows (AnswersOn contents may_give texts faults)) depot calls after × AreCaused (may_give depot.store.shelf) calls
   pub count : CountsEnd before.faults now.faults how
   pub last : EndsAsked how before.tells now.tells now.left
   pub status_is : status ≡ status_of how
@@ -57,12 +58,16 @@ pub record IsUnbrought {S : Type 0} (contents : S → Option Contents) (gives : 
   pub back : Returned contents old.stands new.stands (location_text location) lib
 
 -- one connection with the library that a command names, and with no other: it was opened, served and is back, with what its
--- shelf then holds; or it was not opened, which gives the status, and the link is left alone
+-- shelf then holds; or it was not opened, which gives the status, and the link is left alone. The shelf that was opened may
+-- give what the named library might, and what the opening laid; and damage that a reply tells has its cause in what that
+-- library might give as it was handed out
 pub data ServesLocation {S : Type 0} (contents : S → Option Contents) (may_give : S → Slot → Option (List ℕ) → Type 0) (texts faults : S → ℕ) (gives : MayGive)
     (location : Location) (lib : List ℕ) (shows : ℕ → Type 0) (old new : GroundView) (before now : LinkView) (status : ℕ) : Type 0 where
   opened : (depot after : DepotView S) → IsOpenedState (gives (location_text location) lib) location lib shows depot.state
       → ((standing : Standing) → old.stands (location_text location) lib ≡ Some standing → (s : State) × (state_of contents faults depot ≡ Some s) × OpensTo location lib shows standing s)
-      → ServesOpened contents may_give texts faults shows depot after before now status
+      → GivesBy (IsOfOpening location lib shows depot.state) (gives (location_text location) lib) (may_give depot.store.shelf)
+      → (service : ServesOpened contents may_give texts faults shows depot after before now status)
+      → AreCaused (gives (location_text location) lib) service.ran.0
       → IsGood contents faults after → ComesBack old.stands new.stands (location_text location) lib (contents after.store.shelf)
       → ServesLocation contents may_give texts faults gives location lib shows old new before now status
   unbrought : (why : NotBrought) → IsUnbrought contents (gives (location_text location) lib) location lib shows old new why

@@ -9,6 +9,7 @@ use Rattle.depot.specs.declared.error.MakeFault.{MakeFault}
 use Rattle.folder_storage.specs.Ground.{Absent, Kept, Standing, no_contents}
 use Rattle.library_rules.specs.Creation.{created, opening_commit, opening_object}
 use Rattle.library_rules.specs.LibraryState.{State}
+use Rattle.library_rules.specs.declared.entry.Stored.{Stored}
 use Rattle.library_state.specs.StateSpelling.{text_of}
 use Rattle.library_state.specs.declared.state.LibState.{LibState}
 use Rattle.object_store.specs.Shelf.{Contents, is_counted}
@@ -24,6 +25,10 @@ no_objects = map.empty
 -- the new library, with its opening commit of this moment
 abbrev pub library_of : NewLibrary → ℕ → ℕ → State
 library_of new moment faults = created new.lib new.name new.user new.secret moment no_objects faults
+
+-- its opening commit of this moment
+abbrev pub new_commit : NewLibrary → ℕ → Stored
+new_commit new moment = opening_object (opening_commit new.lib new.user moment)
 
 -- what its text tells
 abbrev pub first_of : NewLibrary → ℕ → LibState

@@ -18,9 +18,10 @@ use Rattle.library_rules.specs.Recovery.{opened}
 use Rattle.object_store.specs.Shelf.{Contents, is_counted}
 use Rattle.object_store.specs.StoreView.{StoreView}
 use Rattle.object_store.specs.declared.shelf.Slot.{Slot}
+use Rattle.object_store.specs.declared.shelf.Slot.TheVariants.{Object, Status}
 use Rattle.server_words.specs.declared.command.Location.{Location}
 use Rattle.server_words.specs.declared.command.Location.TheVariants.{Memory, Folder}
-use Rattle.library_server.specs.Making.{IsNotMade, RefusesNew, first_of, is_unmade_counted, library_of}
+use Rattle.library_server.specs.Making.{IsNotMade, RefusesNew, first_of, is_unmade_counted, library_of, new_commit}
 use Rattle.library_server.specs.declared.making.NewLibrary.{NewLibrary}
 use Rattle.library_server.specs.declared.not_done.NotBrought.{NotBrought}
 use Rattle.library_server.specs.declared.not_done.NotBrought.TheVariants as unbrought
@@ -69,6 +70,13 @@ pub data IsOpenedState (gives : Slot → Option (List ℕ) → Type 0) (location
     : Type 0 where
   of_text : IsNextOf gives state → state.lib ≡ lib → IsOpenedState gives location lib shows state
   of_new : IsMemory location → (moment : ℕ) → shows moment → state ≡ first_of (memory_library lib) moment → IsOpenedState gives location lib shows state
+
+-- what the opening of a library lays onto its shelf: the text of the state that was opened, and, where the library was made
+-- first in memory, its opening commit
+pub data IsOfOpening (location : Location) (lib : List ℕ) (shows : ℕ → Type 0) (state : LibState) (slot : Slot) (given : Option (List ℕ)) : Type 0 where
+  laid_text : slot ≡ Status → given ≡ Some (text_of state) → IsOfOpening location lib shows state slot given
+  laid_commit : IsMemory location → (moment : ℕ) → shows moment → slot ≡ Object (new_commit (memory_library lib) moment).key
+      → given ≡ Some (new_commit (memory_library lib) moment).bytes → IsOfOpening location lib shows state slot given
 
 -- ---- why no library is opened
 

@@ -3,6 +3,7 @@ ghost use Rattle.library_state.specs.declared.state.TheConstants.{MAX_STATE_NAME
 ghost use Rattle.std.specs.Prelude.{◌≡◌, ◌≤◌, ℕ, List, IfOk, IfErr, OnOk, Option, Some, Err, length, ⊤};
 ghost use Rattle.ids.specs.FaultCount.{FailsBy};
 ghost use Rattle.depot.specs.DepotView.{IsGood, state_of};
+ghost use Rattle.depot.specs.Giving.{GivesBy, IsOfMaking};
 ghost use Rattle.depot.specs.Make.{IsMakeFault, RefusesWith, is_make_counted, is_make_free, make_refusal};
 ghost use Rattle.folder_storage.specs.Ground.{Standing};
 ghost use Rattle.library_rules.specs.Creation.{created, opening_commit, opening_object};
@@ -10,7 +11,7 @@ ghost use Rattle.object_store.specs.Shelf.{Contents};
 ghost use Rattle.object_store.specs.Store.{put_refusal};
 ghost use Rattle.library_server.specs.Answering.{NeverFails};
 ghost use Rattle.library_server.specs.Lines.{fault_of_not_made};
-ghost use Rattle.library_server.specs.Making.{IsNew, IsNotMade, LeavesText, MakesSo, RoseWhere, is_unmade_counted};
+ghost use Rattle.library_server.specs.Making.{IsNew, IsNotMade, LeavesText, MakesSo, RoseWhere, first_of, is_unmade_counted, new_commit};
 ghost use Rattle.library_server.specs.Standing.{HandsOutOr};
 ghost use Rattle.library_server.specs.Whole.{IsWhole, OutWhole};
 
@@ -45,6 +46,7 @@ pub(crate) fn make_library<G: Ground>(
     requires fits { length new.now.name ≤ MAX_STATE_NAME }
     requires ready { (1 ≤ length new.now.user) × (length new.now.user ≤ MAX_STATE_NAME) }
     ensures value { IfOk result (IsNew new.now moment) }
+    ensures gives { IfOk result (λ depot. GivesBy (IsOfMaking (new_commit new.now moment) (first_of new.now moment)) (G.may_give libraries.old folder.now new.now.lib) (G.S.may_give depot.store.shelf)) }
     ensures shown { (standing : Standing) → G.stands libraries.old folder.now new.now.lib ≡ Some standing
         → MakesSo G.S.contents G.S.faults new.now moment standing result (G.stands libraries.new folder.now new.now.lib) }
     ensures back { HandsOutOr G.S.contents (G.stands libraries.old) (G.stands libraries.new) folder.now new.now.lib result }
@@ -79,6 +81,7 @@ fn make_on<S: Shelf>(
     requires fits { length new.now.name ≤ MAX_STATE_NAME }
     requires ready { (1 ≤ length new.now.user) × (length new.now.user ≤ MAX_STATE_NAME) }
     ensures value { IfOk result (IsNew new.now moment) }
+    ensures gives { IfOk result (λ depot. GivesBy (IsOfMaking (new_commit new.now moment) (first_of new.now moment)) (S.may_give shelf) (S.may_give depot.store.shelf)) }
     ensures shown { (held : Contents) → S.contents shelf ≡ Some held → IfOk result (λ depot. state_of S.contents S.faults depot
         ≡ Some (created new.now.lib new.now.name new.now.user new.now.secret moment held.objects (S.faults shelf))) }
     ensures good { IfOk result (IsGood S.contents S.faults) }

@@ -5,7 +5,7 @@ ghost use Rattle.ids.specs.FaultCount.{Rose};
 ghost use Rattle.worker_server.specs.Calls.{AtAMoment, Told, Ran, rules_at};
 ghost use Rattle.http_front.specs.Link.{told_by};
 ghost use Rattle.worker_server.specs.ServedConnection.{CountsEnd, EndsAsked, SessionInTime};
-ghost use Rattle.library_server.specs.Answering.{AnswersOn, AsksTooMuch, IsAnswered, NamesIn, NeverFails, is_storage_reply};
+ghost use Rattle.library_server.specs.Answering.{AnswersOn, AreCaused, AsksTooMuch, IsAnswered, NamesIn, NeverFails, is_storage_reply};
 
 use depot::Depot;
 use http_front::Link;
@@ -127,8 +127,10 @@ pub fn serve_link<S: Shelf, L: Link, C: Clock>(
         → SessionInTime (rules_at (C.shows clock.now) (AnswersOn S.contents S.may_give S.texts S.faults) AsksTooMuch) input
         (told_by L.taken L.given L.asked link.old) (told_by L.taken L.given L.asked link.new) depot.old depot.new result }
 
-    // Of every link: the calls that were asked.
-    ensures ran { (calls : List (Told ⊤)) × Ran (AtAMoment (C.shows clock.now) (AnswersOn S.contents S.may_give S.texts S.faults)) depot.old calls depot.new }
+    // Of every link and every shelf: the calls that were asked. Damage that a reply tells has its cause in what the shelf may
+    // give as it is handed in.
+    ensures ran { (calls : List (Told ⊤)) × Ran (AtAMoment (C.shows clock.now) (AnswersOn S.contents S.may_give S.texts S.faults)) depot.old calls depot.new
+        × AreCaused (S.may_give depot.old.store.shelf) calls }
 
     // The link's count of faults rose in the first two cases, and stayed in every other.
     ensures read_fault { result ≡ Served.ReadFault → Rose (L.faults link.old) (L.faults link.new) }

@@ -3,13 +3,16 @@ ghost use Rattle.std.specs.Prelude.{◌≡◌, ℕ, List, IfOk, IfErr, OnOk, Opt
 ghost use Rattle.ids.specs.FaultCount.{FailsBy};
 ghost use Rattle.ids.specs.Key.{Objects};
 ghost use Rattle.depot.specs.DepotView.{IsGood, state_of};
+ghost use Rattle.depot.specs.Giving.{GivesBy};
 ghost use Rattle.depot.specs.Start.{IsNextOf, OpensTold, without_store};
 ghost use Rattle.folder_storage.specs.Ground.{Absent, Standing, TakesBack, count_sum};
-ghost use Rattle.object_store.specs.Shelf.{Contents};
+ghost use Rattle.library_state.specs.StateSpelling.{text_of};
+ghost use Rattle.object_store.specs.Shelf.{Contents, GivesAlso};
+ghost use Rattle.object_store.specs.declared.shelf.Slot.TheVariants as slots;
 ghost use Rattle.object_store.specs.StoreView.{Keeps, ReadsShelf, objects_of, status_of};
 ghost use Rattle.server_words.specs.Spelling.{location_text};
 ghost use Rattle.library_server.specs.Answering.{NeverFails};
-ghost use Rattle.library_server.specs.Starting.{IsDueOpening, IsMemory, IsNotBrought, IsNotStarted, IsOpenedState, IsTextOf, LeavesShelf, LeftUnstarted, OpensAs, OpensFrom, OpensSo, is_unbrought_counted, is_unstarted_counted, memory_library};
+ghost use Rattle.library_server.specs.Starting.{IsDueOpening, IsMemory, IsNotBrought, IsNotStarted, IsOfOpening, IsOpenedState, IsTextOf, LeavesShelf, LeftUnstarted, OpensAs, OpensFrom, OpensSo, is_unbrought_counted, is_unstarted_counted, memory_library};
 ghost use Rattle.library_server.specs.Lines.{fault_of_not_brought};
 ghost use Rattle.library_server.specs.Making.{RoseWhere};
 ghost use Rattle.library_server.specs.Standing.{HandsOutOr};
@@ -47,6 +50,7 @@ pub(crate) fn start_library<G: Ground, C: Clock>(
     clock: &C,
 ) -> Result<Depot<G::S>, NotBrought>
     ensures given { IfOk result (λ depot. IsOpenedState (G.may_give libraries.old (location_text location.now) lib) location.now lib (C.shows clock.now) depot.state) }
+    ensures gives { IfOk result (λ depot. GivesBy (IsOfOpening location.now lib (C.shows clock.now) depot.state) (G.may_give libraries.old (location_text location.now) lib) (G.S.may_give depot.store.shelf)) }
     ensures settled { IfOk result (λ depot. depot.unsettled ≡ false) }
     ensures shown { (standing : Standing) → G.stands libraries.old (location_text location.now) lib ≡ Some standing
         → OpensSo G.S.contents G.S.faults location.now lib (C.shows clock.now) standing result (G.stands libraries.new (location_text location.now) lib) }
@@ -91,6 +95,7 @@ fn start_absent<G: Ground, C: Clock>(
     clock: &C,
 ) -> Result<Depot<G::S>, NotBrought>
     ensures given { IfOk result (λ depot. IsOpenedState (G.may_give libraries.old (location_text location.now) lib) location.now lib (C.shows clock.now) depot.state) }
+    ensures gives { IfOk result (λ depot. GivesBy (IsOfOpening location.now lib (C.shows clock.now) depot.state) (G.may_give libraries.old (location_text location.now) lib) (G.S.may_give depot.store.shelf)) }
     ensures settled { IfOk result (λ depot. depot.unsettled ≡ false) }
     ensures shown { G.stands libraries.old (location_text location.now) lib ≡ Some Absent
         → OpensSo G.S.contents G.S.faults location.now lib (C.shows clock.now) Absent result (G.stands libraries.new (location_text location.now) lib) }
@@ -115,6 +120,7 @@ fn make_in_memory<G: Ground, C: Clock>(
     clock: &C,
 ) -> Result<Depot<G::S>, NotBrought>
     ensures given { IfOk result (λ depot. IsOpenedState (G.may_give libraries.old (codes ":memory:") lib) Location.Memory lib (C.shows clock.now) depot.state) }
+    ensures gives { IfOk result (λ depot. GivesBy (IsOfOpening Location.Memory lib (C.shows clock.now) depot.state) (G.may_give libraries.old (codes ":memory:") lib) (G.S.may_give depot.store.shelf)) }
     ensures settled { IfOk result (λ depot. depot.unsettled ≡ false) }
     ensures shown { G.stands libraries.old (codes ":memory:") lib ≡ Some Absent
         → OpensSo G.S.contents G.S.faults Location.Memory lib (C.shows clock.now) Absent result (G.stands libraries.new (codes ":memory:") lib) }
@@ -152,6 +158,7 @@ fn memory_library(alloc: Global, lib: LibId) -> Result<NewLibrary, AllocError>
 
 /// Starts the library of a shelf, which is this one. After a refusal the shelf is given back.
 fn start_on<S: Shelf>(alloc: Global, shelf: S, lib: &LibId) -> Result<Depot<S>, (S, NotStarted)>
+    ensures gives { IfOk result (λ depot. GivesAlso (S.may_give shelf) (S.may_give depot.store.shelf) slots.Status (Some (text_of depot.state))) }
     ensures settled { IfOk result (λ depot. depot.unsettled ≡ false) }
     ensures named { IfOk result (λ depot. depot.state.lib ≡ lib.now) }
     ensures given { IfOk result (λ depot. IsNextOf (S.may_give shelf) depot.state) }
@@ -203,6 +210,7 @@ fn start_named<S: Shelf>(
     store: Store<S>,
     lib: &LibId,
 ) -> Result<Depot<S>, (Store<S>, NotStarted)>
+    ensures gives { IfOk result (λ depot. GivesAlso (S.may_give store.shelf) (S.may_give depot.store.shelf) slots.Status (Some (text_of depot.state))) }
     ensures settled { IfOk result (λ depot. depot.unsettled ≡ false) }
     ensures named { IfOk result (λ depot. depot.state.lib ≡ lib.now) }
     ensures given { IfOk result (λ depot. IsNextOf (S.may_give store.shelf) depot.state) }

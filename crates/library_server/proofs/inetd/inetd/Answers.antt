@@ -1,7 +1,9 @@
 -- What was opened comes back, and its end gives the status.
 use Rattle.std.proofs.Common.{◌∙◌, ap, refl}
 use Rattle.server_words.specs.Lines.{fault_status}
+use Rattle.server_words.specs.Spelling.{location_text}
 use Rattle.library_server.specs.Connections.{opened, unbrought}
+use Rattle.library_server.proofs.CauseLemmas.{calls_caused, opening_harmless}
 use Rattle.library_server.proofs.StandingLemmas.{comes_back}
 use Rattle.library_server.proofs.WholeLemmas.{calls_whole}
 use Rattle.library_server.proofs.inetd.inetd.Goals as goal
@@ -22,7 +24,11 @@ returns-in-Err g c = record {
 pub returns : goal.returns
 returns g c = record {
   serves = (
-    opened c.in-Ok.depot c.serve_opened-status.new.depot c.in-Ok.ensures.given c.in-Ok.ensures.shown c.serve_opened-status.ensures.serves c.bring_back.ensures.good
+    opened c.in-Ok.depot c.serve_opened-status.new.depot c.in-Ok.ensures.given c.in-Ok.ensures.shown c.in-Ok.ensures.gives c.serve_opened-status.ensures.serves
+        (calls_caused g.G.S.Shelf.contents g.G.S.Shelf.may_give g.G.S.Shelf.texts g.G.S.Shelf.faults (g.C.Clock.shows c.args.clock.now)
+        (g.G.Ground.may_give c.args.libraries.now (location_text c.args.location.now) c.args.lib) c.in-Ok.depot c.serve_opened-status.ensures.serves.ran.0 c.serve_opened-status.new.depot
+        (opening_harmless c.args.location.now c.args.lib (g.C.Clock.shows c.args.clock.now) c.in-Ok.depot.state c.in-Ok.ensures.gives) c.serve_opened-status.ensures.serves.ran.1)
+        c.bring_back.ensures.good
         (comes_back _ _ _ _ _ _ c.in-Ok.ensures.back (rw c.folder_word.ensures.value at c.bring_back.ensures.ok)),
     λ steady standing there whole.
         let ran = c.serve_opened-status.ensures.serves.ran in

@@ -2,6 +2,7 @@
 use Rattle.std.proofs.Common.{◌∙◌}
 use Rattle.folder_storage.specs.Ground.{no_contents}
 use Rattle.library_server.specs.Standing.{came_back}
+use Rattle.depot.proofs.GivingLemmas.{read_by}
 use Rattle.library_server.proofs.StandingLemmas.{comes_back}
 use Rattle.std.proofs.Common.{Err, refl}
 use Rattle.std.specs.Prelude.{⊤}
@@ -56,3 +57,6 @@ returns-in-Err-make_on-clause-steady g c = λ steady standing there whole.
 pub returns-in-Err-make_on-clause-cause : goal.returns-in-Err-make_on-clause-cause
 returns-in-Err-make_on-clause-cause g c =
     make_before (rw c.in-Ok-Some.field-0-is at c.in-Ok-Some.ensures.handed) _ c.in-Err-make_on.fault c.in-Err-make_on.ensures.cause
+
+pub returns-in-Ok-clause-gives : goal.returns-in-Ok-clause-gives
+returns-in-Ok-clause-gives g c = read_by (rw c.in-Ok-Some.field-0-is at c.in-Ok-Some.ensures.handed) c.in-Ok.ensures.gives

@@ -3,6 +3,7 @@ use Rattle.std.proofs.Common.{◌∙◌, ap, inl, option_map, refl}
 use Rattle.library_rules.specs.Creation.{opening_commit, opening_object}
 use Rattle.object_store.specs.Shelf.{Contents}
 use Rattle.depot.proofs.MakeLemmas.{make_before}
+use Rattle.depot.proofs.GivingLemmas.{read_by}
 use Rattle.library_server.proofs.LeftLemmas.{left_unmade}
 use Rattle.library_server.proofs.making.make_on.Goals as goal
 
@@ -17,3 +18,6 @@ returns-in-Err-make-clause-left g c = λ held there.
 
 pub returns-in-Err-make-clause-cause : goal.returns-in-Err-make-clause-cause
 returns-in-Err-make-clause-cause g c = make_before c.in-Ok.ensures.shelf.gives _ c.in-Err-make.fault c.in-Err-make.ensures.cause
+
+pub returns-in-Ok-make-clause-gives : goal.returns-in-Ok-make-clause-gives
+returns-in-Ok-make-clause-gives g c = read_by c.in-Ok.ensures.shelf.gives c.in-Ok-make.ensures.gives

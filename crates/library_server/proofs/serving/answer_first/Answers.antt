@@ -1,6 +1,16 @@
--- A library whose objects lie under their names answers with no refusal by storage that never fails.
+-- What is asked for lays nothing. A library whose objects lie under their names answers with no refusal by storage that never
+-- fails.
+use Rattle.depot.proofs.GivingLemmas.{no_more}
 use Rattle.library_server.proofs.WholeLemmas.{answers_whole}
 use Rattle.library_server.proofs.serving.answer_first.Goals as goal
+
+pub returns-then-eq-clause-here : goal.returns-then-eq-clause-here
+returns-then-eq-clause-here g c = λ same. record {
+  serves = c.get_first.ensures.serves;
+  denied = c.get_first.ensures.denied;
+  good = c.get_first.ensures.stands;
+  gives = no_more _ c.get_first.ensures.gives;
+}
 
 pub returns-then-eq-clause-steady : goal.returns-then-eq-clause-steady
 returns-then-eq-clause-steady g c =

@@ -17,7 +17,7 @@ returns-then-ne-clause-refused g c = λ objects status there.
     inl (other_due c.args.lib.now objects status c.in-Ok.ensures.value.text c.in-Ok.state (c.in-Ok.ensures.value.told status there) c.in-Ok.ensures.value.reads (is_other _ _ c.if-ne.ensures))
 
 pub returns-then-ne-clause-cause : goal.returns-then-ne-clause-cause
-returns-then-ne-clause-cause g c = record { state = c.in-Ok.state; given = c.in-Ok.ensures.given; other = is_other _ _ c.if-ne.ensures }
+returns-then-ne-clause-cause g c = record { state = c.in-Ok.state; given = c.in-Ok.ensures.any; other = is_other _ _ c.if-ne.ensures }
 
 pub returns-in-Err-clause-refused : goal.returns-in-Err-clause-refused
 returns-in-Err-clause-refused g c = λ objects status there. faulted c.args.lib.now objects status c.in-Err.fault c.in-Err.ensures.bad (c.in-Err.ensures.refused objects status there)

@@ -3,6 +3,7 @@ use Rattle.std.proofs.Common.{refl}
 use Rattle.folder_storage.specs.Ground.{Absent}
 use Rattle.library_server.specs.Starting.{made, memory_library, of_new}
 use Rattle.library_server.specs.Making.{library_of}
+use Rattle.library_server.proofs.CauseLemmas.{made_gives}
 use Rattle.library_server.proofs.starting.make_in_memory.Goals as goal
 
 pub returns-in-Ok-make_library-clause-shown : goal.returns-in-Ok-make_library-clause-shown
@@ -19,3 +20,8 @@ returns-clause-steady g c = λ steady absent. (rw c.in-Ok.ensures.value at c.in-
 pub returns-in-Ok-make_library-clause-given : goal.returns-in-Ok-make_library-clause-given
 returns-in-Ok-make_library-clause-given g c =
     of_new tt c.now.result c.now.ensures.value (rw c.in-Ok.ensures.value at c.in-Ok-make_library.ensures.value).0
+
+pub returns-in-Ok-make_library-clause-gives : goal.returns-in-Ok-make_library-clause-gives
+returns-in-Ok-make_library-clause-gives g c =
+    made_gives c.args.lib (g.C.Clock.shows c.args.clock.now) c.in-Ok-make_library.depot.state c.now.result c.now.ensures.value (rw c.in-Ok.ensures.value at c.in-Ok-make_library.ensures.value).0
+    (rw c.in-Ok.ensures.value at c.in-Ok-make_library.ensures.gives)

@@ -1,7 +1,9 @@
 -- What was found is started, and comes back where it isn't.
 use Rattle.std.proofs.Common.{◌∙◌}
+use Rattle.server_words.specs.Spelling.{location_text}
 use Rattle.library_server.specs.Starting.{reopened}
 use Rattle.library_server.specs.Standing.{came_back}
+use Rattle.library_server.proofs.CauseLemmas.{absent_gives, started_gives}
 use Rattle.library_server.proofs.LeftLemmas.{left_kept}
 use Rattle.library_server.proofs.StartingLemmas.{absent_cause, absent_given, opened_state, unstarted_before}
 use Rattle.library_server.proofs.StandingLemmas.{comes_back, hands_after}
@@ -76,3 +78,12 @@ returns-in-Err-start_on-clause-steady g c = λ steady standing there whole.
     started_whole c.args.lib found.0.objects found.0.status c.in-Err-start_on.why (subst IsWhole found.1 whole)
     (steady_count {T = ⊤} is_unstarted_counted _ _ (Err c.in-Err-start_on.why) (steady _) (steady _) c.in-Err-start_on.ensures.faults)
     (c.in-Err-start_on.ensures.refused found.0 found.2)
+
+pub returns-in-Ok-clause-gives : goal.returns-in-Ok-clause-gives
+returns-in-Ok-clause-gives g c =
+    started_gives c.args.location.now c.args.lib (g.C.Clock.shows c.args.clock.now) c.in-Ok.depot.state (rw c.in-Ok-Some.field-0-is at (rw c.folder_word-folder.ensures.value at c.in-Ok-Some.ensures.handed)) c.in-Ok.ensures.gives
+
+pub returns-in-Ok-None-clause-gives : goal.returns-in-Ok-None-clause-gives
+returns-in-Ok-None-clause-gives g c =
+    absent_gives c.args.location.now c.args.lib (g.C.Clock.shows c.args.clock.now) g.G.S.Shelf.may_give c.start_absent.result
+    (c.in-Ok-None.ensures.gives (location_text c.args.location.now) c.args.lib) c.start_absent.ensures.gives

@@ -4,6 +4,7 @@ use Rattle.depot.specs.DepotView.{library}
 use Rattle.library_rules.specs.Recovery.{opened}
 use Rattle.object_store.proofs.ShelfLemmas.{reads_then}
 use Rattle.object_store.specs.Shelf.{Contents}
+use Rattle.depot.proofs.GivingLemmas.{also_read}
 use Rattle.library_server.proofs.LeftLemmas.{keeps_all, left_checked, left_unstarted}
 use Rattle.library_server.proofs.StartingLemmas.{found_named, next_before, unstarted_before}
 use Rattle.library_server.proofs.starting.start_on.Goals as goal
@@ -70,3 +71,6 @@ returns-in-Err-check_named-clause-cause g c = unstarted_before c.args.lib.now c.
 pub returns-in-Err-start_named-clause-cause : goal.returns-in-Err-start_named-clause-cause
 returns-in-Err-start_named-clause-cause g c =
     unstarted_before c.args.lib.now c.in-Err-start_named.why (reads_then c.in-Ok.ensures.shelf c.in-Ok-check_named.ensures.reads).gives c.in-Err-start_named.ensures.cause
+
+pub returns-in-Ok-start_named-clause-gives : goal.returns-in-Ok-start_named-clause-gives
+returns-in-Ok-start_named-clause-gives g c = also_read (reads_then c.in-Ok.ensures.shelf c.in-Ok-check_named.ensures.reads).gives c.in-Ok-start_named.ensures.gives
