@@ -1,4 +1,5 @@
--- What the top call printed, and its status. The key lemmas are runs_printed and runs_usage.
+-- What the top call printed, and its status. The key lemmas are runs_usage, printed_as and
+-- kept_alone.
 use Rattle.std.proofs.Common.{◌≡◌, ℕ, List, Option, Some, Result, Ok, Err, refl, sym, ap, subst, ◌∙◌, arith}
 use Rattle.std.specs.Prelude.{IfErr, IfOk, ⊤}
 use Rattle.std.specs.Io.KnownBytes.{append_known}
@@ -22,7 +23,7 @@ use Rattle.library_server.specs.Adding.{IsAddedTo, IsNotAdded, is_unadded_counte
 use Rattle.library_server.specs.Making.{IsNotMade, RoseWhere, is_unmade_counted}
 use Rattle.library_server.specs.declared.adding.NewToken.{NewToken}
 use Rattle.library_server.specs.declared.making.NewLibrary.{NewLibrary}
-use Rattle.library_server.specs.Runs.{IsAdded, IsCreated, Printed, PrintsSo, RunsSo, SinkView, added_line, adds, created_line, creates, help_printed, in_part, line_printed, printed_of, prints, serves, unread, version_printed, whole}
+use Rattle.library_server.specs.Runs.{IsAdded, IsCreated, OnlyNamedGivesMore, Printed, PrintsSo, RunsSo, SinkView, added_line, adds, created_line, creates, help_printed, in_part, line_printed, printed_of, prints, serves, unread, version_printed, whole}
 use Rattle.library_server.specs.Standing.{GroundView}
 use Rattle.library_server.specs.declared.not_done.NotAdded.{NotAdded}
 use Rattle.library_server.specs.declared.not_done.NotMade.{NotMade}
@@ -131,3 +132,18 @@ pub printed_as : (printed : Printed) (text : List ℕ) (before now : SinkView) (
     → PrintsSo (record { text = text; status = printed.status }) before now status → PrintsSo printed before now status
 printed_as printed text before now status same put =
     subst (λ t. PrintsSo (record { text = t; status = printed.status }) before now status) same put
+
+-- ---- what other libraries may give
+
+-- a command that was read is the one that was named
+pub named_alone : (old new : MayGive) (command named : Command) → command ≡ named → OnlyNamedGivesMore named old new → OnlyNamedGivesMore command old new
+named_alone old new command named is others = subst (λ (k : Command). OnlyNamedGivesMore k old new) (sym is) others
+
+-- where nothing was done
+pub kept_alone : (old : MayGive) (command : Command) → OnlyNamedGivesMore command old old
+kept_alone old (Create location lib name user secret) = λ f l apart slot given is. is
+kept_alone old (Token location lib user secret right) = λ f l apart slot given is. is
+kept_alone old (Inetd location lib) = λ f l apart slot given is. is
+kept_alone old Help = λ f l slot given is. is
+kept_alone old Version = λ f l slot given is. is
+kept_alone old Usage = λ f l slot given is. is

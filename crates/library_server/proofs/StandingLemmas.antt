@@ -1,10 +1,11 @@
--- What was handed out and came back, and counts that rose. The key lemmas are comes_back, stands_again and rose_given.
+-- What was handed out and came back, and counts that rose. The key lemmas are comes_back, others_back and rose_given.
 use Rattle.std.proofs.Common.{◌≡◌, ℕ, ◌+◌, ◌-◌, ◌^◌, ◌≤◌, List, Option, Some, option_map, Result, Ok, Err, ap, ◌∙◌, arith}
 use Rattle.std.specs.Prelude.{min}
 use Rattle.ids.specs.FaultCount.{Rose}
-use Rattle.folder_storage.specs.Ground.{ChangesStanding, HandedOut, Kept, StandAsBefore, Standing, Standings, TakesBack, count_sum}
+use Rattle.folder_storage.specs.Ground.{AllGiveNoMore, ChangesStanding, GivesBack, HandedOut, Kept, MayGive, StandAsBefore, Standing, Standings, TakesBack, count_sum}
 use Rattle.object_store.specs.Shelf.{Contents}
-use Rattle.library_server.specs.Standing.{ComesBack, HandsOutOr, Returned, untouched, came_back}
+use Rattle.object_store.specs.declared.shelf.Slot.{Slot}
+use Rattle.library_server.specs.Standing.{ComesBack, HandsOutOr, OthersGiveNoMore, Returned, untouched, came_back}
 
 -- what was handed out and taken back came back
 pub comes_back : (old mid new : Standings) (folder lib : List ℕ) (contents : Option Contents)
@@ -45,6 +46,21 @@ pub hands_after : {S T E : Type 0} (contents : S → Option Contents) (old mid n
     → StandAsBefore old mid → HandsOutOr contents mid new folder lib result → HandsOutOr contents old new folder lib result
 hands_after contents old mid new folder lib (Ok x) same out = out_after old mid new folder lib same out
 hands_after contents old mid new folder lib (Err e) same back = returned_after contents old mid new folder lib same back
+
+-- ---- what other libraries may give
+
+-- a library is looked for, or made
+pub others_all : {old new : MayGive} (folder lib : List ℕ) → AllGiveNoMore old new → OthersGiveNoMore old new folder lib
+others_all folder lib first f l apart = first f l
+
+-- that, and then more of the same library
+pub others_then : {old mid new : MayGive} (folder lib : List ℕ) → AllGiveNoMore old mid → OthersGiveNoMore mid new folder lib → OthersGiveNoMore old new folder lib
+others_then folder lib first second f l apart slot given is = first f l slot given (second f l apart slot given is)
+
+-- its shelf goes back
+pub others_back : {old mid new : MayGive} {gives : Slot → Option (List ℕ) → Type 0} (folder lib : List ℕ) → OthersGiveNoMore old mid folder lib → GivesBack mid new folder lib gives
+    → OthersGiveNoMore old new folder lib
+others_back folder lib first back f l apart slot given is = first f l apart slot given (back.others f l apart slot given is)
 
 -- ---- counts
 

@@ -1,8 +1,8 @@
--- What the top call does, and its status. Read RunsSo first, at the end.
+-- What the top call does, and its status. Read RunsSo first, at the end, and OnlyNamedGivesMore.
 use Rattle.std.specs.Prelude.{◌≡◌, ℕ, List, Option, None, Some, Result, Ok, Err, ⊤}
 use Rattle.std.specs.Io.KnownBytes.{append_known}
 use Rattle.ids.specs.FaultCount.{Rose}
-use Rattle.folder_storage.specs.Ground.{MayGive, Standing}
+use Rattle.folder_storage.specs.Ground.{AllGiveNoMore, MayGive, Standing}
 use Rattle.http_front.specs.Link.{GivesFront}
 use Rattle.library_rules.specs.Creation.{opening_commit}
 use Rattle.object_store.specs.Shelf.{Contents}
@@ -19,7 +19,7 @@ use Rattle.library_server.specs.Connections.{LinkView, ServesLocation}
 use Rattle.library_server.specs.Creating.{CreatesSo}
 use Rattle.library_server.specs.Lines.{fault_of_not_added, fault_of_not_made}
 use Rattle.library_server.specs.Making.{IsNotMade, RoseWhere, is_unmade_counted}
-use Rattle.library_server.specs.Standing.{GroundView, Returned}
+use Rattle.library_server.specs.Standing.{GroundView, OthersGiveNoMore, Returned}
 use Rattle.library_server.specs.declared.adding.NewToken.{NewToken}
 use Rattle.library_server.specs.declared.making.NewLibrary.{NewLibrary}
 use Rattle.library_server.specs.declared.not_done.NotAdded.{NotAdded}
@@ -126,3 +126,12 @@ pub data RunsSo {S : Type 0} (contents : S → Option Contents) (may_give : S �
       → new ≡ old → now ≡ before → RunsSo contents may_give texts faults gives shows command old new before now out_before out_now status
   unread : status ≡ 3 → new ≡ old → now ≡ before → out_now ≡ out_before
       → RunsSo contents may_give texts faults gives shows command old new before now out_before out_now status
+
+-- no library may give more than it might before the command, but the one that the command names
+abbrev pub OnlyNamedGivesMore : Command → MayGive → MayGive → Type 0
+OnlyNamedGivesMore (Create location lib name user secret) old new = OthersGiveNoMore old new (location_text location) lib
+OnlyNamedGivesMore (Token location lib user secret right) old new = OthersGiveNoMore old new (location_text location) lib
+OnlyNamedGivesMore (Inetd location lib) old new = OthersGiveNoMore old new (location_text location) lib
+OnlyNamedGivesMore Help old new = AllGiveNoMore old new
+OnlyNamedGivesMore Version old new = AllGiveNoMore old new
+OnlyNamedGivesMore Usage old new = AllGiveNoMore old new

@@ -1,8 +1,8 @@
 -- What a command does to the place where libraries are kept: a library is handed out, and comes back. Our own.
--- Read Returned first, then StandsAs. Read before: Ground of folder_storage.
+-- Read Returned first, then StandsAs and OthersGiveNoMore. Read before: Ground of folder_storage.
 use Rattle.std.specs.Prelude.{◌≡◌, ℕ, List, Option, Some, Result, Ok, Err}
-use Rattle.object_store.specs.Shelf.{Contents}
-use Rattle.folder_storage.specs.Ground.{ChangesStanding, HandedOut, Kept, StandAsBefore, Standing, Standings}
+use Rattle.object_store.specs.Shelf.{Contents, GivesNoMore}
+use Rattle.folder_storage.specs.Ground.{ChangesStanding, HandedOut, Kept, MayGive, StandAsBefore, Standing, Standings}
 use Rattle.library_rules.specs.LibraryState.{State}
 use Rattle.library_rules.specs.Recovery.{StandsFor}
 
@@ -27,6 +27,10 @@ pub data Returned {S : Type 0} (contents : S → Option Contents) (old new : Sta
 abbrev pub HandsOutOr : {S T E : Type 0} → (S → Option Contents) → Standings → Standings → List ℕ → List ℕ → Result T E → Type 0
 HandsOutOr contents old new folder lib (Ok x) = ChangesStanding old new folder lib HandedOut
 HandsOutOr contents old new folder lib (Err e) = Returned contents old new folder lib
+
+-- no library but this one may give more than it might before
+abbrev pub OthersGiveNoMore : MayGive → MayGive → (folder lib : List ℕ) → Type 0
+OthersGiveNoMore old new folder lib = (f l : List ℕ) → ((f ≡ folder) × (l ≡ lib) → ⊥) → GivesNoMore (old f l) (new f l)
 
 -- the library is there, and its shelf stands for this state
 pub record StandsAs (standing : Option Standing) (s : State) : Type 0 where

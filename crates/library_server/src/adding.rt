@@ -7,7 +7,7 @@ ghost use Rattle.library_server.specs.Adding.{AddsSo, IsAddedTo, IsNotAdded, is_
 ghost use Rattle.library_server.specs.Answering.{NeverFails};
 ghost use Rattle.library_server.specs.Lines.{fault_of_not_added};
 ghost use Rattle.library_server.specs.Making.{RoseWhere};
-ghost use Rattle.library_server.specs.Standing.{Returned};
+ghost use Rattle.library_server.specs.Standing.{OthersGiveNoMore, Returned};
 ghost use Rattle.library_server.specs.Whole.{IsWhole, NotOfStorage};
 
 use crate::not_done::NotAdded;
@@ -39,6 +39,7 @@ pub(crate) fn add_token<G: Ground, C: Clock>(
     ensures shown { (standing : Standing) → G.stands libraries.old (location_text location.now) lib ≡ Some standing
         → AddsSo location.now lib (C.shows clock.now) token.now standing result (G.stands libraries.new (location_text location.now) lib) }
     ensures back { Returned G.S.contents (G.stands libraries.old) (G.stands libraries.new) (location_text location.now) lib }
+    ensures others { OthersGiveNoMore (G.may_give libraries.old) (G.may_give libraries.new) (location_text location.now) lib }
     ensures given { IfOk result (λ done. IsAddedTo (G.may_give libraries.old (location_text location.now) lib) location.now lib (C.shows clock.now) token.now) }
     ensures cause { IfErr result (IsNotAdded (G.may_give libraries.old (location_text location.now) lib) location.now lib (C.shows clock.now) token.now) }
     ensures faults { IfErr result (λ why. RoseWhere (is_unadded_counted why) (G.faults libraries.old) (G.faults libraries.new)) }

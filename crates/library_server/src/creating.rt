@@ -7,7 +7,7 @@ ghost use Rattle.library_server.specs.Answering.{NeverFails};
 ghost use Rattle.library_server.specs.Creating.{CreatesSo};
 ghost use Rattle.library_server.specs.Lines.{fault_of_not_made};
 ghost use Rattle.library_server.specs.Making.{IsNotMade, RoseWhere, is_unmade_counted};
-ghost use Rattle.library_server.specs.Standing.{Returned};
+ghost use Rattle.library_server.specs.Standing.{OthersGiveNoMore, Returned};
 ghost use Rattle.library_server.specs.Whole.{IsWhole, NotOfStorage};
 
 use crate::making::{NewLibrary, make_library};
@@ -31,6 +31,7 @@ pub(crate) fn create<G: Ground>(
         → CreatesSo new.now moment standing result (G.stands libraries.new folder.now new.now.lib) }
     ensures value { IfOk result (λ head. head ≡ (opening_commit new.now.lib new.now.user moment).id) }
     ensures back { Returned G.S.contents (G.stands libraries.old) (G.stands libraries.new) folder.now new.now.lib }
+    ensures others { OthersGiveNoMore (G.may_give libraries.old) (G.may_give libraries.new) folder.now new.now.lib }
     ensures cause { IfErr result (IsNotMade (G.may_give libraries.old folder.now new.now.lib) new.now moment) }
     ensures faults { IfErr result (λ why. RoseWhere (is_unmade_counted why) (G.faults libraries.old) (G.faults libraries.new)) }
     ensures steady { NeverFails G.S.faults → (standing : Standing) → G.stands libraries.old folder.now new.now.lib ≡ Some standing → IsWhole standing

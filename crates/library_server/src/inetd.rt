@@ -5,7 +5,7 @@ ghost use Rattle.http_front.specs.Link.{told_by};
 ghost use Rattle.server_words.specs.Spelling.{location_text};
 ghost use Rattle.library_server.specs.Answering.{NeverFails};
 ghost use Rattle.library_server.specs.Connections.{LinkView, ServesOpened, ServesLocation, status_of};
-ghost use Rattle.library_server.specs.Standing.{GroundView};
+ghost use Rattle.library_server.specs.Standing.{GroundView, OthersGiveNoMore};
 ghost use Rattle.library_server.specs.Whole.{IsWhole};
 ghost use Rattle.library_server.specs.WholeRuns.{ServesWhole};
 
@@ -37,6 +37,7 @@ pub(crate) fn inetd<G: Ground, L: Link, C: Clock>(
         (record { left = L.left link.new; tells = told_by L.taken L.given L.asked link.new; faults = L.faults link.new }) result)
         × (NeverFails G.S.faults → (standing : Standing) → G.stands libraries.old (location_text location.now) lib ≡ Some standing → IsWhole standing
         → ServesWhole service) }
+    ensures others { OthersGiveNoMore (G.may_give libraries.old) (G.may_give libraries.new) (location_text location.now) lib }
 {
     let mut depot = match start_library(alloc, libraries, location, lib, clock) {
         Ok(depot) => depot,

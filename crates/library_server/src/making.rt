@@ -12,7 +12,7 @@ ghost use Rattle.object_store.specs.Store.{put_refusal};
 ghost use Rattle.library_server.specs.Answering.{NeverFails};
 ghost use Rattle.library_server.specs.Lines.{fault_of_not_made};
 ghost use Rattle.library_server.specs.Making.{IsNew, IsNotMade, LeavesText, MakesSo, RoseWhere, first_of, is_unmade_counted, new_commit};
-ghost use Rattle.library_server.specs.Standing.{HandsOutOr};
+ghost use Rattle.library_server.specs.Standing.{HandsOutOr, OthersGiveNoMore};
 ghost use Rattle.library_server.specs.Whole.{IsWhole, OutWhole};
 
 use crate::not_done::NotMade;
@@ -50,6 +50,7 @@ pub(crate) fn make_library<G: Ground>(
     ensures shown { (standing : Standing) → G.stands libraries.old folder.now new.now.lib ≡ Some standing
         → MakesSo G.S.contents G.S.faults new.now moment standing result (G.stands libraries.new folder.now new.now.lib) }
     ensures back { HandsOutOr G.S.contents (G.stands libraries.old) (G.stands libraries.new) folder.now new.now.lib result }
+    ensures others { OthersGiveNoMore (G.may_give libraries.old) (G.may_give libraries.new) folder.now new.now.lib }
     ensures cause { IfErr result (IsNotMade (G.may_give libraries.old folder.now new.now.lib) new.now moment) }
     ensures faults { IfErr result (λ why. RoseWhere (is_unmade_counted why) (G.faults libraries.old) (G.faults libraries.new)) }
     ensures steady { NeverFails G.S.faults → (standing : Standing) → G.stands libraries.old folder.now new.now.lib ≡ Some standing → IsWhole standing

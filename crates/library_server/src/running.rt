@@ -11,8 +11,8 @@ ghost use Rattle.http_front.specs.Link.{told_by};
 ghost use Rattle.server_words.specs.Spelling.{location_text};
 ghost use Rattle.library_server.specs.Answering.{NeverFails};
 ghost use Rattle.library_server.specs.Connections.{LinkView};
-ghost use Rattle.library_server.specs.Runs.{AddsToken, CreatesLibrary, PrintsSo, RunsSo, SinkView, added_line, created_line, help_printed, line_printed, version_printed};
-ghost use Rattle.library_server.specs.Standing.{GroundView};
+ghost use Rattle.library_server.specs.Runs.{AddsToken, CreatesLibrary, OnlyNamedGivesMore, PrintsSo, RunsSo, SinkView, added_line, created_line, help_printed, line_printed, version_printed};
+ghost use Rattle.library_server.specs.Standing.{GroundView, OthersGiveNoMore};
 ghost use Rattle.library_server.specs.Whole.{AreWhole, IsWhole, empty_gives, empty_ground, holds_in};
 ghost use Rattle.library_server.specs.WholeRuns.{RunsWhole, is_storage_line};
 
@@ -65,6 +65,9 @@ pub fn run<G: Ground, L: Link, C: Clock, O: Sink, R>(
         (record { left = L.left link.new; tells = told_by L.taken L.given L.asked link.new; faults = L.faults link.new })
         (record { given = O.given out.old; faults = O.faults out.old })
         (record { given = O.given out.new; faults = O.faults out.new }) result) × RunsWhole done }
+
+    // Of every place: no library may give more than before, but the one that is named.
+    ensures others { OnlyNamedGivesMore (command_of words.now) (G.may_give libraries.old) (G.may_give libraries.new) }
 
     // 2 comes with a written usage line alone.
     ensures usage { result ≡ 2
@@ -126,6 +129,7 @@ fn perform<G: Ground, L: Link, C: Clock, O: Sink>(
         (record { left = L.left link.new; tells = told_by L.taken L.given L.asked link.new; faults = L.faults link.new })
         (record { given = O.given out.old; faults = O.faults out.old })
         (record { given = O.given out.new; faults = O.faults out.new }) result) × RunsWhole done }
+    ensures others { OnlyNamedGivesMore command (G.may_give libraries.old) (G.may_give libraries.new) }
 {
     match command {
         Command::Create {
@@ -182,6 +186,7 @@ fn create_printed<G: Ground, C: Clock, O: Sink>(
         (record { given = O.given out.new; faults = O.faults out.new }) result)
         × (NeverFails G.S.faults → (standing : Standing) → G.stands libraries.old (location_text location.now) new.now.lib ≡ Some standing → IsWhole standing
         → is_storage_line (created_line new.now.lib done.created) ≡ false) }
+    ensures others { OthersGiveNoMore (G.may_give libraries.old) (G.may_give libraries.new) (location_text location.now) new.now.lib }
 {
     let created = create(alloc, libraries, folder_word(location), new, clock.now());
     print_line(out, created_line(new.lib, created))
@@ -215,6 +220,7 @@ fn add_printed<G: Ground, C: Clock, O: Sink>(
         (record { given = O.given out.new; faults = O.faults out.new }) result)
         × (NeverFails G.S.faults → (standing : Standing) → G.stands libraries.old (location_text location.now) lib ≡ Some standing → IsWhole standing
         → is_storage_line (added_line done.added) ≡ false) }
+    ensures others { OthersGiveNoMore (G.may_give libraries.old) (G.may_give libraries.new) (location_text location.now) lib }
 {
     let added = add_token(alloc, libraries, location, lib, new, clock);
     print_line(out, added_line(added))

@@ -5,7 +5,7 @@ ghost use Rattle.ids.specs.Key.{Objects};
 ghost use Rattle.depot.specs.DepotView.{IsGood, state_of};
 ghost use Rattle.depot.specs.Giving.{GivesBy};
 ghost use Rattle.depot.specs.Start.{IsNextOf, OpensTold, without_store};
-ghost use Rattle.folder_storage.specs.Ground.{Absent, Standing, TakesBack, count_sum};
+ghost use Rattle.folder_storage.specs.Ground.{Absent, GivesBack, Standing, TakesBack, count_sum};
 ghost use Rattle.library_state.specs.StateSpelling.{text_of};
 ghost use Rattle.object_store.specs.Shelf.{Contents, GivesAlso};
 ghost use Rattle.object_store.specs.declared.shelf.Slot.TheVariants as slots;
@@ -15,7 +15,7 @@ ghost use Rattle.library_server.specs.Answering.{NeverFails};
 ghost use Rattle.library_server.specs.Starting.{IsDueOpening, IsMemory, IsNotBrought, IsNotStarted, IsOfOpening, IsOpenedState, IsTextOf, LeavesShelf, LeftUnstarted, OpensAs, OpensFrom, OpensSo, is_unbrought_counted, is_unstarted_counted, memory_library};
 ghost use Rattle.library_server.specs.Lines.{fault_of_not_brought};
 ghost use Rattle.library_server.specs.Making.{RoseWhere};
-ghost use Rattle.library_server.specs.Standing.{HandsOutOr};
+ghost use Rattle.library_server.specs.Standing.{HandsOutOr, OthersGiveNoMore};
 ghost use Rattle.library_server.specs.Whole.{IsWhole, OutWhole};
 
 use crate::making::{NewLibrary, make_library};
@@ -55,6 +55,7 @@ pub(crate) fn start_library<G: Ground, C: Clock>(
     ensures shown { (standing : Standing) → G.stands libraries.old (location_text location.now) lib ≡ Some standing
         → OpensSo G.S.contents G.S.faults location.now lib (C.shows clock.now) standing result (G.stands libraries.new (location_text location.now) lib) }
     ensures back { HandsOutOr G.S.contents (G.stands libraries.old) (G.stands libraries.new) (location_text location.now) lib result }
+    ensures others { OthersGiveNoMore (G.may_give libraries.old) (G.may_give libraries.new) (location_text location.now) lib }
     ensures cause { IfErr result (IsNotBrought (G.may_give libraries.old (location_text location.now) lib) location.now lib (C.shows clock.now)) }
     ensures faults { IfErr result (λ why. RoseWhere (is_unbrought_counted why) (G.faults libraries.old) (G.faults libraries.new)) }
     ensures steady { NeverFails G.S.faults → (standing : Standing) → G.stands libraries.old (location_text location.now) lib ≡ Some standing → IsWhole standing
@@ -80,6 +81,7 @@ pub(crate) fn start_library<G: Ground, C: Clock>(
 /// Gives back the shelf of a library that was started or made. Where it tells what it holds, it stands for a library.
 pub(crate) fn bring_back<G: Ground>(libraries: &mut G, folder: &str, lib: LibId, depot: Depot<G::S>)
     ensures ok { TakesBack (G.stands libraries.old) (G.stands libraries.new) folder.now lib (G.S.contents depot.store.shelf) }
+    ensures gives { GivesBack (G.may_give libraries.old) (G.may_give libraries.new) folder.now lib (G.S.may_give depot.store.shelf) }
     ensures good { IsGood G.S.contents G.S.faults depot }
     ensures faults { G.faults libraries.new ≡ count_sum (G.faults libraries.old) (G.S.faults depot.store.shelf) }
 {
@@ -100,6 +102,7 @@ fn start_absent<G: Ground, C: Clock>(
     ensures shown { G.stands libraries.old (location_text location.now) lib ≡ Some Absent
         → OpensSo G.S.contents G.S.faults location.now lib (C.shows clock.now) Absent result (G.stands libraries.new (location_text location.now) lib) }
     ensures back { HandsOutOr G.S.contents (G.stands libraries.old) (G.stands libraries.new) (location_text location.now) lib result }
+    ensures others { OthersGiveNoMore (G.may_give libraries.old) (G.may_give libraries.new) (location_text location.now) lib }
     ensures cause { IfErr result (IsNotBrought (G.may_give libraries.old (location_text location.now) lib) location.now lib (C.shows clock.now)) }
     ensures faults { IfErr result (λ why. RoseWhere (is_unbrought_counted why) (G.faults libraries.old) (G.faults libraries.new)) }
     ensures steady { NeverFails G.S.faults → G.stands libraries.old (location_text location.now) lib ≡ Some Absent → OutWhole fault_of_not_brought G.S.contents result }
@@ -125,6 +128,7 @@ fn make_in_memory<G: Ground, C: Clock>(
     ensures shown { G.stands libraries.old (codes ":memory:") lib ≡ Some Absent
         → OpensSo G.S.contents G.S.faults Location.Memory lib (C.shows clock.now) Absent result (G.stands libraries.new (codes ":memory:") lib) }
     ensures back { HandsOutOr G.S.contents (G.stands libraries.old) (G.stands libraries.new) (codes ":memory:") lib result }
+    ensures others { OthersGiveNoMore (G.may_give libraries.old) (G.may_give libraries.new) (codes ":memory:") lib }
     ensures cause { IfErr result (IsNotBrought (G.may_give libraries.old (codes ":memory:") lib) Location.Memory lib (C.shows clock.now)) }
     ensures faults { IfErr result (λ why. RoseWhere (is_unbrought_counted why) (G.faults libraries.old) (G.faults libraries.new)) }
     ensures steady { NeverFails G.S.faults → G.stands libraries.old (codes ":memory:") lib ≡ Some Absent → OutWhole fault_of_not_brought G.S.contents result }

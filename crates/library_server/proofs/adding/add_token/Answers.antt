@@ -1,7 +1,8 @@
 -- The library that was opened comes back, with the token or without it.
+use Rattle.server_words.specs.Spelling.{location_text}
 use Rattle.library_server.specs.Standing.{came_back}
 use Rattle.library_server.proofs.DepotLemmas.{stands_back}
-use Rattle.library_server.proofs.StandingLemmas.{comes_back}
+use Rattle.library_server.proofs.StandingLemmas.{comes_back, others_back}
 use Rattle.library_server.proofs.TokenLemmas.{refuses_token, token_refused}
 use Rattle.std.proofs.Common.{Err}
 use Rattle.std.specs.Prelude.{⊤}
@@ -49,3 +50,11 @@ returns-in-Err-add_token-clause-cause g c =
 
 pub returns-in-Ok-add_token-clause-given : goal.returns-in-Ok-add_token-clause-given
 returns-in-Ok-add_token-clause-given g c = (c.in-Ok.depot.state, c.in-Ok.ensures.given, c.in-Ok-add_token.ensures.refused)
+
+pub returns-in-Ok-add_token-clause-others : goal.returns-in-Ok-add_token-clause-others
+returns-in-Ok-add_token-clause-others g c =
+    others_back (location_text c.args.location.now) c.args.lib c.in-Ok.ensures.others (rw c.folder_word.ensures.value at c.bring_back.ensures.gives)
+
+pub returns-in-Err-add_token-clause-others : goal.returns-in-Err-add_token-clause-others
+returns-in-Err-add_token-clause-others g c =
+    others_back (location_text c.args.location.now) c.args.lib c.in-Ok.ensures.others (rw c.folder_word-in-Err-add_token.ensures.value at c.bring_back-in-Err-add_token.ensures.gives)

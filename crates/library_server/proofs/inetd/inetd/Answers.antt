@@ -4,7 +4,7 @@ use Rattle.server_words.specs.Lines.{fault_status}
 use Rattle.server_words.specs.Spelling.{location_text}
 use Rattle.library_server.specs.Connections.{opened, unbrought}
 use Rattle.library_server.proofs.CauseLemmas.{calls_caused, opening_harmless}
-use Rattle.library_server.proofs.StandingLemmas.{comes_back}
+use Rattle.library_server.proofs.StandingLemmas.{comes_back, others_back}
 use Rattle.library_server.proofs.WholeLemmas.{calls_whole}
 use Rattle.library_server.proofs.inetd.inetd.Goals as goal
 
@@ -19,6 +19,7 @@ returns-in-Err g c = record {
     }) (c.status.ensures.value ∙ ap fault_status c.fault.ensures.value) refl,
     c.in-Err.ensures.steady,
   );
+  others = c.in-Err.ensures.others;
 }
 
 pub returns : goal.returns
@@ -35,4 +36,5 @@ returns g c = record {
         calls_whole g.G.S.Shelf.contents g.G.S.Shelf.may_give g.G.S.Shelf.texts g.G.S.Shelf.faults (g.C.Clock.shows c.args.clock.now) c.in-Ok.depot c.serve_opened-status.new.depot ran.0 steady
         (c.in-Ok.ensures.steady steady standing there whole) ran.1,
   );
+  others = others_back (location_text c.args.location.now) c.args.lib c.in-Ok.ensures.others (rw c.folder_word.ensures.value at c.bring_back.ensures.gives);
 }

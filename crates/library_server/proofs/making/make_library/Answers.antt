@@ -3,7 +3,7 @@ use Rattle.std.proofs.Common.{◌∙◌}
 use Rattle.folder_storage.specs.Ground.{no_contents}
 use Rattle.library_server.specs.Standing.{came_back}
 use Rattle.depot.proofs.GivingLemmas.{read_by}
-use Rattle.library_server.proofs.StandingLemmas.{comes_back}
+use Rattle.library_server.proofs.StandingLemmas.{comes_back, others_all, others_back}
 use Rattle.std.proofs.Common.{Err, refl}
 use Rattle.std.specs.Prelude.{⊤}
 use Rattle.depot.specs.Make.{is_make_counted}
@@ -60,3 +60,16 @@ returns-in-Err-make_on-clause-cause g c =
 
 pub returns-in-Ok-clause-gives : goal.returns-in-Ok-clause-gives
 returns-in-Ok-clause-gives g c = read_by (rw c.in-Ok-Some.field-0-is at c.in-Ok-Some.ensures.handed) c.in-Ok.ensures.gives
+
+pub returns-in-Ok-None-clause-others : goal.returns-in-Ok-None-clause-others
+returns-in-Ok-None-clause-others g c = others_all c.args.folder.now c.args.new.now.lib c.in-Ok-None.ensures.gives
+
+pub returns-in-Err-clause-others : goal.returns-in-Err-clause-others
+returns-in-Err-clause-others g c = others_all c.args.folder.now c.args.new.now.lib c.in-Err.ensures.gives
+
+pub returns-in-Ok-clause-others : goal.returns-in-Ok-clause-others
+returns-in-Ok-clause-others g c = others_all c.args.folder.now c.args.new.now.lib c.in-Ok-Some.ensures.gives
+
+pub returns-in-Err-make_on-clause-others : goal.returns-in-Err-make_on-clause-others
+returns-in-Err-make_on-clause-others g c =
+    others_back c.args.folder.now c.args.new.now.lib (others_all c.args.folder.now c.args.new.now.lib c.in-Ok-Some.ensures.gives) c.give_back.ensures.gives

@@ -15,4 +15,5 @@ returns g c = record {
     },
     λ steady standing there whole. added_whole c.add_token-added.result (c.add_token-added.ensures.steady steady standing there whole),
   );
+  others = c.add_token-added.ensures.others;
 }

@@ -19,4 +19,5 @@ returns g c = record {
     λ steady standing there whole.
         created_whole c.args.new.now.lib c.create-created.result ((rw c.folder_word.ensures.value at c.create-created.ensures.steady) steady standing there whole),
   );
+  others = rw c.folder_word.ensures.value at c.create-created.ensures.others;
 }

@@ -3,7 +3,7 @@ use Rattle.std.proofs.Common.{refl, ap}
 use Rattle.server_words.specs.Spelling.{location_text}
 use Rattle.library_server.specs.Runs.{adds, creates, help_printed, line_printed, printed_of, prints, serves, version_printed}
 use Rattle.server_words.specs.declared.line.Line.TheVariants as line
-use Rattle.library_server.proofs.RunLemmas.{printed_as}
+use Rattle.library_server.proofs.RunLemmas.{kept_alone, named_alone, printed_as}
 use Rattle.library_server.proofs.running.perform.Goals as goal
 
 pub returns-in-Create : goal.returns-in-Create
@@ -14,6 +14,7 @@ returns-in-Create g c = record {
         creates c.in-Create.location c.in-Create.lib c.in-Create.name c.in-Create.user c.in-Create.secret c.in-Create.is c.create_printed.ensures.value.0 refl,
         c.create_printed.ensures.value.1 steady whole.0 whole.1 whole.2,
       );
+  others = named_alone (g.G.Ground.may_give c.args.libraries.now) (g.G.Ground.may_give c.create_printed.new.libraries) c.args.command _ c.in-Create.is c.create_printed.ensures.others;
 }
 
 pub returns-in-Token : goal.returns-in-Token
@@ -24,6 +25,7 @@ returns-in-Token g c = record {
         adds c.in-Token.location c.in-Token.lib (record { user = c.in-Token.user; secret = c.in-Token.secret; right = c.in-Token.right }) c.in-Token.is c.add_printed.ensures.value.0 refl,
         c.add_printed.ensures.value.1 steady whole.0 whole.1 whole.2,
       );
+  others = named_alone (g.G.Ground.may_give c.args.libraries.now) (g.G.Ground.may_give c.add_printed.new.libraries) c.args.command _ c.in-Token.is c.add_printed.ensures.others;
 }
 
 pub returns-in-Inetd : goal.returns-in-Inetd
@@ -34,6 +36,7 @@ returns-in-Inetd g c = record {
         serves c.in-Inetd.location c.in-Inetd.lib c.in-Inetd.is c.inetd.ensures.serves.0 refl,
         c.inetd.ensures.serves.1 steady whole.0 whole.1 whole.2,
       );
+  others = named_alone (g.G.Ground.may_give c.args.libraries.now) (g.G.Ground.may_give c.inetd.new.libraries) c.args.command _ c.in-Inetd.is c.inetd.ensures.others;
 }
 
 pub returns-in-Help : goal.returns-in-Help
@@ -42,6 +45,7 @@ returns-in-Help g c =
     record {
       runs = prints help_printed (ap printed_of c.in-Help.is) put refl refl;
       steady = λ steady all. (prints help_printed (ap printed_of c.in-Help.is) put refl refl, tt);
+      others = kept_alone (g.G.Ground.may_give c.args.libraries.now) c.args.command;
     }
 
 pub returns-in-Version : goal.returns-in-Version
@@ -50,10 +54,12 @@ returns-in-Version g c =
     record {
       runs = prints version_printed (ap printed_of c.in-Version.is) put refl refl;
       steady = λ steady all. (prints version_printed (ap printed_of c.in-Version.is) put refl refl, tt);
+      others = kept_alone (g.G.Ground.may_give c.args.libraries.now) c.args.command;
     }
 
 pub returns-in-Usage : goal.returns-in-Usage
 returns-in-Usage g c = record {
   runs = prints (line_printed line.Usage) (ap printed_of c.in-Usage.is) c.print_line.ensures.prints refl refl;
   steady = λ steady all. (prints (line_printed line.Usage) (ap printed_of c.in-Usage.is) c.print_line.ensures.prints refl refl, tt);
+  others = kept_alone (g.G.Ground.may_give c.args.libraries.now) c.args.command;
 }

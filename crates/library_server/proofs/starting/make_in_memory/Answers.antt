@@ -25,3 +25,9 @@ pub returns-in-Ok-make_library-clause-gives : goal.returns-in-Ok-make_library-cl
 returns-in-Ok-make_library-clause-gives g c =
     made_gives c.args.lib (g.C.Clock.shows c.args.clock.now) c.in-Ok-make_library.depot.state c.now.result c.now.ensures.value (rw c.in-Ok.ensures.value at c.in-Ok-make_library.ensures.value).0
     (rw c.in-Ok.ensures.value at c.in-Ok-make_library.ensures.gives)
+
+pub returns-in-Ok-make_library-clause-others : goal.returns-in-Ok-make_library-clause-others
+returns-in-Ok-make_library-clause-others g c = rw c.in-Ok.ensures.value at c.in-Ok-make_library.ensures.others
+
+pub returns-clause-others : goal.returns-clause-others
+returns-clause-others g c = rw c.in-Ok.ensures.value at c.in-Err-make_library.ensures.others

@@ -6,7 +6,7 @@ use Rattle.library_server.specs.Standing.{came_back}
 use Rattle.library_server.proofs.CauseLemmas.{absent_gives, started_gives}
 use Rattle.library_server.proofs.LeftLemmas.{left_kept}
 use Rattle.library_server.proofs.StartingLemmas.{absent_cause, absent_given, opened_state, unstarted_before}
-use Rattle.library_server.proofs.StandingLemmas.{comes_back, hands_after}
+use Rattle.library_server.proofs.StandingLemmas.{comes_back, hands_after, others_all, others_back, others_then}
 use Rattle.std.proofs.Common.{Err, Some, ap, subst}
 use Rattle.std.specs.Prelude.{⊤}
 use Rattle.library_server.specs.Starting.{is_unstarted_counted}
@@ -87,3 +87,17 @@ pub returns-in-Ok-None-clause-gives : goal.returns-in-Ok-None-clause-gives
 returns-in-Ok-None-clause-gives g c =
     absent_gives c.args.location.now c.args.lib (g.C.Clock.shows c.args.clock.now) g.G.S.Shelf.may_give c.start_absent.result
     (c.in-Ok-None.ensures.gives (location_text c.args.location.now) c.args.lib) c.start_absent.ensures.gives
+
+pub returns-in-Ok-None-clause-others : goal.returns-in-Ok-None-clause-others
+returns-in-Ok-None-clause-others g c = others_then (location_text c.args.location.now) c.args.lib c.in-Ok-None.ensures.gives c.start_absent.ensures.others
+
+pub returns-in-Err-clause-others : goal.returns-in-Err-clause-others
+returns-in-Err-clause-others g c = others_all (location_text c.args.location.now) c.args.lib c.in-Err.ensures.gives
+
+pub returns-in-Ok-clause-others : goal.returns-in-Ok-clause-others
+returns-in-Ok-clause-others g c = others_all (location_text c.args.location.now) c.args.lib c.in-Ok-Some.ensures.gives
+
+pub returns-in-Err-start_on-clause-others : goal.returns-in-Err-start_on-clause-others
+returns-in-Err-start_on-clause-others g c =
+    others_back (location_text c.args.location.now) c.args.lib (others_all (location_text c.args.location.now) c.args.lib c.in-Ok-Some.ensures.gives)
+    (rw c.folder_word-folder.ensures.value at c.give_back.ensures.gives)
