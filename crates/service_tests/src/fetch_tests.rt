@@ -9,7 +9,7 @@ use std::test::Fail;
 
 /// A shelf over another, with a count of what was fetched.
 #[derive(Drop)]
-struct FetchCount<S> {
+pub(crate) struct FetchCount<S> {
     shelf: S,
     fetches: u64,
 }
@@ -47,7 +47,7 @@ impl<S: Shelf> Shelf for FetchCount<S> {
     ghost told = { λ counted held slot given known may. S.told counted.shelf held slot given known may };
 }
 
-type Library = Depot<FetchCount<MemoryShelf>>;
+pub(crate) type Library = Depot<FetchCount<MemoryShelf>>;
 
 const FILE_HEAD: &str = "{\"block_ids\":[\"";
 
@@ -103,7 +103,7 @@ fn library(alloc: Global) -> Result<Library, Fail> {
     }
 }
 
-fn answered(depot: &mut Library, act: Act) -> Reply {
+pub(crate) fn answered(depot: &mut Library, act: Act) -> Reply {
     let call = Call {
         secret: Some(Secret::from_bytes([0xaa; 20])),
         act,
@@ -227,24 +227,24 @@ fn put_commit_of(
 }
 
 /// Asks for an update to this commit, and gives the head after it.
-fn update(depot: &mut Library, commit: &ObjId) -> Result<ObjId, Fail> {
+pub(crate) fn update(depot: &mut Library, commit: &ObjId) -> Result<ObjId, Fail> {
     match answered(depot, Act::Update(*commit)) {
         Reply::Updated(head) => Ok(head),
         _ => Err(Fail::from("update")),
     }
 }
 
-fn head_of(depot: &Library) -> ObjId {
+pub(crate) fn head_of(depot: &Library) -> ObjId {
     depot.head()
 }
 
-fn named(byte: u8) -> ObjId {
+pub(crate) fn named(byte: u8) -> ObjId {
     ObjId::from_bytes([byte; 20])
 }
 
 /// The library after two updates, of which the second changed the first directory, with the objects of a third, which changes
 /// the last: over the second, or over the first, so that it is merged.
-fn before_third(alloc: Global, is_merged: bool) -> Result<Library, Fail> {
+pub(crate) fn before_third(alloc: Global, is_merged: bool) -> Result<Library, Fail> {
     let mut depot = library(alloc)?;
     let opening = head_of(&depot);
     put_commit(alloc, &mut depot, &named(1), &opening, 0, 0)?;

@@ -13,4 +13,6 @@ mod library;
 #[cfg(test)]
 mod library_server_tests;
 #[cfg(test)]
+mod taken_tests;
+#[cfg(test)]
 mod turnstile_tests;
