@@ -1,12 +1,12 @@
 -- What steps add to steps, and which directories are among some. The key lemmas are objects-only, directories-only, named-more and
--- put-order.
+-- made-durable.
 use Rattle.std.proofs.Common.{◌≡◌, ◌⊎◌, ℕ, suc, zero, ◌<◌, ◌+◌, List, [], ◌∷◌, ◌++◌, length, get_or, inl, inr, take, map, Option, None, Some, Result, Ok, Err, OnOk, OnErr, slice_index, subst, refl, sym, ◌∙◌, ap, arith}
 use Rattle.std.specs.Bool.{⊤}
 use Rattle.std.proofs.lemmas.List.{append-nil, append_assoc, map-append, take_more}
 use Rattle.ids.specs.declared.key.Key.{Key}
 use Rattle.folder_storage.specs.declared.durability.Directory.{Directory}
 use Rattle.folder_storage.specs.declared.durability.Directory.TheVariants.{Objects, OfKind}
-use Rattle.folder_storage.specs.Durability.{AreNamedIn, AreSyncs, In, OnlySyncs, PutText, PutsDurably, Step, SyncedObject, SyncedDirectory, TextComesLast, with_steps}
+use Rattle.folder_storage.specs.Durability.{AreNamedIn, AreSyncs, In, MakesDurable, OnlySyncs, PutObject, PutText, Step, SyncedObject, SyncedDirectory, SyncsAll, with_steps}
 
 -- nothing was done more
 pub steps-none : (told : Option (List Step)) → told ≡ with_steps told []
@@ -52,8 +52,9 @@ In-front x [] ys is = absurd is
 In-front x (y ∷ xs) ys (inl same) = inl same
 In-front x (y ∷ xs) ys (inr later) = inr (In-front x xs ys later)
 
-syncs-append : (a b : List Step) → AreSyncs a → AreSyncs b → AreSyncs (a ++ b)
+pub syncs-append : (a b : List Step) → AreSyncs a → AreSyncs b → AreSyncs (a ++ b)
 syncs-append [] b first more = more
+syncs-append (PutObject key ∷ a) b first more = absurd first
 syncs-append (SyncedObject key ∷ a) b first more = syncs-append a b first more
 syncs-append (SyncedDirectory directory ∷ a) b first more = syncs-append a b first more
 syncs-append (PutText text ∷ a) b first more = absurd first
@@ -72,28 +73,22 @@ only-after old mid new keys done only = record {
   no_text = syncs-append (map SyncedObject keys) only.syncs (objects-syncs keys) only.no_text;
 }
 
-comes-last : (old mid last new : Option (List Step)) (keys : List Key) (directories : List Directory) (text : List ℕ) → AreNamedIn keys directories
-    → mid ≡ with_steps old (map SyncedObject keys) → last ≡ with_steps mid (map SyncedDirectory directories) → new ≡ with_steps last (PutText text ∷ [])
-    → TextComesLast old new keys text
-comes-last old mid last new keys directories text named synced placed put = record {
+-- the objects, and then the folders
+pub both-synced : (old mid new : Option (List Step)) (keys : List Key) (directories : List Directory) → AreNamedIn keys directories
+    → mid ≡ with_steps old (map SyncedObject keys) → new ≡ with_steps mid (map SyncedDirectory directories) → SyncsAll old new keys
+both-synced old mid new keys directories named synced placed = record {
+  synced = keys;
+  whole = λ key is. is;
   directories = directories;
   named = named;
-  steps = put ∙ ap (λ l. with_steps l (PutText text ∷ [])) (placed ∙ ap (λ m. with_steps m (map SyncedDirectory directories)) synced ∙ steps-more old (map SyncedObject keys) (map SyncedDirectory directories))
-      ∙ steps-more old (map SyncedObject keys ++ map SyncedDirectory directories) (PutText text ∷ [])
-      ∙ ap (with_steps old) (append_assoc (map SyncedObject keys) (map SyncedDirectory directories) (PutText text ∷ []));
+  steps = placed ∙ ap (λ m. with_steps m (map SyncedDirectory directories)) synced ∙ steps-more old (map SyncedObject keys) (map SyncedDirectory directories);
 }
 
-only-synced : (old mid last new : Option (List Step)) (keys : List Key) (directories : List Directory)
-    → mid ≡ with_steps old (map SyncedObject keys) → last ≡ with_steps mid (map SyncedDirectory directories) → new ≡ last → OnlySyncs old new
-only-synced old mid last new keys directories synced placed same = only-after old mid new keys synced (directories-only mid last new directories placed same)
-
-pub put-order : {E : Type 0} (old mid last new : Option (List Step)) (keys : List Key) (directories : List Directory) (text : List ℕ) (result : Result ⊤ E)
-    → AreNamedIn keys directories → mid ≡ with_steps old (map SyncedObject keys) → last ≡ with_steps mid (map SyncedDirectory directories)
-    → OnOk result (new ≡ with_steps last (PutText text ∷ []))
-    → OnErr result ((new ≡ last) ⊎ (new ≡ with_steps last (PutText text ∷ []))) → PutsDurably old new keys text result
-put-order old mid last new keys directories text (Ok done) named synced placed put failed = comes-last old mid last new keys directories text named synced placed put
-put-order old mid last new keys directories text (Err failure) named synced placed put (inl same) = inl (only-synced old mid last new keys directories synced placed same)
-put-order old mid last new keys directories text (Err failure) named synced placed put (inr done) = inr (comes-last old mid last new keys directories text named synced placed done)
+pub made-durable : {E : Type 0} (old mid new : Option (List Step)) (keys : List Key) (directories : List Directory) (result : Result ⊤ E)
+    → AreNamedIn keys directories → mid ≡ with_steps old (map SyncedObject keys)
+    → OnOk result (new ≡ with_steps mid (map SyncedDirectory directories)) → OnErr result (OnlySyncs mid new) → MakesDurable old new keys result
+made-durable old mid new keys directories (Ok done) named synced placed failed = both-synced old mid new keys directories named synced placed
+made-durable old mid new keys directories (Err failure) named synced placed failed = only-after old mid new keys synced failed
 
 named-last : (key x : Key) (byte : ℕ) (p : List Directory) → byte ≡ slice_index x.id 0 → In key (x ∷ []) → In (Objects x.kind byte) p → In (OfKind x.kind) p
     → In (Objects key.kind (slice_index key.id 0)) p × In (OfKind key.kind) p

@@ -1,3 +1,4 @@
 pub mod DurabilityLemmas
 pub mod PathLemmas
 pub mod StandingLemmas
+pub mod UnsyncedLemmas

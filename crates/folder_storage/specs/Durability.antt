@@ -1,12 +1,15 @@
--- In which order what was put is made durable. Our own. Read Step first, then TextComesLast.
+-- In which order what was put is made durable. Our own. Read Step first, then TextComesLast, then IsInOrder.
 -- A stand-in for the disk tells its steps; the real one tells None.
-use Rattle.std.specs.Prelude.{◌≡◌, ◌⊎◌, ◌++◌, ℕ, List, [], ◌∷◌, Option, Result, Ok, Err, ⊤, map, option_map, slice_index}
+use Rattle.std.specs.Prelude.{◌≡◌, ◌⊎◌, ◌++◌, ℕ, List, [], ◌∷◌, Option, None, Some, Result, Ok, Err, ⊤, map, option_map, slice_index}
 use Rattle.ids.specs.declared.key.Key.{Key}
+use Rattle.object_store.specs.declared.shelf.Slot.{Slot}
+use Rattle.object_store.specs.declared.shelf.Slot.TheVariants.{Object, Status}
 use Rattle.folder_storage.specs.declared.durability.Directory.{Directory}
 use Rattle.folder_storage.specs.declared.durability.Directory.TheVariants.{Objects, OfKind}
 
--- what was done: an object's file was synced, the names in a folder were, or a state text was put
+-- what was done: an object was put, its file was synced, the names in a folder were, or a state text was put
 pub data Step : Type 0 where
+  PutObject : Key → Step
   SyncedObject : Key → Step
   SyncedDirectory : Directory → Step
   PutText : List ℕ → Step
@@ -20,19 +23,37 @@ abbrev pub In : {A : Type 0} → A → List A → Type 0
 In x [] = ⊥
 In x (y ∷ ys) = (x ≡ y) ⊎ In x ys
 
+-- each of the first list is one of the second
+abbrev pub AreAmong : List Key → List Key → Type 0
+AreAmong keys more = (key : Key) → In key keys → In key more
+
+-- after a put into the slot: its object is one of the list, and after a state text none is in it
+abbrev pub IsListed : Slot → List Key → Type 0
+IsListed (Object key) keys = In key keys
+IsListed Status keys = keys ≡ []
+
 -- each object's folder is among the directories, and so is the folder of its kind
 abbrev pub AreNamedIn : List Key → List Directory → Type 0
 AreNamedIn keys directories = (key : Key) → In key keys → In (Objects key.kind (slice_index key.id 0)) directories × In (OfKind key.kind) directories
 
--- every object is synced, and then every folder that names one, and then the text is put
-pub record TextComesLast (old new : Option (List Step)) (keys : List Key) (text : List ℕ) : Type 0 where
+-- every object of the list is synced, and then every folder that names one
+pub record SyncsAll (old new : Option (List Step)) (keys : List Key) : Type 0 where
+  pub synced : List Key
+  pub whole : AreAmong keys synced
   pub directories : List Directory
-  pub named : AreNamedIn keys directories
-  pub steps : new ≡ with_steps old (map SyncedObject keys ++ (map SyncedDirectory directories ++ PutText text ∷ []))
+  pub named : AreNamedIn synced directories
+  pub steps : new ≡ with_steps old (map SyncedObject synced ++ map SyncedDirectory directories)
 
--- no text is among the steps
+-- that comes first, and the text after it
+pub record TextComesLast (old new : Option (List Step)) (keys : List Key) (text : List ℕ) : Type 0 where
+  pub before : Option (List Step)
+  pub synced : SyncsAll old before keys
+  pub put : new ≡ with_steps before (PutText text ∷ [])
+
+-- every step is a sync
 abbrev pub AreSyncs : List Step → Type 0
 AreSyncs [] = ⊤
+AreSyncs (PutObject key ∷ steps) = ⊥
 AreSyncs (SyncedObject key ∷ steps) = AreSyncs steps
 AreSyncs (SyncedDirectory directory ∷ steps) = AreSyncs steps
 AreSyncs (PutText text ∷ steps) = ⊥
@@ -43,7 +64,33 @@ pub record OnlySyncs (old new : Option (List Step)) : Type 0 where
   pub steps : new ≡ with_steps old syncs
   pub no_text : AreSyncs syncs
 
+-- all is synced where the call is done; else there were syncs alone
+abbrev pub MakesDurable : {E : Type 0} → Option (List Step) → Option (List Step) → List Key → Result ⊤ E → Type 0
+MakesDurable old new keys (Ok done) = SyncsAll old new keys
+MakesDurable old new keys (Err failure) = OnlySyncs old new
+
 -- a text is put after all that it may name is durable, or it isn't put; it is put where the call is done
 abbrev pub PutsDurably : {E : Type 0} → Option (List Step) → Option (List Step) → List Key → List ℕ → Result ⊤ E → Type 0
 PutsDurably old new keys text (Ok done) = TextComesLast old new keys text
 PutsDurably old new keys text (Err failure) = OnlySyncs old new ⊎ TextComesLast old new keys text
+
+-- after the steps, the object was put and not synced since; `before` are those of which that held before them
+abbrev pub IsUnsynced : (Key → Type 0) → List Step → Key → Type 0
+IsUnsynced before [] = before
+IsUnsynced before (PutObject put ∷ steps) = IsUnsynced (λ key. (key ≡ put) ⊎ before key) steps
+IsUnsynced before (SyncedObject synced ∷ steps) = IsUnsynced (λ key. before key × (key ≡ synced → ⊥)) steps
+IsUnsynced before (SyncedDirectory directory ∷ steps) = IsUnsynced before steps
+IsUnsynced before (PutText text ∷ steps) = IsUnsynced before steps
+
+-- at each text no object is put and not synced
+abbrev pub AreInOrder : (Key → Type 0) → List Step → Type 0
+AreInOrder before [] = ⊤
+AreInOrder before (PutObject put ∷ steps) = AreInOrder (λ key. (key ≡ put) ⊎ before key) steps
+AreInOrder before (SyncedObject synced ∷ steps) = AreInOrder (λ key. before key × (key ≡ synced → ⊥)) steps
+AreInOrder before (SyncedDirectory directory ∷ steps) = AreInOrder before steps
+AreInOrder before (PutText text ∷ steps) = ((key : Key) → before key → ⊥) × AreInOrder before steps
+
+-- the same from the first step on, and each object that was put and not synced is in the list
+abbrev pub IsInOrder : Option (List Step) → List Key → Type 0
+IsInOrder None keys = ⊤
+IsInOrder (Some steps) keys = AreInOrder (λ key. ⊥) steps × ((key : Key) → IsUnsynced (λ key. ⊥) steps key → In key keys)

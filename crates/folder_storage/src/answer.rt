@@ -20,6 +20,7 @@ pub(crate) fn answer<T>(faults: &mut u64, outcome: io::Result<T>) -> Result<T, S
 
 /// The answer of a call that may have changed something where it fails, so that each failure counts as a fault.
 pub(crate) fn counted<T>(faults: &mut u64, outcome: io::Result<T>) -> Result<T, ShelfFailed>
+    ensures value { IfOk result (λ value. outcome ≡ Ok value) }
     ensures faults { CountsFaults faults.old faults.new result }
 {
     match outcome {

@@ -1,6 +1,6 @@
-//! The order in which what was put is made durable: every object, every folder that names one, and then the state text.
+//! How what was put is made durable: every object, and then every folder that names one.
 ghost use Rattle.std.specs.Prelude.{◌≡◌, ◌⊎◌, ℕ, List, [], ◌∷◌, IfErr, IfOk, IsTrue, OnErr, OnOk, Option, map, slice_index};
-ghost use Rattle.folder_storage.specs.Durability.{AreNamedIn, In, OnlySyncs, PutsDurably, PutText, Step, SyncedObject, SyncedDirectory, with_steps};
+ghost use Rattle.folder_storage.specs.Durability.{AreAmong, AreNamedIn, In, MakesDurable, OnlySyncs, PutObject, PutText, Step, SyncedObject, SyncedDirectory, with_steps};
 
 use ids::{Key, Kind};
 use std::alloc::{AllocError, Global};
@@ -15,12 +15,30 @@ pub(crate) enum Directory {
     OfKind(Kind),
 }
 
-/// The calls by which what was put is made durable, and a state text after it. A stand-in tells what was done.
+/// The calls by which objects are put and made durable, and a state text after them. A stand-in tells what was done.
 pub(crate) trait Disk {
     ghost use Rattle.folder_storage.specs.Durability.{Step};
 
+    /// What is known of an object that was written beside its slot.
+    type Way;
+
     // What was done, in its order.
     ghost steps: { Self → Option (List Step) };
+
+    /// Moves the object that was written beside into its slot. After a failure it may be there.
+    fn put_object(&mut self, key: &Key, bytes: &[u8], way: &Self::Way) -> io::Result<()>
+        ensures ok { OnOk result (steps self.new ≡ with_steps (steps self.old) (PutObject key.now ∷ [])) }
+        ensures err { OnErr result ((steps self.new ≡ steps self.old)
+            ⊎ (steps self.new ≡ with_steps (steps self.old) (PutObject key.now ∷ []))) };
+
+    /// Adds what was put before this run, and may not be durable, to the list. It fails where no text may be put.
+    fn gather(&mut self, keys: &mut Vec<Key>) -> io::Result<()>
+        ensures listed { AreAmong keys.old.items keys.new.items }
+        ensures stays { steps self.new ≡ steps self.old };
+
+    /// Comes before the syncs of these objects.
+    fn begin_syncs(&mut self, keys: &[Key]) -> io::Result<()>
+        ensures stays { steps self.new ≡ steps self.old };
 
     /// Makes an object's file durable.
     fn sync_object(&mut self, key: &Key) -> io::Result<()>
@@ -32,6 +50,10 @@ pub(crate) trait Disk {
         ensures ok { OnOk result (steps self.new ≡ with_steps (steps self.old) (SyncedDirectory directory ∷ [])) }
         ensures err { OnErr result (steps self.new ≡ steps self.old) };
 
+    /// Comes after the syncs, and is told whether all were done.
+    fn end_syncs(&mut self, is_synced: bool)
+        ensures stays { steps self.new ≡ steps self.old };
+
     /// Puts the state text, durably. After a failure it may be there.
     fn put_text(&mut self, text: &[u8]) -> io::Result<()>
         ensures ok { OnOk result (steps self.new ≡ with_steps (steps self.old) (PutText text.now ∷ [])) }
@@ -39,14 +61,9 @@ pub(crate) trait Disk {
             ⊎ (steps self.new ≡ with_steps (steps self.old) (PutText text.now ∷ []))) };
 }
 
-/// Makes the objects durable, each with the folders that name it, and then puts the state text.
-pub(crate) fn put_durably<D: Disk>(
-    alloc: Global,
-    disk: &mut D,
-    keys: &[Key],
-    text: &[u8],
-) -> io::Result<()>
-    ensures order { PutsDurably (D.steps disk.old) (D.steps disk.new) keys.now text.now result }
+/// Makes the objects durable, and then the folders that name them, up to the first failure.
+pub(crate) fn make_durable<D: Disk>(alloc: Global, disk: &mut D, keys: &[Key]) -> io::Result<()>
+    ensures value { MakesDurable (D.steps disk.old) (D.steps disk.new) keys.now result }
 {
     let directories = match directories_of(alloc, keys) {
         Ok(directories) => directories,
@@ -55,10 +72,7 @@ pub(crate) fn put_durably<D: Disk>(
     if let Err(failure) = sync_objects(disk, keys) {
         return Err(failure);
     }
-    if let Err(failure) = sync_directories(disk, directories.as_slice()) {
-        return Err(failure);
-    }
-    disk.put_text(text)
+    sync_directories(disk, directories.as_slice())
 }
 
 /// Makes the objects' files durable, up to the first failure.

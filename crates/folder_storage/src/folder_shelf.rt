@@ -1,11 +1,15 @@
 //! A shelf over the files of one library's folder.
-ghost use Rattle.std.specs.Prelude.{◌≡◌};
+ghost use Rattle.std.specs.Prelude.{◌≡◌, OnOk};
+ghost use Rattle.object_store.specs.Shelf.{CountsFaults, texts_after};
+ghost use Rattle.folder_storage.specs.Durability.{IsListed};
 
 use crate::answer::{answer, counted};
 use crate::file_system::FileSystem;
-use crate::library_folder::LibraryFolder;
-use ids::{Bytes, Kind, ObjId};
+use crate::library_folder::{LibraryFolder, Way};
+use crate::unsynced::Unsynced;
+use ids::{Bytes, Key, Kind, ObjId};
 use object_store::{Found, Shelf, ShelfFailed, Slot, TextCount};
+use std::io;
 
 /// A shelf over the files of one library's folder, one file a slot. It tells nothing of what it holds, and counts the
 /// calls that failed.
@@ -27,23 +31,28 @@ use object_store::{Found, Shelf, ShelfFailed, Slot, TextCount};
 #[derive(Drop)]
 pub struct FolderShelf<F> {
     folder: LibraryFolder<F>,
+    unsynced: Unsynced,
     faults: u64,
     texts: TextCount,
 }
 
-impl<F> FolderShelf<F> {
+impl<F: FileSystem> FolderShelf<F> {
     /// A shelf over this folder, with no faults.
     pub(crate) fn new(folder: LibraryFolder<F>) -> FolderShelf<F>
         ensures folder { result.folder ≡ folder }
         ensures faults { result.faults ≡ 0 }
     {
+        let unsynced = Unsynced::new(folder.files.alloc());
         FolderShelf {
             folder,
+            unsynced,
             faults: 0,
             texts: TextCount::new(),
         }
     }
+}
 
+impl<F> FolderShelf<F> {
     /// The files that it stands on, as its calls left them.
     pub fn files(&self) -> &F {
         &self.folder.files
@@ -65,17 +74,24 @@ impl<F: FileSystem + Drop> Shelf for FolderShelf<F> {
         answer(&mut self.faults, self.folder.read(&slot))
     }
 
-    fn put(&mut self, slot: Slot, bytes: &[u8]) -> Result<(), ShelfFailed> {
+    fn put(&mut self, slot: Slot, bytes: &[u8]) -> Result<(), ShelfFailed>
+        ensures listed { OnOk result (IsListed slot self.new.unsynced.keys.items) }
+        ensures faults { CountsFaults self.old.faults self.new.faults result }
+        ensures texts { self.new.texts.count ≡ texts_after slot self.old.texts.count }
+    {
         self.texts.count_put(&slot);
         match slot {
             Slot::Object(key) => {
-                let written = self.folder.write_beside(&key, bytes);
+                let written = write_beside(&mut self.unsynced, &mut self.folder, &key, bytes);
                 let way = answer(&mut self.faults, written)?;
-                let moved = self.folder.move_in(&key, bytes, &way);
-                counted(&mut self.faults, moved)
+                let put = self
+                    .unsynced
+                    .put_object(&mut self.folder, &key, bytes, &way);
+                counted(&mut self.faults, put)
             }
             Slot::Status => {
-                let put = self.folder.put_state(bytes);
+                let alloc = self.folder.files.alloc();
+                let put = self.unsynced.put_text(alloc, &mut self.folder, bytes);
                 answer(&mut self.faults, put)
             }
         }
@@ -97,4 +113,15 @@ impl<F: FileSystem + Drop> Shelf for FolderShelf<F> {
     }
 
     ghost told = { λ shelf held slot given known. Prim.cc };
+}
+
+/// Writes the bytes of an object beside its slot, and makes room to note it. No slot changes.
+fn write_beside<F: FileSystem + Drop>(
+    unsynced: &mut Unsynced,
+    folder: &mut LibraryFolder<F>,
+    key: &Key,
+    bytes: &[u8],
+) -> io::Result<Way> {
+    unsynced.make_room()?;
+    folder.write_beside(key, bytes)
 }

@@ -4,7 +4,8 @@
 //! come and to which they go back, with `FolderGround` and `MemoryGround`. Definition: specs/Ground.antt.
 //!
 //! The adapters over files tell nothing of what they hold, so what they do with it is no clause: of them it is proved
-//! that their counts of faults are right, and that they are safe and end. The layout of a library's folder and what
+//! that their counts of faults are right, that what is put is listed until a text, and that they are safe and end. In
+//! which order objects are made durable before a text is proved over a disk that tells its calls. The layout of a library's folder and what
 //! lasts through a loss of power are told at `FolderShelf`.
 #![tactic(auto)]
 
@@ -25,6 +26,7 @@ mod paths;
 mod steady_shelf;
 mod syncing;
 mod system_files;
+mod unsynced;
 mod whole;
 
 pub use crate::counted_shelf::CountedShelf;

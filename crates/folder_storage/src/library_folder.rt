@@ -31,8 +31,6 @@ pub(crate) struct LibraryFolder<F> {
     pub(crate) home: Option<String>,
     /// The folder in which it stands, until its place there is durable.
     pub(crate) above: Option<String>,
-    /// The objects that were put and not made durable: those of this run, and of earlier ones once they were sought.
-    pub(crate) unsynced: Vec<Key>,
     /// What this run put among the commits that aren't durable.
     pub(crate) commits: Vec<CommitSum>,
     /// What no earlier state text vouches for.
@@ -47,8 +45,6 @@ pub(crate) struct LibraryFolder<F> {
     pub(crate) is_in_doubt: bool,
     /// Whether a folder's own name is in doubt, so that this run puts nothing any more.
     pub(crate) is_adrift: bool,
-    /// Whether all that was unsynced as the state text was put last is durable.
-    pub(crate) is_synced: bool,
     /// What was listed last.
     listing: Option<Listing>,
 }
@@ -64,7 +60,6 @@ impl<F: FileSystem + Drop> LibraryFolder<F> {
             path,
             home: None,
             above: Some(above),
-            unsynced: Vec::new(alloc),
             commits: Vec::new(alloc),
             earlier,
             has_earlier: false,
@@ -72,7 +67,6 @@ impl<F: FileSystem + Drop> LibraryFolder<F> {
             is_marked: false,
             is_in_doubt: false,
             is_adrift: false,
-            is_synced: false,
             listing: None,
         }
     }
@@ -101,21 +95,29 @@ impl<F: FileSystem + Drop> LibraryFolder<F> {
         }
     }
 
-    /// Writes the bytes of an object beside its slot, and makes room to note it and the paths that its move needs. No slot
-    /// changes.
+    /// Writes the bytes of an object beside its slot, and finds out what its move needs. No slot changes.
     pub(crate) fn write_beside(&mut self, key: &Key, bytes: &[u8]) -> io::Result<Way> {
         if self.is_adrift {
             return Err(io::Error::from(ErrorKind::Other));
         }
-        self.unsynced.reserve(1)?;
         self.commits.reserve(1)?;
-        let way = Way {
-            spare: self.spare()?,
-            folder: self.folder_of(key)?,
-            path: object_path(self.files.alloc(), self.path.as_str(), key)?,
-        };
+        let way = self.way_of(key)?;
         self.write_spare(way.spare.as_str(), bytes, false)?;
         Ok(way)
+    }
+
+    /// The paths that an object is moved along, and whether its folder is there.
+    fn way_of(&mut self, key: &Key) -> io::Result<Way> {
+        let spare = self.spare()?;
+        let folder = self.folder_of(key)?;
+        let path = object_path(self.files.alloc(), self.path.as_str(), key)?;
+        let is_there = self.files.look(folder.as_str())?.is_some();
+        Ok(Way {
+            spare,
+            folder,
+            is_there,
+            path,
+        })
     }
 
     /// Writes the spare file. Where that fails it is taken away, if it can be.
@@ -159,22 +161,22 @@ impl<F: FileSystem + Drop> LibraryFolder<F> {
         moved
     }
 
-    /// Moves the object that was written beside into its slot, whose folder is made where it isn't there.
+    /// Moves the object that was written beside into its slot, whose folder is made where it wasn't there. Only what was
+    /// moved is no longer what an earlier run put, and no longer lost.
     fn move_object(&mut self, key: &Key, bytes: &[u8], way: &Way) -> io::Result<()> {
-        self.note_put(key, bytes)?;
-        if self.files.look(way.folder.as_str())?.is_none() {
+        self.note_commit(key, bytes)?;
+        if !way.is_there {
             self.files.make_folder(way.folder.as_str())?;
         }
-        self.move_spare(way.spare.as_str(), way.path.as_str())?;
+        self.files.rename(way.spare.as_str(), way.path.as_str())?;
+        take_out(&mut self.earlier.whole, key);
         take_out(&mut self.earlier.torn, key);
+        self.find_again(key);
         Ok(())
     }
 
-    /// Notes an object that is put by this run.
-    fn note_put(&mut self, key: &Key, bytes: &[u8]) -> Result<(), AllocError> {
-        self.unsynced.push(*key)?;
-        take_out(&mut self.earlier.whole, key);
-        self.find_again(key);
+    /// Notes the bytes of a commit that is put by this run.
+    fn note_commit(&mut self, key: &Key, bytes: &[u8]) -> Result<(), AllocError> {
         if key.kind == Kind::Commit {
             let sum = ObjId::of(bytes);
             self.commits.retain(|commit| commit.id != key.id);
@@ -268,11 +270,13 @@ impl<F: FileSystem + Drop> LibraryFolder<F> {
     }
 }
 
-/// The paths that an object is moved along, from the spare file to its own in its folder.
+/// The paths that an object is moved along, from the spare file to its own in its folder, and whether that folder was there
+/// as they were found.
 #[derive(Drop)]
 pub(crate) struct Way {
     spare: String,
     folder: String,
+    is_there: bool,
     path: String,
 }
 

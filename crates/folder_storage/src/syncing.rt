@@ -1,45 +1,18 @@
 //! How a library's folder makes durable what was put, and the state text after it.
-use crate::durability::{Directory, Disk, first_byte, put_durably};
+ghost use Rattle.folder_storage.specs.Durability.{AreAmong};
+
+use crate::durability::{Directory, Disk, first_byte};
 use crate::file_system::FileSystem;
-use crate::library_folder::LibraryFolder;
+use crate::library_folder::{LibraryFolder, Way};
 use crate::paths::{kind_path, listed_folder, moved_path, named_path, object_path};
+use crate::unsynced::note;
 use crate::whole::is_whole;
 use ids::{Key, Kind, ObjId};
+use std::alloc::AllocError;
 use std::io;
 use std::io::ErrorKind;
 
 impl<F: FileSystem + Drop> LibraryFolder<F> {
-    /// Puts the state text, after every object that was put before it was made durable, by whichever run.
-    ///
-    /// Where a sync fails, what it was to make durable is in doubt: another sync would say that all is well.
-    pub(crate) fn put_state(&mut self, text: &[u8]) -> io::Result<()> {
-        if self.is_adrift || self.lost.is_some() {
-            return Err(io::Error::from(ErrorKind::Other));
-        }
-        self.clear_torn()?;
-        self.seek_unsynced()?;
-        let keys = self.unsynced.clone()?;
-        if !keys.is_empty() {
-            self.mark()?;
-        }
-        if self.is_in_doubt {
-            self.enter_folders(keys.as_slice())?;
-        }
-        self.is_synced = false;
-        let put = put_durably(self.files.alloc(), self, keys.as_slice(), text);
-        if self.is_synced {
-            self.unsynced.clear();
-            self.commits.clear();
-            self.earlier.near.clear();
-            self.earlier.whole.clear();
-        }
-        self.is_in_doubt = !self.is_synced;
-        if put.is_ok() {
-            self.unmark();
-        }
-        put
-    }
-
     /// Takes away, durably, what earlier runs left torn: the next state text is younger, and would vouch for it. No text
     /// that stands names it.
     fn clear_torn(&mut self) -> io::Result<()> {
@@ -57,20 +30,30 @@ impl<F: FileSystem + Drop> LibraryFolder<F> {
         Ok(())
     }
 
-    /// Takes what earlier runs put among the objects that are to be made durable, once in this run, and sorts them.
-    pub(crate) fn seek_unsynced(&mut self) -> io::Result<()> {
-        if !self.has_earlier {
-            for key in &self.earlier.near {
-                self.unsynced.push(*key)?;
-            }
-            for key in &self.earlier.whole {
-                self.unsynced.push(*key)?;
-            }
-            self.has_earlier = true;
+    /// Adds what earlier runs put to the objects that are to be made durable, once in this run.
+    fn add_earlier(&mut self, keys: &mut Vec<Key>) -> io::Result<()>
+        ensures listed { AreAmong keys.old.items keys.new.items }
+    {
+        if self.has_earlier {
+            return Ok(());
         }
-        self.unsynced.sort()?;
-        self.unsynced.dedup();
+        if let Err(failure) = add_all(keys, self.earlier.near.as_slice()) {
+            return Err(io::Error::from(failure));
+        }
+        if let Err(failure) = add_all(keys, self.earlier.whole.as_slice()) {
+            return Err(io::Error::from(failure));
+        }
+        self.has_earlier = true;
         Ok(())
+    }
+
+    /// Readies the folder for a state text: what is torn is taken away. While a folder's own name is in doubt, or an object
+    /// was lost, no text is put.
+    fn clear(&mut self) -> io::Result<()> {
+        if self.is_adrift || self.lost.is_some() {
+            return Err(io::Error::from(ErrorKind::Other));
+        }
+        self.clear_torn()
     }
 
     /// Leaves a mark before the first sync: a run that finds it trusts no sync of what that mark's run put. Where a sync
@@ -222,7 +205,42 @@ impl<F: FileSystem + Drop> LibraryFolder<F> {
 impl<F: FileSystem + Drop> Disk for LibraryFolder<F> {
     ghost use Rattle.std.specs.Prelude.{None};
 
+    type Way = Way;
+
     ghost steps = { λ _. None };
+
+    fn put_object(&mut self, key: &Key, bytes: &[u8], way: &Way) -> io::Result<()> {
+        self.move_in(key, bytes, way)
+    }
+
+    /// Adds what earlier runs put, and takes away what they left torn.
+    fn gather(&mut self, keys: &mut Vec<Key>) -> io::Result<()> {
+        if let Err(failure) = self.clear() {
+            return Err(failure);
+        }
+        self.add_earlier(keys)
+    }
+
+    /// Leaves the mark, and after a sync that may have failed writes the names of the folders anew.
+    fn begin_syncs(&mut self, keys: &[Key]) -> io::Result<()> {
+        if !keys.is_empty() {
+            self.mark()?;
+        }
+        if self.is_in_doubt {
+            self.enter_folders(keys)?;
+        }
+        Ok(())
+    }
+
+    /// Where a sync failed, what it was to make durable is in doubt: another sync would say that all is well.
+    fn end_syncs(&mut self, is_synced: bool) {
+        self.is_in_doubt = !is_synced;
+        if is_synced {
+            self.commits.clear();
+            self.earlier.near.clear();
+            self.earlier.whole.clear();
+        }
+    }
 
     /// Makes an object's file durable. One whose sync may have failed is written anew.
     fn sync_object(&mut self, key: &Key) -> io::Result<()> {
@@ -235,10 +253,10 @@ impl<F: FileSystem + Drop> Disk for LibraryFolder<F> {
             Ok(()) => Ok(()),
             // It stays in doubt, and is written anew with the next text.
             Err(failure) if failure.kind() == ErrorKind::OutOfMemory => Err(failure),
-            Err(failure) => {
-                self.give_up(key, path.as_str())?;
-                Err(after_a_change(failure))
-            }
+            Err(failure) => match self.give_up(key, path.as_str()) {
+                Ok(()) => Err(after_a_change(failure)),
+                Err(other) => Err(after_a_change(other)),
+            },
         }
     }
 
@@ -264,7 +282,6 @@ impl<F: FileSystem + Drop> Disk for LibraryFolder<F> {
 
     /// Puts the state text, durably. With its first one a new library's folder takes its name.
     fn put_text(&mut self, text: &[u8]) -> io::Result<()> {
-        self.is_synced = true;
         let status = named_path(self.files.alloc(), self.path.as_str(), "status")?;
         let spare = self.spare()?;
         self.write_spare(spare.as_str(), text, true)?;
@@ -272,11 +289,22 @@ impl<F: FileSystem + Drop> Disk for LibraryFolder<F> {
         if let Err(failure) = moved {
             return Err(after_a_change(failure));
         }
-        match self.settle() {
-            Ok(()) => Ok(()),
-            Err(failure) => Err(after_a_change(failure)),
+        if let Err(failure) = self.settle() {
+            return Err(after_a_change(failure));
         }
+        self.unmark();
+        Ok(())
     }
+}
+
+/// Adds keys to a list.
+fn add_all(keys: &mut Vec<Key>, more: &[Key]) -> Result<(), AllocError>
+    ensures listed { AreAmong keys.old.items keys.new.items }
+{
+    for key in more {
+        note(keys, key)?;
+    }
+    Ok(())
 }
 
 /// The failure of a call that may have changed something: want of memory is no excuse there.
