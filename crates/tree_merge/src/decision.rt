@@ -61,7 +61,7 @@ pub(crate) fn decide<S: Shelf>(
         → (s : Sides) → AreTrees s → AreSeen more joined s → AnswersWell objects (IsDecided more s) result }
     ensures whole { IfOk result (λ decided. (objects : Objects) → ((path : PathV) → IsWholeAt objects (map.get joined path)) → IsWholeDecided objects decided) }
     ensures bound { IfOk result (λ decided. map.len decided.leavers ≤ map.len joined) }
-    ensures known { IfOk result (λ decided. map.len decided.known ≤ map.len joined) }
+    ensures few { IfOk result (λ decided. map.len decided.known ≤ map.len joined) }
     ensures root { IfOk result (λ decided. map.get joined [] ≡ None → map.get decided.leavers [] ≡ None) }
     ensures stays { Reads S.contents S.may_give S.texts S.faults store.old store.new result }
 {

@@ -22,7 +22,7 @@ pub(crate) fn build_named(
     kept: &PathTable<Kept>,
 ) -> Result<Merged, MergeFault>
     ensures value { BuildsOver kept.now named result }
-    ensures names { IfOk result (λ merged. AreNamed merged.made) }
+    ensures named { IfOk result (λ merged. AreNamed merged.made) }
     ensures cause { IfErr result IsCaused }
 {
     let Named { nodes, conflicts } = named;

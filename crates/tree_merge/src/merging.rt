@@ -70,7 +70,7 @@ pub fn merge<S: Shelf>(
     ensures value { (objects : Objects) → objects_of S.contents store.old ≡ Some objects → (s : Sides)
         → IsTreeOf objects base s.base → IsTreeOf objects head s.head → IsTreeOf objects pushed s.pushed → MergesTo objects s result }
     ensures same { (objects : Objects) → objects_of S.contents store.old ≡ Some objects → IfOk result (KeepsSettled objects base head pushed) }
-    ensures made { IfOk result (λ merged. AreNamed merged.made) }
+    ensures named { IfOk result (λ merged. AreNamed merged.made) }
     ensures cause { IfErr result IsCaused }
     ensures known { (objects : Objects) → objects_of S.contents store.old ≡ Some objects → Fits objects known.new }
     ensures stays { Reads S.contents S.may_give S.texts S.faults store.old store.new (as_read result) }

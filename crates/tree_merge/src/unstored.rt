@@ -19,9 +19,9 @@ pub(crate) fn drop_stored<S: Shelf>(
     store: &mut Store<S>,
     mut made: KeyTable<Bytes>,
 ) -> Result<KeyTable<Bytes>, MergeFault>
-    requires names { AreNamed made }
+    requires named { AreNamed made }
     ensures value { (objects : Objects) → objects_of S.contents store.old ≡ Some objects → LeavesSo objects made result }
-    ensures names { IfOk result AreNamed }
+    ensures named { IfOk result AreNamed }
     ensures cause { IfErr result IsCaused }
     ensures stays { Reads S.contents S.may_give S.texts S.faults store.old store.new (as_read result) }
 {
@@ -44,7 +44,7 @@ pub(crate) fn drop_stored<S: Shelf>(
 
 /// Whether an object is stored.
 fn is_stored<S: Shelf>(store: &mut Store<S>, key: &Key, bytes: &Bytes) -> Result<bool, MergeFault>
-    requires own { IsOwnName key.now bytes.now }
+    requires named { IsOwnName key.now bytes.now }
     ensures value { (objects : Objects) → objects_of S.contents store.old ≡ Some objects → FindsSo objects key.now bytes.now result }
     ensures cause { IfErr result IsCaused }
     ensures stays { Reads S.contents S.may_give S.texts S.faults store.old store.new (as_read result) }

@@ -74,5 +74,5 @@ returns-clause-value g c = λ objects count told.
     let mid = c.in-Ok.ensures.stays.kept.objects ∙ told in
     merges_so c.args.state.now count objects c.args.moment c.args.user.now c.args.base c.args.pushed c.in-Ok.roots complete
     (roots_at objects c.args.base c.head_of-head.result (head_of c.args.state.now.kept) c.args.pushed c.in-Ok.roots head complete (c.in-Ok.ensures.value objects told))
-    c.in-Ok-merge.merged (c.in-Ok-merge.ensures.value objects mid) c.in-Ok-merge.ensures.made c.plan_merged.result
+    c.in-Ok-merge.merged (c.in-Ok-merge.ensures.value objects mid) c.in-Ok-merge.ensures.named c.plan_merged.result
     (c.plan_merged.ensures.value objects count (c.in-Ok-merge.ensures.stays.kept.objects ∙ mid))

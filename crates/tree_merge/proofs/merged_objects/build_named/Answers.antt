@@ -22,8 +22,8 @@ returns-in-Ok-clause-value c objects full is =
       conflicts = sym is.conflicts;
     })
 
-pub returns-in-Ok-clause-names : goal.returns-in-Ok-clause-names
-returns-in-Ok-clause-names c = subst (λ (m : Merged). AreNamed m.made) (sym c.with_conflicts.ensures.value) c.in-Ok.ensures.stays
+pub returns-in-Ok-clause-named : goal.returns-in-Ok-clause-named
+returns-in-Ok-clause-named c = subst (λ (m : Merged). AreNamed m.made) (sym c.with_conflicts.ensures.value) c.in-Ok.ensures.stays
 
 pub returns-in-Err-clause-value : goal.returns-in-Err-clause-value
 returns-in-Err-clause-value c =

@@ -7,13 +7,13 @@ use Rattle.tree_merge.proofs.unstored.drop_stored.Goals as goal
 pub loop-key-init : goal.loop-key-init
 loop-key-init g c = record {
   reads = search rules;
-  names = c.requires.names;
+  names = c.requires.named;
   left_names = named_none c.new-left.result c.new-left.ensures.value;
   drops = λ objects told. drops_start objects c.args.made c.new-left.result c.new-left.ensures.value;
 }
 
 pub is_stored-requires : goal.is_stored-requires
-is_stored-requires g c = record { own = c.loop-key.invariant.names c.in-Some.key c.in-Some-remove.bytes (sym c.in-Some-remove.ensures.value) }
+is_stored-requires g c = record { named = c.loop-key.invariant.names c.in-Some.key c.in-Some-remove.bytes (sym c.in-Some-remove.ensures.value) }
 
 pub loop-key-smaller-then-is_stored : goal.loop-key-smaller-then-is_stored
 loop-key-smaller-then-is_stored g c =

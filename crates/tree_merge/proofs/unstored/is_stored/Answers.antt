@@ -11,6 +11,6 @@ returns-clause-value g c objects told =
 
 pub returns-in-Ok-Some-clause-cause : goal.returns-in-Ok-Some-clause-cause
 returns-in-Ok-Some-clause-cause g c =
-    other_collides c.args.key.now c.args.bytes.now c.in-Ok-Some.stored c.requires.own
+    other_collides c.args.key.now c.args.bytes.now c.in-Ok-Some.stored c.requires.named
     (subst (IsWhole (g.S.Shelf.may_give c.get.new.self.shelf) c.args.key.now) c.in-Ok-Some.field-0-is c.in-Ok-Some.ensures.value).1
     (ap₂ bytes_eq (sym c.slice.ensures.value) (sym c.slice-in-Ok-Some.ensures.value) ∙ sym c.are_equal.ensures.value ∙ c.if-are_equal.false)
