@@ -1,9 +1,9 @@
 //! One sync fails, the server goes on or starts anew, and then the power fails: what stands?
-use crate::library::{done, holds, lib, slot_of, there};
-use crate::lossy_files::LossyFiles;
+use crate::library::{done, holds, is_fault, lib, slot_of, there};
+use crate::lossy_files::{Also, LossyFiles};
 use folder_storage::{FileSystem, FolderGround, FolderShelf, Ground};
 use ids::Kind;
-use object_store::{Shelf, Slot};
+use object_store::{Shelf, ShelfFailed, Slot};
 use std::alloc::Global;
 use std::process::Abort;
 use std::test::Fail;
@@ -148,6 +148,64 @@ fn a_new_run_trusts_nothing_that_was_not_synced(rt: HostRuntime) -> Result<(), F
     let mut whole = opened(shelf.files().another()?)?;
     done(whole.put(Slot::Status, b"2"))?;
     stands(&rt, whole.files(), b'2', 1)
+}
+
+/// Whether a put of the block `abc` is done.
+fn puts_block(shelf: &mut FolderShelf<LossyFiles>) -> bool {
+    shelf.put(slot_of(Kind::Block, "abc"), b"abc").is_ok()
+}
+
+/// Whether a put of the text `2` is a fault, which is counted.
+fn text_is_fault(shelf: &mut FolderShelf<LossyFiles>) -> bool {
+    let faults = shelf.faults();
+    is_fault(shelf.put(Slot::Status, b"2")) && shelf.faults() > faults
+}
+
+/// A library in which the block `abc` was put, and a text after it, as so many calls failed from the first sync on.
+fn failed(files: &LossyFiles, left: u64, also: Also) -> Result<FolderShelf<LossyFiles>, Fail> {
+    let mut shelf = opened(files.failing_from_the_first(left, also)?)?;
+    if puts_block(&mut shelf) && text_is_fault(&mut shelf) {
+        return Ok(shelf);
+    }
+    Err("no fault was counted".into())
+}
+
+/// Whether the block that was lost as it could not be made durable, and whose next put fails in its move, stays lost.
+fn stays_lost(shelf: &mut FolderShelf<LossyFiles>) -> bool {
+    !puts_block(shelf) && text_is_fault(shelf)
+}
+
+#[test]
+fn an_object_that_was_lost_is_lost_until_it_is_put_again(rt: HostRuntime) -> Result<(), Fail> {
+    let mut shelf = failed(&with_text(rt.alloc())?, 3, Also::Move)?;
+    assert!(rt; stays_lost(&mut shelf));
+    assert!(rt; puts_block(&mut shelf));
+    done(shelf.put(Slot::Status, b"2"))?;
+    assert!(rt; has(&mut shelf, Kind::Block, "abc"));
+    Ok(())
+}
+
+#[test]
+fn want_of_memory_after_a_failed_sync_is_a_fault(rt: HostRuntime) -> Result<(), Fail> {
+    let mut shelf = failed(&with_text(rt.alloc())?, 4, Also::Remove)?;
+    assert!(rt; text_is_fault(&mut shelf));
+    Ok(())
+}
+
+/// Whether a put of the block `abc` fails for want of memory.
+fn wants_memory(shelf: &mut FolderShelf<LossyFiles>) -> bool {
+    let put = shelf.put(slot_of(Kind::Block, "abc"), b"abc");
+    matches!(put, Err(ShelfFailed::NoMemory))
+}
+
+#[test]
+fn want_of_memory_before_a_move_changes_nothing(rt: HostRuntime) -> Result<(), Fail> {
+    let files = with_text(rt.alloc())?;
+    let mut shelf = opened(files.failing_from_the_first(2, Also::Look)?)?;
+    assert!(rt; text_is_fault(&mut shelf));
+    assert!(rt; wants_memory(&mut shelf));
+    assert!(rt; puts_block(&mut shelf));
+    Ok(())
 }
 
 /// The calls of a run that puts the block `abc` and a text.

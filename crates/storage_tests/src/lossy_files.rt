@@ -8,14 +8,29 @@ use std::io::ErrorKind;
 /// When a file or folder was changed, unless it is set: long after any time that a row sets.
 const NOW: i64 = 2_000_000_000_000_000_000;
 
-/// Files in memory. The sync with the number `fails`, from 0, fails; what it was to write is never written, unless it is
-/// written anew, though later syncs say that all is well.
+/// A call that fails beside the syncs.
+#[derive(Clone, Copy, PartialEq, Eq)]
+pub(crate) enum Also {
+    Nothing,
+    /// A look, for want of memory.
+    Look,
+    /// A move.
+    Move,
+    /// A removal, for want of memory.
+    Remove,
+}
+
+/// Files in memory. From the sync with the number `fails` on, from 0, the next `left` calls that sync, or are of the kind
+/// `also`, fail; what such a sync was to write is never written, unless it is written anew, though later syncs say that all
+/// is well.
 #[derive(Drop)]
 pub(crate) struct LossyFiles {
     alloc: Global,
     nodes: Vec<Node>,
     next: u64,
     fails: u64,
+    left: u64,
+    also: Also,
     /// The syncs of this handle, and all its calls that change something or sync it, a line each.
     syncs: u64,
     calls: String,
@@ -41,6 +56,8 @@ impl LossyFiles {
             nodes: Vec::new(alloc),
             next: 1,
             fails: u64::MAX,
+            left: 1,
+            also: Also::Nothing,
             syncs: 0,
             calls: String::new(alloc),
         }
@@ -50,6 +67,14 @@ impl LossyFiles {
     pub(crate) fn failing(&self, fails: u64) -> io::Result<LossyFiles> {
         let mut files = self.another()?;
         files.fails = fails;
+        Ok(files)
+    }
+
+    /// Another handle of the files as they are now, of which so many calls fail, from the first sync on.
+    pub(crate) fn failing_from_the_first(&self, left: u64, also: Also) -> io::Result<LossyFiles> {
+        let mut files = self.failing(0)?;
+        files.left = left;
+        files.also = also;
         Ok(files)
     }
 
@@ -163,7 +188,20 @@ impl LossyFiles {
     fn is_failing(&mut self) -> bool {
         let number = self.syncs;
         self.syncs = number.saturating_add(1);
-        number == self.fails
+        if number < self.fails || self.left == 0 {
+            return false;
+        }
+        self.left -= 1;
+        true
+    }
+
+    /// Whether a call of this kind fails.
+    fn is_failing_at(&mut self, call: Also) -> bool {
+        if self.syncs <= self.fails || self.left == 0 || self.also != call {
+            return false;
+        }
+        self.left -= 1;
+        true
     }
 
     fn sync_bytes(&mut self, number: u64, is_failing: bool) {
@@ -207,10 +245,15 @@ impl FileSystem for LossyFiles {
         }
         files.next = self.next;
         files.fails = self.fails;
+        files.left = self.left;
+        files.also = self.also;
         Ok(files)
     }
 
     fn look(&mut self, path: &str) -> io::Result<Option<FileFacts>> {
+        if self.is_failing_at(Also::Look) {
+            return Err(failure(ErrorKind::OutOfMemory));
+        }
         match self.find(path) {
             Some((number, kind)) => Ok(Some(FileFacts {
                 kind,
@@ -278,6 +321,9 @@ impl FileSystem for LossyFiles {
     }
 
     fn rename(&mut self, from: &str, to: &str) -> io::Result<()> {
+        if self.is_failing_at(Also::Move) {
+            return Err(failure(ErrorKind::StorageFull));
+        }
         self.note("rename to ", to)?;
         let number = self.number_at(from)?;
         let folder = self.number_at(parted(to).0)?;
@@ -292,6 +338,9 @@ impl FileSystem for LossyFiles {
     }
 
     fn remove_file(&mut self, path: &str) -> io::Result<bool> {
+        if self.is_failing_at(Also::Remove) {
+            return Err(failure(ErrorKind::OutOfMemory));
+        }
         if self.find(path).is_none() {
             return Ok(false);
         }
