@@ -32,7 +32,7 @@ const COMMIT_MIDDLE: &str =
 const COMMIT_TAIL: &str = "\"}";
 
 /// base, head, pushed, the merged tree, and the number of conflict copies
-const SCENARIOS: [&str; 34] = [
+const SCENARIOS: [&str; 41] = [
     "f=1|f=2|f=2|f=2|0",
     "f=1|f=1|f=2|f=2|0",
     "f=1|f=2|f=1|f=2|0",
@@ -60,6 +60,13 @@ const SCENARIOS: [&str; 34] = [
     "d/x=1|d=2|d/x=1|d=2|0",
     "d/x=1|d=2|d/x=3|d/x=3;d (SFConflict me 1970-01-01-00-00-00)=2|1",
     "n=1|n=2|n|n;n (SFConflict me 1970-01-01-00-00-00)=2|1",
+    "||d/x=1@9|d/x=1@9|0",
+    "d/x=1;d/e/y=2|d/x=1;d/e/y=2|||0",
+    "d/x=1|d/x=1|e/x=1|e/x=1|0",
+    "d/x=1;d/e/y=2|d/x=3;d/e/y=2||d/x=3|0",
+    "d/f=1|d/f=2|d/f=3;d/e/y=4@9|d/f=2;d/f (SFConflict me 1970-01-01-00-00-00)=3;d/e/y=4@9|1",
+    "n=1|n=2|n/x=3@9|n/x=3@9;n (SFConflict me 1970-01-01-00-00-00)=2|1",
+    "d/x=1|d/x=1|d=2|d=2|0",
     // Two clients save a.txt, and a third from the same base; the same with a name that begins with its dot.
     "a.txt=1|a.txt=2|a.txt=3@bob|a.txt=2;a (SFConflict bob@x.org 2024-01-02-03-04-05).txt=3@bob|1",
     "a.txt=1|a.txt=2;a (SFConflict bob@x.org 2024-01-02-03-04-05).txt=3@bob|a.txt=4@bob|a.txt=2;a (SFConflict bob@x.org 2024-01-02-03-04-05).txt=3@bob;a (SFConflict bob@x.org 2024-01-02-03-04-05-2).txt=4@bob|1",
