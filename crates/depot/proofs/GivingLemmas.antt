@@ -9,7 +9,7 @@ use Rattle.object_store.specs.Store.{has_other_name, name_refusal}
 use Rattle.object_store.specs.declared.shelf.Slot.{Slot}
 use Rattle.object_store.specs.declared.shelf.Slot.TheVariants.{Object, Status}
 use Rattle.library_rules.specs.declared.entry.Stored.{Stored}
-use Rattle.depot.specs.Giving.{GivesBy, IsNamedObject, IsObject, IsOfMaking, IsOwnText}
+use Rattle.depot.specs.Giving.{GivesBy, IsLaidAs, IsNamedObject, IsObject, IsOfMaking, IsOwnText}
 
 -- nothing more may be given than before
 pub no_more : {before now : Slot → Option (List ℕ) → Type 0} (laid : Slot → Option (List ℕ) → Type 0) → GivesNoMore before now → GivesBy laid before now
@@ -67,12 +67,12 @@ module _ {before now : Slot → Option (List ℕ) → Type 0} where
       by (inr laid) = inr (record { at = laid.0; is = laid.1; named = named })
 
   -- an object that its name doesn't forbid
-  pub named_by : (key : Key) (bytes : List ℕ) → name_refusal key bytes ≡ None → GivesAlso before now (Object key) (Some bytes) → GivesBy IsNamedObject before now
+  pub named_by : (key : Key) (bytes : List ℕ) → (name_refusal key bytes ≡ None) × IsLaidAs key.kind key.id bytes → GivesAlso before now (Object key) (Some bytes) → GivesBy IsNamedObject before now
   named_by key bytes named gives slot given is = by (gives slot given is)
     where
       by : before slot given ⊎ ((slot ≡ Object key) × (given ≡ Some bytes)) → before slot given ⊎ IsNamedObject slot given
       by (inl was) = inl was
-      by (inr laid) = inr (record { key = key; bytes = bytes; at = laid.0; is = laid.1; named = named })
+      by (inr laid) = inr (record { key = key; bytes = bytes; at = laid.0; is = laid.1; named = named.0; laid_as = named.1 })
 
   -- a put after which nothing more is given where the bytes have another name
   pub object_by : (key : Key) (bytes : List ℕ) → (has_other_name key bytes ≡ true → GivesNoMore before now) → GivesAlso before now (Object key) (Some bytes) → GivesBy (IsObject key bytes) before now

@@ -1,12 +1,13 @@
 -- The made commit: whether it is stored, its name, and what its traversal meets. The key lemmas are get_refused, plan_named,
--- commit_complete, root_needed and commit_reads.
+-- text_named, commit_complete, root_needed and commit_reads.
 use borrow.Author.Tests.{eqb-true}
-use Rattle.std.proofs.Common.{if◌then◌else◌, arith, ◌≡◌, ◌≢◌, ◌⊎◌, inr, ℕ, ◌==◌, Bool, true, false, not, ◌&&◌, ◌||◌, List, [], ◌∷◌, ◌++◌, length, refl, sym, ap, ◌∙◌, true≢false, Option, None, Some, IsTrue, Result, Ok, Err}
+use Rattle.std.proofs.Common.{if◌then◌else◌, arith, ◌≡◌, ◌≢◌, ◌⊎◌, inr, ℕ, ◌==◌, Bool, true, false, not, ◌&&◌, ◌||◌, List, [], ◌∷◌, ◌++◌, length, refl, sym, ap, ◌∙◌, subst, true≢false, Option, None, Some, IsTrue, Result, Ok, Err}
 use Rattle.std.specs.FinMap as map
 use Rattle.sha1.specs.Sha1.{sha1}
 use Rattle.ids.specs.Key.{Objects}
 use Rattle.ids.specs.ObjectId.{nil}
 use Rattle.ids.specs.declared.key.Key.{Key}
+use Rattle.ids.specs.declared.key.Kind.{Kind}
 use Rattle.commit_objects.specs.Commit.{commit_of}
 use Rattle.commit_objects.specs.Spelling.{text_of}
 use Rattle.commit_objects.specs.declared.commit.Commit.{Commit}
@@ -31,7 +32,8 @@ use Rattle.tree_walk.proofs.ReadsLemmas.{store_due}
 use Rattle.depot.specs.Answering.{IsTakenBy}
 use Rattle.depot.specs.ObjectCalls.{IsToldDamageOf}
 use Rattle.depot.specs.UpdateMerge.{StoredSo}
-use Rattle.depot.specs.Plan.{AreNamed, HasNames, listed}
+use Rattle.depot.specs.Giving.{IsLaidAs}
+use Rattle.depot.specs.Plan.{AreNamed, HasNames, IsNamed, listed}
 use Rattle.depot.proofs.RefusalsLemmas.{store_told, told_damage}
 use Rattle.depot.specs.Refusals.{store_refusal}
 use Rattle.depot.proofs.UpdateListedLemmas.{all_join, listed_all}
@@ -80,14 +82,21 @@ dir_named key bytes own =
     own_named (has_other_name key bytes) (same_bytes key.id nil) (store.Wrong (sha1 bytes)) (store.Taken key.id)
     (and_not (is_named_by_bytes key.kind) (same_bytes (sha1 bytes) key.id) (ap (same_bytes (sha1 bytes)) own.is_sha1 ∙ same_id-itself (sha1 bytes))) (not_nil key.id own.some)
 
-pub dirs_named : (made : Objects) → AreOwn made → AreNamed (listed (map.entries made))
-dirs_named made own = listed_all (λ x. name_refusal x.key x.bytes ≡ None) made (λ key bytes is. dir_named key bytes (own key bytes is))
+dir_laid : (key : Key) (bytes : List ℕ) → IsOwnName key bytes → IsLaidAs key.kind key.id bytes
+dir_laid key bytes own = subst (λ (k : Kind). IsLaidAs k key.id bytes) (sym own.is_fs) tt
 
-pub plan_named : (made : Objects) (id : List ℕ) (text : Option (List ℕ)) → AreOwn made → is_nil id ≡ false → HasNames (record { head = id; dirs = made; text = text })
-plan_named made id None own some = all_join (λ (x : Stored). name_refusal x.key x.bytes ≡ None) (listed (map.entries made)) [] (dirs_named made own) tt
-plan_named made id (Some text) own some =
-    all_join (λ (x : Stored). name_refusal x.key x.bytes ≡ None) (listed (map.entries made)) (record { key = commit_key id; bytes = text } ∷ []) (dirs_named made own)
-    (own_named false (same_bytes id nil) (store.Wrong (sha1 text)) (store.Taken id) refl some, tt)
+pub dirs_named : (made : Objects) → AreOwn made → AreNamed (listed (map.entries made))
+dirs_named made own = listed_all (λ x. IsNamed x) made (λ key bytes is. (dir_named key bytes (own key bytes is), dir_laid key bytes (own key bytes is)))
+
+-- a plan whose commit is stored already
+pub plan_named : (made : Objects) (id : List ℕ) → AreOwn made → HasNames (record { head = id; dirs = made; text = None })
+plan_named made id own = all_join (λ (x : Stored). IsNamed x) (listed (map.entries made)) [] (dirs_named made own) tt
+
+-- a plan with the text of its commit
+pub text_named : (made : Objects) (commit : Commit) (text : List ℕ) → AreOwn made → is_nil commit.id ≡ false → text ≡ text_of commit → HasNames (record { head = commit.id; dirs = made; text = Some text })
+text_named made commit text own some is =
+    all_join (λ (x : Stored). IsNamed x) (listed (map.entries made)) (record { key = commit_key commit.id; bytes = text } ∷ []) (dirs_named made own)
+    ((own_named false (same_bytes commit.id nil) (store.Wrong (sha1 text)) (store.Taken commit.id) refl some, (commit, is, refl)), tt)
 
 -- ---- a commit over a root, traversed
 

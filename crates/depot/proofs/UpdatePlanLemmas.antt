@@ -211,7 +211,7 @@ puttable_all : (A : Objects) (added : List Stored) → AreNamed added → AllByR
     → ArePuttable A added
 unfolding IsDistinct
 puttable_all A [] named gone once = tt
-puttable_all A (x ∷ added) named gone once = (one_puttable A x named.0 gone.0, puttable_all (put_new A x) added named.1 (all_gone_after A x added gone.1 once.0) once.1)
+puttable_all A (x ∷ added) named gone once = (one_puttable A x named.0.0 gone.0, puttable_all (put_new A x) added named.1 (all_gone_after A x added gone.1 once.0) once.1)
 
 pub plan_puttable : (s : State) (moment : ℕ) (d : Due) (plan : Plan) → IsPlan s moment d plan → HasNames plan → ArePuttable s.objects (objects_in plan)
 plan_puttable s moment Denies plan is named = absurd is

@@ -1,6 +1,10 @@
 -- What a shelf may give after a call on a library, beside what it might give before. Our own. Read GivesBy first, then MayLay.
-use Rattle.std.specs.Prelude.{◌≡◌, ◌⊎◌, ℕ, false, List, Option, None, Some}
+use Rattle.std.specs.Prelude.{◌≡◌, ◌⊎◌, ℕ, false, List, Option, None, Some, ⊤}
+use Rattle.commit_objects.specs.Spelling.{text_of as commit_text}
+use Rattle.commit_objects.specs.declared.commit.Commit.{Commit}
 use Rattle.ids.specs.declared.key.Key.{Key}
+use Rattle.ids.specs.declared.key.Kind.{Kind}
+use Rattle.ids.specs.declared.key.Kind.TheVariants as kinds
 use Rattle.library_rules.specs.declared.entry.Stored.{Stored}
 use Rattle.library_state.specs.StateSpelling.{text_of}
 use Rattle.library_state.specs.declared.call.Act.{Act}
@@ -30,21 +34,28 @@ pub record IsObject (key : Key) (bytes : List ℕ) (slot : Slot) (given : Option
   pub is : given ≡ Some bytes
   pub named : has_other_name key bytes ≡ false
 
--- an object that its name doesn't forbid
+-- what an update lays under an id: no block, and of a commit its text under its own id
+abbrev pub IsLaidAs : Kind → List ℕ → List ℕ → Type 0
+IsLaidAs kinds.Commit id bytes = (commit : Commit) × (bytes ≡ commit_text commit) × (commit.id ≡ id)
+IsLaidAs kinds.Fs id bytes = ⊤
+IsLaidAs kinds.Block id bytes = ⊥
+
+-- an object that its name doesn't forbid: a file or directory under its own name, or a commit under its own id
 pub record IsNamedObject (slot : Slot) (given : Option (List ℕ)) : Type 0 where
   pub key : Key
   pub bytes : List ℕ
   pub at : slot ≡ Object key
   pub is : given ≡ Some bytes
   pub named : name_refusal key bytes ≡ None
+  pub laid_as : IsLaidAs key.kind key.id bytes
 
--- in an update: any object that its name doesn't forbid, and a text of the library
+-- in an update: files, directories and commits under their own names, and a text of the library
 abbrev pub IsOfUpdate : List ℕ → Slot → Option (List ℕ) → Type 0
 IsOfUpdate lib slot given = IsNamedObject slot given ⊎ IsOwnText lib slot given
 
 -- what a call on the library of this id may lay onto its shelf: the object that is put, under a name that its bytes don't
--- contradict; in an update any object that its name doesn't forbid; and a text of the library, where the call may change its
--- state. Every other lays nothing
+-- contradict; in an update files, directories and commits under their own names; and a text of the library, where the call may
+-- change its state. Every other lays nothing
 abbrev pub MayLay : List ℕ → Act → Slot → Option (List ℕ) → Type 0
 MayLay lib (act.Check op.Download) slot given = ⊥
 MayLay lib (act.Check op.Upload) slot given = IsOwnText lib slot given

@@ -6,6 +6,7 @@ use Rattle.ids.specs.declared.key.Key.{Key}
 use Rattle.library_rules.specs.declared.entry.Stored.{Stored}
 use Rattle.object_graph.specs.Objects.{commit_key}
 use Rattle.object_store.specs.Store.{name_refusal}
+use Rattle.depot.specs.Giving.{IsLaidAs}
 use Rattle.depot.specs.declared.plan.Plan.{Plan}
 
 -- the objects of a table, in the order of their keys
@@ -21,9 +22,12 @@ own_object head (Some text) = record { key = commit_key head; bytes = text } ∷
 abbrev pub objects_in : Plan → List Stored
 objects_in plan = listed (map.entries plan.dirs) ++ own_object plan.head plan.text
 
--- no object of a plan is forbidden by its name
+-- no name forbids the object, and an update may lay it
+abbrev pub IsNamed : Stored → Type 0
+IsNamed x = (name_refusal x.key x.bytes ≡ None) × IsLaidAs x.key.kind x.key.id x.bytes
+
 abbrev pub AreNamed : List Stored → Type 0
-AreNamed added = AllByRecursion (λ x. name_refusal x.key x.bytes ≡ None) added
+AreNamed added = AllByRecursion (λ x. IsNamed x) added
 
 abbrev pub HasNames : Plan → Type 0
 HasNames plan = AreNamed (objects_in plan)

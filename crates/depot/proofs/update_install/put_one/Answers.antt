@@ -25,7 +25,7 @@ returns-in-Err-clause-free g c = λ objects told.
 
 pub returns-in-Err-clause-cause : goal.returns-in-Err-clause-cause
 returns-in-Err-clause-cause g c = λ index.
-    may_refuse_put index (g.S.Shelf.may_give c.put.new.self.shelf) c.args.key.now c.args.bytes.now c.in-Err.fault c.requires.named.0
+    may_refuse_put index (g.S.Shelf.may_give c.put.new.self.shelf) c.args.key.now c.args.bytes.now c.in-Err.fault c.requires.named.0.0
     (subst (λ bytes. IsPutFault (g.S.Shelf.may_give c.put.new.self.shelf) c.args.key.now bytes c.in-Err.fault) c.slice.ensures.value c.in-Err.ensures.cause)
 
 pub returns-in-Ok-clause-gives : goal.returns-in-Ok-clause-gives
