@@ -1,5 +1,5 @@
 -- Objects that are put one after another, and what a plan leaves behind. The key lemmas are stores_then, puttable_front,
--- puttable_back, one_stored, may_refuse_put and free_put.
+-- puttable_back, one_stored, may_refuse_put, free_put and puts_then.
 use Rattle.std.proofs.Common.{◌≡◌, ◌⊎◌, inl, inr, ℕ, Bool, true, false, if◌then◌else◌, true≢false, List, [], ◌∷◌, ◌++◌, append_assoc, refl, sym, ap, ◌∙◌, subst, Option, None, Some, IsTrue, Result, Ok, Err}
 use Rattle.std.specs.Prelude.{⊤}
 use Rattle.sha1.specs.Sha1.{sha1}
@@ -10,16 +10,19 @@ use Rattle.library_rules.specs.Changes.{put_new, with_added}
 use Rattle.library_rules.specs.declared.entry.Stored.{Stored}
 use Rattle.library_state.specs.declared.state.LibState.{LibState}
 use Rattle.object_graph.specs.Objects.{is_nil}
-use Rattle.object_store.specs.Store.{IsPutFault, has_other_name, is_free, name_refusal, put_refusal, same_bytes}
-use Rattle.object_store.specs.StoreView.{Index, with_object}
+use Rattle.object_store.specs.Store.{CountsShelf, IsPutFault, has_other_name, is_free, name_refusal, put_refusal, same_bytes}
+use Rattle.object_store.specs.Shelf.{Contents}
+use Rattle.object_store.specs.StoreView.{Index, StoreView, objects_of, with_object}
 use Rattle.object_store.specs.declared.error.StoreFault.{StoreFault}
 use Rattle.object_store.specs.declared.error.StoreFault.TheVariants.{Taken, Wrong, Damaged, Shelf, NoMemory}
 use Rattle.object_store.specs.declared.shelf.Slot.{Slot as ShelfSlot}
 use Rattle.depot.specs.Answering.{MayRefuseUpdate}
-use Rattle.depot.specs.UpdateInstall.{ArePuttable, ArePuttableIn, Held, IsCarriedOut, LeftBehind, StoresPart, StoresSo, unsure, with_all}
+use Rattle.depot.specs.UpdateInstall.{ArePuttable, ArePuttableIn, Held, IsCarriedOut, LeftBehind, PutsSo, StoresPart, StoresSo, unsure, with_all}
 use Rattle.depot.specs.Plan.{AreNamed}
 use Rattle.depot.specs.Writing.{IsWritten, LeftBy, SettlesSo, Slot, Writes, again, leaves_open, nothing, open_next, open_present, settled, RewritesSo}
 use Rattle.depot.proofs.AnsweringLemmas.{damage_other}
+use Rattle.depot.proofs.GivingLemmas.{then_by}
+use Rattle.depot.proofs.StrayLemmas.{strays_then}
 use Rattle.depot.specs.Refusals.{store_refusal}
 use Rattle.depot.proofs.WritingLemmas.{stored_as_put}
 
@@ -150,35 +153,82 @@ noted unsettled still present next old mid new (Err NoMemory) first left so = in
 
 -- ---- objects of a table
 
+module _ {S : Type 0} {contents : S → Option Contents} {may_give : S → ShelfSlot → Option (List ℕ) → Type 0} {texts faults : S → ℕ} where
+  -- objects, and then others
+  pub puts_then : {old mid new : StoreView S} (a b : List Stored) (result : Result ⊤ StoreFault) → PutsSo contents may_give texts faults a old mid (Ok tt)
+      → PutsSo contents may_give texts faults b mid new result → PutsSo contents may_give texts faults (a ++ b) old new result
+  puts_then {old = old} {mid = mid} {new = new} a b result first second = record {
+    objects = stores_then (objects_of contents old) (objects_of contents mid) (objects_of contents new) a b result first.objects second.objects;
+    slot = second.slot ∙ first.slot;
+    free = λ known told. second.free (with_added known a) (first.objects ∙ ap (with_all a) told);
+    cause = second.cause;
+    lying = strays_then contents old mid new result first.lying second.lying;
+    written = second.written ∙ first.written;
+    gives = then_by first.gives second.gives;
+    count = subst (λ n. CountsShelf {T = ⊤} n (faults new.shelf) result) first.count second.count;
+  }
+
+  -- a failure before others were put
+  pub puts_stops : {old new : StoreView S} (a b : List Stored) (fault : StoreFault) → PutsSo contents may_give texts faults a old new (Err fault)
+      → PutsSo contents may_give texts faults (a ++ b) old new (Err fault)
+  puts_stops {old = old} {new = new} a b fault puts = record {
+    objects = stores_stops (objects_of contents old) a b (objects_of contents new) puts.objects;
+    slot = puts.slot;
+    free = puts.free;
+    cause = puts.cause;
+    lying = puts.lying;
+    written = puts.written;
+    gives = puts.gives;
+    count = puts.count;
+  }
+
+  pub puts_nothing : (old : StoreView S) → PutsSo contents may_give texts faults [] old old (Ok tt)
+  puts_nothing old = record {
+    objects = sym (all_nothing (objects_of contents old));
+    slot = refl;
+    free = λ known told. tt;
+    cause = tt;
+    lying = λ key stray. stray;
+    written = refl;
+    gives = λ slot given is. inl is;
+    count = refl;
+  }
+
 -- some of the objects were put, and the others can be
-pub record IsPutting (old : Option Objects) (all left : List Stored) (now : Option Objects) : Type 0 where
+pub record IsPutting {S : Type 0} (contents : S → Option Contents) (may_give : S → ShelfSlot → Option (List ℕ) → Type 0) (texts faults : S → ℕ) (all : List Stored) (old : StoreView S)
+    (left : List Stored) (now : StoreView S) : Type 0 where
   pub done : List Stored
   pub split : done ++ left ≡ all
-  pub objects : now ≡ with_all done old
+  pub puts : PutsSo contents may_give texts faults done old now (Ok tt)
   pub named : AreNamed left
-  pub ready : ArePuttableIn now left
+  pub ready : ArePuttableIn (objects_of contents now) left
 
-pub putting_start : (old : Option Objects) (all : List Stored) → AreNamed all → ArePuttableIn old all → IsPutting old all all old
-putting_start old all named ready = record { done = []; split = refl; objects = sym (all_nothing old); named = named; ready = ready }
+module _ {S : Type 0} {contents : S → Option Contents} {may_give : S → ShelfSlot → Option (List ℕ) → Type 0} {texts faults : S → ℕ} {all : List Stored} {old : StoreView S} where
+  pub putting_start : AreNamed all → ArePuttableIn (objects_of contents old) all → IsPutting contents may_give texts faults all old all old
+  putting_start named ready = record { done = []; split = refl; puts = puts_nothing old; named = named; ready = ready }
 
-pub putting_next : (old now new : Option Objects) (all left : List Stored) (x : Stored) → IsPutting old all (x ∷ left) now → new ≡ with_all (x ∷ []) now → IsPutting old all left new
-putting_next old now new all left x is put = record {
-  done = is.done ++ x ∷ [];
-  split = append_assoc is.done (x ∷ []) left ∙ is.split;
-  objects = put ∙ ap (with_all (x ∷ [])) is.objects ∙ sym (all_append old is.done (x ∷ []));
-  named = is.named.1;
-  ready = puttable_back now new (x ∷ []) left is.ready put;
-}
+  pub putting_next : {now new : StoreView S} (left : List Stored) (x : Stored) → IsPutting contents may_give texts faults all old (x ∷ left) now
+      → PutsSo contents may_give texts faults (x ∷ []) now new (Ok tt) → IsPutting contents may_give texts faults all old left new
+  putting_next {now = now} {new = new} left x is put = record {
+    done = is.done ++ x ∷ [];
+    split = append_assoc is.done (x ∷ []) left ∙ is.split;
+    puts = puts_then is.done (x ∷ []) (Ok tt) is.puts put;
+    named = is.named.1;
+    ready = puttable_back (objects_of contents now) (objects_of contents new) (x ∷ []) left is.ready put.objects;
+  }
 
-pub putting_end : (old now : Option Objects) (all : List Stored) → IsPutting old all [] now → now ≡ with_all all old
-putting_end old now all is = is.objects ∙ ap (λ done. with_all done old) (sym (append_nil is.done) ∙ is.split)
-  where
-    append_nil : (xs : List Stored) → xs ++ [] ≡ xs
-    append_nil [] = refl
-    append_nil (x ∷ xs) = ap (λ ys. x ∷ ys) (append_nil xs)
+  pub putting_end : {now : StoreView S} → IsPutting contents may_give texts faults all old [] now → PutsSo contents may_give texts faults all old now (Ok tt)
+  putting_end {now} is = subst (λ done. PutsSo contents may_give texts faults done old now (Ok tt)) (sym (append_nil is.done) ∙ is.split) is.puts
+    where
+      append_nil : (xs : List Stored) → xs ++ [] ≡ xs
+      append_nil [] = refl
+      append_nil (x ∷ xs) = ap (λ ys. x ∷ ys) (append_nil xs)
 
-pub putting_stop : (old now new : Option Objects) (all left : List Stored) → IsPutting old all left now → new ≡ now → StoresPart old all new
-putting_stop old now new all left is same = record { part = is.done; front = (left, sym is.split); objects = same ∙ is.objects }
+  pub putting_stop : {now new : StoreView S} (left : List Stored) (x : Stored) (fault : StoreFault) → IsPutting contents may_give texts faults all old (x ∷ left) now
+      → PutsSo contents may_give texts faults (x ∷ []) now new (Err fault) → PutsSo contents may_give texts faults all old new (Err fault)
+  putting_stop {now = now} {new = new} left x fault is put =
+      subst (λ added. PutsSo contents may_give texts faults added old new (Err fault)) (append_assoc is.done (x ∷ []) left ∙ is.split)
+      (puts_stops (is.done ++ x ∷ []) left fault (puts_then is.done (x ∷ []) (Err fault) is.puts put))
 
 -- ---- all of it
 

@@ -1,15 +1,16 @@
--- How an update is carried out: its objects first, the state text last. Our own. Read StoresSo, then CarriesSo.
-use Rattle.std.specs.Prelude.{◌≡◌, ◌++◌, ℕ, Bool, false, List, [], ◌∷◌, Option, None, Some, option_map, Result, Ok, Err, IsTrue, ⊤}
+-- How an update is carried out: its objects first, the state text last. Our own. Read StoresSo and PutsSo, then CarriesSo.
+use Rattle.std.specs.Prelude.{◌≡◌, ◌++◌, ℕ, Bool, false, List, [], ◌∷◌, Option, None, Some, option_map, Result, Ok, Err, IfErr, IsTrue, ⊤}
 use Rattle.ids.specs.Key.{Objects}
 use Rattle.library_rules.specs.Changes.{put_new, with_added}
 use Rattle.library_rules.specs.declared.entry.Stored.{Stored}
 use Rattle.library_state.specs.declared.state.LibState.{LibState}
 use Rattle.object_store.specs.Shelf.{Contents}
-use Rattle.object_store.specs.Store.{is_free, put_refusal}
-use Rattle.object_store.specs.StoreView.{Index, StoreView, objects_of, status_of}
+use Rattle.object_store.specs.Store.{CountsShelf, is_free, is_of_shelf, put_refusal}
+use Rattle.object_store.specs.StoreView.{Index, StoreView, StraysBy, objects_of, status_of}
 use Rattle.object_store.specs.declared.error.StoreFault.{StoreFault}
 use Rattle.object_store.specs.declared.shelf.Slot.{Slot as ShelfSlot}
 use Rattle.depot.specs.Answering.{MayRefuseUpdate}
+use Rattle.depot.specs.Giving.{GivesBy, IsNamedObject}
 use Rattle.depot.specs.Refusals.{store_refusal}
 use Rattle.depot.specs.Writing.{IsWritten, LeftBy, Slot, settled}
 
@@ -43,6 +44,19 @@ ArePuttableIn known added = (objects : Objects) → known ≡ Some objects → A
 -- over any shelf an update may be refused by such a fault, whatever the index knows
 abbrev pub IsWriteFault : (ShelfSlot → Option (List ℕ) → Type 0) → StoreFault → Type 0
 IsWriteFault may_give fault = (index : Index) → MayRefuseUpdate index may_give (store_refusal fault)
+
+-- objects that nothing forbids are put: all of them in their order, or the first ones up to a fault that may come in any
+-- place. Nothing else is changed
+pub record PutsSo {S : Type 0} (contents : S → Option Contents) (may_give : S → ShelfSlot → Option (List ℕ) → Type 0) (texts faults : S → ℕ) (all : List Stored)
+    (old new : StoreView S) (result : Result ⊤ StoreFault) : Type 0 where
+  pub objects : StoresSo (objects_of contents old) all (objects_of contents new) result
+  pub slot : status_of contents new ≡ status_of contents old
+  pub free : (known : Objects) → objects_of contents old ≡ Some known → IfErr result (λ fault. IsTrue (is_free fault))
+  pub cause : IfErr result (IsWriteFault (may_give new.shelf))
+  pub lying : StraysBy is_of_shelf contents old new result
+  pub written : texts new.shelf ≡ texts old.shelf
+  pub gives : GivesBy IsNamedObject (may_give old.shelf) (may_give new.shelf)
+  pub count : CountsShelf (faults old.shelf) (faults new.shelf) result
 
 -- the objects and the slot, where they are told, and the count of texts that were put
 pub record Held : Type 0 where

@@ -8,8 +8,8 @@ ghost use Rattle.library_state.specs.declared.state.LibState.{LibState};
 ghost use Rattle.object_store.specs.Store.{CountsShelf, is_free, is_of_shelf};
 ghost use Rattle.object_store.specs.StoreView.{AddsNoStray, StraysBy, objects_of, status_of};
 ghost use Rattle.depot.specs.Answering.{with_install};
-ghost use Rattle.depot.specs.Giving.{GivesBy, IsNamedObject, IsOfUpdate, IsOwnText};
-ghost use Rattle.depot.specs.UpdateInstall.{ArePuttableIn, CarriesSo, IsWriteFault, StoresSo, held_in};
+ghost use Rattle.depot.specs.Giving.{GivesBy, IsOfUpdate, IsOwnText};
+ghost use Rattle.depot.specs.UpdateInstall.{ArePuttableIn, CarriesSo, IsWriteFault, PutsSo, held_in};
 ghost use Rattle.depot.specs.Plan.{AreNamed, listed, objects_in, own_object};
 ghost use Rattle.depot.specs.Writing.{ReadsBack, RewritesSo};
 
@@ -116,14 +116,7 @@ fn text_with(alloc: Global, state: &mut LibState, kept: &mut History) -> Result<
 fn put_plan<S: Shelf>(store: &mut Store<S>, plan: &Plan) -> Result<(), StoreFault>
     requires named { AreNamed (objects_in plan.now) }
     requires ready { ArePuttableIn (objects_of S.contents store.old) (objects_in plan.now) }
-    ensures value { StoresSo (objects_of S.contents store.old) (objects_in plan.now) (objects_of S.contents store.new) result }
-    ensures stays { status_of S.contents store.new ≡ status_of S.contents store.old }
-    ensures free { (objects : Objects) → objects_of S.contents store.old ≡ Some objects → IfErr result (λ fault. IsTrue (is_free fault)) }
-    ensures cause { IfErr result (IsWriteFault (S.may_give store.new.shelf)) }
-    ensures lying { StraysBy is_of_shelf S.contents store.old store.new result }
-    ensures written { S.texts store.new.shelf ≡ S.texts store.old.shelf }
-    ensures gives { GivesBy IsNamedObject (S.may_give store.old.shelf) (S.may_give store.new.shelf) }
-    ensures faults { CountsShelf (S.faults store.old.shelf) (S.faults store.new.shelf) result }
+    ensures value { PutsSo S.contents S.may_give S.texts S.faults (objects_in plan.now) store.old store.new result }
 {
     match put_dirs(store, &plan.dirs) {
         Ok(()) => {}
@@ -136,14 +129,7 @@ fn put_plan<S: Shelf>(store: &mut Store<S>, plan: &Plan) -> Result<(), StoreFaul
 fn put_dirs<S: Shelf>(store: &mut Store<S>, dirs: &KeyTable<Bytes>) -> Result<(), StoreFault>
     requires named { AreNamed (listed (map.entries dirs.now)) }
     requires ready { ArePuttableIn (objects_of S.contents store.old) (listed (map.entries dirs.now)) }
-    ensures value { StoresSo (objects_of S.contents store.old) (listed (map.entries dirs.now)) (objects_of S.contents store.new) result }
-    ensures stays { status_of S.contents store.new ≡ status_of S.contents store.old }
-    ensures free { (objects : Objects) → objects_of S.contents store.old ≡ Some objects → IfErr result (λ fault. IsTrue (is_free fault)) }
-    ensures cause { IfErr result (IsWriteFault (S.may_give store.new.shelf)) }
-    ensures lying { StraysBy is_of_shelf S.contents store.old store.new result }
-    ensures written { S.texts store.new.shelf ≡ S.texts store.old.shelf }
-    ensures gives { GivesBy IsNamedObject (S.may_give store.old.shelf) (S.may_give store.new.shelf) }
-    ensures faults { CountsShelf (S.faults store.old.shelf) (S.faults store.new.shelf) result }
+    ensures value { PutsSo S.contents S.may_give S.texts S.faults (listed (map.entries dirs.now)) store.old store.new result }
 {
     for (key, bytes) in dirs.iter() {
         match put_one(store, key, bytes) {
@@ -162,14 +148,7 @@ fn put_text<S: Shelf>(
 ) -> Result<(), StoreFault>
     requires named { AreNamed (own_object head.now text.now) }
     requires ready { ArePuttableIn (objects_of S.contents store.old) (own_object head.now text.now) }
-    ensures value { StoresSo (objects_of S.contents store.old) (own_object head.now text.now) (objects_of S.contents store.new) result }
-    ensures stays { status_of S.contents store.new ≡ status_of S.contents store.old }
-    ensures free { (objects : Objects) → objects_of S.contents store.old ≡ Some objects → IfErr result (λ fault. IsTrue (is_free fault)) }
-    ensures cause { IfErr result (IsWriteFault (S.may_give store.new.shelf)) }
-    ensures lying { StraysBy is_of_shelf S.contents store.old store.new result }
-    ensures written { S.texts store.new.shelf ≡ S.texts store.old.shelf }
-    ensures gives { GivesBy IsNamedObject (S.may_give store.old.shelf) (S.may_give store.new.shelf) }
-    ensures faults { CountsShelf (S.faults store.old.shelf) (S.faults store.new.shelf) result }
+    ensures value { PutsSo S.contents S.may_give S.texts S.faults (own_object head.now text.now) store.old store.new result }
 {
     match text {
         Some(text) => put_one(
@@ -188,15 +167,8 @@ fn put_text<S: Shelf>(
 fn put_one<S: Shelf>(store: &mut Store<S>, key: &Key, bytes: &Bytes) -> Result<(), StoreFault>
     requires named { AreNamed (record { key = key.now; bytes = bytes.now } ∷ []) }
     requires ready { ArePuttableIn (objects_of S.contents store.old) (record { key = key.now; bytes = bytes.now } ∷ []) }
-    ensures value { StoresSo (objects_of S.contents store.old) (record { key = key.now; bytes = bytes.now } ∷ []) (objects_of S.contents store.new) result }
+    ensures value { PutsSo S.contents S.may_give S.texts S.faults (record { key = key.now; bytes = bytes.now } ∷ []) store.old store.new result }
     ensures same { OnErr result (objects_of S.contents store.new ≡ objects_of S.contents store.old) }
-    ensures stays { status_of S.contents store.new ≡ status_of S.contents store.old }
-    ensures free { (objects : Objects) → objects_of S.contents store.old ≡ Some objects → IfErr result (λ fault. IsTrue (is_free fault)) }
-    ensures cause { IfErr result (IsWriteFault (S.may_give store.new.shelf)) }
-    ensures lying { StraysBy is_of_shelf S.contents store.old store.new result }
-    ensures written { S.texts store.new.shelf ≡ S.texts store.old.shelf }
-    ensures gives { GivesBy IsNamedObject (S.may_give store.old.shelf) (S.may_give store.new.shelf) }
-    ensures faults { CountsShelf (S.faults store.old.shelf) (S.faults store.new.shelf) result }
 {
     match store.put(*key, bytes.slice()) {
         Ok(_) => Ok(()),

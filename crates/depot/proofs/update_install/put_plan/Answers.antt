@@ -2,9 +2,7 @@
 use Rattle.std.specs.FinMap as map
 use Rattle.object_store.specs.StoreView.{objects_of}
 use Rattle.depot.specs.Plan.{listed, own_object}
-use Rattle.depot.proofs.UpdateInstallLemmas.{named_back, named_front, puttable_back, puttable_front, stores_then}
-use Rattle.depot.proofs.StrayLemmas.{strays_then}
-use Rattle.depot.proofs.GivingLemmas.{then_by}
+use Rattle.depot.proofs.UpdateInstallLemmas.{named_back, named_front, puts_stops, puts_then, puttable_back, puttable_front}
 use Rattle.depot.proofs.update_install.put_plan.Goals as goal
 
 pub put_dirs-requires-clause-named : goal.put_dirs-requires-clause-named
@@ -20,16 +18,14 @@ put_text-requires-clause-named g c = named_back (listed (map.entries c.args.plan
 pub put_text-requires-clause-ready : goal.put_text-requires-clause-ready
 put_text-requires-clause-ready g c =
     puttable_back (objects_of g.S.Shelf.contents c.args.store.now) (objects_of g.S.Shelf.contents c.put_dirs.new.store)
-    (listed (map.entries c.args.plan.now.dirs)) (own_object c.args.plan.now.head c.args.plan.now.text) c.requires.ready c.in-Ok.ensures.value
+    (listed (map.entries c.args.plan.now.dirs)) (own_object c.args.plan.now.head c.args.plan.now.text) c.requires.ready c.in-Ok.ensures.value.objects
 
-pub returns-clause-value : goal.returns-clause-value
-returns-clause-value g c =
-    stores_then (objects_of g.S.Shelf.contents c.args.store.now) (objects_of g.S.Shelf.contents c.put_dirs.new.store) (objects_of g.S.Shelf.contents c.put_text.new.store)
-    (listed (map.entries c.args.plan.now.dirs)) (own_object c.args.plan.now.head c.args.plan.now.text) c.put_text.result c.in-Ok.ensures.value c.put_text.ensures.value
+pub returns-in-Err : goal.returns-in-Err
+returns-in-Err g c = record {
+  value = puts_stops (listed (map.entries c.args.plan.now.dirs)) (own_object c.args.plan.now.head c.args.plan.now.text) c.in-Err.fault c.in-Err.ensures.value;
+}
 
-pub returns-clause-lying : goal.returns-clause-lying
-returns-clause-lying g c =
-    strays_then g.S.Shelf.contents c.args.store.now c.put_dirs.new.store c.put_text.new.store c.put_text.result c.in-Ok.ensures.lying c.put_text.ensures.lying
-
-pub returns-clause-gives : goal.returns-clause-gives
-returns-clause-gives g c = then_by c.in-Ok.ensures.gives c.put_text.ensures.gives
+pub returns : goal.returns
+returns g c = record {
+  value = puts_then (listed (map.entries c.args.plan.now.dirs)) (own_object c.args.plan.now.head c.args.plan.now.text) c.put_text.result c.in-Ok.ensures.value c.put_text.ensures.value;
+}
