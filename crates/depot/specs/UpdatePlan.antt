@@ -1,5 +1,5 @@
--- What an update is to do, found by reading alone. Our own. Read PlansSo.
-use Rattle.std.specs.Prelude.{◌≡◌, ◌⊎◌, ℕ, true, false, List, [], Option, None, Some, Result, Ok, Err}
+-- What an update is to do, found by reading alone. Our own. Read PlansOver, then PlansSo.
+use Rattle.std.specs.Prelude.{◌≡◌, ◌≢◌, ◌⊎◌, ℕ, true, false, List, [], Option, None, Some, Result, Ok, Err}
 use Rattle.library_rules.specs.Calls.{Due, Denies, Says, Stores, Installs, Merges}
 use Rattle.library_rules.specs.LibraryState.{State, head_of, is_kept}
 use Rattle.library_rules.specs.MergeCommit.{Clashes, Makes, OfTrees}
@@ -10,14 +10,23 @@ use Rattle.library_state.specs.declared.refusal.Refusal.TheVariants as refusal
 use Rattle.library_state.specs.declared.reply.Reply.TheVariants as reply
 use Rattle.library_state.specs.declared.state.LibState.{LibState}
 use Rattle.library_state.specs.declared.token.Token.{Token}
-use Rattle.object_store.specs.StoreView.{Index}
+use Rattle.object_store.specs.Shelf.{Contents}
+use Rattle.object_store.specs.StoreView.{Index, StoreView}
 use Rattle.object_store.specs.declared.shelf.Slot.{Slot as ShelfSlot}
 use Rattle.tree_model.specs.ThreeWayMerge as merged
+use Rattle.tree_walk.specs.KnownTrees.{KnownView}
 use Rattle.depot.specs.Answering.{MayAnswer, decided, update_decided}
+use Rattle.depot.specs.DepotView.{FitsIn, IsSoundIn}
 use Rattle.depot.specs.ObjectCalls.{IsToldRefusal}
 use Rattle.depot.specs.Plan.{HasNames, objects_in}
 use Rattle.depot.specs.declared.plan.Plan.{Plan}
 use Rattle.conflict_names.specs.Naming.{merge_of}
+
+-- what an update is planned over: a sound library that has a head, and what is known of its trees is right
+pub record PlansOver {S : Type 0} (contents : S → Option Contents) (store : StoreView S) (state : LibState) (trees : KnownView) : Type 0 where
+  pub sound : IsSoundIn contents store state
+  pub known : FitsIn contents store trees
+  pub some_kept : state.kept ≢ []
 
 -- ---- a merge
 

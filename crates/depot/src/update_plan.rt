@@ -1,5 +1,5 @@
 //! What an update is to do, found by reading alone.
-ghost use Rattle.std.specs.Prelude.{◌≡◌, ◌≢◌, ◌<◌, ℕ, [], true, IfErr, IfOk, Some, length};
+ghost use Rattle.std.specs.Prelude.{◌≡◌, ◌<◌, ℕ, true, IfErr, IfOk, Some, length};
 ghost use Rattle.ids.specs.Key.{Objects};
 ghost use Rattle.library_rules.specs.Calls.{base_due, complete_due, due, update_due};
 ghost use Rattle.library_rules.specs.LibraryState.{is_kept};
@@ -9,11 +9,11 @@ ghost use Rattle.library_state.specs.declared.call.Call.{Call};
 ghost use Rattle.object_graph.specs.Traversal.{walk_commit};
 ghost use Rattle.object_store.specs.StoreView.{objects_of};
 ghost use Rattle.depot.specs.Answering.{MayAsk, MayRefuseUpdate};
-ghost use Rattle.depot.specs.DepotView.{FitsIn, IsSoundIn, library};
+ghost use Rattle.depot.specs.DepotView.{FitsIn, library};
 ghost use Rattle.depot.specs.ObjectCalls.{IsToldDamageOf};
 ghost use Rattle.depot.specs.UpdateBase.{ReadsOnly};
 ghost use Rattle.depot.specs.Plan.{HasNames};
-ghost use Rattle.depot.specs.UpdatePlan.{DecidesCall, DecidesSo, PlansDue, PlansSo};
+ghost use Rattle.depot.specs.UpdatePlan.{DecidesCall, DecidesSo, PlansDue, PlansOver, PlansSo};
 
 use crate::history::{is_head, is_kept};
 use crate::plan::Plan;
@@ -37,9 +37,7 @@ pub(crate) fn plan_of<S: Shelf>(
     moment: u64,
 ) -> Result<Option<Plan>, Refusal>
     requires within { place < length state.now.tokens }
-    requires sound { IsSoundIn S.contents store.old state.now }
-    requires known { FitsIn S.contents store.old known.old }
-    requires some_kept { state.now.kept ≢ [] }
+    requires ready { PlansOver S.contents store.old state.now known.old }
     ensures known { FitsIn S.contents store.old known.new }
     ensures value { (objects : Objects) (count : ℕ) → objects_of S.contents store.old ≡ Some objects
         → (call : Call) → MayAsk state.now.tokens call.secret call.act place → call.act ≡ act.Update pushed
@@ -66,9 +64,7 @@ fn plan_update<S: Shelf>(
     pushed: ObjId,
     moment: u64,
 ) -> Result<Option<Plan>, Refusal>
-    requires sound { IsSoundIn S.contents store.old state.now }
-    requires known { FitsIn S.contents store.old known.old }
-    requires some_kept { state.now.kept ≢ [] }
+    requires ready { PlansOver S.contents store.old state.now known.old }
     ensures known { FitsIn S.contents store.old known.new }
     ensures value { (objects : Objects) (count : ℕ) → objects_of S.contents store.old ≡ Some objects
         → PlansSo (library state.now count objects) moment pushed (update_due (library state.now count objects) token.now pushed) result }
@@ -101,9 +97,7 @@ fn plan_unknown<S: Shelf>(
     pushed: ObjId,
     moment: u64,
 ) -> Result<Plan, Refusal>
-    requires sound { IsSoundIn S.contents store.old state.now }
-    requires known { FitsIn S.contents store.old known.old }
-    requires some_kept { state.now.kept ≢ [] }
+    requires ready { PlansOver S.contents store.old state.now known.old }
     ensures known { FitsIn S.contents store.old known.new }
     ensures value { (objects : Objects) (count : ℕ) → objects_of S.contents store.old ≡ Some objects
         → PlansDue (library state.now count objects) moment
@@ -136,9 +130,7 @@ fn plan_based<S: Shelf>(
     pushed: ObjId,
     moment: u64,
 ) -> Result<Plan, Refusal>
-    requires sound { IsSoundIn S.contents store.old state.now }
-    requires known { FitsIn S.contents store.old known.old }
-    requires some_kept { state.now.kept ≢ [] }
+    requires ready { PlansOver S.contents store.old state.now known.old }
     requires based { (objects : Objects) → objects_of S.contents store.old ≡ Some objects → is_kept state.now.kept base ≡ true }
     ensures known { FitsIn S.contents store.old known.new }
     ensures value { (objects : Objects) (count : ℕ) → objects_of S.contents store.old ≡ Some objects

@@ -19,7 +19,7 @@ returns-then-is_head-clause-named g c = none_named c.new.result c.args.pushed c.
 pub plan_merge-requires-clause-complete : goal.plan_merge-requires-clause-complete
 plan_merge-requires-clause-complete g c = λ objects told.
     let before = sym c.in-Ok.ensures.stays.kept.objects ∙ told in
-    are_complete c.args.state.now objects c.args.base c.args.pushed (c.requires.sound objects 0 before) c.requires.some_kept (c.requires.based objects before)
+    are_complete c.args.state.now objects c.args.base c.args.pushed (c.requires.ready.sound objects 0 before) c.requires.ready.some_kept (c.requires.based objects before)
     (c.in-Ok.ensures.value objects before).0
 
 pub returns-clause-value : goal.returns-clause-value

@@ -23,17 +23,18 @@ returns-in-Unrelated-clause-value g c = λ objects count told.
     (inl (found_at objects (base_of (library c.args.state.now count objects) c.args.pushed) c.in-Ok.found (found.Unrelated c.in-Unrelated.steps) c.in-Unrelated.is
     (c.in-Ok.ensures.value (library c.args.state.now count objects) told (sym c.slice.ensures.value))))
 
-pub plan_based-requires-clause-sound : goal.plan_based-requires-clause-sound
-plan_based-requires-clause-sound g c = λ objects count told. c.requires.sound objects count (sym c.in-Ok.ensures.stays.kept.objects ∙ told)
+pub plan_based-requires-clause-ready : goal.plan_based-requires-clause-ready
+plan_based-requires-clause-ready g c = record {
+  sound = λ objects count told. c.requires.ready.sound objects count (sym c.in-Ok.ensures.stays.kept.objects ∙ told);
+  known = λ objects told. c.requires.ready.known objects (sym c.in-Ok.ensures.stays.kept.objects ∙ told);
+  some_kept = c.requires.ready.some_kept;
+}
 
 pub plan_based-requires-clause-based : goal.plan_based-requires-clause-based
 plan_based-requires-clause-based g c = λ objects told.
     base_is_kept c.args.state.now objects c.args.pushed c.in-At.base
     (found_at objects (base_of (library c.args.state.now 0 objects) c.args.pushed) c.in-Ok.found (found.At c.in-At.base) c.in-At.is
     (c.in-Ok.ensures.value (library c.args.state.now 0 objects) (sym c.in-Ok.ensures.stays.kept.objects ∙ told) (sym c.slice.ensures.value)))
-
-pub plan_based-requires-clause-known : goal.plan_based-requires-clause-known
-plan_based-requires-clause-known g c = λ objects told. c.requires.known objects (sym c.in-Ok.ensures.stays.kept.objects ∙ told)
 
 pub returns-clause-known : goal.returns-clause-known
 returns-clause-known g c = λ objects told. c.plan_based.ensures.known objects (c.in-Ok.ensures.stays.kept.objects ∙ told)

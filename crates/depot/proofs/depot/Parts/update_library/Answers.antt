@@ -23,12 +23,13 @@ use Rattle.depot.proofs.depot.Parts.update_library.Goals as goal
 pub plan_of-requires-clause-within : goal.plan_of-requires-clause-within
 plan_of-requires-clause-within g c = c.requires.who.1.at.within
 
-pub plan_of-requires-clause-sound : goal.plan_of-requires-clause-sound
-plan_of-requires-clause-sound g c = λ objects count told.
-    sound_at g.S.Shelf.contents g.S.Shelf.faults (record { store = c.args.self.now.store; state = c.args.self.now.state; unsettled = c.args.self.now.unsettled; running = None }) c.requires.good objects count told
-
-pub plan_of-requires-clause-some_kept : goal.plan_of-requires-clause-some_kept
-plan_of-requires-clause-some_kept g c = c.requires.good.head
+pub plan_of-requires-clause-ready : goal.plan_of-requires-clause-ready
+plan_of-requires-clause-ready g c = record {
+  sound = λ objects count told.
+      sound_at g.S.Shelf.contents g.S.Shelf.faults (record { store = c.args.self.now.store; state = c.args.self.now.state; unsettled = c.args.self.now.unsettled; running = None }) c.requires.good objects count told;
+  known = c.requires.known;
+  some_kept = c.requires.good.head;
+}
 
 pub returns-in-Err-clause-known : goal.returns-in-Err-clause-known
 returns-in-Err-clause-known g c = fits_same g.S.Shelf.contents c.args.self.now.store c.plan_of.new.store c.plan_of.new.known c.in-Err.ensures.stays.kept.objects c.in-Err.ensures.known
