@@ -1,6 +1,8 @@
 """changed.py SERVER LIBRARY [COUNT [SEED]]: a trial, no measure. Random prefixes of good requests with one byte changed, each a connection
-of its own, whole and cut into pieces: the server ends each with a reply of its table or with none, never by a signal, and says the
-same however the bytes come."""
+of its own: the server ends with status 0 or 1, says nothing on standard error, and gives whole replies or none; the last of them has 413
+or 431 only at status 1. Each sixteenth comes once more, in pieces: the status, the statuses of its replies and the number of their bytes
+are the same. Which reply is due, and what the bodies of replies say, is not looked at."""
+import hashlib
 import random
 import re
 import subprocess
@@ -12,6 +14,9 @@ seed = int(sys.argv[4]) if len(sys.argv) > 4 else 1
 chance = random.Random(seed)
 SECRET = "a" * 40
 NAME = "a9993e364706816aba3e25717850c26c9cd0d89d"
+# (more than one piece)
+LONG = b"a" * 70000
+LONG_NAME = hashlib.sha1(LONG).hexdigest()
 
 
 def good():
@@ -23,6 +28,7 @@ def good():
                 ("GET", "/protocol-version", None),
                 ("GET", f"/repo/{library}/commit/HEAD", None),
                 ("PUT", f"/repo/{library}/block/{NAME}", b"abc"),
+                ("PUT", f"/repo/{library}/block/{LONG_NAME}", LONG),
                 ("GET", f"/repo/{library}/block/{NAME}", None),
                 ("POST", f"/repo/{library}/check-blocks", f'["{NAME}"]'.encode()),
                 ("POST", f"/repo/{library}/pack-fs", f'["{NAME}","{NAME}"]'.encode()),
@@ -51,7 +57,7 @@ def run_in_pieces(data):
     try:
         at = 0
         while at < len(data):
-            size = chance.choice([1, 2, 7, 40])
+            size = chance.choice([1, 2, 7, 40] if len(data) < len(LONG) else [40, 4000, 65536])
             child.stdin.write(data[at : at + size])
             child.stdin.flush()
             at += size
@@ -83,7 +89,9 @@ seen = {}
 wrong = 0
 for number in range(count):
     data = good()
-    data = bytearray(data[: chance.randint(1, len(data))])
+    # (in half of them at most 300 bytes lack, so that requests behind a long body come too)
+    least = max(1, len(data) - 300) if chance.random() < 0.5 else 1
+    data = bytearray(data[: chance.randint(least, len(data))])
     place = chance.randrange(len(data))
     data[place] = (data[place] + chance.randint(1, 255)) % 256
     data = bytes(data)
