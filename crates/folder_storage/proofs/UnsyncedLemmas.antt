@@ -154,23 +154,16 @@ all-between old ready synced new keys more same among all ended = record {
 }
 
 -- a text is put after the syncs had ended
-pub put-text : {E : Type 0} (old ready synced ended new : Option (List Step)) (keys more : List Key) (text : List ℕ) (result : Result ⊤ E)
+pub put-text : {E : Type 0} (old ready synced ended new : Option (List Step)) (keys more left : List Key) (text : List ℕ) (result : Result ⊤ E)
     → ready ≡ old → AreAmong keys more → SyncsAll ready synced more → ended ≡ synced
     → OnOk result (new ≡ with_steps ended (PutText text ∷ [])) → OnErr result ((new ≡ ended) ⊎ (new ≡ with_steps ended (PutText text ∷ [])))
-    → PutsDurably old new keys text result
-put-text old ready synced ended new keys more text (Ok done) same among all end put failed =
+    → PutsDurably old new keys left text result
+put-text old ready synced ended new keys more left text (Ok done) same among all end put failed =
     record { before = ended; synced = all-between old ready synced ended keys more same among all end; put = put }
-put-text old ready synced ended new keys more text (Err failure) same among all end put (inl none-put) =
-    inl (all-only old new keys (all-between old ready synced new keys more same among all (none-put ∙ end)))
-  where
-    all-only : (a b : Option (List Step)) (k : List Key) → SyncsAll a b k → OnlySyncs a b
-    all-only a b k whole = record {
-      syncs = map SyncedObject whole.synced ++ map SyncedDirectory whole.directories;
-      steps = whole.steps;
-      no_text = syncs-append (map SyncedObject whole.synced) (map SyncedDirectory whole.directories) (objects-syncs whole.synced) (directories-syncs whole.directories);
-    }
-put-text old ready synced ended new keys more text (Err failure) same among all end put (inr put-so) =
-    inr (record { before = ended; synced = all-between old ready synced ended keys more same among all end; put = put-so })
+put-text old ready synced ended new keys more left text (Err failure) same among all end put (inl none-put) =
+    inr (inl (all-between old ready synced new keys more same among all (none-put ∙ end)))
+put-text old ready synced ended new keys more left text (Err failure) same among all end put (inr put-so) =
+    inr (inr (record { before = ended; synced = all-between old ready synced ended keys more same among all end; put = put-so }))
 
 pub put-text-order : {E : Type 0} (old ready synced ended new : Option (List Step)) (keys more left : List Key) (text : List ℕ) (result : Result ⊤ E)
     → ready ≡ old → AreAmong keys more → SyncsAll ready synced more → ended ≡ synced → left ≡ []

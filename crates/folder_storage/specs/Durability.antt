@@ -1,5 +1,5 @@
 -- In which order what was put is made durable. Our own. Read Step first, then TextComesLast, then IsInOrder.
--- A stand-in for the disk tells its steps; the real one tells None.
+-- A disk may tell its steps; the one over files tells None, and no other is here.
 use Rattle.std.specs.Prelude.{◌≡◌, ◌⊎◌, ◌++◌, ℕ, List, [], ◌∷◌, Option, None, Some, Result, Ok, Err, ⊤, map, option_map, slice_index}
 use Rattle.ids.specs.declared.key.Key.{Key}
 use Rattle.object_store.specs.declared.shelf.Slot.{Slot}
@@ -31,6 +31,11 @@ AreAmong keys more = (key : Key) → In key keys → In key more
 abbrev pub IsListed : Slot → List Key → Type 0
 IsListed (Object key) keys = In key keys
 IsListed Status keys = keys ≡ []
+
+-- a put of an object takes none from the list, done or not
+abbrev pub StaysListed : Slot → (old new : List Key) → Type 0
+StaysListed (Object key) old new = AreAmong old new
+StaysListed Status old new = ⊤
 
 -- each object's folder is among the directories, and so is the folder of its kind
 abbrev pub AreNamedIn : List Key → List Directory → Type 0
@@ -69,10 +74,11 @@ abbrev pub MakesDurable : {E : Type 0} → Option (List Step) → Option (List S
 MakesDurable old new keys (Ok done) = SyncsAll old new keys
 MakesDurable old new keys (Err failure) = OnlySyncs old new
 
--- a text is put after all that it may name is durable, or it isn't put; it is put where the call is done
-abbrev pub PutsDurably : {E : Type 0} → Option (List Step) → Option (List Step) → List Key → List ℕ → Result ⊤ E → Type 0
-PutsDurably old new keys text (Ok done) = TextComesLast old new keys text
-PutsDurably old new keys text (Err failure) = OnlySyncs old new ⊎ TextComesLast old new keys text
+-- a text is put after all that it may name is durable, or it isn't put; it is put where the call is done. The list loses
+-- none of its objects while not all of them, and the folders that name them, are durable
+abbrev pub PutsDurably : {E : Type 0} → (old new : Option (List Step)) → (keys left : List Key) → List ℕ → Result ⊤ E → Type 0
+PutsDurably old new keys left text (Ok done) = TextComesLast old new keys text
+PutsDurably old new keys left text (Err failure) = (OnlySyncs old new × AreAmong keys left) ⊎ (SyncsAll old new keys ⊎ TextComesLast old new keys text)
 
 -- after the steps, the object was put and not synced since; `before` are those of which that held before them
 abbrev pub IsUnsynced : (Key → Type 0) → List Step → Key → Type 0

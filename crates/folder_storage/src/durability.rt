@@ -15,7 +15,8 @@ pub(crate) enum Directory {
     OfKind(Kind),
 }
 
-/// The calls by which objects are put and made durable, and a state text after them. A stand-in tells what was done.
+/// The calls by which objects are put and made durable, and a state text after them. A disk may tell what was done; the
+/// one over files tells nothing, and no other is here.
 pub(crate) trait Disk {
     ghost use Rattle.folder_storage.specs.Durability.{Step};
 

@@ -1,7 +1,7 @@
 //! A shelf over the files of one library's folder.
 ghost use Rattle.std.specs.Prelude.{◌≡◌, OnOk};
 ghost use Rattle.object_store.specs.Shelf.{CountsFaults, texts_after};
-ghost use Rattle.folder_storage.specs.Durability.{IsListed};
+ghost use Rattle.folder_storage.specs.Durability.{IsListed, StaysListed};
 
 use crate::answer::{answer, counted};
 use crate::file_system::FileSystem;
@@ -70,12 +70,17 @@ impl<F: FileSystem + Drop> Shelf for FolderShelf<F> {
 
     ghost texts = { λ s. s.texts.count };
 
-    fn fetch(&mut self, slot: Slot) -> Result<Option<Bytes>, ShelfFailed> {
+    fn fetch(&mut self, slot: Slot) -> Result<Option<Bytes>, ShelfFailed>
+        ensures listed { self.new.unsynced.keys.items ≡ self.old.unsynced.keys.items }
+        ensures faults { CountsFaults self.old.faults self.new.faults result }
+        ensures texts { self.new.texts.count ≡ self.old.texts.count }
+    {
         answer(&mut self.faults, self.folder.read(&slot))
     }
 
     fn put(&mut self, slot: Slot, bytes: &[u8]) -> Result<(), ShelfFailed>
         ensures listed { OnOk result (IsListed slot self.new.unsynced.keys.items) }
+        ensures stays { StaysListed slot self.old.unsynced.keys.items self.new.unsynced.keys.items }
         ensures faults { CountsFaults self.old.faults self.new.faults result }
         ensures texts { self.new.texts.count ≡ texts_after slot self.old.texts.count }
     {
@@ -97,13 +102,21 @@ impl<F: FileSystem + Drop> Shelf for FolderShelf<F> {
         }
     }
 
-    fn remove(&mut self, slot: Slot) -> Result<(), ShelfFailed> {
+    fn remove(&mut self, slot: Slot) -> Result<(), ShelfFailed>
+        ensures listed { self.new.unsynced.keys.items ≡ self.old.unsynced.keys.items }
+        ensures faults { CountsFaults self.old.faults self.new.faults result }
+        ensures texts { self.new.texts.count ≡ self.old.texts.count }
+    {
         let path = answer(&mut self.faults, self.folder.path_of(&slot))?;
         let removed = self.folder.remove(&slot, path.as_str());
         counted(&mut self.faults, removed)
     }
 
-    fn next(&mut self, kind: Kind, after: Option<ObjId>) -> Result<Option<Found>, ShelfFailed> {
+    fn next(&mut self, kind: Kind, after: Option<ObjId>) -> Result<Option<Found>, ShelfFailed>
+        ensures listed { self.new.unsynced.keys.items ≡ self.old.unsynced.keys.items }
+        ensures faults { CountsFaults self.old.faults self.new.faults result }
+        ensures texts { self.new.texts.count ≡ self.old.texts.count }
+    {
         let found = self.folder.next(kind, &after);
         answer(&mut self.faults, found)
     }
@@ -121,7 +134,9 @@ fn write_beside<F: FileSystem + Drop>(
     folder: &mut LibraryFolder<F>,
     key: &Key,
     bytes: &[u8],
-) -> io::Result<Way> {
+) -> io::Result<Way>
+    ensures stays { unsynced.new.keys.items ≡ unsynced.old.keys.items }
+{
     unsynced.make_room()?;
     folder.write_beside(key, bytes)
 }

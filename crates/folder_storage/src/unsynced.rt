@@ -53,14 +53,14 @@ impl Unsynced {
     }
 
     /// Puts a state text, after every object that was put before it, by whichever run, and every folder that names one, was
-    /// made durable. Then the list is empty.
+    /// made durable. Then the list is empty. Where one could not be, it has every object that it had.
     pub(crate) fn put_text<D: Disk>(
         &mut self,
         alloc: Global,
         disk: &mut D,
         text: &[u8],
     ) -> io::Result<()>
-        ensures value { PutsDurably (D.steps disk.old) (D.steps disk.new) self.old.keys.items text.now result }
+        ensures value { PutsDurably (D.steps disk.old) (D.steps disk.new) self.old.keys.items self.new.keys.items text.now result }
         ensures none { OnOk result (self.new.keys.items ≡ []) }
         ensures order { IsInOrder (D.steps disk.old) self.old.keys.items → IsInOrder (D.steps disk.new) self.new.keys.items }
     {
