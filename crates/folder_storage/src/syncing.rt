@@ -14,19 +14,32 @@ use std::io::ErrorKind;
 
 impl<F: FileSystem + Drop> LibraryFolder<F> {
     /// Takes away, durably, what earlier runs left torn: the next state text is younger, and would vouch for it. No text
-    /// that stands names it.
+    /// that stands names it. Want of memory is told as such only where no file was touched.
     fn clear_torn(&mut self) -> io::Result<()> {
         let torn = self.earlier.torn.clone()?;
+        let mut is_touched = false;
         for key in &torn {
-            let path = object_path(self.files.alloc(), self.path.as_str(), key)?;
-            let folder = self.folder_of(key)?;
-            self.files.remove_file(path.as_str())?;
-            if let Err(failure) = self.files.sync_folder(folder.as_str()) {
-                self.is_adrift = true;
-                return Err(failure);
+            let taken = self.take_torn(key, &mut is_touched);
+            match taken {
+                Ok(()) => {}
+                Err(failure) if is_touched => return Err(after_a_change(failure)),
+                Err(failure) => return Err(failure),
             }
         }
         self.earlier.torn.clear();
+        Ok(())
+    }
+
+    /// Takes away, durably, what was left torn under a key, and tells that a file was touched.
+    fn take_torn(&mut self, key: &Key, is_touched: &mut bool) -> io::Result<()> {
+        let path = object_path(self.files.alloc(), self.path.as_str(), key)?;
+        let folder = self.folder_of(key)?;
+        *is_touched = true;
+        self.files.remove_file(path.as_str())?;
+        if let Err(failure) = self.files.sync_folder(folder.as_str()) {
+            self.is_adrift = true;
+            return Err(failure);
+        }
         Ok(())
     }
 
