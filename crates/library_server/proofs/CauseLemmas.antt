@@ -263,7 +263,7 @@ module _ (location : Location) (lib : List ℕ) (shows : ℕ → Type 0) where
           → before (Object key) given ⊎ ((bytes : List ℕ) × (given ≡ Some bytes) × (has_other_name key bytes ≡ false))
       by (inl was) = inl was
       by (inr (laid_text at is)) = absurd (no_text key at)
-      by (inr (laid_commit memory moment shown at is)) =
+      by (inr (laid_commit memory moment shown first at is)) =
           inr (commit_harmless (new_commit (memory_library lib) moment).key.id (new_commit (memory_library lib) moment).bytes key given at is)
 
   -- one that is made first lays an object too
@@ -281,7 +281,7 @@ module _ (location : Location) (lib : List ℕ) (shows : ℕ → Type 0) where
 pub made_gives : (lib : List ℕ) (shows : ℕ → Type 0) {before now : Slot → Option (List ℕ) → Type 0} (state : LibState) (moment : ℕ) → shows moment → state ≡ first_of (memory_library lib) moment
     → GivesBy (IsOfMaking (new_commit (memory_library lib) moment) (first_of (memory_library lib) moment)) before now → GivesBy (IsOfOpening Memory lib shows state) before now
 made_gives lib shows state moment shown same gives =
-    made_at Memory lib shows state (first_of (memory_library lib) moment) (new_commit (memory_library lib) moment) same (λ slot given at is. laid_commit tt moment shown at is) gives
+    made_at Memory lib shows state (first_of (memory_library lib) moment) (new_commit (memory_library lib) moment) same (λ slot given at is. laid_commit tt moment shown same at is) gives
 
 -- ---- a connection
 

@@ -71,12 +71,13 @@ pub data IsOpenedState (gives : Slot → Option (List ℕ) → Type 0) (location
   of_text : IsNextOf gives state → state.lib ≡ lib → IsOpenedState gives location lib shows state
   of_new : IsMemory location → (moment : ℕ) → shows moment → state ≡ first_of (memory_library lib) moment → IsOpenedState gives location lib shows state
 
--- what the opening of a library lays onto its shelf: the text of the state that was opened, and, where the library was made
--- first in memory, its opening commit
+-- what the opening of a library lays onto its shelf: the text of the state that was opened, and, where that is the first of
+-- a library that was made in memory, the opening commit of the same moment
 pub data IsOfOpening (location : Location) (lib : List ℕ) (shows : ℕ → Type 0) (state : LibState) (slot : Slot) (given : Option (List ℕ)) : Type 0 where
   laid_text : slot ≡ Status → given ≡ Some (text_of state) → IsOfOpening location lib shows state slot given
-  laid_commit : IsMemory location → (moment : ℕ) → shows moment → slot ≡ Object (new_commit (memory_library lib) moment).key
-      → given ≡ Some (new_commit (memory_library lib) moment).bytes → IsOfOpening location lib shows state slot given
+  laid_commit : IsMemory location → (moment : ℕ) → shows moment → state ≡ first_of (memory_library lib) moment
+      → slot ≡ Object (new_commit (memory_library lib) moment).key → given ≡ Some (new_commit (memory_library lib) moment).bytes
+      → IsOfOpening location lib shows state slot given
 
 -- ---- why no library is opened
 
