@@ -80,23 +80,37 @@ abbrev pub PutsDurably : {E : Type 0} → (old new : Option (List Step)) → (ke
 PutsDurably old new keys left text (Ok done) = TextComesLast old new keys text
 PutsDurably old new keys left text (Err failure) = (OnlySyncs old new × AreAmong keys left) ⊎ (SyncsAll old new keys ⊎ TextComesLast old new keys text)
 
--- after the steps, the object was put and not synced since; `before` are those of which that held before them
-abbrev pub IsUnsynced : (Key → Type 0) → List Step → Key → Type 0
+-- what has to be synced before a text: the file of an object, or the names in a folder
+pub data Due : Type 0 where
+  File : Key → Due
+  Names : Directory → Due
+
+-- that a put makes due: its object's file, the object's folder, and that of its kind
+abbrev pub IsDueOf : Key → Due → Type 0
+IsDueOf put (File key) = key ≡ put
+IsDueOf put (Names directory) = (directory ≡ Objects put.kind (slice_index put.id 0)) ⊎ (directory ≡ OfKind put.kind)
+
+-- that one of the list makes due
+abbrev pub IsDueIn : List Key → Due → Type 0
+IsDueIn keys due = (key : Key) × In key keys × IsDueOf key due
+
+-- after the steps, a put made it due, and it was not synced since; `before` are those of which that held before them
+abbrev pub IsUnsynced : (Due → Type 0) → List Step → Due → Type 0
 IsUnsynced before [] = before
-IsUnsynced before (PutObject put ∷ steps) = IsUnsynced (λ key. (key ≡ put) ⊎ before key) steps
-IsUnsynced before (SyncedObject synced ∷ steps) = IsUnsynced (λ key. before key × (key ≡ synced → ⊥)) steps
-IsUnsynced before (SyncedDirectory directory ∷ steps) = IsUnsynced before steps
+IsUnsynced before (PutObject put ∷ steps) = IsUnsynced (λ due. IsDueOf put due ⊎ before due) steps
+IsUnsynced before (SyncedObject key ∷ steps) = IsUnsynced (λ due. before due × (due ≡ File key → ⊥)) steps
+IsUnsynced before (SyncedDirectory directory ∷ steps) = IsUnsynced (λ due. before due × (due ≡ Names directory → ⊥)) steps
 IsUnsynced before (PutText text ∷ steps) = IsUnsynced before steps
 
--- at each text no object is put and not synced
-abbrev pub AreInOrder : (Key → Type 0) → List Step → Type 0
+-- at each text nothing is due and not synced
+abbrev pub AreInOrder : (Due → Type 0) → List Step → Type 0
 AreInOrder before [] = ⊤
-AreInOrder before (PutObject put ∷ steps) = AreInOrder (λ key. (key ≡ put) ⊎ before key) steps
-AreInOrder before (SyncedObject synced ∷ steps) = AreInOrder (λ key. before key × (key ≡ synced → ⊥)) steps
-AreInOrder before (SyncedDirectory directory ∷ steps) = AreInOrder before steps
-AreInOrder before (PutText text ∷ steps) = ((key : Key) → before key → ⊥) × AreInOrder before steps
+AreInOrder before (PutObject put ∷ steps) = AreInOrder (λ due. IsDueOf put due ⊎ before due) steps
+AreInOrder before (SyncedObject key ∷ steps) = AreInOrder (λ due. before due × (due ≡ File key → ⊥)) steps
+AreInOrder before (SyncedDirectory directory ∷ steps) = AreInOrder (λ due. before due × (due ≡ Names directory → ⊥)) steps
+AreInOrder before (PutText text ∷ steps) = ((due : Due) → before due → ⊥) × AreInOrder before steps
 
--- the same from the first step on, and each object that was put and not synced is in the list
+-- the same from the first step on, and what is due and not synced is so by an object of the list
 abbrev pub IsInOrder : Option (List Step) → List Key → Type 0
 IsInOrder None keys = ⊤
-IsInOrder (Some steps) keys = AreInOrder (λ key. ⊥) steps × ((key : Key) → IsUnsynced (λ key. ⊥) steps key → In key keys)
+IsInOrder (Some steps) keys = AreInOrder (λ due. ⊥) steps × ((due : Due) → IsUnsynced (λ due. ⊥) steps due → IsDueIn keys due)
