@@ -1,6 +1,7 @@
 //! What a folder's shelf does on the disk.
 use crate::library::{LIB, done, holds, slot_of};
 use crate::scratch::{clear, found_again, made, scratch, within};
+use folder_storage::{FileSystem, FolderShelf};
 use ids::{Key, Kind, ObjId};
 use object_store::{Found, Shelf, Slot};
 use std::os::unix::fs::PermissionsExt;
@@ -147,20 +148,47 @@ fn what_is_no_object_is_passed_over(rt: HostRuntime) -> Result<(), Fail> {
     Ok(clear(&rt, folder.as_str())?)
 }
 
+/// Whether files that lie among the spares of a library with a state text are taken away as it is opened, and its text
+/// stays.
+fn takes_away(rt: &HostRuntime, folder: &str) -> Result<bool, Fail> {
+    let spare = within(rt, folder, "11111111-2222-4333-8444-555555555555/tmp/spare")?;
+    let other = within(rt, folder, "11111111-2222-4333-8444-555555555555/tmp/x")?;
+    fs::write(rt, spare.as_str(), b"half")?;
+    fs::write(rt, other.as_str(), b"half")?;
+    let is_kept = holds(&mut found_again(rt, folder)?, &Slot::Status, b"state");
+    let is_left = fs::exists(rt, spare.as_str())? || fs::exists(rt, other.as_str())?;
+    Ok(is_kept && !is_left)
+}
+
 #[test]
 fn what_a_killed_run_left_is_taken_away(rt: HostRuntime) -> Result<(), Fail> {
     let folder = scratch(&rt, "sweep")?;
     let mut shelf = made(&rt, folder.as_str())?;
     done(shelf.put(Slot::Status, b"state"))?;
     drop(shelf);
-    let spares = format!(in rt.alloc(); "{}/{LIB}/tmp", folder.as_str())?;
-    let spare = within(&rt, spares.as_str(), "spare")?;
-    let other = within(&rt, spares.as_str(), "x")?;
-    fs::write(&rt, spare.as_str(), b"half")?;
-    fs::write(&rt, other.as_str(), b"half")?;
-    let mut shelf = found_again(&rt, folder.as_str())?;
-    assert!(rt; !fs::exists(&rt, spare.as_str())?);
-    assert!(rt; !fs::exists(&rt, other.as_str())?);
-    assert!(rt; holds(&mut shelf, &Slot::Status, b"state"));
+    assert!(rt; takes_away(&rt, folder.as_str())?);
+    Ok(clear(&rt, folder.as_str())?)
+}
+
+/// What takes every write, and no sync.
+const NEVER_DURABLE: &str = "/dev/null";
+
+/// Whether each call that is to make it durable fails, and a write that isn't asked to be durable is done.
+fn asks_for_syncs<F: FileSystem>(files: &mut F) -> bool {
+    files.sync_file(NEVER_DURABLE).is_err()
+        && files.sync_folder(NEVER_DURABLE).is_err()
+        && files.write(NEVER_DURABLE, b"abc", true).is_err()
+        && files.write(NEVER_DURABLE, b"abc", false).is_ok()
+}
+
+/// The same of the files that a shelf stands on.
+fn stands_on_syncs<F: FileSystem + Drop>(shelf: &FolderShelf<F>) -> Result<bool, Fail> {
+    Ok(asks_for_syncs(&mut shelf.files().another()?))
+}
+
+#[test]
+fn a_sync_that_the_system_refuses_is_told(rt: HostRuntime) -> Result<(), Fail> {
+    let folder = scratch(&rt, "syncs")?;
+    assert!(rt; stands_on_syncs(&made(&rt, folder.as_str())?)?);
     Ok(clear(&rt, folder.as_str())?)
 }
