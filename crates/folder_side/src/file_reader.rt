@@ -82,7 +82,7 @@ fn end_file(chunker: Chunker, mut names: IdList, size: u64) -> Result<FileRead, 
 /// A file in the reading: the chunk that goes on, the names of the chunks before it, and the place of the next byte,
 /// which is the count of bytes read.
 #[derive(Drop)]
-pub(crate) struct Reading {
+struct Reading {
     chunker: Chunker,
     names: IdList,
     place: u64,
@@ -90,26 +90,16 @@ pub(crate) struct Reading {
 
 impl Reading {
     /// No byte was read yet.
-    pub(crate) fn new(alloc: Global, cuts: Cuts) -> Self
+    fn new(alloc: Global, cuts: Cuts) -> Self
         ensures value { (bytes : List ℕ) → IsBehind cuts bytes result }
         ensures ready { result.chunker.failed ≡ false }
         ensures told { result.chunker.cuts ≡ cuts }
         ensures bound { result.place ≡ 0 }
     {
-        Reading::counting_from(alloc, cuts, 0)
-    }
-
-    /// No byte was read yet, and the count of bytes read stands at `place`.
-    pub(crate) fn counting_from(alloc: Global, cuts: Cuts, place: u64) -> Self
-        ensures value { place ≡ 0 → (bytes : List ℕ) → IsBehind cuts bytes result }
-        ensures ready { result.chunker.failed ≡ false }
-        ensures told { result.chunker.cuts ≡ cuts }
-        ensures bound { result.place ≡ place }
-    {
         Reading {
             chunker: Chunker::new(alloc, cuts),
             names: Items::new(alloc),
-            place,
+            place: 0,
         }
     }
 }
@@ -138,7 +128,7 @@ pub fn read_file<F: Folder>(
 }
 
 /// Reads what is left of a file, in pieces that fit the buffer.
-pub(crate) fn read_rest<F: Folder>(
+fn read_rest<F: Folder>(
     alloc: Global,
     folder: &mut F,
     file: &Path,

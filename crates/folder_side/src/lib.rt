@@ -17,8 +17,6 @@ pub mod laws;
 mod memory_contents;
 mod memory_folder;
 mod scan_report;
-#[cfg(test)]
-mod tests;
 
 pub use error::{FolderFault, ScanFault};
 pub use file_reader::{FileRead, ReadFault, read_file};
