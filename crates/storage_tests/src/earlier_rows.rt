@@ -69,6 +69,18 @@ fn with_objects(alloc: Global) -> Result<LossyFiles, Fail> {
     put_in_a_run(files, Kind::Commit, "{}")
 }
 
+/// Whether a first text makes all these calls, with so many syncs in all, and a second one has two syncs more.
+fn texts_sync(
+    shelf: &mut FolderShelf<LossyFiles>,
+    calls: &[&str],
+    syncs: u64,
+) -> Result<bool, Fail> {
+    done(shelf.put(Slot::Status, b"2"))?;
+    let is_first = made_all(shelf, calls) && shelf.files().syncs() == syncs;
+    done(shelf.put(Slot::Status, b"3"))?;
+    Ok(is_first && shelf.files().syncs() == syncs.saturating_add(2))
+}
+
 #[test]
 fn objects_of_an_earlier_run_are_made_durable(rt: HostRuntime) -> Result<(), Fail> {
     let mut files = with_objects(rt.alloc())?;
@@ -77,12 +89,8 @@ fn objects_of_an_earlier_run_are_made_durable(rt: HostRuntime) -> Result<(), Fai
     files.set_changed(COARSE_FILE, WRITTEN - 10 * SECOND)?;
     files.set_changed(OLD_FOLDER, WRITTEN - 11 * SECOND)?;
     let mut shelf = opened(files)?;
-    done(shelf.put(Slot::Status, b"2"))?;
-    assert!(rt; made_all(&shelf, &SYNCED));
     // Besides two folders of objects and the two of their kinds, the text, and the folders that name it and the library.
-    assert!(rt; shelf.files().syncs() == 10);
-    done(shelf.put(Slot::Status, b"3"))?;
-    assert!(rt; shelf.files().syncs() == 12);
+    assert!(rt; texts_sync(&mut shelf, &SYNCED, 10)?);
     Ok(())
 }
 
@@ -105,12 +113,8 @@ fn without_a_state_text_all_objects_are_made_durable_once(rt: HostRuntime) -> Re
     files.set_changed(OLD_FILE, WRITTEN)?;
     let mut shelf = opened(files)?;
     done(shelf.put(slot_of(Kind::Block, COARSE), COARSE.as_bytes()))?;
-    done(shelf.put(Slot::Status, b"2"))?;
-    assert!(rt; made_all(&shelf, &BOTH));
     // Besides the folder of both and that of their kind, the text, and the folders that name it and the library.
-    assert!(rt; shelf.files().syncs() == 7);
-    done(shelf.put(Slot::Status, b"3"))?;
-    assert!(rt; shelf.files().syncs() == 9);
+    assert!(rt; texts_sync(&mut shelf, &BOTH, 7)?);
     Ok(())
 }
 

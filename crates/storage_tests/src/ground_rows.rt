@@ -74,16 +74,21 @@ fn one_fault(
     Ok((is_fault(failed), [counted, libraries.faults()]))
 }
 
+/// Whether a fault is counted once, and a shelf that is handed out after it has counted none.
+fn counts_once(rt: &HostRuntime, libraries: &mut Libraries, folder: &str) -> Result<bool, Fail> {
+    let told = one_fault(rt, libraries, folder)?;
+    let shelf = there(libraries.find(folder, lib()))?;
+    let fresh = shelf.faults();
+    libraries.give_back(folder, lib(), shelf);
+    Ok(told == (true, [1, 1]) && fresh == 0 && libraries.faults() == 1)
+}
+
 #[test]
 fn a_fault_is_counted_once(rt: HostRuntime) -> Result<(), Fail> {
     let folder = scratch(&rt, "once")?;
     let mut libraries = ground(&rt)?;
     make_library(&mut libraries, folder.as_str())?;
-    assert!(rt; one_fault(&rt, &mut libraries, folder.as_str())? == (true, [1, 1]));
-    let shelf = there(libraries.find(folder.as_str(), lib()))?;
-    assert!(rt; shelf.faults() == 0);
-    libraries.give_back(folder.as_str(), lib(), shelf);
-    assert!(rt; libraries.faults() == 1);
+    assert!(rt; counts_once(&rt, &mut libraries, folder.as_str())?);
     Ok(clear(&rt, folder.as_str())?)
 }
 
@@ -92,22 +97,54 @@ fn is_bare<S: Shelf>(shelf: &mut S) -> bool {
     matches!(shelf.fetch(Slot::Status), Ok(None)) && shelf.next(Kind::Block, None) == Ok(None)
 }
 
+/// Makes the library, puts one block and no state text, and gives it back.
+fn leave_without_text(libraries: &mut Libraries, folder: &str) -> Result<(), Fail> {
+    let mut shelf = there(libraries.make(folder, lib()))?;
+    done(shelf.put(slot_of(Kind::Block, "abc"), b"abc"))?;
+    libraries.give_back(folder, lib(), shelf);
+    Ok(())
+}
+
+/// Lays a state text where the library was left.
+fn lay_text(rt: &HostRuntime, folder: &str) -> Result<(), Fail> {
+    let left = format!(in rt.alloc(); "{folder}/{LIB}.new/status")?;
+    Ok(fs::write(rt, left.as_str(), b"left")?)
+}
+
+/// Whether the library is made from nothing.
+fn is_made_anew(libraries: &mut Libraries, folder: &str) -> Result<bool, Fail> {
+    let mut shelf = there(libraries.make(folder, lib()))?;
+    let is_anew = is_bare(&mut shelf);
+    done(shelf.put(Slot::Status, b"state"))?;
+    libraries.give_back(folder, lib(), shelf);
+    Ok(is_anew)
+}
+
 #[test]
 fn a_library_without_a_state_text_is_made_again(rt: HostRuntime) -> Result<(), Fail> {
     let folder = scratch(&rt, "again")?;
     let mut libraries = ground(&rt)?;
-    let mut shelf = there(libraries.make(folder.as_str(), lib()))?;
-    done(shelf.put(slot_of(Kind::Block, "abc"), b"abc"))?;
-    libraries.give_back(folder.as_str(), lib(), shelf);
+    leave_without_text(&mut libraries, folder.as_str())?;
     assert!(rt; is_absent(libraries.find(folder.as_str(), lib())));
-    let left = format!(in rt.alloc(); "{}/{LIB}.new/status", folder.as_str())?;
-    fs::write(&rt, left.as_str(), b"left")?;
-    let mut shelf = there(libraries.make(folder.as_str(), lib()))?;
-    assert!(rt; is_bare(&mut shelf));
-    done(shelf.put(Slot::Status, b"state"))?;
-    libraries.give_back(folder.as_str(), lib(), shelf);
+    lay_text(&rt, folder.as_str())?;
+    assert!(rt; is_made_anew(&mut libraries, folder.as_str())?);
     let _shelf = there(libraries.find(folder.as_str(), lib()))?;
     Ok(clear(&rt, folder.as_str())?)
+}
+
+/// Whether a library that the first has is a fault for the second, made or found, and stays as it is.
+fn is_had_by_one(
+    first: &mut Libraries,
+    second: &mut Libraries,
+    folder: &str,
+) -> Result<bool, Fail> {
+    let mut shelf = there(first.make(folder, lib()))?;
+    let is_made_fault = is_fault(second.make(folder, lib()));
+    done(shelf.put(Slot::Status, b"state"))?;
+    let is_found_fault = is_fault(second.find(folder, lib()));
+    let is_kept = holds(&mut shelf, &Slot::Status, b"state");
+    first.give_back(folder, lib(), shelf);
+    Ok(is_made_fault && is_found_fault && is_kept && second.faults() == 2)
 }
 
 #[test]
@@ -115,13 +152,7 @@ fn a_library_that_another_has_is_a_fault_and_stays(rt: HostRuntime) -> Result<()
     let folder = scratch(&rt, "lock")?;
     let mut first = ground(&rt)?;
     let mut second = ground(&rt)?;
-    let mut shelf = there(first.make(folder.as_str(), lib()))?;
-    assert!(rt; is_fault(second.make(folder.as_str(), lib())));
-    done(shelf.put(Slot::Status, b"state"))?;
-    assert!(rt; is_fault(second.find(folder.as_str(), lib())));
-    assert!(rt; second.faults() == 2);
-    assert!(rt; holds(&mut shelf, &Slot::Status, b"state"));
-    first.give_back(folder.as_str(), lib(), shelf);
+    assert!(rt; is_had_by_one(&mut first, &mut second, folder.as_str())?);
     let shelf = there(second.find(folder.as_str(), lib()))?;
     second.give_back(folder.as_str(), lib(), shelf);
     assert!(rt; first.faults() == 0);

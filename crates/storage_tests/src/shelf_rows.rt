@@ -136,13 +136,29 @@ fn forgets_the_first<S: Shelf>(shelf: &mut S) -> bool {
     shelf.remove(Slot::Object(first)) == Ok(()) && tells(shelf, Kind::Block, None, Some((255, 2)))
 }
 
+fn memory_tells(alloc: Global) -> Result<bool, AllocError> {
+    Ok(tells_names_in_order(&mut memory(alloc, &[])?))
+}
+
+fn odd_tells(alloc: Global) -> Result<bool, AllocError> {
+    Ok(tells_names_in_order(&mut odd(alloc, &[])?))
+}
+
+fn fuse_tells(alloc: Global) -> Result<bool, AllocError> {
+    Ok(tells_names_in_order(&mut fuse(alloc, 100)?))
+}
+
+fn counted_tells(alloc: Global) -> Result<bool, AllocError> {
+    Ok(tells_names_in_order(&mut counted(alloc, &[])?))
+}
+
 #[test]
 fn every_shelf_tells_its_names_in_order(rt: HostRuntime) -> Result<(), Fail> {
     let alloc = rt.alloc();
-    assert!(rt; tells_names_in_order(&mut memory(alloc, &[])?));
-    assert!(rt; tells_names_in_order(&mut odd(alloc, &[])?));
-    assert!(rt; tells_names_in_order(&mut fuse(alloc, 100)?));
-    assert!(rt; tells_names_in_order(&mut counted(alloc, &[])?));
+    assert!(rt; memory_tells(alloc)?);
+    assert!(rt; odd_tells(alloc)?);
+    assert!(rt; fuse_tells(alloc)?);
+    assert!(rt; counted_tells(alloc)?);
     assert!(rt; tells_names_in_order(&mut SteadyShelf::new(alloc)));
     Ok(())
 }
