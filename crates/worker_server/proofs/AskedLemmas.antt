@@ -1,11 +1,10 @@
 -- What a link was asked last. The key lemmas are came_start, came_fill, came_gave, failed_fill, read_later and stop_came.
-use Rattle.std.proofs.Common.{◌≡◌, ℕ, ◌+◌, ◌<◌, ◌⊎◌, List, [], ◌∷◌, ◌++◌, length, Option, None, Some, Result, Ok, Err, inl, inr, refl, sym, ap, subst, ◌∙◌, arith, append_assoc, length-append}
+use Rattle.std.proofs.Common.{◌≡◌, ℕ, ◌+◌, ◌<◌, ◌⊎◌, List, [], ◌∷◌, ◌++◌, length, Option, None, Some, inl, inr, refl, sym, ap, subst, ◌∙◌, arith, append_assoc, length-append}
 use Rattle.std.specs.Io.KnownBytes.{IsAtEnd, append_known}
-use Rattle.std.specs.Prelude.{IfErr}
 use Rattle.http_front.specs.Buffer.{Fills}
 use Rattle.http_front.specs.Link.{Asked, AskedInVain, GivesFront, LinkTells, asked_once_more}
 use Rattle.http_front.specs.ReplyText.{bad_text}
-use Rattle.worker_server.specs.RequestSteps.{EndAsked, IsNoFault, ReadAsked, StillComes, StopAsked, StopsSo}
+use Rattle.worker_server.specs.RequestSteps.{EndAsked, IsNoFault, StillComes, StopAsked, StopsSo}
 use Rattle.worker_server.specs.ServedConnection.{CameLast, EndsAsked, FailedLast}
 use Rattle.worker_server.specs.declared.reading.End.{End}
 use Rattle.worker_server.specs.declared.reading.End.TheVariants as end
@@ -113,14 +112,13 @@ read_later end.ReadFault old mid new left mid_left now_left still last = λ star
 read_later end.NoMemory old mid new left mid_left now_left still last = tt
 
 -- where no take failed, all came
-pub read_whole : {T : Type 0} (r : Result T End) (old new : LinkTells) (left now_left : Option (List ℕ)) → StillComes old new left now_left → IfErr r IsNoFault
-    → ReadAsked r old new left now_left
-read_whole (Ok done) old new left now_left still none = still
-read_whole (Err end.Over) old new left now_left still none = tt
-read_whole (Err (end.Cut read)) old new left now_left still none = tt
-read_whole (Err (end.Refused status)) old new left now_left still none = still
-read_whole (Err end.ReadFault) old new left now_left still none = absurd none
-read_whole (Err end.NoMemory) old new left now_left still none = tt
+pub read_whole : (how : End) (old new : LinkTells) (left now_left : Option (List ℕ)) → StillComes old new left now_left → IsNoFault how
+    → EndAsked how old new left now_left
+read_whole end.Over old new left now_left still none = tt
+read_whole (end.Cut read) old new left now_left still none = tt
+read_whole (end.Refused status) old new left now_left still none = still
+read_whole end.ReadFault old new left now_left still none = absurd none
+read_whole end.NoMemory old new left now_left still none = tt
 
 -- nothing was moved since
 failed_still : (start old new : LinkTells) → new.taken ≡ old.taken → new.given ≡ old.given → new.asked ≡ old.asked → FailedLast start old → FailedLast start new

@@ -1,16 +1,20 @@
--- How the bytes are looked at in which a head is looked for. The key lemmas are look_at_all, quiet_by, look_kept and look_later.
+-- How the bytes are looked at in which a head is looked for. The key lemmas are look_at_all, quiet_by, look_kept,
+-- look_later, none_told and none_at_end.
 use Rattle.std.proofs.Common.{◌≡◌, ◌≢◌, ◌==◌, ◌||◌, ℕ, ◌+◌, ◌-◌, ◌*◌, ◌<◌, ◌≤◌, false, nat_le, nat_lt, List, [], ◌∷◌, ◌++◌, length, take, drop, refl, sym, ap, subst, ◌∙◌, arith, append_assoc, length-append, All}
 use Rattle.std.proofs.lemmas.Bool.{leb-false, or_parts}
 use Rattle.std.proofs.lemmas.Bool.Decides.{nat_tests}
 use Rattle.std.proofs.lemmas.List.{drop-append-le, drop_all, length-take-le, take-append-drop, take-append-le, take_all, take_at}
 use Rattle.std.proofs.lemmas.List.Elements.{All-append, All-cons, All-nil}
 use Rattle.std.specs.List.{list_any}
-use Rattle.httparse.specs.Grammar.{HasNoRequest}
+use Rattle.httparse.specs.Grammar.{HasNoRequest, RequestHead}
+use Rattle.http_front.specs.declared.head.Head.{Head}
 use Rattle.http_front.specs.Limits.{head_limit}
+use Rattle.http_front.specs.NextHead.{IsHeadOf}
 use Rattle.http_front.specs.RequestStream.{front_of}
 use Rattle.http_front.specs.TargetFront.{MayBecomeHead}
 use Rattle.http_front.proofs.LineLemmas.{none_by_lines}
 use Rattle.worker_server.specs.RequestSteps.{IsOpenBy, IsQuiet, IsScanned, is_due}
+use Rattle.worker_server.proofs.ReadingLemmas.{same_grown}
 
 abbrev IsInLine : ℕ → Type 0
 IsInLine byte = byte ≢ 10
@@ -107,6 +111,14 @@ look_first buffer = record {
 none_before : (seen : ℕ) (buffer : List ℕ) → HasNoRequest buffer → HasNoRequest (take seen buffer)
 none_before seen buffer none head rest reads =
     none head (rest ++ drop seen buffer) (reads.0, sym (take-append-drop seen buffer) ∙ ap (λ b. b ++ drop seen buffer) reads.1 ∙ append_assoc _ rest (drop seen buffer))
+
+-- no head is told of a buffer in which none stands
+pub none_told : (buffer : List ℕ) (head : Head) (request : RequestHead) → HasNoRequest buffer → IsHeadOf (front_of buffer) head request → ⊥
+none_told buffer head request none is = (none_before 16384 buffer none) request _ is.reads
+
+-- nothing came at the end of the input, and no head stands there still
+pub none_at_end : (buffer now piece : List ℕ) (n : ℕ) → HasNoRequest buffer → now ≡ buffer ++ piece → length now ≡ length buffer + n → n ≡ 0 → HasNoRequest now
+none_at_end buffer now piece n none grown size zero = subst HasNoRequest (sym (same_grown buffer now piece grown (size ∙ ap (λ k. length buffer + k) zero))) none
 
 -- more bytes came
 pub look_later : (seen : ℕ) (buffer piece : List ℕ) → IsOpenBy seen buffer → IsScanned seen (length buffer) (buffer ++ piece)

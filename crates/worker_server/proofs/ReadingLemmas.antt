@@ -1,10 +1,9 @@
 -- From what stands in the buffer to what is left to read, at each end of reading a request.
 -- The key lemmas are open_end, bad_end, head_stops, interim_stops, body_stops and StandsAt-from_head.
-use Rattle.std.proofs.Common.{◌≡◌, ◌≢◌, ℕ, ◌+◌, ◌<◌, ◌≤◌, true, false, List, [], ◌∷◌, ◌++◌, length, take, drop, Option, None, Some, Result, Ok, Err, refl, sym, ap, subst, ◌∙◌, arith, append_assoc, append-nil, length-append, nat_le}
+use Rattle.std.proofs.Common.{◌≡◌, ◌≢◌, ℕ, ◌+◌, ◌<◌, ◌≤◌, true, false, List, [], ◌∷◌, ◌++◌, length, take, drop, Option, None, Some, Err, refl, sym, ap, subst, ◌∙◌, arith, append_assoc, append-nil, length-append, nat_le}
 use Rattle.std.proofs.lemmas.Bool.{leb-false}
 use Rattle.std.proofs.lemmas.List.{length-take, length-take-le, length-drop}
 use Rattle.std.specs.Io.KnownBytes.{IsAtEnd, append_known}
-use Rattle.std.specs.Prelude.{IfErr}
 use Rattle.httparse.specs.Grammar.{RequestHead, ReadsRequest, print_request, HasNoRequest}
 use Rattle.httparse.proofs.GrammarLemmas.{ReadsRequest-append}
 use Rattle.http_front.specs.Buffer.{to_read}
@@ -231,10 +230,9 @@ StandsAt-from_head buffer piece head request given now is fits gave =
 -- ---- where no take failed
 
 -- the count stays
-pub counts_no_fault : {T : Type 0} (r : Result T End) (before now : ℕ) → now ≡ before → IfErr r IsNoFault → CountsRead before now r
-counts_no_fault (Ok x) before now same none = same
-counts_no_fault (Err end.Over) before now same none = same
-counts_no_fault (Err (end.Cut read)) before now same none = same
-counts_no_fault (Err (end.Refused status)) before now same none = same
-counts_no_fault (Err end.ReadFault) before now same none = absurd none
-counts_no_fault (Err end.NoMemory) before now same none = same
+pub counts_no_fault : (T : Type 0) (how : End) (before now : ℕ) → now ≡ before → IsNoFault how → CountsRead {T = T} before now (Err how)
+counts_no_fault T end.Over before now same none = same
+counts_no_fault T (end.Cut read) before now same none = same
+counts_no_fault T (end.Refused status) before now same none = same
+counts_no_fault T end.ReadFault before now same none = absurd none
+counts_no_fault T end.NoMemory before now same none = same

@@ -103,7 +103,7 @@ module _ {V Operation : Type 0} (rules : HostRules V Operation) where
       → Serves rules u (IsOrder h.method h.target h.token (slice_range bytes h.used (h.used + h.body))) o operations v
       → (closed : Bool) → closed ≡ (h.closes || n == 9999)
       → (old mid new : LinkTells) → mid.given ≡ append_known old.given (interim_of r.head) → new.given ≡ append_known mid.given (text o closed)
-      → new.taken ≡ mid.taken → new.asked ≡ mid.asked → AsksUnfinished buffer bytes old mid
+      → new.taken ≡ mid.taken → new.asked ≡ mid.asked → AsksUnfinished ⊥ buffer bytes old mid
       → OneMore rules n rest buffer skipped (to_read skipped still) u v old new closed
   unfolding AnswersNext-from_reply
   OneMore-from_reply n buffer bytes skipped left still rest h r after s e skip kept u v o operations served closed is old mid new began gave same_taken same_asked reading =
@@ -114,7 +114,7 @@ module _ {V Operation : Type 0} (rules : HostRules V Operation) where
       let held : skipped ≡ after = skip ∙ after_is bytes h r after s in
       let whole : (print_request r.head ++ r.body) ++ skipped ≡ bytes =
       ap (λ z. (print_request r.head ++ r.body) ++ z) held ∙ append_assoc (print_request r.head) r.body after ∙ sym s.is.head.reads.1 in
-      let later = Unfinished-later buffer bytes old mid new same_taken same_asked reading in
+      let later = Unfinished-later ⊥ buffer bytes old mid new same_taken same_asked reading in
       record {
         exchange = x;
         after = after ++ ahead.0;
@@ -124,5 +124,5 @@ module _ {V Operation : Type 0} (rules : HostRules V Operation) where
         text = gave ∙ ap (λ z. append_known z (text o closed)) began ∙ append_known-more old.given (interim_of r.head) (text o closed)
             ∙ ap (λ b. append_known old.given (interim_of r.head ++ text o b)) same;
         closes_is = same;
-        reading = subst (λ z. AsksUnfinished buffer z old new) (sym whole) later;
+        reading = subst (λ z. AsksUnfinished ⊥ buffer z old new) (sym whole) later;
       }

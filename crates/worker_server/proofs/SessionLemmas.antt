@@ -1,6 +1,7 @@
 -- The connection so far, and one request more. The key lemmas are SoFar-more, Session-closed, Session-limit and
 -- Session-stopped.
 use Rattle.std.proofs.Common.{◌≡◌, ℕ, ◌+◌, ◌<◌, ◌==◌, Bool, true, false, ◌||◌, inl, inr, List, [], ◌∷◌, ◌++◌, length, drop, Option, Some, refl, sym, ap, subst, ◌∙◌, arith, append_assoc, append-nil, length-append, add-zero}
+use Rattle.std.specs.Prelude.{⊤}
 use Rattle.std.proofs.lemmas.Bool.{or_parts}
 use Rattle.std.proofs.lemmas.List.{drop_at}
 use Rattle.std.proofs.lemmas.Bool.Decides.{nat_tests}
@@ -104,7 +105,7 @@ module _ {V Operation : Type 0} (rules : HostRules V Operation) where
     pub left : List ℕ
     pub left_is : rest ≡ buffer ++ left
     pub whole : input ≡ taken ++ left
-    pub asked : AsksFor (InTimeFor input xs) old now taken
+    pub asked : AsksFor ⊥ (InTimeFor input xs) old now taken
 
   -- after n requests, none of which closed: `ahead` is what is left to read
   pub record SoFar (n : ℕ) (input buffer : List ℕ) (old now : LinkTells) (ahead : Option (List ℕ)) (u v : V) : Type 0 where
@@ -135,7 +136,7 @@ module _ {V Operation : Type 0} (rules : HostRules V Operation) where
       left = input;
       left_is = refl;
       whole = refl;
-      asked = AsksFor-none (InTimeFor input []) old old refl;
+      asked = AsksFor-none ⊥ (InTimeFor input []) old old refl;
     };
   }
 
@@ -190,12 +191,12 @@ module _ {V Operation : Type 0} (rules : HostRules V Operation) where
           left = left_after.0;
           left_is = left_after.2;
           whole = t.whole ∙ ap (λ l. t.taken ++ l) split ∙ sym (append_assoc t.taken r.piece left_after.0);
-          asked = AsksFor-turn input t.taken buffer (text ++ held) left_after.0 so_far.exchanges (more.exchange ∷ []) old now later t.taken_is so_far.text fits so_far.all_open
+          asked = AsksFor-turn ⊥ input t.taken buffer (text ++ held) left_after.0 so_far.exchanges (more.exchange ∷ []) old now later t.taken_is so_far.text fits so_far.all_open
               t.holds t.asked r (t.whole ∙ ap (λ l. t.taken ++ l) split);
         }
 
     never_waits : NeverWaits input (so_far.exchanges ++ more.exchange ∷ []) old later
-    never_waits = NeverWaits-from_asks input (so_far.exchanges ++ more.exchange ∷ []) old later all_taken.taken all_taken.taken_is all_taken.asked
+    never_waits = NeverWaits-from_asks ⊥ input (so_far.exchanges ++ more.exchange ∷ []) old later all_taken.taken all_taken.taken_is all_taken.asked
 
     pub SoFar-more : closed ≡ false → SoFar (n + 1) input held old later (to_read held left) u w
     SoFar-more is = record {
@@ -264,10 +265,10 @@ module _ {V Operation : Type 0} (rules : HostRules V Operation) where
       ) in
       let taken_is : later.taken ≡ append_known old.taken (t.taken ++ r.piece) =
       r.taken ∙ ap (λ (z : Option (List ℕ)). append_known z r.piece) t.taken_is ∙ append_known-more old.taken t.taken r.piece in
-      let in_time = AsksFor-turn input t.taken buffer stop.held ahead_now.0 so_far.exchanges [] old now later t.taken_is so_far.text fits so_far.all_open
+      let in_time = AsksFor-turn ⊤ input t.taken buffer stop.held ahead_now.0 so_far.exchanges [] old now later t.taken_is so_far.text fits so_far.all_open
       t.holds t.asked r (t.whole ∙ ap (λ l. t.taken ++ l) split) in
-      let never : NeverWaits input so_far.exchanges old later = NeverWaits-from_asks input so_far.exchanges old later (t.taken ++ r.piece) taken_is
-      (subst (λ (ys : List (Exchange Operation)). AsksFor (InTimeFor input ys) old later (t.taken ++ r.piece)) (append-nil so_far.exchanges) in_time) in (
+      let never : NeverWaits input so_far.exchanges old later = NeverWaits-from_asks ⊤ input so_far.exchanges old later (t.taken ++ r.piece) taken_is
+      (subst (λ (ys : List (Exchange Operation)). AsksFor ⊤ (InTimeFor input ys) old later (t.taken ++ r.piece)) (append-nil so_far.exchanges) in_time) in (
         record {
           exchanges = so_far.exchanges;
           rest = so_far.rest;
@@ -293,7 +294,7 @@ module _ {V Operation : Type 0} (rules : HostRules V Operation) where
           piece = [];
           grown = refl;
           taken = sym (append_known-nil old.taken);
-          asks = AsksFor-none (λ come gave. IsUnfinished ([] ++ come) gave) old old refl;
+          asks = AsksFor-none ⊤ (λ come gave. IsUnfinished ([] ++ come) gave) old old refl;
         };
       } in
       Session-stopped served.NoMemory 0 input [] old old (to_read [] left) u u (SoFar-begin input old (to_read [] left) u ahead) (omega arith) old left u stop

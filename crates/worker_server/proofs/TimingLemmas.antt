@@ -1,7 +1,7 @@
 -- When the link is asked for more: the asking of one step joins that of the steps before it.
--- The key lemmas are ReadsOn-none, ReadsOn-more, Unfinished-from_head, Unfinished-from_body, AsksFor-turn and
+-- The key lemmas are ReadsOn-none, ReadsOn-more, ReadsOn-ends, Unfinished-from_head, Unfinished-from_body, AsksFor-turn and
 -- NeverWaits-from_asks.
-use Rattle.std.proofs.Common.{◌≡◌, ℕ, ◌+◌, ◌-◌, ◌<◌, ◌≤◌, List, [], ◌∷◌, ◌++◌, length, take, drop, Option, Some, refl, sym, ap, subst, ◌∙◌, arith, append_assoc, append-nil, length-append, inl, inr, All}
+use Rattle.std.proofs.Common.{◌≡◌, ℕ, ◌+◌, ◌-◌, ◌<◌, ◌≤◌, ◌⊎◌, ◌≢◌, List, [], ◌∷◌, ◌++◌, length, take, drop, Option, Some, refl, sym, ap, subst, ◌∙◌, arith, append_assoc, append-nil, length-append, inl, inr, All}
 use Rattle.std.proofs.lemmas.List.{take_at}
 use Rattle.std.proofs.lemmas.List.Elements.{All-nil, All-cons, All-head, All-tail, All-append}
 use Rattle.std.specs.Io.KnownBytes.{append_known}
@@ -14,16 +14,38 @@ use Rattle.http_front.specs.declared.head.Head.{Head}
 use Rattle.http_front.proofs.StreamLemmas.{head_at}
 use Rattle.httparse.specs.Grammar.{RequestHead, print_request}
 use Rattle.worker_server.specs.ServedConnection.{AllOpen, ComesInPieces, Exchange, IsAskedInTime, IsInTime, NeverWaits, requests, texts}
-use Rattle.worker_server.specs.RequestSteps.{AsksFor, AsksUnfinished, HeldBefore, ReadsOn, WantsBytes, WantsHead, WasDue}
+use Rattle.worker_server.specs.RequestSteps.{AsksFor, AsksUnfinished, ComesUntil, HeldBefore, ReadsOn, WantsBytes, WantsHead, WasDue}
 use Rattle.worker_server.proofs.ReadingLemmas.{append_known-more, append_known-nil, body_cut, IsRequest-append}
 
 -- ---- pieces
 
-ComesInPieces-append : (from mid now : ℕ) (asked more : List Asked) → ComesInPieces from asked mid → ComesInPieces mid more now
-    → ComesInPieces from (asked ++ more) now
-ComesInPieces-append from mid now [] more first later = subst (λ (n : ℕ). ComesInPieces n more now) first later
-ComesInPieces-append from mid now (a ∷ asked) more first later =
-    (first.0, first.1, first.2, ComesInPieces-append (from + first.1) mid now asked more first.3 later)
+-- after pieces that came, others; they may end
+ComesUntil-append : (AtEnd : Type 0) (from mid now : ℕ) (asked more : List Asked) → ComesUntil ⊥ from asked mid → ComesUntil AtEnd mid more now
+    → ComesUntil AtEnd from (asked ++ more) now
+ComesUntil-append AtEnd from mid now [] more first later = subst (λ (n : ℕ). ComesUntil AtEnd n more now) first later
+ComesUntil-append AtEnd from mid now (a ∷ asked) more first later =
+    (first.0, first.1, first.2, still first.3, ComesUntil-append AtEnd (from + first.1) mid now asked more first.4 later)
+  where
+    still : (1 ≤ first.1) ⊎ ((asked ≡ []) × ⊥) → (1 ≤ first.1) ⊎ ((asked ++ more ≡ []) × AtEnd)
+    still (inl some) = inl some
+    still (inr none) = absurd none.1
+
+-- pieces that came may be the last
+ComesUntil-ends : (AtEnd : Type 0) (from now : ℕ) (asked : List Asked) → ComesUntil ⊥ from asked now → ComesUntil AtEnd from asked now
+ComesUntil-ends AtEnd from now [] comes = comes
+ComesUntil-ends AtEnd from now (a ∷ asked) comes = (comes.0, comes.1, comes.2, still comes.3, ComesUntil-ends AtEnd (from + comes.1) now asked comes.4)
+  where
+    still : (1 ≤ comes.1) ⊎ ((asked ≡ []) × ⊥) → (1 ≤ comes.1) ⊎ ((asked ≡ []) × AtEnd)
+    still (inl some) = inl some
+    still (inr none) = absurd none.1
+
+ComesInPieces-from_step : (AtEnd : Type 0) (from now : ℕ) (asked : List Asked) → ComesUntil AtEnd from asked now → ComesInPieces from asked now
+ComesInPieces-from_step AtEnd from now [] comes = comes
+ComesInPieces-from_step AtEnd from now (a ∷ asked) comes = (comes.0, comes.1, comes.2, still comes.3, ComesInPieces-from_step AtEnd (from + comes.1) now asked comes.4)
+  where
+    still : (1 ≤ comes.1) ⊎ ((asked ≡ []) × AtEnd) → (1 ≤ comes.1) ⊎ (asked ≡ [])
+    still (inl some) = inl some
+    still (inr none) = inr none.0
 
 -- ---- what was due
 
@@ -67,8 +89,8 @@ all_due_after D E taken given came gave piece turn (a ∷ asked) due =
 -- ---- steps
 
 -- nothing was asked, and nothing came
-pub AsksFor-none : (IsDue : List ℕ → List ℕ → Type 0) (old new : LinkTells) → new.asked ≡ old.asked → AsksFor IsDue old new []
-AsksFor-none IsDue old new same = λ taken given before et eg ea. (
+pub AsksFor-none : (AtEnd : Type 0) (IsDue : List ℕ → List ℕ → Type 0) (old new : LinkTells) → new.asked ≡ old.asked → AsksFor AtEnd IsDue old new []
+AsksFor-none AtEnd IsDue old new same = λ taken given before et eg ea. (
   [],
   same ∙ ea ∙ ap Some (sym (append-nil before)),
   All-nil (WasDue IsDue taken given []),
@@ -76,58 +98,74 @@ AsksFor-none IsDue old new same = λ taken given before et eg ea. (
 )
 
 -- the link was asked once
-AsksFor-once : (IsDue : List ℕ → List ℕ → Type 0) (piece : List ℕ) (old new : LinkTells) → IsDue [] [] → length piece ≤ piece_limit
-    → new.asked ≡ asked_once_more old.asked old.taken old.given → AsksFor IsDue old new piece
-AsksFor-once IsDue piece old new due bound once = λ taken given before et eg ea.
+AsksFor-once : (AtEnd : Type 0) (IsDue : List ℕ → List ℕ → Type 0) (piece : List ℕ) (old new : LinkTells) → IsDue [] [] → length piece ≤ piece_limit
+    → (1 ≤ length piece) ⊎ AtEnd → new.asked ≡ asked_once_more old.asked old.taken old.given → AsksFor AtEnd IsDue old new piece
+AsksFor-once AtEnd IsDue piece old new due bound comes once = λ taken given before et eg ea.
     let a : Asked = (length taken, length given) in
     let now : new.asked ≡ Some (before ++ a ∷ []) = once ∙ (λ i. asked_once_more (ea i) (et i) (eg i)) in
     let here : WasDue IsDue taken given piece a = ([], piece, [], refl, omega arith, omega arith, due) in
-    (a ∷ [], now, All-cons (WasDue IsDue taken given piece) a [] here (All-nil (WasDue IsDue taken given piece)), (refl, length piece, bound, refl))
+    (a ∷ [], now, All-cons (WasDue IsDue taken given piece) a [] here (All-nil (WasDue IsDue taken given piece)), (refl, length piece, bound, alone [] refl comes, refl))
+  where
+    alone : (more : List Asked) → more ≡ [] → (1 ≤ length piece) ⊎ AtEnd → (1 ≤ length piece) ⊎ ((more ≡ []) × AtEnd)
+    alone more none (inl some) = inl some
+    alone more none (inr at_end) = inr (none, at_end)
 
 -- one step after another; between them some bytes were given
-pub AsksFor-more : (D E : List ℕ → List ℕ → Type 0) (came gave later : List ℕ) (old mid between new : LinkTells)
+pub AsksFor-more : (AtEnd : Type 0) (D E : List ℕ → List ℕ → Type 0) (came gave later : List ℕ) (old mid between new : LinkTells)
     → mid.taken ≡ append_known old.taken came → between.taken ≡ mid.taken → between.asked ≡ mid.asked
     → between.given ≡ append_known old.given gave
     → ((come others more : List ℕ) → later ≡ come ++ others → E come more → D (came ++ come) (gave ++ more))
-    → AsksFor D old mid came → AsksFor E between new later → AsksFor D old new (came ++ later)
-AsksFor-more D E came gave later old mid between new taken_is same_taken same_asked given_is turn before_mid after_mid = λ taken given before et eg ea.
+    → AsksFor ⊥ D old mid came → AsksFor AtEnd E between new later → AsksFor AtEnd D old new (came ++ later)
+AsksFor-more AtEnd D E came gave later old mid between new taken_is same_taken same_asked given_is turn before_mid after_mid = λ taken given before et eg ea.
     let one = before_mid taken given before et eg ea in
     let mid_taken : between.taken ≡ Some (taken ++ came) = same_taken ∙ taken_is ∙ ap (λ (t : Option (List ℕ)). append_known t came) et in
     let mid_given : between.given ≡ Some (given ++ gave) = given_is ∙ ap (λ (t : Option (List ℕ)). append_known t gave) eg in
     let two = after_mid (taken ++ came) (given ++ gave) (before ++ one.0) mid_taken mid_given (same_asked ∙ one.1) in
     let place : length (taken ++ came) ≡ length taken + length came = length-append taken came in
     let end : length (taken ++ came) + length later ≡ length taken + length (came ++ later) = omega (arith, place, length-append came later) in
-    let pieces = subst (λ (n : ℕ). ComesInPieces n two.0 (length (taken ++ came) + length later)) place two.3 in (
+    let pieces = subst (λ (n : ℕ). ComesUntil AtEnd n two.0 (length (taken ++ came) + length later)) place two.3 in (
       one.0 ++ two.0,
       two.1 ∙ ap Some (append_assoc before one.0 two.0),
       All-append (WasDue D taken given (came ++ later)) one.0 two.0 (all_due_longer D taken given came later one.0 one.2)
           (all_due_after D E taken given came gave later turn two.0 two.2),
-      ComesInPieces-append (length taken) (length taken + length came) (length taken + length (came ++ later)) one.0 two.0 one.3
-          (subst (λ (n : ℕ). ComesInPieces (length taken + length came) two.0 n) end pieces),
+      ComesUntil-append AtEnd (length taken) (length taken + length came) (length taken + length (came ++ later)) one.0 two.0 one.3
+          (subst (λ (n : ℕ). ComesUntil AtEnd (length taken + length came) two.0 n) end pieces),
     )
 
 -- ---- a loop over fills
 
-pub ReadsOn-none : (IsDue : List ℕ → Type 0) (buffer : List ℕ) (old : LinkTells) → ReadsOn IsDue buffer buffer old old
-ReadsOn-none IsDue buffer old = record {
+pub ReadsOn-none : (AtEnd : Type 0) (IsDue : List ℕ → Type 0) (buffer : List ℕ) (old : LinkTells) → ReadsOn AtEnd IsDue buffer buffer old old
+ReadsOn-none AtEnd IsDue buffer old = record {
   piece = [];
   grown = sym (append-nil buffer);
   taken = sym (append_known-nil old.taken);
   given = refl;
-  asks = AsksFor-none (HeldBefore IsDue buffer) old old refl;
+  asks = AsksFor-none AtEnd (HeldBefore IsDue buffer) old old refl;
 }
 
-fill_asks : (IsDue : List ℕ → Type 0) (buffer now : List ℕ) (old new : LinkTells) → IsDue buffer → (fills : Fills buffer now old new)
-    → AsksFor (HeldBefore IsDue buffer) old new fills.piece
-fill_asks IsDue buffer now old new due fills =
+fill_asks : (AtEnd : Type 0) (IsDue : List ℕ → Type 0) (buffer now : List ℕ) (old new : LinkTells) → IsDue buffer → (fills : Fills buffer now old new)
+    → (1 ≤ length fills.piece) ⊎ AtEnd → AsksFor AtEnd (HeldBefore IsDue buffer) old new fills.piece
+fill_asks AtEnd IsDue buffer now old new due fills comes =
     elim fills.asked [
-      | inl none ↦ subst (AsksFor (HeldBefore IsDue buffer) old new) (sym none.0) (AsksFor-none (HeldBefore IsDue buffer) old new none.1)
-      | inr once ↦ AsksFor-once (HeldBefore IsDue buffer) fills.piece old new (refl, subst IsDue (sym (append-nil buffer)) due) fills.bound once
+      | inl none ↦ subst (AsksFor AtEnd (HeldBefore IsDue buffer) old new) (sym none.0) (AsksFor-none AtEnd (HeldBefore IsDue buffer) old new none.1)
+      | inr once ↦ AsksFor-once AtEnd (HeldBefore IsDue buffer) fills.piece old new (refl, subst IsDue (sym (append-nil buffer)) due) fills.bound comes once
     ]
 
-pub ReadsOn-more : (IsDue : List ℕ → Type 0) (buffer held now : List ℕ) (old mid new : LinkTells) → ReadsOn IsDue buffer held old mid
-    → IsDue held → Fills held now mid new → ReadsOn IsDue buffer now old new
-ReadsOn-more IsDue buffer held now old mid new reads due fills =
+-- a fill in which bytes came
+pub comes_some : (buffer now : List ℕ) (old new : LinkTells) (n : ℕ) (fills : Fills buffer now old new) → length now ≡ length buffer + n → n ≢ 0
+    → (1 ≤ length fills.piece) ⊎ ⊥
+comes_some buffer now old new n fills size some = inl (by_piece fills.piece fills.grown)
+  where
+    none_came : (k : ℕ) → k + n ≡ k → n ≡ 0
+    none_came k e = omega (arith, e)
+
+    by_piece : (piece : List ℕ) → now ≡ buffer ++ piece → 1 ≤ length piece
+    by_piece [] grown = absurd (some (none_came (length buffer) (sym size ∙ ap length (grown ∙ append-nil buffer))))
+    by_piece (byte ∷ piece) grown = omega arith
+
+pub ReadsOn-more : (AtEnd : Type 0) (IsDue : List ℕ → Type 0) (buffer held now : List ℕ) (old mid new : LinkTells) → ReadsOn ⊥ IsDue buffer held old mid
+    → IsDue held → (fills : Fills held now mid new) → (1 ≤ length fills.piece) ⊎ AtEnd → ReadsOn AtEnd IsDue buffer now old new
+ReadsOn-more AtEnd IsDue buffer held now old mid new reads due fills comes =
     let given_is : mid.given ≡ append_known old.given [] = reads.given ∙ sym (append_known-nil old.given) in
     let turn : (come others more : List ℕ) → fills.piece ≡ come ++ others → HeldBefore IsDue held come more → HeldBefore IsDue buffer (reads.piece ++ come) ([] ++ more) =
     λ come others more e h. (h.0, subst IsDue (ap (λ b. b ++ come) reads.grown ∙ append_assoc buffer reads.piece come) h.1) in
@@ -136,9 +174,33 @@ ReadsOn-more IsDue buffer held now old mid new reads due fills =
       grown = fills.grown ∙ ap (λ b. b ++ fills.piece) reads.grown ∙ append_assoc buffer reads.piece fills.piece;
       taken = fills.taken ∙ ap (λ (t : Option (List ℕ)). append_known t fills.piece) reads.taken ∙ append_known-more old.taken reads.piece fills.piece;
       given = fills.given ∙ reads.given;
-      asks = AsksFor-more (HeldBefore IsDue buffer) (HeldBefore IsDue held) reads.piece [] fills.piece old mid mid new reads.taken refl refl given_is turn
-          reads.asks (fill_asks IsDue held now mid new due fills);
+      asks = AsksFor-more AtEnd (HeldBefore IsDue buffer) (HeldBefore IsDue held) reads.piece [] fills.piece old mid mid new reads.taken refl refl given_is turn
+          reads.asks (fill_asks AtEnd IsDue held now mid new due fills comes);
     }
+
+-- what was asked for may have been the last
+AsksFor-ends : (AtEnd : Type 0) (D : List ℕ → List ℕ → Type 0) (old new : LinkTells) (piece : List ℕ) → AsksFor ⊥ D old new piece → AsksFor AtEnd D old new piece
+AsksFor-ends AtEnd D old new piece asks = λ taken given before et eg ea.
+    let h = asks taken given before et eg ea in
+    (h.0, h.1, h.2, ComesUntil-ends AtEnd (length taken) (length taken + length piece) h.0 h.3)
+
+pub ReadsOn-ends : (AtEnd : Type 0) (IsDue : List ℕ → Type 0) (buffer now : List ℕ) (old new : LinkTells) → ReadsOn ⊥ IsDue buffer now old new
+    → ReadsOn AtEnd IsDue buffer now old new
+ReadsOn-ends AtEnd IsDue buffer now old new reads = record {
+  piece = reads.piece;
+  grown = reads.grown;
+  taken = reads.taken;
+  given = reads.given;
+  asks = AsksFor-ends AtEnd (HeldBefore IsDue buffer) old new reads.piece reads.asks;
+}
+
+pub Unfinished-ends : (AtEnd : Type 0) (buffer held : List ℕ) (old new : LinkTells) → AsksUnfinished ⊥ buffer held old new → AsksUnfinished AtEnd buffer held old new
+Unfinished-ends AtEnd buffer held old new reading = record {
+  piece = reading.piece;
+  grown = reading.grown;
+  taken = reading.taken;
+  asks = AsksFor-ends AtEnd (λ come gave. IsUnfinished (buffer ++ come) gave) old new reading.piece reading.asks;
+}
 
 -- ---- weaker words, and a later state
 
@@ -150,16 +212,16 @@ AllDue-weaker D E taken given piece turn (a ∷ asked) due =
     All-cons (WasDue D taken given piece) a asked (first.0, first.1, first.2, first.3, first.4, first.5, turn first.0 first.2 first.6)
     (AllDue-weaker D E taken given piece turn asked (All-tail (WasDue E taken given piece) a asked due))
 
-pub AsksFor-weaker : (D E : List ℕ → List ℕ → Type 0) (old new : LinkTells) (piece : List ℕ) → ((come gave : List ℕ) → E come gave → D come gave)
-    → AsksFor E old new piece → AsksFor D old new piece
-AsksFor-weaker D E old new piece turn asks = λ taken given before et eg ea.
+pub AsksFor-weaker : (AtEnd : Type 0) (D E : List ℕ → List ℕ → Type 0) (old new : LinkTells) (piece : List ℕ) → ((come gave : List ℕ) → E come gave → D come gave)
+    → AsksFor AtEnd E old new piece → AsksFor AtEnd D old new piece
+AsksFor-weaker AtEnd D E old new piece turn asks = λ taken given before et eg ea.
     let h = asks taken given before et eg ea in
     (h.0, h.1, AllDue-weaker D E taken given piece turn h.0 h.2, h.3)
 
 -- a give asks for nothing
-pub AsksFor-later : (D : List ℕ → List ℕ → Type 0) (old new after : LinkTells) (piece : List ℕ) → after.asked ≡ new.asked
-    → AsksFor D old new piece → AsksFor D old after piece
-AsksFor-later D old new after piece same asks = λ taken given before et eg ea.
+pub AsksFor-later : (AtEnd : Type 0) (D : List ℕ → List ℕ → Type 0) (old new after : LinkTells) (piece : List ℕ) → after.asked ≡ new.asked
+    → AsksFor AtEnd D old new piece → AsksFor AtEnd D old after piece
+AsksFor-later AtEnd D old new after piece same asks = λ taken given before et eg ea.
     let h = asks taken given before et eg ea in (h.0, same ∙ h.1, h.2, h.3)
 
 -- ---- a head and its body
@@ -185,46 +247,46 @@ body_unfinished buffer held piece head request grown is come gave h =
     subst (λ b. IsUnfinished b (interim_of request ++ gave)) same (body_open request after head.body at is.body short due)
 
 -- no head was read, or its interim reply was not given whole
-pub Unfinished-from_head : (buffer held : List ℕ) (old mid new : LinkTells) → ReadsOn WantsHead buffer held old mid
-    → new.taken ≡ mid.taken → new.asked ≡ mid.asked → AsksUnfinished buffer held old new
-Unfinished-from_head buffer held old mid new reads same_taken same_asked = record {
+pub Unfinished-from_head : (AtEnd : Type 0) (buffer held : List ℕ) (old mid new : LinkTells) → ReadsOn AtEnd WantsHead buffer held old mid
+    → new.taken ≡ mid.taken → new.asked ≡ mid.asked → AsksUnfinished AtEnd buffer held old new
+Unfinished-from_head AtEnd buffer held old mid new reads same_taken same_asked = record {
   piece = reads.piece;
   grown = reads.grown;
   taken = same_taken ∙ reads.taken;
-  asks = AsksFor-later (λ come gave. IsUnfinished (buffer ++ come) gave) old mid new reads.piece same_asked
-      (AsksFor-weaker (λ come gave. IsUnfinished (buffer ++ come) gave) (HeldBefore WantsHead buffer) old mid reads.piece (heads_unfinished buffer) reads.asks);
+  asks = AsksFor-later AtEnd (λ come gave. IsUnfinished (buffer ++ come) gave) old mid new reads.piece same_asked
+      (AsksFor-weaker AtEnd (λ come gave. IsUnfinished (buffer ++ come) gave) (HeldBefore WantsHead buffer) old mid reads.piece (heads_unfinished buffer) reads.asks);
 }
 
 -- the head was read, its interim reply given, and then the body was read or not
-pub Unfinished-from_body : (buffer held now : List ℕ) (head : Head) (request : RequestHead) (old mid between last new : LinkTells)
-    → (reads : ReadsOn WantsHead buffer held old mid) → IsHeadOf (front_of held) head request
+pub Unfinished-from_body : (AtEnd : Type 0) (buffer held now : List ℕ) (head : Head) (request : RequestHead) (old mid between last new : LinkTells)
+    → (reads : ReadsOn ⊥ WantsHead buffer held old mid) → IsHeadOf (front_of held) head request
     → between.taken ≡ mid.taken → between.asked ≡ mid.asked → between.given ≡ append_known mid.given (interim_of request)
-    → ReadsOn (WantsBytes (head.used + head.body)) held now between last → new.taken ≡ last.taken → new.asked ≡ last.asked
-    → AsksUnfinished buffer now old new
-Unfinished-from_body buffer held now head request old mid between last new reads is same_taken same_asked gave body later_taken later_asked =
+    → ReadsOn AtEnd (WantsBytes (head.used + head.body)) held now between last → new.taken ≡ last.taken → new.asked ≡ last.asked
+    → AsksUnfinished AtEnd buffer now old new
+Unfinished-from_body AtEnd buffer held now head request old mid between last new reads is same_taken same_asked gave body later_taken later_asked =
     let D : List ℕ → List ℕ → Type 0 = λ come given. IsUnfinished (buffer ++ come) given in
     let E : List ℕ → List ℕ → Type 0 = HeldBefore (WantsBytes (head.used + head.body)) held in
     let given_is : between.given ≡ append_known old.given (interim_of request) =
     gave ∙ ap (λ (g : Option (List ℕ)). append_known g (interim_of request)) reads.given in
     let turn : (come others more : List ℕ) → body.piece ≡ come ++ others → E come more → D (reads.piece ++ come) (interim_of request ++ more) =
     λ come others more e h. body_unfinished buffer held reads.piece head request reads.grown is come more h in
-    let heads = AsksFor-weaker D (HeldBefore WantsHead buffer) old mid reads.piece (heads_unfinished buffer) reads.asks in
+    let heads = AsksFor-weaker ⊥ D (HeldBefore WantsHead buffer) old mid reads.piece (heads_unfinished buffer) reads.asks in
     record {
       piece = reads.piece ++ body.piece;
       grown = body.grown ∙ ap (λ b. b ++ body.piece) reads.grown ∙ append_assoc buffer reads.piece body.piece;
       taken = later_taken ∙ body.taken ∙ ap (λ (t : Option (List ℕ)). append_known t body.piece) (same_taken ∙ reads.taken) ∙ append_known-more old.taken reads.piece body.piece;
-      asks = AsksFor-later D old last new (reads.piece ++ body.piece) later_asked
-          (AsksFor-more D E reads.piece (interim_of request) body.piece old mid between last reads.taken same_taken same_asked given_is turn heads body.asks);
+      asks = AsksFor-later AtEnd D old last new (reads.piece ++ body.piece) later_asked
+          (AsksFor-more AtEnd D E reads.piece (interim_of request) body.piece old mid between last reads.taken same_taken same_asked given_is turn heads body.asks);
     }
 
 -- a give asks for nothing
-pub Unfinished-later : (buffer held : List ℕ) (old new after : LinkTells) → after.taken ≡ new.taken → after.asked ≡ new.asked
-    → AsksUnfinished buffer held old new → AsksUnfinished buffer held old after
-Unfinished-later buffer held old new after same_taken same_asked reading = record {
+pub Unfinished-later : (AtEnd : Type 0) (buffer held : List ℕ) (old new after : LinkTells) → after.taken ≡ new.taken → after.asked ≡ new.asked
+    → AsksUnfinished AtEnd buffer held old new → AsksUnfinished AtEnd buffer held old after
+Unfinished-later AtEnd buffer held old new after same_taken same_asked reading = record {
   piece = reading.piece;
   grown = reading.grown;
   taken = same_taken ∙ reading.taken;
-  asks = AsksFor-later (λ come gave. IsUnfinished (buffer ++ come) gave) old new after reading.piece same_asked reading.asks;
+  asks = AsksFor-later AtEnd (λ come gave. IsUnfinished (buffer ++ come) gave) old new after reading.piece same_asked reading.asks;
 }
 
 -- ---- the connection
@@ -255,12 +317,12 @@ module _ {Operation : Type 0} where
   }
 
   -- one turn more: what it asked for was asked in time
-  pub AsksFor-turn : (input taken buffer held left : List ℕ) (xs later : List (Exchange Operation)) (old mid new : LinkTells)
+  pub AsksFor-turn : (AtEnd : Type 0) (input taken buffer held left : List ℕ) (xs later : List (Exchange Operation)) (old mid new : LinkTells)
       → mid.taken ≡ append_known old.taken taken → mid.given ≡ append_known old.given (texts 0 xs)
-      → length xs < 10000 → AllOpen xs → Reads taken (requests xs) buffer → AsksFor (InTimeFor input xs) old mid taken
-      → (reading : AsksUnfinished buffer held mid new) → input ≡ taken ++ (reading.piece ++ left)
-      → AsksFor (InTimeFor input (xs ++ later)) old new (taken ++ reading.piece)
-  AsksFor-turn input taken buffer held left xs later old mid new taken_is given_is few opens reads asks reading whole =
+      → length xs < 10000 → AllOpen xs → Reads taken (requests xs) buffer → AsksFor ⊥ (InTimeFor input xs) old mid taken
+      → (reading : AsksUnfinished AtEnd buffer held mid new) → input ≡ taken ++ (reading.piece ++ left)
+      → AsksFor AtEnd (InTimeFor input (xs ++ later)) old new (taken ++ reading.piece)
+  AsksFor-turn AtEnd input taken buffer held left xs later old mid new taken_is given_is few opens reads asks reading whole =
       let D = InTimeFor input (xs ++ later) in
       let E : List ℕ → List ℕ → Type 0 = λ come gave. IsUnfinished (buffer ++ come) gave in
       let turn : (come others more : List ℕ) → reading.piece ≡ come ++ others → E come more → D (taken ++ come) (texts 0 xs ++ more) =
@@ -280,8 +342,8 @@ module _ {Operation : Type 0} where
         unfinished = unfinished;
         replied = refl;
       } in
-      AsksFor-more D E taken (texts 0 xs) reading.piece old mid mid new taken_is refl refl given_is turn
-      (AsksFor-weaker D (InTimeFor input xs) old mid taken (λ come gave is. InTimeFor-more input xs later come gave is) asks) reading.asks
+      AsksFor-more AtEnd D E taken (texts 0 xs) reading.piece old mid mid new taken_is refl refl given_is turn
+      (AsksFor-weaker ⊥ D (InTimeFor input xs) old mid taken (λ come gave is. InTimeFor-more input xs later come gave is) asks) reading.asks
 
   asked_in_time : (input : List ℕ) (xs : List (Exchange Operation)) (taken given piece : List ℕ) (asked : List Asked)
       → All (WasDue (InTimeFor input xs) taken given piece) asked → All (IsAskedInTime input xs (length taken) (length given)) asked
@@ -298,10 +360,11 @@ module _ {Operation : Type 0} where
       All-cons (IsAskedInTime input xs (length taken) (length given)) a asked here
       (asked_in_time input xs taken given piece asked (All-tail (WasDue (InTimeFor input xs) taken given piece) a asked due))
 
-  pub NeverWaits-from_asks : (input : List ℕ) (xs : List (Exchange Operation)) (old new : LinkTells) (taken : List ℕ)
-      → new.taken ≡ append_known old.taken taken → AsksFor (InTimeFor input xs) old new taken → NeverWaits input xs old new
-  NeverWaits-from_asks input xs old new came taken_is asks = λ taken given before et eg ea.
+  pub NeverWaits-from_asks : (AtEnd : Type 0) (input : List ℕ) (xs : List (Exchange Operation)) (old new : LinkTells) (taken : List ℕ)
+      → new.taken ≡ append_known old.taken taken → AsksFor AtEnd (InTimeFor input xs) old new taken → NeverWaits input xs old new
+  NeverWaits-from_asks AtEnd input xs old new came taken_is asks = λ taken given before et eg ea.
       let h = asks taken given before et eg ea in
+      let comes = ComesInPieces-from_step AtEnd (length taken) (length taken + length came) h.0 h.3 in
       let now : new.taken ≡ Some (taken ++ came) = taken_is ∙ ap (λ (t : Option (List ℕ)). append_known t came) et in
       let size : length taken + length came ≡ length (taken ++ came) = sym (length-append taken came) in
-      (h.0, taken ++ came, h.1, now, asked_in_time input xs taken given came h.0 h.2, subst (λ (n : ℕ). ComesInPieces (length taken) h.0 n) size h.3)
+      (h.0, taken ++ came, h.1, now, asked_in_time input xs taken given came h.0 h.2, subst (λ (n : ℕ). ComesInPieces (length taken) h.0 n) size comes)

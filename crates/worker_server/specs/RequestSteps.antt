@@ -8,7 +8,7 @@ use Rattle.ids.specs.FaultCount.{Rose}
 use Rattle.http_front.specs.Buffer.{to_read}
 use Rattle.http_front.specs.declared.head.Head.{Head}
 use Rattle.http_front.specs.declared.head.Next.TheVariants as next
-use Rattle.http_front.specs.Limits.{head_limit}
+use Rattle.http_front.specs.Limits.{head_limit, piece_limit}
 use Rattle.http_front.specs.NextHead.{IsNext}
 use Rattle.http_front.specs.Link.{Asked, GivesFront, LinkTells}
 use Rattle.http_front.specs.ReplyText.{bad_text, is_bad_status}
@@ -16,7 +16,7 @@ use Rattle.http_front.specs.RequestHead.{closes, method_of}
 use Rattle.http_front.specs.TargetFront.{MayBecomeHead}
 use Rattle.http_front.specs.RequestStream.{Request, IsCutAfter, IsLookedAt, IsRefused, IsRequest, IsUnfinished}
 use Rattle.worker_server.specs.Calls.{HostRules}
-use Rattle.worker_server.specs.ServedConnection.{Exchange, Shows, Answers, CameLast, ComesInPieces, EndsAsked, FailedLast, Stops, CountsEnd, closes_at, text_at}
+use Rattle.worker_server.specs.ServedConnection.{Exchange, Shows, Answers, CameLast, EndsAsked, FailedLast, Stops, CountsEnd, closes_at, text_at}
 use Rattle.worker_server.specs.declared.reading.End.{End}
 use Rattle.worker_server.specs.declared.reading.End.TheVariants as end
 use Rattle.worker_server.specs.declared.reading.Look.{Look}
@@ -119,28 +119,40 @@ WasDue IsDue taken given piece a =
 abbrev pub HeldBefore : (List ℕ → Type 0) → List ℕ → List ℕ → List ℕ → Type 0
 HeldBefore IsDue buffer come gave = (gave ≡ []) × IsDue (buffer ++ come)
 
+-- whether nothing may have come as the link was asked last: where no further head was read, or its body was not
+abbrev pub MayEnd : {T E : Type 0} → Result T E → Type 0
+MayEnd (Ok done) = ⊥
+MayEnd (Err how) = ⊤
+
+-- as so many bytes had been taken, the link was asked these times; each time one piece came, and then no more. Only the last
+-- time, and only where it may end, nothing came
+abbrev pub ComesUntil : Type 0 → ℕ → List Asked → ℕ → Type 0
+ComesUntil AtEnd taken [] now = now ≡ taken
+ComesUntil AtEnd taken (asked ∷ more) now =
+    (asked.0 ≡ taken) × (size : ℕ) × (size ≤ piece_limit) × ((1 ≤ size) ⊎ ((more ≡ []) × AtEnd)) × ComesUntil AtEnd (taken + size) more now
+
 -- a link was asked for more, and in all this piece came. Each time some bytes of it had come and some had been given, and
 -- that was due
-abbrev pub AsksFor : (List ℕ → List ℕ → Type 0) → LinkTells → LinkTells → List ℕ → Type 0
-AsksFor IsDue old new piece =
+abbrev pub AsksFor : Type 0 → (List ℕ → List ℕ → Type 0) → LinkTells → LinkTells → List ℕ → Type 0
+AsksFor AtEnd IsDue old new piece =
     (taken given : List ℕ) (before : List Asked) → old.taken ≡ Some taken → old.given ≡ Some given → old.asked ≡ Some before
     → (asked : List Asked) × (new.asked ≡ Some (before ++ asked)) × All (WasDue IsDue taken given piece) asked
-    × ComesInPieces (length taken) asked (length taken + length piece)
+    × ComesUntil AtEnd (length taken) asked (length taken + length piece)
 
 -- bytes came into the buffer; each time that the link was asked for more, what the buffer held was due
-pub record ReadsOn (IsDue : List ℕ → Type 0) (buffer now : List ℕ) (old new : LinkTells) : Type 0 where
+pub record ReadsOn (AtEnd : Type 0) (IsDue : List ℕ → Type 0) (buffer now : List ℕ) (old new : LinkTells) : Type 0 where
   pub piece : List ℕ
   pub grown : now ≡ buffer ++ piece
   pub taken : new.taken ≡ append_known old.taken piece
   pub given : new.given ≡ old.given
-  pub asks : AsksFor (HeldBefore IsDue buffer) old new piece
+  pub asks : AsksFor AtEnd (HeldBefore IsDue buffer) old new piece
 
 -- the same over a head and its body, where some bytes may be given between them: each time less than a request is there
-pub record AsksUnfinished (buffer now : List ℕ) (old new : LinkTells) : Type 0 where
+pub record AsksUnfinished (AtEnd : Type 0) (buffer now : List ℕ) (old new : LinkTells) : Type 0 where
   pub piece : List ℕ
   pub grown : now ≡ buffer ++ piece
   pub taken : new.taken ≡ append_known old.taken piece
-  pub asks : AsksFor (λ come given. IsUnfinished (buffer ++ come) given) old new piece
+  pub asks : AsksFor AtEnd (λ come given. IsUnfinished (buffer ++ come) given) old new piece
 
 -- no head stands there yet, and they may become one that ends within the bytes of which it is read, as the first so many of
 -- them tell
@@ -220,7 +232,7 @@ module _ {V Operation : Type 0} (rules : HostRules V Operation) where
     pub answers : Answers rules u exchange v
     pub text : new.given ≡ append_known old.given (text_at n exchange)
     pub closes_is : closed ≡ closes_at n exchange.request
-    pub reading : AsksUnfinished buffer ((print_request exchange.request.head ++ exchange.request.body) ++ held) old new
+    pub reading : AsksUnfinished ⊥ buffer ((print_request exchange.request.head ++ exchange.request.body) ++ held) old new
 
   -- the connection stops here. What it read until then it asked for in time. `held` is what had been taken and not yet used, a
   -- request that was asked among it
@@ -228,7 +240,7 @@ module _ {V Operation : Type 0} (rules : HostRules V Operation) where
     pub stops : Stops rules how n rest u v old.given new.given
     pub held : List ℕ
     pub still : to_read held left ≡ Some rest
-    pub reading : AsksUnfinished buffer held old new
+    pub reading : AsksUnfinished ⊤ buffer held old new
 
   -- one turn of the connection: a request more, or its stop
   abbrev pub OneServed : ℕ → List ℕ → List ℕ → List ℕ → Option (List ℕ) → V → V → LinkTells → LinkTells → Result Bool Served → Type 0

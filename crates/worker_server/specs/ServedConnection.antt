@@ -193,13 +193,15 @@ module _ {Operation : Type 0} where
     pub given_is : asked.1 ≡ given + more_given
     pub in_time : IsInTime input xs more_taken more_given
 
--- as so many bytes had been taken, the link was asked these times; each time one piece came, and then no more
+-- as so many bytes had been taken, the link was asked these times; each time one piece came, and then no more. Only the last
+-- time may nothing have come: at the end of the input, or where a take failed, no more is asked for
 abbrev pub ComesInPieces : ℕ → List Asked → ℕ → Type 0
 ComesInPieces taken [] now = now ≡ taken
-ComesInPieces taken (asked ∷ more) now = (asked.0 ≡ taken) × (size : ℕ) × (size ≤ piece_limit) × ComesInPieces (taken + size) more now
+ComesInPieces taken (asked ∷ more) now =
+    (asked.0 ≡ taken) × (size : ℕ) × (size ≤ piece_limit) × ((1 ≤ size) ⊎ (more ≡ [])) × ComesInPieces (taken + size) more now
 
 -- where the link tells what it was asked: a connection with these exchanges asked for more only as it had no whole request
--- unanswered, and then for one piece
+-- unanswered, and then for one piece, and no more after nothing came
 abbrev pub NeverWaits : {Operation : Type 0} → List ℕ → List (Exchange Operation) → LinkTells → LinkTells → Type 0
 NeverWaits input xs old new =
     (taken given : List ℕ) (before : List Asked) → old.taken ≡ Some taken → old.given ≡ Some given → old.asked ≡ Some before

@@ -35,7 +35,8 @@ pub fn serve_session<H: Host, L: Link>(
     ensures ready { H.ready host.now pass.new }
 
     // Where the link tells what it has left: the bytes given are the texts of the outcomes of the requests that those
-    // bytes spell. Where it tells what it was asked besides: no reply waited for more input.
+    // bytes spell. Where it tells what it was asked besides: no reply waited for more input, and where nothing came no
+    // more was asked for.
     ensures session { (input : List ℕ) → L.left link.old ≡ Some input
         → SessionInTime (rules_at (H.shows host.now) H.asks H.too_much) input (told_by L.taken L.given L.asked link.old)
         (told_by L.taken L.given L.asked link.new) (H.view pass.old) (H.view pass.new) result }

@@ -1,12 +1,12 @@
 //! Reading a head, and then its body: afterwards they stand at the front of the buffer.
 ghost use Rattle.std.specs.Prelude.{◌≡◌, ◌+◌, ◌≤◌, ℕ, List, length, IfOk, IfErr, OnOk, Some};
 ghost use Rattle.std.specs.Io.KnownBytes.{IsAtEnd};
-ghost use Rattle.httparse.specs.Grammar.{RequestHead};
+ghost use Rattle.httparse.specs.Grammar.{HasNoRequest, RequestHead};
 ghost use Rattle.http_front.specs.Buffer.{Fills, to_read};
 ghost use Rattle.http_front.specs.Link.{told_by};
 ghost use Rattle.http_front.specs.NextHead.{IsHeadOf};
 ghost use Rattle.http_front.specs.RequestStream.{front_of};
-ghost use Rattle.worker_server.specs.RequestSteps.{BeginsBlank, CountsRead, HasBadStatus, IsBodyEnd, IsEnd, IsEndSize, IsLook, IsNoFault, IsScanned, ReadAsked, ReadsOn, WantsBytes, WantsHead, end_at, is_due, is_open_blank};
+ghost use Rattle.worker_server.specs.RequestSteps.{BeginsBlank, CountsRead, HasBadStatus, IsBodyEnd, IsEnd, IsEndSize, IsLook, IsNoFault, IsScanned, MayEnd, ReadAsked, ReadsOn, WantsBytes, WantsHead, end_at, is_due, is_open_blank};
 
 use http_front::{Buffer, FillFault, HEAD_LIMIT, Head, Link, Next, next_head};
 use std::alloc::{AllocError, Global};
@@ -45,7 +45,7 @@ pub fn read_head<L: Link>(alloc: Global, link: &mut L, buffer: &mut Buffer) -> R
         → IsEnd rest end) }
     ensures status { IfErr result HasBadStatus }
     ensures to_read { to_read buffer.new (L.left link.new) ≡ to_read buffer.old (L.left link.old) }
-    ensures reading { ReadsOn WantsHead buffer.old buffer.new (told_by L.taken L.given L.asked link.old) (told_by L.taken L.given L.asked link.new) }
+    ensures reading { ReadsOn (MayEnd result) WantsHead buffer.old buffer.new (told_by L.taken L.given L.asked link.old) (told_by L.taken L.given L.asked link.new) }
     ensures last { ReadAsked result (told_by L.taken L.given L.asked link.old) (told_by L.taken L.given L.asked link.new) (L.left link.old) (L.left link.new) }
     ensures faults { CountsRead (L.faults link.old) (L.faults link.new) result }
 {
@@ -63,7 +63,7 @@ pub fn read_head<L: Link>(alloc: Global, link: &mut L, buffer: &mut Buffer) -> R
         }
         known = buffer.len();
         match fill(link, buffer) {
-            Ok(0) => return last_head(alloc, buffer),
+            Ok(0) => return Err(last_end(alloc, buffer)),
             Ok(_) => {}
             Err(end) => return Err(end),
         }
@@ -143,18 +143,18 @@ fn end_size(bytes: &[u8]) -> usize
     }
 }
 
-/// What is told where the input ends with the buffer so: a last look, at all of it.
-fn last_head(alloc: Global, buffer: &Buffer) -> Result<Head, End>
-    ensures ok { IfOk result (λ head. (request : RequestHead) × IsHeadOf (front_of buffer.now) head request) }
-    ensures err { IfErr result (IsEnd buffer.now) }
-    ensures status { IfErr result HasBadStatus }
-    ensures faults { IfErr result IsNoFault }
+/// What is told where the input ends with the buffer so, in which no head stands: a last look, at all of it.
+fn last_end(alloc: Global, buffer: &Buffer) -> End
+    requires none { HasNoRequest buffer.now }
+    ensures value { IsEnd buffer.now result }
+    ensures status { HasBadStatus result }
+    ensures faults { IsNoFault result }
 {
     match next_head(alloc, buffer.front()) {
-        Ok(Next::Need) => Err(end_at(buffer)),
-        Ok(Next::Head(head)) => Ok(head),
-        Ok(Next::Bad(status)) => Err(End::Refused(status)),
-        Err(_) => Err(End::NoMemory),
+        Ok(Next::Need) => end_at(buffer),
+        Ok(Next::Head(_)) => unreachable!(),
+        Ok(Next::Bad(status)) => End::Refused(status),
+        Err(_) => End::NoMemory,
     }
 }
 
@@ -171,7 +171,7 @@ pub fn read_body<L: Link>(
         → IsBodyEnd (used + body) rest end) }
     ensures status { IfErr result HasBadStatus }
     ensures to_read { to_read buffer.new (L.left link.new) ≡ to_read buffer.old (L.left link.old) }
-    ensures reading { ReadsOn (WantsBytes (used + body)) buffer.old buffer.new (told_by L.taken L.given L.asked link.old) (told_by L.taken L.given L.asked link.new) }
+    ensures reading { ReadsOn (MayEnd result) (WantsBytes (used + body)) buffer.old buffer.new (told_by L.taken L.given L.asked link.old) (told_by L.taken L.given L.asked link.new) }
     ensures last { ReadAsked result (told_by L.taken L.given L.asked link.old) (told_by L.taken L.given L.asked link.new) (L.left link.old) (L.left link.new) }
     ensures faults { CountsRead (L.faults link.old) (L.faults link.new) result }
 {

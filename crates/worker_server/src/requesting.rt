@@ -5,7 +5,7 @@ ghost use Rattle.http_front.specs.Buffer.{to_read};
 ghost use Rattle.http_front.specs.Link.{CountsFaults, Gives, told_by};
 ghost use Rattle.http_front.specs.ReplyText.{interim_due, is_bad_status};
 ghost use Rattle.http_front.specs.RequestStream.{Request, interim_of};
-ghost use Rattle.worker_server.specs.RequestSteps.{AsksUnfinished, CountsGive, CountsServed, HasBadStatus, RefusesSo, StandsAt, StepAsked, StopsSo};
+ghost use Rattle.worker_server.specs.RequestSteps.{AsksUnfinished, CountsGive, CountsServed, HasBadStatus, MayEnd, RefusesSo, StandsAt, StepAsked, StopsSo};
 ghost use Rattle.worker_server.specs.ServedConnection.{StopsUnasked};
 
 use crate::reading::{End, read_body, read_head};
@@ -25,7 +25,7 @@ pub fn next_request<L: Link>(
         × (L.given link.new ≡ append_known (L.given link.old) (interim_of r.head))) }
     ensures err { IfErr result (λ how. (rest : List ℕ) → to_read buffer.old (L.left link.old) ≡ Some rest
         → StopsUnasked how rest (L.given link.old) (L.given link.new)) }
-    ensures reading { AsksUnfinished buffer.old buffer.new (told_by L.taken L.given L.asked link.old) (told_by L.taken L.given L.asked link.new) }
+    ensures reading { AsksUnfinished (MayEnd result) buffer.old buffer.new (told_by L.taken L.given L.asked link.old) (told_by L.taken L.given L.asked link.new) }
     ensures to_read { to_read buffer.new (L.left link.new) ≡ to_read buffer.old (L.left link.old) }
     ensures last { StepAsked result (told_by L.taken L.given L.asked link.old) (told_by L.taken L.given L.asked link.new) (L.left link.old) (L.left link.new) }
     ensures faults { CountsServed (L.faults link.old) (L.faults link.new) result }

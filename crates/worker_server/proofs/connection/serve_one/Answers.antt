@@ -1,13 +1,14 @@
 -- The request in the buffer, its outcome and what was given make one turn of the connection.
 use Rattle.std.proofs.Common.{◌≡◌, inl, inr, refl, List, ℕ, subst, ap, ◌∙◌}
 use Rattle.std.specs.Io.KnownBytes.{append_known}
+use Rattle.std.specs.Prelude.{⊤}
 use Rattle.http_front.specs.Buffer.{to_read}
 use Rattle.http_front.specs.Link.{GivesFront, told_by}
 use Rattle.http_front.specs.ReplyText.{text}
 use Rattle.worker_server.proofs.AskedLemmas.{came_gave, stop_gave}
 use Rattle.worker_server.proofs.CallLemmas.{Serves-ran}
 use Rattle.worker_server.proofs.RequestLemmas.{AnswersNext-from_reply, OneMore-from_reply, StopsAsked-from_front, closes_as, stands_there}
-use Rattle.worker_server.proofs.TimingLemmas.{Unfinished-later}
+use Rattle.worker_server.proofs.TimingLemmas.{Unfinished-ends, Unfinished-later}
 use Rattle.worker_server.specs.Calls.{rules_at}
 use Rattle.worker_server.proofs.connection.serve_one.Goals as goal
 
@@ -35,7 +36,7 @@ returns-in-None-clause-one g c = λ rest e.
       stops = inr (record { request = stands.0; outcome = served.0; operations = served.1 }, next, stands.3);
       held = c.next_request.new.buffer;
       still = c.in-Ok.ensures.to_read ∙ e;
-      reading = c.in-Ok.ensures.reading;
+      reading = Unfinished-ends ⊤ _ _ _ _ c.in-Ok.ensures.reading;
     }
 
 pub returns-in-None-clause-ran : goal.returns-in-None-clause-ran
@@ -54,7 +55,7 @@ returns-in-Err-give-clause-one g c = λ rest e.
       stops = inr (StopsAsked-from_front rules c.args.number rest _ _ _ next c.closes_at-closes.result closes _ _ _ stands.3 gave);
       held = c.next_request.new.buffer;
       still = ap (to_read c.next_request.new.buffer) c.in-Err-give.ensures.stays_left ∙ c.in-Ok.ensures.to_read ∙ e;
-      reading = Unfinished-later _ _ _ _ _ c.in-Err-give.ensures.stays_taken c.in-Err-give.ensures.stays_asked c.in-Ok.ensures.reading;
+      reading = Unfinished-later ⊤ _ _ _ _ _ c.in-Err-give.ensures.stays_taken c.in-Err-give.ensures.stays_asked (Unfinished-ends ⊤ _ _ _ _ c.in-Ok.ensures.reading);
     }
 
 pub returns-in-Err-give-clause-ran : goal.returns-in-Err-give-clause-ran

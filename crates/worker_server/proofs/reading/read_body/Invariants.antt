@@ -9,7 +9,7 @@ abbrev pub invariant-loop-link : goal.invariant-loop-link
 invariant-loop-link g l = record {
   fits : l.used ≤ length l.buffer;
   same : to_read l.buffer (g.L.Link.left l.link) ≡ to_read l.fn.buffer (g.L.Link.left l.fn.link);
-  reads : ReadsOn (WantsBytes (l.used + l.body)) l.fn.buffer l.buffer (told_by g.L.Link.taken g.L.Link.given g.L.Link.asked l.fn.link) (told_by g.L.Link.taken g.L.Link.given g.L.Link.asked l.link);
+  reads : ReadsOn ⊥ (WantsBytes (l.used + l.body)) l.fn.buffer l.buffer (told_by g.L.Link.taken g.L.Link.given g.L.Link.asked l.fn.link) (told_by g.L.Link.taken g.L.Link.given g.L.Link.asked l.link);
   faults : g.L.Link.faults l.link ≡ g.L.Link.faults l.fn.link;
   came : StillComes (told_by g.L.Link.taken g.L.Link.given g.L.Link.asked l.fn.link) (told_by g.L.Link.taken g.L.Link.given g.L.Link.asked l.link) (g.L.Link.left l.fn.link) (g.L.Link.left l.link);
 }

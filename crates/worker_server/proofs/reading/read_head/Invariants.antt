@@ -9,7 +9,7 @@ use Rattle.worker_server.proofs.reading.read_head.Given as goal
 abbrev pub invariant-loop-now : goal.invariant-loop-now
 invariant-loop-now g l = record {
   same : to_read l.buffer (g.L.Link.left l.link) ≡ to_read l.fn.buffer (g.L.Link.left l.fn.link);
-  reads : ReadsOn WantsHead l.fn.buffer l.buffer (told_by g.L.Link.taken g.L.Link.given g.L.Link.asked l.fn.link) (told_by g.L.Link.taken g.L.Link.given g.L.Link.asked l.link);
+  reads : ReadsOn ⊥ WantsHead l.fn.buffer l.buffer (told_by g.L.Link.taken g.L.Link.given g.L.Link.asked l.fn.link) (told_by g.L.Link.taken g.L.Link.given g.L.Link.asked l.link);
   faults : g.L.Link.faults l.link ≡ g.L.Link.faults l.fn.link;
   scanned : IsScanned l.seen l.known l.buffer;
   blank : BeginsBlank l.blank l.buffer;

@@ -1,14 +1,15 @@
 -- A head in the buffer, its interim reply, and then its body; or how the connection stops.
 use Rattle.std.proofs.Common.{◌≡◌, refl, subst, sym, ◌∙◌, ap, List, ℕ, ◌+◌, ◌≤◌, length, Option}
 use Rattle.std.specs.Io.KnownBytes.{append_known}
+use Rattle.std.specs.Prelude.{⊤}
 use Rattle.http_front.specs.Buffer.{to_read}
 use Rattle.http_front.specs.Link.{GivesFront, told_by}
 use Rattle.http_front.specs.ReplyText.{interim_due}
 use Rattle.http_front.specs.RequestStream.{Request, interim_of}
-use Rattle.worker_server.specs.RequestSteps.{StandsAt, StopsSo}
+use Rattle.worker_server.specs.RequestSteps.{StandsAt, StopsSo, WantsHead}
 use Rattle.worker_server.proofs.AskedLemmas.{came_gave, read_later, stop_came, stop_gave}
 use Rattle.worker_server.proofs.ReadingLemmas.{body_stops, head_fits, head_stops, interim_is, interim_stops, StandsAt-from_head}
-use Rattle.worker_server.proofs.TimingLemmas.{Unfinished-from_body, Unfinished-from_head}
+use Rattle.worker_server.proofs.TimingLemmas.{ReadsOn-ends, Unfinished-from_body, Unfinished-from_head}
 use Rattle.worker_server.proofs.requesting.next_request.Goals as goal
 
 pub read_body-requires : goal.read_body-requires
@@ -47,25 +48,25 @@ returns-in-Err-read_body-clause-err g c = λ rest e.
 -- ---- what was asked for
 
 pub returns-in-Err-clause-reading : goal.returns-in-Err-clause-reading
-returns-in-Err-clause-reading g c = Unfinished-from_head _ _ _ _ _ c.in-Err.ensures.reading c.stop.ensures.stays_taken c.stop.ensures.stays_asked
+returns-in-Err-clause-reading g c = Unfinished-from_head ⊤ _ _ _ _ _ c.in-Err.ensures.reading c.stop.ensures.stays_taken c.stop.ensures.stays_asked
 
 pub returns-in-Err-give_interim-clause-reading : goal.returns-in-Err-give_interim-clause-reading
 returns-in-Err-give_interim-clause-reading g c =
-    Unfinished-from_head _ _ _ _ _ c.in-Ok.ensures.reading c.in-Err-give_interim.ensures.stays_taken c.in-Err-give_interim.ensures.stays_asked
+    Unfinished-from_head ⊤ _ _ _ _ _ (ReadsOn-ends ⊤ WantsHead _ _ _ _ c.in-Ok.ensures.reading) c.in-Err-give_interim.ensures.stays_taken c.in-Err-give_interim.ensures.stays_asked
 
 pub returns-in-Ok-read_body-clause-reading : goal.returns-in-Ok-read_body-clause-reading
 returns-in-Ok-read_body-clause-reading g c =
     let is = c.in-Ok.ensures.ok in
     let interim = c.in-Ok-give_interim.ensures in
     let gave = interim.given ∙ ap (append_known (g.L.Link.given c.read_head.new.link)) (interim_is _ c.in-Ok.head is.0 is.1) in
-    Unfinished-from_body _ _ _ c.in-Ok.head is.0 _ _ _ _ _ c.in-Ok.ensures.reading is.1 interim.stays_taken interim.stays_asked gave c.in-Ok-read_body.ensures.reading refl refl
+    Unfinished-from_body ⊥ _ _ _ c.in-Ok.head is.0 _ _ _ _ _ c.in-Ok.ensures.reading is.1 interim.stays_taken interim.stays_asked gave c.in-Ok-read_body.ensures.reading refl refl
 
 pub returns-in-Err-read_body-clause-reading : goal.returns-in-Err-read_body-clause-reading
 returns-in-Err-read_body-clause-reading g c =
     let is = c.in-Ok.ensures.ok in
     let interim = c.in-Ok-give_interim.ensures in
     let gave = interim.given ∙ ap (append_known (g.L.Link.given c.read_head.new.link)) (interim_is _ c.in-Ok.head is.0 is.1) in
-    Unfinished-from_body _ _ _ c.in-Ok.head is.0 _ _ _ _ _ c.in-Ok.ensures.reading is.1 interim.stays_taken interim.stays_asked gave c.in-Err-read_body.ensures.reading c.stop-in-Err-read_body.ensures.stays_taken c.stop-in-Err-read_body.ensures.stays_asked
+    Unfinished-from_body ⊤ _ _ _ c.in-Ok.head is.0 _ _ _ _ _ c.in-Ok.ensures.reading is.1 interim.stays_taken interim.stays_asked gave c.in-Err-read_body.ensures.reading c.stop-in-Err-read_body.ensures.stays_taken c.stop-in-Err-read_body.ensures.stays_asked
 
 -- ---- what was asked last
 
