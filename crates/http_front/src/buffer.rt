@@ -27,7 +27,8 @@ pub enum FillFault {
 /// A queue of bytes: filled from a link at its back, used from its front.
 ///
 /// Each byte is moved at most twice on average, whatever is skipped at a time: as it is filled, the rest moves to the
-/// front only when as many bytes lie used before it.
+/// front only when as many bytes lie used before it. A front that is taken is moved once more, and what follows it is
+/// copied; the memory of what follows grows anew, and growing moves what is there.
 #[derive(Drop)]
 pub struct Buffer {
     bytes: Vec<u8>,

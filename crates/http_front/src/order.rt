@@ -71,8 +71,8 @@ pub fn order_of(alloc: Global, head: &Head, body: &[u8]) -> Result<Order, OrderF
     order_in(alloc, head.method, head.target.slice(), head.token, body)
 }
 
-/// The same of a body that is handed over. The bytes of an object that is to be stored are moved into the order, not
-/// copied.
+/// The same of a body that is handed over. The bytes of an object that is PUT under its key are moved into the order, not
+/// copied; rows are copied.
 pub fn order_of_own(alloc: Global, head: &Head, body: Bytes) -> Result<Order, OrderFault>
     ensures value { OrdersAs result (IsOrder head.now.method head.now.target head.now.token body) }
 {

@@ -92,7 +92,7 @@ fn next_order(alloc: Global, head: &Head, buffer: &mut Buffer) -> Result<Order, 
     order
 }
 
-/// The same of a long body: it is taken out of the buffer, and so an object is not copied.
+/// The same of a long body: it is taken out of the buffer, and so the object of a PUT is not copied.
 fn own_order(alloc: Global, head: &Head, buffer: &mut Buffer) -> Result<Order, OrderFault>
     requires fits { head.now.used + head.now.body ≤ length buffer.old }
     ensures value { OrdersAs result (IsOrder head.now.method head.now.target head.now.token (slice_range buffer.old head.now.used (head.now.used + head.now.body))) }

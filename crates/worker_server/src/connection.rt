@@ -21,10 +21,10 @@ const MOST_REQUESTS: u64 = 10_000;
 /// in the order of the requests.
 ///
 /// The interim reply of a head that waits for one is given before its reply, also where its body is then cut short. What is
-/// no request is refused with its status: 400, 413, 431 or 501. No reply waits for more input. One request, what was
-/// answered to it, the bytes of its reply and a piece of 65,536 bytes are in memory at a time; a reply packs files and
-/// directories of at most 268,435,456 bytes. After a write fault a front of the last reply was given, and every other was
-/// given whole.
+/// no request is refused with its status: 400, 413, 431 or 501. No reply waits for more input. One request,
+/// what is read of its body beside it, what was answered to it, the bytes of its reply and a piece of 65,536 bytes are in
+/// memory at a time; a reply packs files and directories of at most 268,435,456 bytes. After a write fault a front of the
+/// last reply was given, and every other was given whole.
 pub fn serve_session<H: Host, L: Link>(
     alloc: Global,
     host: &H,
