@@ -40,7 +40,7 @@ pub(crate) fn add_token<G: Ground, C: Clock>(
         → AddsSo location.now lib (C.shows clock.now) token.now standing result (G.stands libraries.new (location_text location.now) lib) }
     ensures back { Returned G.S.contents (G.stands libraries.old) (G.stands libraries.new) (location_text location.now) lib }
     ensures others { OthersGiveNoMore (G.may_give libraries.old) (G.may_give libraries.new) (location_text location.now) lib }
-    ensures given { IfOk result (λ done. IsAddedTo (G.may_give libraries.old (location_text location.now) lib) location.now lib (C.shows clock.now) token.now) }
+    ensures any { IfOk result (λ done. IsAddedTo (G.may_give libraries.old (location_text location.now) lib) location.now lib (C.shows clock.now) token.now) }
     ensures cause { IfErr result (IsNotAdded (G.may_give libraries.old (location_text location.now) lib) location.now lib (C.shows clock.now) token.now) }
     ensures faults { IfErr result (λ why. RoseWhere (is_unadded_counted why) (G.faults libraries.old) (G.faults libraries.new)) }
     ensures steady { NeverFails G.S.faults → (standing : Standing) → G.stands libraries.old (location_text location.now) lib ≡ Some standing → IsWhole standing

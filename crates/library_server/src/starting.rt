@@ -49,7 +49,7 @@ pub(crate) fn start_library<G: Ground, C: Clock>(
     lib: LibId,
     clock: &C,
 ) -> Result<Depot<G::S>, NotBrought>
-    ensures given { IfOk result (λ depot. IsOpenedState (G.may_give libraries.old (location_text location.now) lib) location.now lib (C.shows clock.now) depot.state) }
+    ensures any { IfOk result (λ depot. IsOpenedState (G.may_give libraries.old (location_text location.now) lib) location.now lib (C.shows clock.now) depot.state) }
     ensures gives { IfOk result (λ depot. GivesBy (IsOfOpening location.now lib (C.shows clock.now) depot.state) (G.may_give libraries.old (location_text location.now) lib) (G.S.may_give depot.store.shelf)) }
     ensures settled { IfOk result (λ depot. depot.unsettled ≡ false) }
     ensures shown { (standing : Standing) → G.stands libraries.old (location_text location.now) lib ≡ Some standing
@@ -96,7 +96,7 @@ fn start_absent<G: Ground, C: Clock>(
     lib: LibId,
     clock: &C,
 ) -> Result<Depot<G::S>, NotBrought>
-    ensures given { IfOk result (λ depot. IsOpenedState (G.may_give libraries.old (location_text location.now) lib) location.now lib (C.shows clock.now) depot.state) }
+    ensures any { IfOk result (λ depot. IsOpenedState (G.may_give libraries.old (location_text location.now) lib) location.now lib (C.shows clock.now) depot.state) }
     ensures gives { IfOk result (λ depot. GivesBy (IsOfOpening location.now lib (C.shows clock.now) depot.state) (G.may_give libraries.old (location_text location.now) lib) (G.S.may_give depot.store.shelf)) }
     ensures settled { IfOk result (λ depot. depot.unsettled ≡ false) }
     ensures shown { G.stands libraries.old (location_text location.now) lib ≡ Some Absent
@@ -122,7 +122,7 @@ fn make_in_memory<G: Ground, C: Clock>(
     lib: LibId,
     clock: &C,
 ) -> Result<Depot<G::S>, NotBrought>
-    ensures given { IfOk result (λ depot. IsOpenedState (G.may_give libraries.old (codes ":memory:") lib) Location.Memory lib (C.shows clock.now) depot.state) }
+    ensures any { IfOk result (λ depot. IsOpenedState (G.may_give libraries.old (codes ":memory:") lib) Location.Memory lib (C.shows clock.now) depot.state) }
     ensures gives { IfOk result (λ depot. GivesBy (IsOfOpening Location.Memory lib (C.shows clock.now) depot.state) (G.may_give libraries.old (codes ":memory:") lib) (G.S.may_give depot.store.shelf)) }
     ensures settled { IfOk result (λ depot. depot.unsettled ≡ false) }
     ensures shown { G.stands libraries.old (codes ":memory:") lib ≡ Some Absent
@@ -165,7 +165,7 @@ fn start_on<S: Shelf>(alloc: Global, shelf: S, lib: &LibId) -> Result<Depot<S>, 
     ensures gives { IfOk result (λ depot. GivesAlso (S.may_give shelf) (S.may_give depot.store.shelf) slots.Status (Some (text_of depot.state))) }
     ensures settled { IfOk result (λ depot. depot.unsettled ≡ false) }
     ensures named { IfOk result (λ depot. depot.state.lib ≡ lib.now) }
-    ensures given { IfOk result (λ depot. IsNextOf (S.may_give shelf) depot.state) }
+    ensures any { IfOk result (λ depot. IsNextOf (S.may_give shelf) depot.state) }
     ensures good { IfOk result (IsGood S.contents S.faults) }
     ensures shown { (held : Contents) → S.contents shelf ≡ Some held → IfOk result (OpensFrom S.contents S.faults lib.now held) }
     ensures refused { (held : Contents) → S.contents shelf ≡ Some held → OpensAs lib.now held.objects held.status (without_store result) }
@@ -217,7 +217,7 @@ fn start_named<S: Shelf>(
     ensures gives { IfOk result (λ depot. GivesAlso (S.may_give store.shelf) (S.may_give depot.store.shelf) slots.Status (Some (text_of depot.state))) }
     ensures settled { IfOk result (λ depot. depot.unsettled ≡ false) }
     ensures named { IfOk result (λ depot. depot.state.lib ≡ lib.now) }
-    ensures given { IfOk result (λ depot. IsNextOf (S.may_give store.shelf) depot.state) }
+    ensures any { IfOk result (λ depot. IsNextOf (S.may_give store.shelf) depot.state) }
     ensures good { IfOk result (IsGood S.contents S.faults) }
     ensures shown { (objects : Objects) → objects_of S.contents store ≡ Some objects → IfOk result (OpensTold S.contents S.faults store objects) }
     ensures refused { (objects : Objects) → (status : Option (List ℕ)) → objects_of S.contents store ≡ Some objects → status_of S.contents store ≡ Some status

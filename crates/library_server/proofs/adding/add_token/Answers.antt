@@ -46,10 +46,10 @@ returns-in-Err-add_token-clause-steady g c = λ steady standing there whole.
 
 pub returns-in-Err-add_token-clause-cause : goal.returns-in-Err-add_token-clause-cause
 returns-in-Err-add_token-clause-cause g c =
-    (c.in-Ok.depot.state, c.in-Ok.ensures.given, token_refused c.in-Ok.depot.state c.args.token.now c.in-Err-add_token.fault c.in-Err-add_token.ensures.refused)
+    (c.in-Ok.depot.state, c.in-Ok.ensures.any, token_refused c.in-Ok.depot.state c.args.token.now c.in-Err-add_token.fault c.in-Err-add_token.ensures.refused)
 
-pub returns-in-Ok-add_token-clause-given : goal.returns-in-Ok-add_token-clause-given
-returns-in-Ok-add_token-clause-given g c = (c.in-Ok.depot.state, c.in-Ok.ensures.given, c.in-Ok-add_token.ensures.refused)
+pub returns-in-Ok-add_token-clause-any : goal.returns-in-Ok-add_token-clause-any
+returns-in-Ok-add_token-clause-any g c = (c.in-Ok.depot.state, c.in-Ok.ensures.any, c.in-Ok-add_token.ensures.refused)
 
 pub returns-in-Ok-add_token-clause-others : goal.returns-in-Ok-add_token-clause-others
 returns-in-Ok-add_token-clause-others g c =

@@ -9,7 +9,7 @@ returns g c = record {
     record {
       added = c.add_token-added.result;
       told = c.add_token-added.ensures.shown;
-      is = added_so _ c.args.location.now c.args.lib (g.C.Clock.shows c.args.clock.now) c.args.new.now _ _ c.add_token-added.result c.add_token-added.ensures.given c.add_token-added.ensures.cause c.add_token-added.ensures.faults;
+      is = added_so _ c.args.location.now c.args.lib (g.C.Clock.shows c.args.clock.now) c.args.new.now _ _ c.add_token-added.result c.add_token-added.ensures.any c.add_token-added.ensures.cause c.add_token-added.ensures.faults;
       back = c.add_token-added.ensures.back;
       prints = rw c.added_line.ensures.value at c.print_line.ensures.prints;
     },

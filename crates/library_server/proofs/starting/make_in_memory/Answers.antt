@@ -17,8 +17,8 @@ returns-in-Ok-make_library-clause-steady g c = λ steady absent. (rw c.in-Ok.ens
 pub returns-clause-steady : goal.returns-clause-steady
 returns-clause-steady g c = λ steady absent. (rw c.in-Ok.ensures.value at c.in-Err-make_library.ensures.steady) steady Absent absent tt
 
-pub returns-in-Ok-make_library-clause-given : goal.returns-in-Ok-make_library-clause-given
-returns-in-Ok-make_library-clause-given g c =
+pub returns-in-Ok-make_library-clause-any : goal.returns-in-Ok-make_library-clause-any
+returns-in-Ok-make_library-clause-any g c =
     of_new tt c.now.result c.now.ensures.value (rw c.in-Ok.ensures.value at c.in-Ok-make_library.ensures.value).0
 
 pub returns-in-Ok-make_library-clause-gives : goal.returns-in-Ok-make_library-clause-gives

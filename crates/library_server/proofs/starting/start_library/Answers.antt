@@ -43,16 +43,16 @@ returns-in-Err-start_on-clause-back g c =
 pub returns-in-Err-clause-shown : goal.returns-in-Err-clause-shown
 returns-in-Err-clause-shown g c = λ standing there. c.in-Err.ensures.err _ _ ∙ there
 
-pub returns-in-Ok-clause-given : goal.returns-in-Ok-clause-given
-returns-in-Ok-clause-given g c =
-    opened_state c.args.location.now c.args.lib _ _ (rw c.in-Ok-Some.field-0-is at (rw c.folder_word-folder.ensures.value at c.in-Ok-Some.ensures.handed)) c.in-Ok.ensures.given c.in-Ok.ensures.named
+pub returns-in-Ok-clause-any : goal.returns-in-Ok-clause-any
+returns-in-Ok-clause-any g c =
+    opened_state c.args.location.now c.args.lib _ _ (rw c.in-Ok-Some.field-0-is at (rw c.folder_word-folder.ensures.value at c.in-Ok-Some.ensures.handed)) c.in-Ok.ensures.any c.in-Ok.ensures.named
 
 pub returns-in-Err-start_on-clause-cause : goal.returns-in-Err-start_on-clause-cause
 returns-in-Err-start_on-clause-cause g c =
     unstarted_before c.args.lib c.in-Err-start_on.why (rw c.in-Ok-Some.field-0-is at (rw c.folder_word-folder.ensures.value at c.in-Ok-Some.ensures.handed)) c.in-Err-start_on.ensures.cause
 
-pub returns-in-Ok-None-clause-given : goal.returns-in-Ok-None-clause-given
-returns-in-Ok-None-clause-given g c = absent_given c.args.location.now c.args.lib _ c.start_absent.result (c.in-Ok-None.ensures.gives _ _) c.start_absent.ensures.given
+pub returns-in-Ok-None-clause-any : goal.returns-in-Ok-None-clause-any
+returns-in-Ok-None-clause-any g c = absent_given c.args.location.now c.args.lib _ c.start_absent.result (c.in-Ok-None.ensures.gives _ _) c.start_absent.ensures.any
 
 pub returns-in-Ok-None-clause-cause : goal.returns-in-Ok-None-clause-cause
 returns-in-Ok-None-clause-cause g c = absent_cause c.args.location.now c.args.lib _ c.start_absent.result (c.in-Ok-None.ensures.gives _ _) c.start_absent.ensures.cause

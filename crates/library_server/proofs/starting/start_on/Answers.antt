@@ -62,8 +62,8 @@ returns-in-Err-start_named-clause-left g c = λ held there.
     rw c.end-in-Err-start_named.ensures.value (left_unstarted g.S.Shelf.contents c.check_named.new.store c.in-Err-start_named.store held c.in-Err-start_named.why
     (c.in-Err-start_named.ensures.left held.status status (c.in-Ok-check_named.ensures.named held.status before)) status (c.in-Err-start_named.ensures.stays ∙ objects))
 
-pub returns-in-Ok-start_named-clause-given : goal.returns-in-Ok-start_named-clause-given
-returns-in-Ok-start_named-clause-given g c = next_before _ (reads_then c.in-Ok.ensures.shelf c.in-Ok-check_named.ensures.reads).gives c.in-Ok-start_named.ensures.given
+pub returns-in-Ok-start_named-clause-any : goal.returns-in-Ok-start_named-clause-any
+returns-in-Ok-start_named-clause-any g c = next_before _ (reads_then c.in-Ok.ensures.shelf c.in-Ok-check_named.ensures.reads).gives c.in-Ok-start_named.ensures.any
 
 pub returns-in-Err-check_named-clause-cause : goal.returns-in-Err-check_named-clause-cause
 returns-in-Err-check_named-clause-cause g c = unstarted_before c.args.lib.now c.in-Err-check_named.why c.in-Ok.ensures.shelf.gives c.in-Err-check_named.ensures.cause
