@@ -39,7 +39,7 @@ pub struct Details<'a> {
 #[tactic(auto, unfolding(crate::specs::Directory::entry_from))]
 pub(crate) fn entry_from(alloc: Global, head: Head<'_>, item: &Value) -> Result<Dirent, FsFault>
     requires name { name_fault head.name.now ≡ None }
-    requires known { IsTrue (is_file_mode head.mode || is_directory_mode head.mode) }
+    requires proper { IsTrue (is_file_mode head.mode || is_directory_mode head.mode) }
     ensures value { ReadsAs result (entry_from (head_seen head.entry) (view item.now)) }
     ensures proper { IfOk result IsProperEntry }
 {
@@ -65,7 +65,7 @@ pub(crate) fn entry_from(alloc: Global, head: Head<'_>, item: &Value) -> Result<
 pub(crate) fn head_of<'a>(item: &'a Value, place: u64) -> Result<Head<'a>, BadFs>
     ensures value { result_map head_seen result ≡ head_of place (view item.now) }
     ensures name { IfOk result (λ head. name_fault head.name.now ≡ None) }
-    ensures known { IfOk result
+    ensures proper { IfOk result
         (λ head. IsTrue (is_file_mode head.mode || is_directory_mode head.mode)) }
 {
     if !item.is_object() {

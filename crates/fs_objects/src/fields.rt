@@ -69,7 +69,7 @@ pub fn id_at(value: &Value, key: FsKey) -> Result<ObjId, BadFs>
 #[tactic(auto, unfolding(crate::specs::Directory::mode_of))]
 pub fn mode_in(value: &Value) -> Result<u32, BadFs>
     ensures value { result ≡ mode_of (view value.now) }
-    ensures known { IfOk result (λ mode. IsTrue (is_file_mode mode || is_directory_mode mode)) }
+    ensures proper { IfOk result (λ mode. IsTrue (is_file_mode mode || is_directory_mode mode)) }
 {
     let key = FsKey::KMode;
     match json_words::number_between(value, key.text(), 0, u64::from(u32::MAX)) {
@@ -83,7 +83,7 @@ pub fn mode_in(value: &Value) -> Result<u32, BadFs>
 fn known_mode(number: u64) -> Result<u32, BadFs>
     requires { number < 2 ^ 32 }
     ensures value { result ≡ known_mode number }
-    ensures known { IfOk result (λ mode. IsTrue (is_file_mode mode || is_directory_mode mode)) }
+    ensures proper { IfOk result (λ mode. IsTrue (is_file_mode mode || is_directory_mode mode)) }
 {
     let mode = number as u32;
     if is_file_mode(mode) || is_directory_mode(mode) {

@@ -66,7 +66,7 @@ fn next_block(
 ) -> Result<Option<ObjId>, ReadFault<NotJson>>
     ensures ok { IfOk result (λ found. (d : Data) × FrontIs depth reader.old d reader.new
         × (found ≡ stored_id_in d)) }
-    ensures found { IfOk result (λ found. IfSome found (λ id. id ≢ nil)) }
+    ensures not_zeros { IfOk result (λ found. IfSome found (λ id. id ≢ nil)) }
     ensures shorter { OnOk result (length reader.new < length reader.old) }
     ensures err { OnBad result (NoFront depth reader.old) }
 {

@@ -95,7 +95,7 @@ fn install_of(value: &Value) -> Result<Install, StateKey>
 #[tactic(auto, unfolding(crate::specs::StateText::stored_id_field))]
 fn stored_id_at(value: &Value, name: &str) -> Result<ObjId, StateKey>
     ensures value { result ≡ at_key StateKey.Kept (stored_id_field name.now (view value.now)) }
-    ensures bound { IfOk result (λ id. id ≢ nil) }
+    ensures not_zeros { IfOk result (λ id. id ≢ nil) }
 {
     match field(value, name) {
         Ok(found) => stored_id_in(found).ok_or(StateKey::Kept),

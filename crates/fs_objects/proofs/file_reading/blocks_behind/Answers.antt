@@ -48,7 +48,7 @@ items-preserved c =
     let is = c.in_ok-id.ensures.ok in
     let going : (after_end_array l.reader ≡ None) × (c.take_end_array.new.self ≡ l.reader) = grind arith in
     let passes = block_is is.0 c.in_ok-id.field-0 is.2 ∙ ap (λ o. ok_or o (WrongType KBlockIds)) c.in-Some.is in
-    let other : id ≢ nil = rw c.in-Some.is at c.in_ok-id.ensures.found in
+    let other : id ≢ nil = rw c.in-Some.is at c.in_ok-id.ensures.not_zeros in
     record {
       reads = Reads-more (each block_of) c.args.depth c.args.reader.now (each_after block_of l.blocks) l.reader l.invariant.reads is.0 c.next_block.new.reader (each_after block_of c.push.new.self)
           going.0 (rw (← going.1) is.1) (rw (← going.1) c.in_ok-id.ensures.shorter)
