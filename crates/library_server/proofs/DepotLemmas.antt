@@ -1,17 +1,13 @@
 -- What a depot leaves on its shelf. The key lemma is stands_back, at the end.
-use Rattle.std.proofs.Common.{◌≡◌, ℕ, Bool, true, false, cond, List, Option, None, Some, option_map, refl, sym, ap, subst, ◌∙◌}
-use Rattle.std.specs.Prelude.{is_some, unwrap_or}
-use Rattle.std.specs.FinMap as map
+use Rattle.std.proofs.Common.{◌≡◌, ℕ, false, List, Option, None, Some, option_map, refl, sym, ap, subst, ◌∙◌}
 use Rattle.depot.specs.DepotView.{DepotView, IsGood, running_library, state_of}
 use Rattle.depot.specs.Standing.{IsOnShelf}
-use Rattle.depot.proofs.StandingLemmas.{on_shelf, indexed_lies}
+use Rattle.depot.proofs.StandingLemmas.{on_shelf}
 use Rattle.folder_storage.specs.Ground.{Standing, Standings}
 use Rattle.library_rules.specs.LibraryState.{State}
 use Rattle.library_rules.specs.Recovery.{StandsFor}
-use Rattle.object_graph.specs.Unchanged.{Keeps}
-use Rattle.object_store.proofs.MapLemmas.{get-retained}
 use Rattle.object_store.specs.Shelf.{Contents}
-use Rattle.object_store.specs.StoreView.{Index, indexed}
+use Rattle.object_store.specs.StoreView.{indexed}
 use Rattle.library_server.specs.Standing.{ComesBack, StandsAs}
 use Rattle.ids.proofs.BasicLemmas.{same_from_some}
 

@@ -1,6 +1,6 @@
 -- A permitted answer keeps objects under their own names. The key lemmas are names_stepped and
 -- names_new.
-use Rattle.std.proofs.Common.{◌≡◌, ◌⊎◌, inl, inr, ℕ, Bool, true, false, cond, not, ◌&&◌, nat_lt, List, [], ◌∷◌, ◌++◌, Option, None, Some, refl, sym, ap, subst, ◌∙◌}
+use Rattle.std.proofs.Common.{◌≡◌, ◌⊎◌, inl, inr, ℕ, Bool, true, false, cond, not, ◌&&◌, List, [], ◌∷◌, ◌++◌, Option, None, Some, refl, sym, ap, subst, ◌∙◌}
 use Rattle.std.specs.Prelude.{⊤}
 use Rattle.std.proofs.lemmas.List.Elements.{All-contains, All-from_recursion}
 use Rattle.std.specs.Bool.{then_some}
@@ -19,7 +19,7 @@ use Rattle.library_rules.proofs.StepLemmas.{objects_after}
 use Rattle.library_rules.specs.Calls.{Due, Denies, Says, Stores, Installs, Merges, act_due, base_due, complete_due, due, first_refusal, listed, may, other_name, put_due, put_refusals, token_due, token_of, update_due, by_state, update_decided, ids_decided}
 use Rattle.library_rules.specs.Changes.{apply, put_new, with_added, without}
 use Rattle.library_rules.specs.History.{Permits, StepPermits, StepSo}
-use Rattle.library_rules.specs.LibraryState.{State, head_of, is_kept, is_stored}
+use Rattle.library_rules.specs.LibraryState.{State, head_of, is_stored}
 use Rattle.library_rules.specs.MergeBase.{Base, Based, NoBase, base_of}
 use Rattle.library_rules.specs.MergeCommit.{IsMade, Partly}
 use Rattle.library_rules.specs.Permitted.{DuePermits, MergeFails}
