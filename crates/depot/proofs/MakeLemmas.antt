@@ -4,6 +4,7 @@ use Rattle.std.proofs.Common.{◌≡◌, ◌≢◌, ◌⊎◌, inl, inr, ℕ, �
 use Rattle.std.specs.FinMap as map
 use Rattle.ids.specs.Key.{Objects}
 use Rattle.ids.specs.declared.key.Key.{Key}
+use Rattle.ids.proofs.BasicLemmas.{same_from_some}
 use Rattle.ids.proofs.KeyOrderLemmas.{key_cmp_total}
 use Rattle.commit_objects.specs.Commit.{commit_of}
 use Rattle.commit_objects.specs.Spelling.{text_of as commit_text}
@@ -65,13 +66,10 @@ module _ {before now : Slot → Option (List ℕ) → Type 0} (key : Key) (bytes
   other_before : GivesOther now key bytes → GivesOther before key bytes
   other_before is = record { given = is.given; gives = at (also (Object key) (Some is.given) is.gives); whole = is.whole; other = is.other }
     where
-      some_bytes : (a b : List ℕ) → ◌≡◌ {A = Option (List ℕ)} (Some a) (Some b) → a ≡ b
-      some_bytes a b e = cc
-
       at : before (Object key) (Some is.given) ⊎ ((Object key ≡ Object key) × (Some is.given ≡ Some bytes)) → before (Object key) (Some is.given)
       at (inl gives) = gives
       at (inr laid) =
-          absurd (true≢false (sym (ap (λ b. same_bytes b bytes) (some_bytes is.given bytes laid.1) ∙ same_id-itself bytes) ∙ is.other))
+          absurd (true≢false (sym (ap (λ b. same_bytes b bytes) (same_from_some is.given bytes laid.1) ∙ same_id-itself bytes) ∙ is.other))
 
   damaged_before : has_other_name key bytes ≡ false → (want : List ℕ) (got : Option (List ℕ)) → IsDamage now key want got → IsDamage before key want got
   damaged_before named want got is = record { given = is.given; gives = at (also (Object key) is.given is.gives); named = is.named; other = is.other }

@@ -1,6 +1,6 @@
 -- What an update leaves of a library that is kept, and that it stays good. The key lemmas are serves_refused, serves_kept,
 -- serves_done and serves_failed, and good_done and good_failed.
-use Rattle.std.proofs.Common.{◌≡◌, ◌≢◌, inl, ℕ, ◌+◌, ◌≤◌, arith, length, length-append, Bool, true, false, if◌then◌else◌, List, [], ◌∷◌, ◌++◌, refl, sym, ap, ◌∙◌, subst, Option, None, Some, option_map, IsTrue, Err}
+use Rattle.std.proofs.Common.{◌≡◌, ◌≢◌, inl, ℕ, ◌+◌, ◌≤◌, arith, length, length-append, Bool, true, false, if◌then◌else◌, List, [], ◌∷◌, append-nil, refl, sym, ap, ◌∙◌, subst, Option, None, Some, option_map, IsTrue, Err}
 use Rattle.std.specs.Bool.{MatchBool}
 use Rattle.std.specs.Prelude.{⊤}
 use Rattle.ids.specs.FaultCount.{Rose}
@@ -223,11 +223,7 @@ module _ {S : Type 0} (contents : S → Option Contents) (may_give : S → Shelf
         part_of : LeftBehind fault old.unsettled old.state next (objects_in plan) (held_in contents texts old.store) still (held_in contents texts store)
             → StoresPart (objects_of contents old.store) (objects_in plan) (objects_of contents store)
         part_of (stopped part unsettled kept written) = part
-        part_of (unsure free stored left) = record { part = objects_in plan; front = ([], sym (append_nil (objects_in plan))); objects = stored }
-          where
-            append_nil : (xs : List Stored) → xs ++ [] ≡ xs
-            append_nil [] = refl
-            append_nil (x ∷ xs) = ap (λ ys. x ∷ ys) (append_nil xs)
+        part_of (unsure free stored left) = record { part = objects_in plan; front = ([], sym (append-nil (objects_in plan))); objects = stored }
 
         part : StoresPart (objects_of contents old.store) (objects_in plan) (objects_of contents store)
         part = part_of behind

@@ -1,6 +1,6 @@
 -- Objects that are put one after another, and what a plan leaves behind. The key lemmas are stores_then, puttable_front,
 -- puttable_back, one_stored, may_refuse_put, free_put and puts_then.
-use Rattle.std.proofs.Common.{◌≡◌, ◌⊎◌, inl, inr, ℕ, Bool, true, false, if◌then◌else◌, true≢false, List, [], ◌∷◌, ◌++◌, append_assoc, refl, sym, ap, ◌∙◌, subst, Option, None, Some, IsTrue, Result, Ok, Err}
+use Rattle.std.proofs.Common.{◌≡◌, ◌⊎◌, inl, inr, ℕ, Bool, true, false, if◌then◌else◌, true≢false, List, [], ◌∷◌, ◌++◌, append_assoc, append-nil, refl, sym, ap, ◌∙◌, subst, Option, None, Some, IsTrue, Result, Ok, Err}
 use Rattle.std.specs.Prelude.{⊤}
 use Rattle.sha1.specs.Sha1.{sha1}
 use Rattle.ids.specs.Key.{Objects}
@@ -218,11 +218,7 @@ module _ {S : Type 0} {contents : S → Option Contents} {may_give : S → Shelf
   }
 
   pub putting_end : {now : StoreView S} → IsPutting contents may_give texts faults all old [] now → PutsSo contents may_give texts faults all old now (Ok tt)
-  putting_end {now} is = subst (λ done. PutsSo contents may_give texts faults done old now (Ok tt)) (sym (append_nil is.done) ∙ is.split) is.puts
-    where
-      append_nil : (xs : List Stored) → xs ++ [] ≡ xs
-      append_nil [] = refl
-      append_nil (x ∷ xs) = ap (λ ys. x ∷ ys) (append_nil xs)
+  putting_end {now} is = subst (λ done. PutsSo contents may_give texts faults done old now (Ok tt)) (sym (append-nil is.done) ∙ is.split) is.puts
 
   pub putting_stop : {now new : StoreView S} (left : List Stored) (x : Stored) (fault : StoreFault) → IsPutting contents may_give texts faults all old (x ∷ left) now
       → PutsSo contents may_give texts faults (x ∷ []) now new (Err fault) → PutsSo contents may_give texts faults all old new (Err fault)

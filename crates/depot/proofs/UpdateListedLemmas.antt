@@ -1,6 +1,6 @@
 -- Objects of a table as a list: each once, and each found again once they are put. The key lemmas are listed_all,
 -- listed_once, found_added, found_listed and found_last.
-use Rattle.std.proofs.Common.{◌≡◌, ◌⊎◌, inl, inr, ℕ, Bool, true, false, ◌&&◌, if◌then◌else◌, cond, T, List, [], ◌∷◌, ◌++◌, refl, sym, ap, ap₂, ◌∙◌, subst, Option, None, Some}
+use Rattle.std.proofs.Common.{◌≡◌, ◌⊎◌, inl, inr, ℕ, Bool, true, false, if◌then◌else◌, cond, T, List, [], ◌∷◌, ◌++◌, refl, sym, ap, ap₂, ◌∙◌, subst, Option, None, Some}
 use Rattle.std.specs.FinMap as map
 use Rattle.std.specs.FinMap.Entries.{below_all}
 use Rattle.std.specs.List.{AllByRecursion, IsDistinct}
@@ -15,17 +15,9 @@ use Rattle.library_rules.proofs.KeepingLemmas.{grown}
 use Rattle.object_graph.proofs.KeyLemmas.{same_key, same_key-itself, same_key-true}
 use Rattle.depot.specs.Plan.{listed}
 use Rattle.depot.proofs.UpdatePlanLemmas.{all_gone_after}
-use Rattle.ids.proofs.BasicLemmas.{apart_from_is_lt}
+use Rattle.ids.proofs.BasicLemmas.{apart_from_is_lt, both_from_T}
 
 -- ---- entries in order
-
-left_of : (a b : Bool) → T (a && b) → T a
-left_of true b h = tt
-left_of false b h = absurd h
-
-right_of : (a b : Bool) → T (a && b) → T b
-right_of true b h = h
-right_of false b h = absurd h
 
 -- an entry is one of a list
 abbrev pub Among : (Key × List ℕ) → List (Key × List ℕ) → Type 0
@@ -36,14 +28,14 @@ Among e (f ∷ fs) = (e ≡ f) ⊎ Among e fs
 apart_below : (q : Key) (es : List (Key × List ℕ)) → T (below_all key_cmp q es) → AllByRecursion (λ key. same_key q key ≡ false) (keys_added (listed es))
 apart_below q [] h = tt
 apart_below q (e ∷ es) h =
-    (apart_from_is_lt (key_cmp q e.0) (left_of (is_lt (key_cmp q e.0)) (below_all key_cmp q es) h), apart_below q es (right_of (is_lt (key_cmp q e.0)) (below_all key_cmp q es) h))
+    (apart_from_is_lt (key_cmp q e.0) (both_from_T (is_lt (key_cmp q e.0)) (below_all key_cmp q es) h).0, apart_below q es (both_from_T (is_lt (key_cmp q e.0)) (below_all key_cmp q es) h).1)
 
 none_below : (q : Key) (es : List (Key × List ℕ)) → T (below_all key_cmp q es) → map.find key_cmp q es ≡ None
 none_below q [] h = refl
 none_below q (e ∷ es) h =
     ap₂ (λ (b : Bool) (o : Option (List ℕ)). cond b (Some e.1) o)
-    (apart_from_is_lt (key_cmp q e.0) (left_of (is_lt (key_cmp q e.0)) (below_all key_cmp q es) h))
-    (none_below q es (right_of (is_lt (key_cmp q e.0)) (below_all key_cmp q es) h))
+    (apart_from_is_lt (key_cmp q e.0) (both_from_T (is_lt (key_cmp q e.0)) (below_all key_cmp q es) h).0)
+    (none_below q es (both_from_T (is_lt (key_cmp q e.0)) (below_all key_cmp q es) h).1)
 
 -- an entry of a list in order is what is found at its key
 found_sorted : (e : Key × List ℕ) (es : List (Key × List ℕ)) → T (map.is_sorted key_cmp es) → Among e es → map.find key_cmp e.0 es ≡ Some e.1
@@ -51,7 +43,7 @@ found_sorted e [] h there = absurd there
 found_sorted e (f ∷ es) h (inl is) =
     subst (λ (g : Key × List ℕ). map.find key_cmp g.0 (f ∷ es) ≡ Some g.1) (sym is)
     (ap (λ (b : Bool). cond b (Some f.1) (map.find key_cmp f.0 es)) (same_key-itself f.0))
-found_sorted e (f ∷ es) h (inr there) = by (same_key e.0 f.0) refl (found_sorted e es (right_of (below_all key_cmp f.0 es) (map.is_sorted key_cmp es) h) there)
+found_sorted e (f ∷ es) h (inr there) = by (same_key e.0 f.0) refl (found_sorted e es (both_from_T (below_all key_cmp f.0 es) (map.is_sorted key_cmp es) h).1 there)
   where
     never : map.find key_cmp e.0 es ≡ None → map.find key_cmp e.0 es ≡ Some e.1 → ⊥
     never none some = let e : None ≡ Some e.1 = sym none ∙ some in cc
@@ -59,7 +51,7 @@ found_sorted e (f ∷ es) h (inr there) = by (same_key e.0 f.0) refl (found_sort
     by : (b : Bool) → same_key e.0 f.0 ≡ b → map.find key_cmp e.0 es ≡ Some e.1 → cond b (Some f.1) (map.find key_cmp e.0 es) ≡ Some e.1
     by false is more = more
     by true is more =
-        absurd (never (none_below e.0 es (subst (λ (p : Key). T (below_all key_cmp p es)) (sym (same_key-true e.0 f.0 is)) (left_of (below_all key_cmp f.0 es) (map.is_sorted key_cmp es) h))) more)
+        absurd (never (none_below e.0 es (subst (λ (p : Key). T (below_all key_cmp p es)) (sym (same_key-true e.0 f.0 is)) (both_from_T (below_all key_cmp f.0 es) (map.is_sorted key_cmp es) h).0)) more)
 
 -- what holds of each entry that a table has holds of all listed ones
 all_among : (P : Stored → Type 0) (es : List (Key × List ℕ)) → ((e : Key × List ℕ) → Among e es → P (record { key = e.0; bytes = e.1 })) → AllByRecursion P (listed es)
@@ -74,7 +66,7 @@ once_sorted : (es : List (Key × List ℕ)) → T (map.is_sorted key_cmp es) →
 unfolding IsDistinct
 once_sorted [] h = tt
 once_sorted (e ∷ es) h =
-    (apart_below e.0 es (left_of (below_all key_cmp e.0 es) (map.is_sorted key_cmp es) h), once_sorted es (right_of (below_all key_cmp e.0 es) (map.is_sorted key_cmp es) h))
+    (apart_below e.0 es (both_from_T (below_all key_cmp e.0 es) (map.is_sorted key_cmp es) h).0, once_sorted es (both_from_T (below_all key_cmp e.0 es) (map.is_sorted key_cmp es) h).1)
 
 pub listed_once : (m : Objects) → IsDistinct (eq_by_cmp key_cmp) (keys_added (listed (map.entries m)))
 listed_once m = once_sorted (map.entries m) (map.entries_sorted m)

@@ -1,5 +1,5 @@
 -- A merge that is planned or refused. The key lemmas are root_fault, roots_whole, merge_refuses, merge_damage and merges_so.
-use Rattle.std.proofs.Common.{◌≡◌, ◌≢◌, ◌⊎◌, inl, inr, ℕ, ◌==◌, Bool, true, false, not, List, [], ◌∷◌, ◌++◌, length, refl, sym, ap, ◌∙◌, subst, true≢false, Option, None, Some, is_some, Result, Ok, Err}
+use Rattle.std.proofs.Common.{◌≡◌, ◌≢◌, ◌⊎◌, inl, inr, ℕ, ◌==◌, Bool, true, false, not, List, [], ◌∷◌, ◌++◌, append-nil, length, refl, sym, ap, ◌∙◌, subst, true≢false, Option, None, Some, is_some, Result, Ok, Err}
 use Rattle.std.specs.FinMap as map
 use Rattle.std.specs.Prelude.{⊤}
 use Rattle.std.specs.List.{AllByRecursion, IsDistinct}
@@ -234,17 +234,13 @@ module _ (state : LibState) (count : ℕ) (objects : Objects) (moment : ℕ) (us
     abbrev added : Option (List ℕ) → List Stored
     added text = dirs ++ own_object commit.id text
 
-    none_more : (xs : List Stored) → xs ++ [] ≡ xs
-    none_more [] = refl
-    none_more (x ∷ xs) = ap (λ ys. x ∷ ys) (none_more xs)
-
     all_gone : (text : Option (List ℕ)) → TextSo objects commit text → AllByRecursion (λ (x : Stored). is_stored objects x.key ≡ false) (added text)
     all_gone None is = all_join (λ (x : Stored). is_stored objects x.key ≡ false) dirs [] dirs_gone tt
     all_gone (Some text) is = all_join (λ (x : Stored). is_stored objects x.key ≡ false) dirs (record { key = commit_key commit.id; bytes = text } ∷ []) dirs_gone
         (absent_stored (map.get objects (commit_key commit.id)) is.0, tt)
 
     all_once : (text : Option (List ℕ)) → IsDistinct (eq_by_cmp key_cmp) (keys_added (added text))
-    all_once None = subst (λ xs. IsDistinct (eq_by_cmp key_cmp) (keys_added xs)) (sym (none_more dirs)) (listed_once result.made)
+    all_once None = subst (λ xs. IsDistinct (eq_by_cmp key_cmp) (keys_added xs)) (sym (append-nil dirs)) (listed_once result.made)
     all_once (Some text) = once_pushed dirs (record { key = commit_key commit.id; bytes = text }) (listed_once result.made) (apart_from commit.id)
 
     keeps_made : (text : Option (List ℕ)) → TextSo objects commit text → Keeps result.made (with_added objects (added text))
@@ -355,7 +351,7 @@ module _ (state : LibState) (count : ℕ) (objects : Objects) (moment : ℕ) (us
           let keeps : Keeps result.made (with_added objects dirs) = record {
             kept = λ key bytes there.
                 found_added objects dirs key bytes dirs_gone (listed_once result.made)
-                (ap (found_in key) (sym (none_more dirs)) ∙ found_listed (map.entries result.made) [] key bytes (sym (map.get-entries result.made key) ∙ there));
+                (ap (found_in key) (sym (append-nil dirs)) ∙ found_listed (map.entries result.made) [] key bytes (sym (map.get-entries result.made key) ∙ there));
           } in
           record {
             tree = made.tree;

@@ -31,7 +31,7 @@ use Rattle.library_server.specs.declared.not_done.NotBrought.{NotBrought}
 use Rattle.library_server.specs.declared.not_done.NotBrought.TheVariants as unbrought
 use Rattle.library_server.specs.declared.not_done.NotStarted.{NotStarted}
 use Rattle.library_server.specs.declared.not_done.NotStarted.TheVariants as unstarted
-use Rattle.ids.proofs.BasicLemmas.{apart_from_bytes_eq}
+use Rattle.ids.proofs.BasicLemmas.{apart_from_bytes_eq, same_from_some}
 
 -- a text that is the library's is opened as it is, or refused as it is
 due_named : (lib : List ℕ) (objects : Objects) (text : List ℕ) (found : LibState) → read_state text ≡ Ok found → found.lib ≡ lib
@@ -100,14 +100,11 @@ absent_cause location lib shows (Err why) gives is = unbrought_before location l
 ok_same : (a b : LibState) → ◌≡◌ {A = Result LibState StateKey} (Ok a) (Ok b) → a ≡ b
 ok_same a b e = cc
 
-some_text : (a b : List ℕ) → ◌≡◌ {A = Option (List ℕ)} (Some a) (Some b) → a ≡ b
-some_text a b e = cc
-
 -- what is read again from the text of the named library is of that library
 pub found_named : (lib : List ℕ) (status : Option (List ℕ)) → IsTextOf lib status → (text : List ℕ) (found : LibState) → status ≡ Some text
     → read_state text ≡ Ok found → found.lib ≡ lib
 found_named lib status is text found there reads =
-    let same : is.text ≡ text = some_text is.text text (sym is.there ∙ there) in
+    let same : is.text ≡ text = same_from_some is.text text (sym is.there ∙ there) in
     let one : is.found ≡ found = ok_same is.found found (sym is.reads ∙ ap read_state same ∙ reads) in
     sym (ap (λ (z : LibState). z.lib) one) ∙ is.named
 
