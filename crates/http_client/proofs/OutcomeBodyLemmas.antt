@@ -39,111 +39,40 @@ head_told id named =
 
 version_read : (order : What) → asks_version order ≡ true → IsOutcome order Success version_body (Some Version)
 version_read what.Version can = sym version_told
-version_read (what.Check op) can = absurd (false≢true can)
-version_read what.Head can = absurd (false≢true can)
-version_read (what.Update commit) can = absurd (false≢true can)
-version_read (what.Get key) can = absurd (false≢true can)
-version_read (what.Put key bytes) can = absurd (false≢true can)
-version_read (what.Missing kind asked) can = absurd (false≢true can)
-version_read (what.PutFs objects) can = absurd (false≢true can)
-version_read (what.GetFs asked) can = absurd (false≢true can)
-version_read (what.Ids server client) can = absurd (false≢true can)
+version_read other can = absurd (false≢true can)
 
 checked_read : (order : What) → asks_right order ≡ true → IsOutcome order Success [] (Some (answered reply.Checked))
-checked_read what.Version can = absurd (false≢true can)
 checked_read (what.Check op) can = refl
-checked_read what.Head can = absurd (false≢true can)
-checked_read (what.Update commit) can = absurd (false≢true can)
-checked_read (what.Get key) can = absurd (false≢true can)
-checked_read (what.Put key bytes) can = absurd (false≢true can)
-checked_read (what.Missing kind asked) can = absurd (false≢true can)
-checked_read (what.PutFs objects) can = absurd (false≢true can)
-checked_read (what.GetFs asked) can = absurd (false≢true can)
-checked_read (what.Ids server client) can = absurd (false≢true can)
+checked_read other can = absurd (false≢true can)
 
 head_read : (id : List ℕ) (named : IsObjectId id) (order : What) → asks_head order ≡ true → IsOutcome order Success (head_body id) (Some (answered (reply.HeadIs id)))
-head_read id named what.Version can = absurd (false≢true can)
-head_read id named (what.Check op) can = absurd (false≢true can)
 head_read id named what.Head can = sym (ap (option_map (λ i. answered (reply.HeadIs i))) (head_told id named))
-head_read id named (what.Update commit) can = absurd (false≢true can)
-head_read id named (what.Get key) can = absurd (false≢true can)
-head_read id named (what.Put key bytes) can = absurd (false≢true can)
-head_read id named (what.Missing kind asked) can = absurd (false≢true can)
-head_read id named (what.PutFs objects) can = absurd (false≢true can)
-head_read id named (what.GetFs asked) can = absurd (false≢true can)
-head_read id named (what.Ids server client) can = absurd (false≢true can)
+head_read id named other can = absurd (false≢true can)
 
 updated_read : (id : List ℕ) (named : IsObjectId id) (order : What) → is_update order ≡ true → IsOutcome order Success (head_body id) (Some (answered (reply.Updated id)))
-updated_read id named what.Version can = absurd (false≢true can)
-updated_read id named (what.Check op) can = absurd (false≢true can)
-updated_read id named what.Head can = absurd (false≢true can)
 updated_read id named (what.Update commit) can = sym (ap (option_map (λ i. answered (reply.Updated i))) (head_told id named))
-updated_read id named (what.Get key) can = absurd (false≢true can)
-updated_read id named (what.Put key bytes) can = absurd (false≢true can)
-updated_read id named (what.Missing kind asked) can = absurd (false≢true can)
-updated_read id named (what.PutFs objects) can = absurd (false≢true can)
-updated_read id named (what.GetFs asked) can = absurd (false≢true can)
-updated_read id named (what.Ids server client) can = absurd (false≢true can)
+updated_read id named other can = absurd (false≢true can)
 
 got_read : (body : List ℕ) (order : What) → asks_object order ≡ true → IsOutcome order Success body (Some (answered (reply.Got body)))
-got_read body what.Version can = absurd (false≢true can)
-got_read body (what.Check op) can = absurd (false≢true can)
-got_read body what.Head can = absurd (false≢true can)
-got_read body (what.Update commit) can = absurd (false≢true can)
 got_read body (what.Get key) can = refl
-got_read body (what.Put key bytes) can = absurd (false≢true can)
-got_read body (what.Missing kind asked) can = absurd (false≢true can)
-got_read body (what.PutFs objects) can = absurd (false≢true can)
-got_read body (what.GetFs asked) can = absurd (false≢true can)
-got_read body (what.Ids server client) can = absurd (false≢true can)
+got_read body other can = absurd (false≢true can)
 
 stored_read : (order : What) → stores order ≡ true → IsOutcome order Success [] (Some (answered (reply.Stored true)))
-stored_read what.Version can = absurd (false≢true can)
-stored_read (what.Check op) can = absurd (false≢true can)
-stored_read what.Head can = absurd (false≢true can)
-stored_read (what.Update commit) can = absurd (false≢true can)
-stored_read (what.Get key) can = absurd (false≢true can)
 stored_read (what.Put key bytes) can = refl
-stored_read (what.Missing kind asked) can = absurd (false≢true can)
 stored_read (what.PutFs objects) can = refl
-stored_read (what.GetFs asked) can = absurd (false≢true can)
-stored_read (what.Ids server client) can = absurd (false≢true can)
+stored_read other can = absurd (false≢true can)
 
 listed_read : (ids : List (List ℕ)) (are : All IsObjectId ids) (order : What) → asks_list order ≡ true → IsOutcome order Success (array_text ids) (Some (answered (reply.Listed ids)))
-listed_read ids are what.Version can = absurd (false≢true can)
-listed_read ids are (what.Check op) can = absurd (false≢true can)
-listed_read ids are what.Head can = absurd (false≢true can)
-listed_read ids are (what.Update commit) can = absurd (false≢true can)
-listed_read ids are (what.Get key) can = absurd (false≢true can)
-listed_read ids are (what.Put key bytes) can = absurd (false≢true can)
-listed_read ids are (what.Missing kind asked) can = absurd (false≢true can)
-listed_read ids are (what.PutFs objects) can = absurd (false≢true can)
-listed_read ids are (what.GetFs asked) can = absurd (false≢true can)
 listed_read ids are (what.Ids server client) can = sym (ap (λ r. option_map (λ i. answered (reply.Listed i)) (result_ok r)) (ids_read_back ids are))
+listed_read ids are other can = absurd (false≢true can)
 
 absent_read : (ids : List (List ℕ)) (are : All IsObjectId ids) (order : What) → CanMiss order ids → IsOutcome order Success (array_text ids) (Some (answered (reply.Absent ids)))
-absent_read ids are what.Version can = absurd can
-absent_read ids are (what.Check op) can = absurd can
-absent_read ids are what.Head can = absurd can
-absent_read ids are (what.Update commit) can = absurd can
-absent_read ids are (what.Get key) can = absurd can
-absent_read ids are (what.Put key bytes) can = absurd can
 absent_read ids are (what.Missing kind asked) can = sym (ap (λ r. absent_of asked (result_ok r)) (ids_read_back ids are) ∙ ap (λ b. if b then Some (answered (reply.Absent ids)) else None) can)
-absent_read ids are (what.PutFs objects) can = absurd can
-absent_read ids are (what.GetFs asked) can = absurd can
-absent_read ids are (what.Ids server client) can = absurd can
+absent_read ids are other can = absurd can
 
 packed_read : (rows : List Row) (are : All IsRow rows) (order : What) → CanPack order rows → IsOutcome order Success (rows_text rows) (Some (Packed rows))
-packed_read rows are what.Version can = absurd can
-packed_read rows are (what.Check op) can = absurd can
-packed_read rows are what.Head can = absurd can
-packed_read rows are (what.Update commit) can = absurd can
-packed_read rows are (what.Get key) can = absurd can
-packed_read rows are (what.Put key bytes) can = absurd can
-packed_read rows are (what.Missing kind asked) can = absurd can
-packed_read rows are (what.PutFs objects) can = absurd can
 packed_read rows are (what.GetFs asked) can = ((are, refl), can)
-packed_read rows are (what.Ids server client) can = absurd can
+packed_read rows are other can = absurd can
 
 pub outcome_read : (order : What) (o : Outcome) → CanHave order o → TellsThings o → IsOutcome order (parts_of o).status (parts_of o).body (Some (as_read o))
 outcome_read order Version can is = version_read order can

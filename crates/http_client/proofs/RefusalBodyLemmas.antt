@@ -81,33 +81,9 @@ spelled (refusal.Damaged want (Some got)) said = (IsUtf8-are_ascii (codes "got")
 spelled (refusal.BadDays days) said = absurd said
 
 shallow : (why : Refusal) → depth (refused_data why) ≤ 127
-shallow refusal.NoLibrary = lit≤ tt
-shallow refusal.NoCall = lit≤ tt
-shallow refusal.BadMethod = lit≤ tt
-shallow refusal.BadQuery = lit≤ tt
-shallow (refusal.BadBody at) = lit≤ tt
-shallow refusal.Denied = lit≤ tt
-shallow (refusal.NoObject key) = lit≤ tt
-shallow (refusal.Wrong got) = lit≤ tt
-shallow (refusal.BadFs code) = lit≤ tt
-shallow (refusal.BadCommit code) = lit≤ tt
-shallow (refusal.OtherLibrary lib) = lit≤ tt
-shallow (refusal.Taken id) = lit≤ tt
-shallow (refusal.Stale last now) = lit≤ tt
-shallow (refusal.Incomplete key) = lit≤ tt
-shallow (refusal.Unrelated count) = lit≤ tt
-shallow (refusal.Unreadable key) = lit≤ tt
-shallow (refusal.WrongKind id) = lit≤ tt
-shallow (refusal.WrongSize id) = lit≤ tt
-shallow (refusal.TooDeep path) = lit≤ tt
-shallow (refusal.TooMany count) = lit≤ tt
-shallow (refusal.TooLong path size) = lit≤ tt
-shallow refusal.Store = lit≤ tt
-shallow refusal.Spent = lit≤ tt
-shallow refusal.NoMemory = lit≤ tt
 shallow (refusal.Damaged want None) = lit≤ tt
 shallow (refusal.Damaged want (Some got)) = lit≤ tt
-shallow (refusal.BadDays days) = lit≤ tt
+shallow other = lit≤ tt
 
 told : (order : What) (why : Refusal) → can_refuse order why ≡ true → NamesThings why → IsSpoken why → TellsWhy order (refused_status why) (refused_body why) why
 unfolding refused_body
