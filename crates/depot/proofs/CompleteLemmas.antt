@@ -6,7 +6,7 @@ use Rattle.object_graph.specs.declared.fault.TreeFault.{TreeFault}
 use Rattle.object_store.specs.Shelf.{GivesNoMore}
 use Rattle.object_store.specs.StoreView.{Index}
 use Rattle.object_store.specs.declared.error.StoreFault.{StoreFault}
-use Rattle.object_store.specs.declared.error.StoreFault.TheVariants.{Taken, Wrong, Damaged, Shelf, NoMemory}
+use Rattle.object_store.specs.declared.error.StoreFault.TheVariants.{Damaged}
 use Rattle.object_store.specs.declared.shelf.Slot.{Slot}
 use Rattle.object_store.specs.declared.shelf.Slot.TheVariants.{Object}
 use Rattle.tree_walk.specs.Reading.{IsCause, IsDue, IsReadFault as IsWalkReadFault, IsStoreDue, is_counted}
@@ -19,65 +19,38 @@ use Rattle.depot.specs.declared.error.StartFault.{StartFault}
 use Rattle.depot.specs.declared.error.StartFault.TheVariants as start
 
 store_due : (objects : Objects) (fault : StoreFault) → IsStoreDue objects fault → IsToldFault objects fault
-store_due objects (Taken id) is = absurd is
-store_due objects (Wrong id) is = absurd is
 store_due objects (Damaged want got) is = is
-store_due objects Shelf is = tt
-store_due objects NoMemory is = tt
+store_due objects other is = is
 
 -- the fault that is due, or one of the store
 pub checked_fault : (objects : Objects) (due : Option TreeFault) (fault : WalkFault) → IsDue objects due fault → ChecksSo objects due (Err (check_fault_of fault))
-checked_fault objects due (walk.Incomplete key) is = is
-checked_fault objects due (walk.Unreadable key) is = is
-checked_fault objects due (walk.WrongKind id) is = is
-checked_fault objects due (walk.WrongSize id) is = is
-checked_fault objects due (walk.TooDeep path) is = is
-checked_fault objects due (walk.TooMany paths) is = is
 checked_fault objects due (walk.Store fault) is = store_due objects fault is
+checked_fault objects due other is = is
 
 read_cause : (index : Index) (may_give : Slot → Option (List ℕ) → Type 0) (fault : StoreFault) → IsWalkReadFault index may_give fault → IsReadFault may_give fault
-read_cause index may_give (Taken id) is = absurd is
-read_cause index may_give (Wrong id) is = absurd is
 read_cause index may_give (Damaged want got) is = (is.key, is.damage)
-read_cause index may_give Shelf is = tt
-read_cause index may_give NoMemory is = tt
+read_cause index may_give other is = is
 
 -- its cause
 pub checked_cause : (index : Index) (may_give : Slot → Option (List ℕ) → Type 0) (fault : WalkFault) → IsCause index may_give fault → IsCheckFault may_give (check_fault_of fault)
-checked_cause index may_give (walk.Incomplete key) is = tt
-checked_cause index may_give (walk.Unreadable key) is = tt
-checked_cause index may_give (walk.WrongKind id) is = tt
-checked_cause index may_give (walk.WrongSize id) is = tt
-checked_cause index may_give (walk.TooDeep path) is = tt
-checked_cause index may_give (walk.TooMany paths) is = tt
 checked_cause index may_give (walk.Store fault) is = read_cause index may_give fault is
+checked_cause index may_give other is = tt
 
 -- what a shelf may give after a call that reads it might give before
 pub damage_before : {before now : Slot → Option (List ℕ) → Type 0} (fault : StoreFault) → GivesNoMore before now → IsReadFault now fault → IsReadFault before fault
-damage_before (Taken id) gives is = absurd is
-damage_before (Wrong id) gives is = absurd is
 damage_before (Damaged want got) gives (key, damage) =
     (key, record { given = damage.given; gives = gives (Object key) damage.given damage.gives; named = damage.named; other = damage.other })
-damage_before Shelf gives is = tt
-damage_before NoMemory gives is = tt
+damage_before other gives is = is
 
 pub cause_before : {before now : Slot → Option (List ℕ) → Type 0} (fault : CheckFault) → GivesNoMore before now → IsCheckFault now fault → IsCheckFault before fault
 cause_before (check.Tree fault) gives is = tt
 cause_before (check.Store fault) gives is = damage_before fault gives is
 
 pub start_before : {before now : Slot → Option (List ℕ) → Type 0} (state : LibState) (fault : StartFault) → GivesNoMore before now → IsStateFault state now fault → IsStateFault state before fault
-start_before state start.NoState gives is = is
-start_before state (start.BadState key) gives is = is
-start_before state start.Worn gives is = is
-start_before state (start.Walk fault) gives is = tt
 start_before state (start.Store fault) gives is = damage_before fault gives is
+start_before state other gives is = is
 
 -- and the count
 pub checked_count : (fault : WalkFault) → is_check_counted (check_fault_of fault) ≡ is_counted fault
-checked_count (walk.Incomplete key) = refl
-checked_count (walk.Unreadable key) = refl
-checked_count (walk.WrongKind id) = refl
-checked_count (walk.WrongSize id) = refl
-checked_count (walk.TooDeep path) = refl
-checked_count (walk.TooMany paths) = refl
 checked_count (walk.Store fault) = refl
+checked_count other = refl

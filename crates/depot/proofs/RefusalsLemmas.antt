@@ -23,38 +23,25 @@ use Rattle.depot.proofs.AnsweringLemmas.{damage_other}
 -- ---- of a store
 
 pub store_told : (objects : Objects) (fault : StoreFault) → IsStoreDue objects fault → IsToldRefusal objects (store_refusal fault)
-store_told objects (store.Taken id) is = absurd is
-store_told objects (store.Wrong id) is = absurd is
 store_told objects (store.Damaged want got) is = is
-store_told objects store.Shelf is = tt
-store_told objects store.NoMemory is = tt
+store_told objects other is = is
 
 -- a free fault is one of the store's that may come in any place
 pub free_told : (o : Objects) (fault : StoreFault) → IsTrue (is_free fault) → IsToldRefusal o (store_refusal fault)
-free_told o (store.Taken id) free = absurd (true≢false (sym free))
-free_told o (store.Wrong id) free = absurd (true≢false (sym free))
-free_told o (store.Damaged want got) free = absurd (true≢false (sym free))
 free_told o store.Shelf free = tt
 free_told o store.NoMemory free = tt
+free_told o other free = absurd (true≢false (sym free))
 
 pub counted_same : (fault : StoreFault) → is_of_shelf fault ≡ is_of_store (store_refusal fault)
-counted_same (store.Taken id) = refl
-counted_same (store.Wrong id) = refl
-counted_same (store.Damaged want got) = refl
 counted_same store.Shelf = refl
-counted_same store.NoMemory = refl
+counted_same other = refl
 
 -- ---- of a reading
 
 -- where no fault is due
 pub none_due : (objects : Objects) (fault : WalkFault) → IsDue objects None fault → IsToldRefusal objects (walk_refusal fault)
-none_due objects (walk.Incomplete key) is = cc
-none_due objects (walk.Unreadable key) is = cc
-none_due objects (walk.WrongKind id) is = cc
-none_due objects (walk.WrongSize id) is = cc
-none_due objects (walk.TooDeep path) is = cc
-none_due objects (walk.TooMany paths) is = cc
 none_due objects (walk.Store fault) is = store_told objects fault is
+none_due objects other is = cc
 
 -- where one is due
 pub one_due : (objects : Objects) (due : TreeFault) (fault : WalkFault) → IsDue objects (Some due) fault
@@ -73,13 +60,8 @@ told_damage objects other is = tt
 
 -- the first fault of a commit isn't damage, unless the store tells it
 pub walk_not_damaged : (objects : Objects) (o : Option TreeFault) (fault : WalkFault) → IsDue objects o fault → IsToldDamageOf objects (walk_refusal fault)
-walk_not_damaged objects o (walk.Incomplete key) is = tt
-walk_not_damaged objects o (walk.Unreadable key) is = tt
-walk_not_damaged objects o (walk.WrongKind id) is = tt
-walk_not_damaged objects o (walk.WrongSize id) is = tt
-walk_not_damaged objects o (walk.TooDeep path) is = tt
-walk_not_damaged objects o (walk.TooMany paths) is = tt
 walk_not_damaged objects o (walk.Store fault) is = told_damage objects (store_refusal fault) (store_told objects fault is)
+walk_not_damaged objects o other is = tt
 
 -- ---- over any shelf
 
@@ -94,12 +76,8 @@ module _ (index : Index) (may_give : Slot → Option (List ℕ) → Type 0) wher
   -- a fault of a reading may refuse a list
   pub walked_cause : (fault : WalkFault) → IsCause index may_give fault → MayRefuseTree index may_give (walk_refusal fault)
   walked_cause (walk.Incomplete key) is = ap is_some is
-  walked_cause (walk.Unreadable key) is = tt
-  walked_cause (walk.WrongKind id) is = tt
-  walked_cause (walk.WrongSize id) is = tt
-  walked_cause (walk.TooDeep path) is = tt
-  walked_cause (walk.TooMany paths) is = tt
   walked_cause (walk.Store fault) is = store_cause fault is
+  walked_cause other is = tt
 
   tree_updates : (why : Refusal) → MayRefuseTree index may_give why → MayRefuseUpdate index may_give why
   tree_updates (refusal.Unrelated steps) is = tt
@@ -112,10 +90,5 @@ module _ (index : Index) (may_give : Slot → Option (List ℕ) → Type 0) wher
   may_refuse fault is = tree_updates (walk_refusal fault) (walked_cause fault is)
 
 pub counted_alike : (fault : WalkFault) → is_counted fault ≡ is_of_store (walk_refusal fault)
-counted_alike (walk.Incomplete key) = refl
-counted_alike (walk.Unreadable key) = refl
-counted_alike (walk.WrongKind id) = refl
-counted_alike (walk.WrongSize id) = refl
-counted_alike (walk.TooDeep path) = refl
-counted_alike (walk.TooMany paths) = refl
 counted_alike (walk.Store fault) = counted_same fault
+counted_alike other = refl

@@ -21,7 +21,7 @@ use Rattle.object_store.specs.StoreView.{AddsNoStray, StoreView, objects_of, sta
 use Rattle.object_store.specs.declared.error.StoreFault.{StoreFault}
 use Rattle.object_store.specs.declared.error.StoreFault.TheVariants.{Taken, Wrong, Damaged, Shelf, NoMemory}
 use Rattle.object_store.specs.declared.shelf.Slot.{Slot as ShelfSlot}
-use Rattle.depot.specs.Answering.{AnswersBySome, MayAnswer, MayAnswerSo, Serves, Would, decided, is_free_reply, next_state, refused, rewritten, unwritten}
+use Rattle.depot.specs.Answering.{AnswersBySome, MayAnswer, MayAnswerSo, Serves, SlotSo, Would, decided, is_free_reply, next_state, refused, rewritten, unwritten}
 use Rattle.depot.specs.Changing.{TextSo, same, changed}
 use Rattle.depot.specs.DepotView.{at_rest, DepotView, library, state_of, IsGood}
 use Rattle.depot.specs.ObjectCalls.{Counts, IsFault, IsToldDamage, is_counted}
@@ -155,33 +155,34 @@ module _ {S : Type 0} (contents : S → Option Contents) (may_give : S → Shelf
     slot = refused fault refl said plain would (λ same. apart (sym is_next ∙ same)) (subst (λ st. LeftBy fault old.unsettled old.state st (status_of contents old.store) still (status_of contents store)) (sym is_next) writes);
   }
 
+  -- an answer that is no refusal, where it and the slot are told so
+  served : state ≡ next → faults store.shelf ≡ faults old.store.shelf
+      → ((s : State) → state_of contents faults (at_rest old) ≡ Some s → AnswersBySome s call moment said (state_of contents faults (record { store = store; state = state; unsettled = still; running = None })))
+      → SlotSo (Would contents faults (at_rest old) call moment) call moment said old.unsettled old.state (status_of contents old.store) still state (status_of contents store)
+      (texts old.store.shelf) (texts store.shelf)
+      → Serves contents may_give texts faults (at_rest old) call moment said (record { store = store; state = state; unsettled = still; running = None })
+  served ok count answers slot = record {
+    told = answers;
+    may_come = subst (λ o. MayAnswer old.store.index (may_give store.shelf) call.act o said) (sym is_decided) (inl refl);
+    damage = λ objects told. told_no_damage objects said plain;
+    count = ok_counts count;
+    left = ok_left ok;
+    fresh = refl;
+    lying = λ _. lying;
+    slot = slot;
+  }
+
   -- an answer, or a failure of the shelf or want of memory
   pub serves_changed : (result : Result ⊤ StoreFault) → OnOk result (state ≡ next) → OnErr result (state ≡ old.state)
       → TextSo old.unsettled old.state next (status_of contents old.store) still (status_of contents store) result
       (texts old.store.shelf) (texts store.shelf)
       → CountsShelf (faults old.store.shelf) (faults store.shelf) result
       → Serves contents may_give texts faults (at_rest old) call moment (answer_of said result) (record { store = store; state = state; unsettled = still; running = None })
-  serves_changed (Ok done) ok err (same is settles text written good) count = record {
-    told = read_by is count ok;
-    may_come = subst (λ o. MayAnswer old.store.index (may_give store.shelf) call.act o said) (sym is_decided) (inl refl);
-    damage = λ objects told. told_no_damage objects said plain;
-    count = ok_counts count;
-    left = ok_left ok;
-    fresh = refl;
-    lying = λ _. lying;
-    slot = unwritten (ok ∙ is) settles text written;
-  }
-  serves_changed (Ok done) ok err (changed apart writes) count = record {
-    told = entered_by apart count ok;
-    may_come = subst (λ o. MayAnswer old.store.index (may_give store.shelf) call.act o said) (sym is_decided) (inl refl);
-    damage = λ objects told. told_no_damage objects said plain;
-    count = ok_counts count;
-    left = ok_left ok;
-    fresh = refl;
-    lying = λ _. lying;
-    slot = rewritten plain (λ stays. apart (sym ok ∙ stays)) writes.0
-        (subst (λ st. IsWritten st (settled old.unsettled old.state (status_of contents old.store)) (status_of contents store)) (sym ok) writes.1);
-  }
+  serves_changed (Ok done) ok err (same is settles text written good) count = served ok count (read_by is count ok) (unwritten (ok ∙ is) settles text written)
+  serves_changed (Ok done) ok err (changed apart writes) count =
+      served ok count (entered_by apart count ok)
+      (rewritten plain (λ stays. apart (sym ok ∙ stays)) writes.0
+      (subst (λ st. IsWritten st (settled old.unsettled old.state (status_of contents old.store)) (status_of contents store)) (sym ok) writes.1))
   serves_changed (Err Shelf) ok err (same is settles text written good) count = cc
   serves_changed (Err NoMemory) ok err (same is settles text written good) count = cc
   serves_changed (Err (Taken id)) ok err (same is settles text written good) count = cc
