@@ -201,14 +201,7 @@ module _ (s : State) (call : Call) (moment : ℕ) (may_do : due s call ≢ Denie
               };
             },
           )
-  fault_answers reply.Checked now is counts = absurd is
-  fault_answers (reply.HeadIs id) now is counts = absurd is
-  fault_answers (reply.Got bytes) now is counts = absurd is
-  fault_answers (reply.Stored new) now is counts = absurd is
-  fault_answers (reply.Absent ids) now is counts = absurd is
-  fault_answers (reply.Updated id) now is counts = absurd is
-  fault_answers reply.Limited now is counts = absurd is
-  fault_answers (reply.Listed ids) now is counts = absurd is
+  fault_answers other now is counts = absurd is
 
 -- ---- an object more
 
@@ -263,14 +256,7 @@ counted_fault objects (reply.Refused why) e = by why e
     by : (w : Refusal) → is_of_store w ≡ true → IsToldRefusal objects w
     by refusal.Store e = tt
     by other e = absurd (true≢false (sym e))
-counted_fault objects reply.Checked e = absurd (true≢false (sym e))
-counted_fault objects (reply.HeadIs id) e = absurd (true≢false (sym e))
-counted_fault objects (reply.Got bytes) e = absurd (true≢false (sym e))
-counted_fault objects (reply.Stored new) e = absurd (true≢false (sym e))
-counted_fault objects (reply.Absent ids) e = absurd (true≢false (sym e))
-counted_fault objects (reply.Updated id) e = absurd (true≢false (sym e))
-counted_fault objects reply.Limited e = absurd (true≢false (sym e))
-counted_fault objects (reply.Listed ids) e = absurd (true≢false (sym e))
+counted_fault objects other e = absurd (true≢false (sym e))
 
 -- an answer that is due, or a fault, of a call that changes nothing
 pub said_answers : (s : State) (call : Call) (moment : ℕ) (said r : Reply) (now : ℕ) → due s call ≡ Says said → step_changes moment (step.Asked call) said s ≡ s

@@ -37,25 +37,11 @@ use Rattle.depot.proofs.ServingLemmas.{of_told}
 
 told_no_damage : (objects : Objects) (said : Reply) → is_refused said ≡ false → IsToldDamage objects said
 told_no_damage objects (reply.Refused why) e = absurd (true≢false e)
-told_no_damage objects reply.Checked e = tt
-told_no_damage objects (reply.HeadIs id) e = tt
-told_no_damage objects (reply.Got bytes) e = tt
-told_no_damage objects (reply.Stored new) e = tt
-told_no_damage objects (reply.Absent ids) e = tt
-told_no_damage objects (reply.Updated id) e = tt
-told_no_damage objects reply.Limited e = tt
-told_no_damage objects (reply.Listed ids) e = tt
+told_no_damage objects other e = tt
 
 plain_not_counted : (said : Reply) → is_refused said ≡ false → is_counted said ≡ false
 plain_not_counted (reply.Refused why) e = absurd (true≢false e)
-plain_not_counted reply.Checked e = refl
-plain_not_counted (reply.HeadIs id) e = refl
-plain_not_counted (reply.Got bytes) e = refl
-plain_not_counted (reply.Stored new) e = refl
-plain_not_counted (reply.Absent ids) e = refl
-plain_not_counted (reply.Updated id) e = refl
-plain_not_counted reply.Limited e = refl
-plain_not_counted (reply.Listed ids) e = refl
+plain_not_counted other e = refl
 
 says_not_denied : (said : Reply) → Says said ≡ Denies → ⊥
 says_not_denied said e = cc

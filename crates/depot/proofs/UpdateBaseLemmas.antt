@@ -117,11 +117,7 @@ NotDamaged objects (NoBase why) = IsToldDamageOf objects why
 
 tree_not_damaged : (objects : Objects) (fault : TreeFault) → IsToldDamageOf objects (refusal_of fault)
 tree_not_damaged objects (tree.Incomplete key) = tt
-tree_not_damaged objects (tree.Unreadable key) = tt
-tree_not_damaged objects (tree.WrongKind id) = tt
-tree_not_damaged objects (tree.WrongSize id) = tt
-tree_not_damaged objects (tree.TooDeep path) = tt
-tree_not_damaged objects (tree.TooMany paths) = tt
+tree_not_damaged objects other = tt
 
 module _ (s : State) where
   if_not_damaged : (b : Bool) (id : List ℕ) (other : Based) → NotDamaged s.objects other → NotDamaged s.objects (cond b (Base id) other)

@@ -97,29 +97,5 @@ told order why can named said = record {
 
 pub refusal_read : (order : What) (why : Refusal) → can_refuse order why ≡ true → NamesThings why → IsSpoken why
     → IsOutcome order (refused_status why) (refused_body why) (Some (Refused why))
-refusal_read order refusal.NoLibrary can named said = told order refusal.NoLibrary can named said
-refusal_read order refusal.NoCall can named said = told order refusal.NoCall can named said
-refusal_read order refusal.BadMethod can named said = told order refusal.BadMethod can named said
-refusal_read order refusal.BadQuery can named said = told order refusal.BadQuery can named said
-refusal_read order (refusal.BadBody at) can named said = told order (refusal.BadBody at) can named said
-refusal_read order refusal.Denied can named said = told order refusal.Denied can named said
-refusal_read order (refusal.NoObject key) can named said = told order (refusal.NoObject key) can named said
-refusal_read order (refusal.Wrong got) can named said = told order (refusal.Wrong got) can named said
-refusal_read order (refusal.BadFs code) can named said = told order (refusal.BadFs code) can named said
-refusal_read order (refusal.BadCommit code) can named said = told order (refusal.BadCommit code) can named said
-refusal_read order (refusal.OtherLibrary lib) can named said = told order (refusal.OtherLibrary lib) can named said
-refusal_read order (refusal.Taken id) can named said = told order (refusal.Taken id) can named said
-refusal_read order (refusal.Stale last now) can named said = told order (refusal.Stale last now) can named said
-refusal_read order (refusal.Incomplete key) can named said = told order (refusal.Incomplete key) can named said
-refusal_read order (refusal.Unrelated count) can named said = told order (refusal.Unrelated count) can named said
-refusal_read order (refusal.Unreadable key) can named said = told order (refusal.Unreadable key) can named said
-refusal_read order (refusal.WrongKind id) can named said = told order (refusal.WrongKind id) can named said
-refusal_read order (refusal.WrongSize id) can named said = told order (refusal.WrongSize id) can named said
-refusal_read order (refusal.TooDeep path) can named said = told order (refusal.TooDeep path) can named said
-refusal_read order (refusal.TooMany count) can named said = told order (refusal.TooMany count) can named said
-refusal_read order (refusal.TooLong path size) can named said = told order (refusal.TooLong path size) can named said
-refusal_read order refusal.Store can named said = told order refusal.Store can named said
-refusal_read order refusal.Spent can named said = told order refusal.Spent can named said
-refusal_read order refusal.NoMemory can named said = told order refusal.NoMemory can named said
-refusal_read order (refusal.Damaged want got) can named said = told order (refusal.Damaged want got) can named said
 refusal_read order (refusal.BadDays days) can named said = absurd (false≢true can)
+refusal_read order other can named said = told order other can named said

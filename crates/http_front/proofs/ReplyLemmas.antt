@@ -15,33 +15,10 @@ use Rattle.json_words.proofs.FoundLemmas.{is_float-of_integer}
 use Rattle.json_words.proofs.WrittenLemmas.{no_float_ids}
 
 pub no_float : (refusal : Refusal) → has_float (refused_data refusal) ≡ false
-no_float refusal.NoLibrary = refl
-no_float refusal.NoCall = refl
-no_float refusal.BadMethod = refl
-no_float refusal.BadQuery = refl
-no_float (refusal.BadBody at) = refl
-no_float refusal.Denied = refl
-no_float (refusal.NoObject key) = refl
-no_float (refusal.Wrong got) = refl
-no_float (refusal.BadFs code) = refl
-no_float (refusal.BadCommit code) = refl
-no_float (refusal.OtherLibrary lib) = refl
-no_float (refusal.Taken id) = refl
-no_float (refusal.Stale last now) = refl
-no_float (refusal.Incomplete key) = refl
-no_float (refusal.Unrelated count) = refl
-no_float (refusal.Unreadable key) = refl
-no_float (refusal.WrongKind id) = refl
-no_float (refusal.WrongSize id) = refl
-no_float (refusal.TooDeep path) = refl
-no_float (refusal.TooMany count) = refl
-no_float (refusal.TooLong path size) = refl
 no_float (refusal.BadDays days) = rw (is_float-of_integer days)
 no_float (refusal.Damaged want None) = refl
 no_float (refusal.Damaged want (Some got)) = refl
-no_float refusal.Store = refl
-no_float refusal.Spent = refl
-no_float refusal.NoMemory = refl
+no_float other = refl
 
 -- the text of an array of ids
 pub ids_text : (ids : List (List ℕ)) (values : List Value) (d : Data) (bytes : List ℕ) → d ≡ array (items_of (map view values)) → map view values ≡ map id_data ids

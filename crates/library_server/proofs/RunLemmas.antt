@@ -32,22 +32,7 @@ use Rattle.library_server.specs.declared.not_done.NotMade.{NotMade}
 
 no_fault : (why : Fault) → fault_status why ≡ 2 → ⊥
 no_fault fault.NoMemory e = cc
-no_fault fault.LibraryExists e = cc
-no_fault fault.NoLibrary e = cc
-no_fault fault.NoState e = cc
-no_fault (fault.BadState key) e = cc
-no_fault fault.Worn e = cc
-no_fault (fault.Incomplete key) e = cc
-no_fault (fault.Unreadable key) e = cc
-no_fault (fault.WrongKind id) e = cc
-no_fault (fault.WrongSize id) e = cc
-no_fault fault.TooDeep e = cc
-no_fault fault.TooMany e = cc
-no_fault (fault.Damaged id) e = cc
-no_fault (fault.Taken id) e = cc
-no_fault fault.SecretTaken e = cc
-no_fault fault.TokensFull e = cc
-no_fault fault.Store e = cc
+no_fault other e = cc
 
 no_creation : (lib : List ℕ) (created : Result (List ℕ) NotMade) → line_status (created_line lib created) ≡ 2 → ⊥
 no_creation lib (Ok head) e = cc
@@ -59,12 +44,7 @@ no_addition (Err why) e = no_fault (fault_of_not_added why) e
 
 no_end : (how : Served) → status_of how ≡ 2 → ⊥
 no_end served.Ended e = cc
-no_end served.Limit e = cc
-no_end (served.Cut read) e = cc
-no_end (served.Refused status) e = cc
-no_end served.ReadFault e = cc
-no_end served.WriteFault e = cc
-no_end served.NoMemory e = cc
+no_end other e = cc
 
 -- what was put with another status than that of its text failed
 no_print : (printed : Printed) (before now : SinkView) (status : ℕ) → PrintsSo printed before now status → (printed.status ≡ 2 → ⊥) → status ≡ 2 → ⊥

@@ -141,11 +141,7 @@ new_names id bytes = names_new no_objects (record { key = commit_key id; bytes =
 
 tree_whole : (why : TreeFault) → is_storage_fault (fault_of_tree why) ≡ false
 tree_whole (tree.Incomplete key) = refl
-tree_whole (tree.Unreadable key) = refl
-tree_whole (tree.WrongKind id) = refl
-tree_whole (tree.WrongSize id) = refl
-tree_whole (tree.TooDeep path) = refl
-tree_whole (tree.TooMany paths) = refl
+tree_whole other = refl
 
 abbrev IsOfText : NotStarted → Type 0
 IsOfText why = is_storage_fault (fault_of_not_started why) ≡ false
