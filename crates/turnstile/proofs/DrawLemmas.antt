@@ -15,7 +15,7 @@ use Rattle.turnstile.specs.declared.view.About.{About}
 use Rattle.turnstile.specs.Rule.{most_turns, parts_in, turns_in, Fits, IsLawful}
 use Rattle.turnstile.specs.Steps.{Participant, Drew}
 use Rattle.turnstile.proofs.ListsLemmas.{prefix_refl}
-use Rattle.turnstile.proofs.RuleLemmas.{pinned, pinned-here, pinned-else, total-set, total-at, each_set, inside, made_set, out_set, still, place_set, alone}
+use Rattle.turnstile.proofs.RuleLemmas.{pinned, pinned-here, pinned-else, total-set, total-at, each_set, inside, made_set, out_set, still, place_set, moves, alone}
 
 module _ {V E : Type 0} (stands : V → List E → V → Type 0) (k : About V) where
   abbrev Rule : State (Parcel V E) (View V E) → Type 0
@@ -44,18 +44,8 @@ module _ {V E : Type 0} (stands : V → List E → V → Type 0) (k : About V) w
         parts = omega arith;
         turns = omega arith;
         each = each_set (Fits k r.history r.serving next owner r.maker) s.views id w
-            record {
-              ticketed = λ t e. let same : t ≡ guess = cc in (omega arith, omega arith, pinned-here r.owner guess id t same);
-              turning = λ e. absurd (cc);
-              seen_first = f.seen_first;
-              other_first = f.other_first;
-              looked_below = f.looked_below;
-              drawn_below = omega arith;
-              booked = f.booked;
-              once = f.once;
-              spent = f.spent;
-              started = f.started;
-            }
+            (moves f r.serving next owner (Some guess) v.turn v.told (v.turns + 1) guess v.looked v.looks
+            (λ t e. let same : t ≡ guess = cc in (omega arith, omega arith, pinned-here r.owner guess id t same)) (λ e. absurd (cc)) f.looked_below (omega arith) f.spent)
             (λ j u other e. still k r.history r.history r.serving r.serving r.drawn next r.owner owner r.maker r.maker j u (prefix_refl r.history) (omega arith) (λ _. (refl, refl))
             (λ t low high own. (low, pinned-else r.owner guess id t (λ z. omega arith) ∙ own)) (λ p _ own. own) (r.each j u e));
         out = λ t low high. dite (ℕ_discrete t guess)
@@ -72,18 +62,7 @@ module _ {V E : Type 0} (stands : V → List E → V → Type 0) (k : About V) w
   drawn_none s r id n v is at ws same =
       let f = r.each id v at in
       alone stands k s r id v (record v { drawn = n }) at
-      record {
-        ticketed = f.ticketed;
-        turning = f.turning;
-        seen_first = f.seen_first;
-        other_first = f.other_first;
-        looked_below = f.looked_below;
-        drawn_below = omega arith;
-        booked = f.booked;
-        once = f.once;
-        spent = f.spent;
-        started = f.started;
-      }
+      (moves f r.serving r.drawn r.owner v.ticket v.turn v.told v.turns n v.looked v.looks f.ticketed f.turning f.looked_below (omega arith) f.spent)
       refl refl refl refl refl (λ p h. h) ws same
 
   pub draws : (slots id guess next : ℕ) (me : Participant V E) → guess < most_turns → next ≡ guess + 1 → me.0.ticket ≡ None → me.0.turn ≡ false → 0 < me.0.parts

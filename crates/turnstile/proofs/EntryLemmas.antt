@@ -17,7 +17,7 @@ use Rattle.turnstile.specs.Rule.{parts_in, turns_in, Fits, IsLawful}
 use Rattle.turnstile.specs.Rule.Place.{away}
 use Rattle.turnstile.specs.Steps.{Participant, carried_entries, Published, Counted, Glanced, Totalled}
 use Rattle.turnstile.proofs.ListsLemmas.{prefix_refl, prefix_length, prefix_between, Has-left, Has-right, Has-append, IsOnce-append}
-use Rattle.turnstile.proofs.RuleLemmas.{pinned, pinned-here, pinned-else, total-set, total-at, each_set, inside, made_set, out_set, still, one_turn, alone, from_home}
+use Rattle.turnstile.proofs.RuleLemmas.{pinned, pinned-here, pinned-else, total-set, total-at, each_set, inside, made_set, out_set, still, one_turn, moves, alone, from_home}
 
 module _ {V E : Type 0} (stands : V → List E → V → Type 0) (k : About V) where
   abbrev Rule : State (Parcel V E) (View V E) → Type 0
@@ -131,18 +131,8 @@ module _ {V E : Type 0} (stands : V → List E → V → Type 0) (k : About V) w
       let looked = f.looked_below in
       let first = prefix_length me.0.seen r.history f.seen_first in
       let w : View V E = record me.0 { looked = n; looks = me.0.looks + 1 } in
-      let fits : Fits k r.history r.serving r.drawn r.owner r.maker id w = record {
-        ticketed = f.ticketed;
-        turning = f.turning;
-        seen_first = f.seen_first;
-        other_first = f.other_first;
-        looked_below = omega arith;
-        drawn_below = f.drawn_below;
-        booked = f.booked;
-        once = f.once;
-        spent = f.spent;
-        started = f.started;
-      } in (
+      let fits : Fits k r.history r.serving r.drawn r.owner r.maker id w
+          = moves f r.serving r.drawn r.owner me.0.ticket me.0.turn me.0.told me.0.turns me.0.drawn n (me.0.looks + 1) f.ticketed f.turning (omega arith) f.drawn_below f.spent in (
         w,
         keeps,
         tt,

@@ -1,6 +1,6 @@
--- What of the rule stays when one view changes. The key lemmas are still (another participant), each_set, made_set, place_set and alone (only one view's own fields move).
+-- What of the rule stays when one view changes. The key lemmas are still (another participant), moves (the one itself), each_set, made_set, place_set and alone (only one view's own fields move).
 use Rattle.std.proofs.Common.{Bool, eqb, eq-eqb, ne_eqb, ◌≡◌, ◌≢◌, ℕ, zero, suc, ◌+◌, ◌*◌, ◌<◌, ◌≤◌, ⊎_elim, true, false, List, [], ◌∷◌, ◌++◌, length, set, refl, sym, ◌∙◌, ap, subst, arith}
-use Rattle.std.specs.Prelude.{Some, if◌then◌else◌}
+use Rattle.std.specs.Prelude.{Option, Some, if◌then◌else◌}
 use mathlib.Core.Option.{Option as Home, some, none, some-injective, some-ne-none}
 use mathlib.Core.List.{IsPrefix}
 use mathlib.Core.Logic.{dite}
@@ -112,6 +112,26 @@ module _ {V E : Type 0} where
         spent = f.spent;
         started = f.started;
       }
+
+  -- the participant itself still fits, where its ticket, its turn and its numbers change: what it has seen and its book stay
+  pub moves : {k : About V} {history : List E} {serving drawn : ℕ} {owner maker : ℕ → ℕ} {i : ℕ} {v : View V E} → Fits k history serving drawn owner maker i v
+      → (serving' drawn' : ℕ) (owner' : ℕ → ℕ) (ticket : Option ℕ) (turn : Bool) (told turns read looked looks : ℕ)
+      → ((t : ℕ) → ticket ≡ Some t → (serving' ≤ t) × (t < drawn') × (owner' t ≡ i))
+      → (turn ≡ true → (ticket ≡ Some serving') × (v.seen ≡ history))
+      → looked ≤ length history → read ≤ drawn' → (v.parts ≡ 0 → (v.book ≡ []) × (turn ≡ false))
+      → Fits k history serving' drawn' owner' maker i (record v { ticket = ticket; turn = turn; told = told; turns = turns; drawn = read; looked = looked; looks = looks })
+  moves f serving' drawn' owner' ticket turn told turns read looked looks ticketed turning looked_below drawn_below spent = record {
+    ticketed = ticketed;
+    turning = turning;
+    seen_first = f.seen_first;
+    other_first = f.other_first;
+    looked_below = looked_below;
+    drawn_below = drawn_below;
+    booked = f.booked;
+    once = f.once;
+    spent = spent;
+    started = f.started;
+  }
 
   module _ (stands : V → List E → V → Type 0) where
     -- the place of the slot, where the view that changes has the turn exactly as before

@@ -1,5 +1,5 @@
 -- The steps that begin and end a turn keep the rule: looks and releases are what each owes.
-use Rattle.std.proofs.Common.{◌≡◌, ◌≢◌, ℕ, ◌+◌, ◌*◌, ◌%◌, ◌^◌, ◌<◌, ◌≤◌, Bool, true, false, List, [], ◌∷◌, length, set, get_or, refl, sym, ◌∙◌, ap, subst, arith, le_refl}
+use Rattle.std.proofs.Common.{◌≡◌, ◌≢◌, ℕ, ◌+◌, ◌*◌, ◌%◌, ◌^◌, ◌<◌, ◌≤◌, true, false, List, [], ◌∷◌, length, set, get_or, refl, sym, ◌∙◌, ap, subst, arith, le_refl}
 use Rattle.std.proofs.Math.Nat.{mod-eq_of_lt}
 use Rattle.std.specs.Prelude.{Option, Some, None}
 use mathlib.Core.Option.{Option as Home, some, none}
@@ -16,7 +16,7 @@ use Rattle.turnstile.specs.Rule.{parts_in, turns_in, IsFree, Fits, IsLawful}
 use Rattle.turnstile.specs.Rule.Place.{home, away}
 use Rattle.turnstile.specs.Steps.{Participant, Looked, Released}
 use Rattle.turnstile.proofs.ListsLemmas.{prefix_refl, prefix_length}
-use Rattle.turnstile.proofs.RuleLemmas.{total-set, each_set, inside, one_view, made_set, out_set, still, one_turn, alone, at_home, from_home}
+use Rattle.turnstile.proofs.RuleLemmas.{total-set, each_set, inside, one_view, made_set, out_set, still, one_turn, moves, alone, at_home, from_home}
 use Rattle.std.proofs.lemmas.Bool.{false_from_ne_true}
 
 dec_ticket : (o : Option ℕ) (n : ℕ) → Dec (o ≡ Some n)
@@ -135,18 +135,8 @@ module _ {V E : Type 0} (stands : V → List E → V → Type 0) (k : About V) w
         parts = omega arith;
         turns = omega arith;
         each = each_set (Fits k r.history (r.serving + 1) r.drawn r.owner r.maker) s.views id w
-            record {
-              ticketed = λ t e. absurd (cc);
-              turning = λ e. absurd (cc);
-              seen_first = f.seen_first;
-              other_first = f.other_first;
-              looked_below = f.looked_below;
-              drawn_below = f.drawn_below;
-              booked = f.booked;
-              once = f.once;
-              spent = λ none_left. absurd (omega arith);
-              started = f.started;
-            }
+            (moves f (r.serving + 1) r.drawn r.owner None false 0 v.turns v.drawn v.looked v.looks
+            (λ t e. absurd (cc)) (λ e. absurd (cc)) f.looked_below f.drawn_below (λ none_left. absurd (omega arith)))
             (λ j u other e. still k r.history r.history r.serving (r.serving + 1) r.drawn r.drawn r.owner r.owner r.maker r.maker j u (prefix_refl r.history) (le_refl r.drawn)
             (λ on. absurd (apart j u other e on))
             (λ t low high its. dite (ℕ_discrete t r.serving)
