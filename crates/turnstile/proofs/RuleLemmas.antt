@@ -1,4 +1,4 @@
--- What of the rule stays when one view changes. The key lemmas are still (another participant), moves (the one itself), each_set, made_set, place_set and alone (only one view's own fields move).
+-- What of the rule stays when one view changes. The key lemmas are still (another participant), moves (the one itself), each_set, made_set, place_set, one_moves (one view changes) and alone (only its own fields move).
 use Rattle.std.proofs.Common.{Bool, eqb, eq-eqb, ne_eqb, ◌≡◌, ◌≢◌, ℕ, zero, suc, ◌+◌, ◌*◌, ◌<◌, ◌≤◌, ⊎_elim, true, false, List, [], ◌∷◌, ◌++◌, length, set, refl, sym, ◌∙◌, ap, subst, arith}
 use Rattle.std.specs.Prelude.{Option, Some, if◌then◌else◌}
 use mathlib.Core.Option.{Option as Home, some, none, some-injective, some-ne-none}
@@ -154,11 +154,12 @@ module _ {V E : Type 0} where
         let g = r.each j w at' in
         sym ((f.ticketed r.serving (f.turning turn).0).2) ∙ (g.ticketed r.serving (g.turning turn').0).2
 
-    -- the words stay, and one view changes in its own fields alone
-    pub alone : (k : About V) (s : State (Parcel V E) (View V E)) (r : IsLawful stands k s) (i : ℕ) (v w : View V E) → get_elem? s.views i ≡ some v
-        → Fits k r.history r.serving r.drawn r.owner r.maker i w → w.parts ≡ v.parts → w.turns ≡ v.turns → w.ticket ≡ v.ticket → w.turn ≡ v.turn → w.told ≡ v.told → ((p : ℕ) → Has p v.book → Has p w.book)
-        → (ws : List ℕ) → ws ≡ s.words → IsLawful stands k record { words = ws; homes = s.homes; views = set s.views i w }
-    alone k s r i v w at fits parts turns ticket turn told book ws same =
+    -- the words stay, and one view changes, but for its ticket and what is summed up of it; the slot may go elsewhere
+    pub one_moves : (k : About V) (s : State (Parcel V E) (View V E)) (r : IsLawful stands k s) (i : ℕ) (v w : View V E) → get_elem? s.views i ≡ some v
+        → Fits k r.history r.serving r.drawn r.owner r.maker i w → w.parts ≡ v.parts → w.turns ≡ v.turns → w.ticket ≡ v.ticket → ((p : ℕ) → Has p v.book → Has p w.book)
+        → (ws : List ℕ) → ws ≡ s.words → (homes : List (Home (Parcel V E))) → Place stands k.start.value r.history r.serving homes (set s.views i w)
+        → IsLawful stands k record { words = ws; homes = homes; views = set s.views i w }
+    one_moves k s r i v w at fits parts turns ticket book ws same homes place =
         let all = total-set parts_in s.views i v w at in
         let drew = total-set turns_in s.views i v w at in
         let sum = r.parts in
@@ -176,8 +177,16 @@ module _ {V E : Type 0} where
           each = each_set (Fits k r.history r.serving r.drawn r.owner r.maker) s.views i w fits (λ j u _ e. r.each j u e);
           out = λ t low high. out_set s.views i v w at (λ _ e. ticket ∙ e) (r.owner t) t (r.out t low high);
           made = λ p below. made_set s.views i v w at book (r.maker p) p (r.made p below);
-          place = place_set k.start.value r.history r.serving s.homes s.views i v w at turn (λ _. told) r.place;
+          place = place;
         }
+
+    -- the words and the slot stay, and one view changes in its own fields alone
+    pub alone : (k : About V) (s : State (Parcel V E) (View V E)) (r : IsLawful stands k s) (i : ℕ) (v w : View V E) → get_elem? s.views i ≡ some v
+        → Fits k r.history r.serving r.drawn r.owner r.maker i w → w.parts ≡ v.parts → w.turns ≡ v.turns → w.ticket ≡ v.ticket → w.turn ≡ v.turn → w.told ≡ v.told → ((p : ℕ) → Has p v.book → Has p w.book)
+        → (ws : List ℕ) → ws ≡ s.words → IsLawful stands k record { words = ws; homes = s.homes; views = set s.views i w }
+    alone k s r i v w at fits parts turns ticket turn told book ws same =
+        one_moves k s r i v w at fits parts turns ticket book ws same s.homes
+        (place_set k.start.value r.history r.serving s.homes s.views i v w at turn (λ _. told) r.place)
 
     -- where no participant has the turn the slot is at home, and where one has it the slot is away
 

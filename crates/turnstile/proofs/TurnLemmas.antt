@@ -16,7 +16,7 @@ use Rattle.turnstile.specs.Rule.{parts_in, turns_in, IsFree, Fits, IsLawful}
 use Rattle.turnstile.specs.Rule.Place.{home, away}
 use Rattle.turnstile.specs.Steps.{Participant, Looked, Released}
 use Rattle.turnstile.proofs.ListsLemmas.{prefix_refl, prefix_length}
-use Rattle.turnstile.proofs.RuleLemmas.{total-set, each_set, inside, one_view, made_set, out_set, still, one_turn, moves, alone, at_home, from_home}
+use Rattle.turnstile.proofs.RuleLemmas.{total-set, each_set, inside, one_view, made_set, still, one_turn, moves, one_moves, alone, at_home, from_home}
 use Rattle.std.proofs.lemmas.Bool.{false_from_ne_true}
 
 dec_ticket : (o : Option ℕ) (n : ℕ) → Dec (o ≡ Some n)
@@ -45,38 +45,20 @@ module _ {V E : Type 0} (stands : V → List E → V → Type 0) (k : About V) w
       let w : View V E = record v { turn = true; told = 0; seen = r.history } in
       let f = r.each id v at in
       let first = prefix_length v.seen r.history f.seen_first in
-      let all = total-set parts_in s.views id v w at in
-      let drew = total-set turns_in s.views id v w at in
-      let sum = r.parts in
-      let tickets = r.turns in record {
-        history = r.history;
-        serving = r.serving;
-        drawn = r.drawn;
-        owner = r.owner;
-        maker = r.maker;
-        words = same ∙ r.words;
-        order = r.order;
-        top = r.top;
-        parts = omega arith;
-        turns = omega arith;
-        each = each_set (Fits k r.history r.serving r.drawn r.owner r.maker) s.views id w
-            record {
-              ticketed = f.ticketed;
-              turning = λ _. (ticket, refl);
-              seen_first = prefix_refl r.history;
-              other_first = f.other_first;
-              looked_below = f.looked_below;
-              drawn_below = f.drawn_below;
-              booked = λ p h. let o = f.booked p h in let below : p < length v.seen = o.0 in (omega arith, o.1);
-              once = f.once;
-              spent = λ none_left. absurd (omega arith);
-              started = f.started;
-            }
-            (λ j u _ e. r.each j u e);
-        out = λ t low high. out_set s.views id v w at (λ _ e. e) (r.owner t) t (r.out t low high);
-        made = λ p below. made_set s.views id v w at (λ q h. h) (r.maker p) p (r.made p below);
-        place = away id w (ap (λ hs. set hs 0 none) is) (set_here s.views id w (inside s.views id v at)) refl (omega arith) (omega arith);
-      }
+      let fits : Fits k r.history r.serving r.drawn r.owner r.maker id w = record {
+        ticketed = f.ticketed;
+        turning = λ _. (ticket, refl);
+        seen_first = prefix_refl r.history;
+        other_first = f.other_first;
+        looked_below = f.looked_below;
+        drawn_below = f.drawn_below;
+        booked = λ p h. let o = f.booked p h in let below : p < length v.seen = o.0 in (omega arith, o.1);
+        once = f.once;
+        spent = λ none_left. absurd (omega arith);
+        started = f.started;
+      } in
+      one_moves stands k s r id v w at fits refl refl refl (λ q h. h) ws same (set s.homes 0 none)
+      (away id w (ap (λ hs. set hs 0 none) is) (set_here s.views id w (inside s.views id v at)) refl (omega arith) (omega arith))
 
   -- look: whoever's ticket is served gets the turn
   pub looks : (slots id : ℕ) (me : Participant V E) → me.0.turn ≡ false → 0 < me.0.parts
