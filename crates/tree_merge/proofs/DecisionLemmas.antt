@@ -80,6 +80,19 @@ or_none_of : {X : Type 0} (o p : Option X) → p ≡ None → option_or o p ≡ 
 or_none_of None p e = e
 or_none_of (Some x) p e = refl
 
+-- what is told at each path, where it is put at one of the known paths, which had nothing, and told so at the others before
+put_more : {A B : Type 0} (tell : A → B) (path q : PathV) (placed before now : Option A) (told : PathV → Option B) (known : PathV → Bool)
+    → now ≡ (if same_path q path then option_or placed before else before) → (same_path q path ≡ false → option_map tell before ≡ (if known q then told q else None))
+    → (q ≡ path → before ≡ None) → option_map tell placed ≡ told path → known path ≡ true → option_map tell now ≡ (if known q then told q else None)
+put_more tell path q placed before now told known put others waits here there = by (same_path q path) refl
+  where
+    by : (b : Bool) → same_path q path ≡ b → option_map tell now ≡ (if known q then told q else None)
+    by false apart = ap (option_map tell) (put ∙ ap (λ (b : Bool). if b then option_or placed before else before) apart) ∙ others apart
+    by true tie =
+        let is : q ≡ path = same_path-true q path tie in
+        ap (option_map tell) (put ∙ ap (λ (b : Bool). if b then option_or placed before else before) tie ∙ or_none_of placed before (waits is))
+        ∙ here ∙ ap (λ (b : Bool). if b then told path else None) (sym there) ∙ ap (λ (p : PathV). if known p then told p else None) (sym is)
+
 module _ (objects : Objects) (s : Sides) (trees : AreTrees s) (whole : Threes) (seen : AreSeen objects whole s) where
   no_root : map.get whole [] ≡ None
   no_root = none_from_is_some (map.get whole []) (sym (seen.known []) ∙ ap₂ ◌||◌ (ap is_some trees.base.no_root) (ap₂ ◌||◌ (ap is_some trees.head.no_root) (ap is_some trees.pushed.no_root)))
@@ -173,30 +186,12 @@ module _ (objects : Objects) (s : Sides) (trees : AreTrees s) (whole : Threes) (
     gone_before q apart gone = ap (λ (b : Bool). cond b None (map.get rest q)) (sym apart) ∙ sym (popped q) ∙ gone
 
     nodes_more : (q : PathV) → map.get after q ≡ None → option_map (node_of objects) (map.get e.nodes q) ≡ (if in_trees s q then node_at s q else None)
-    nodes_more q gone = by (same_path q path) refl
-      where
-        by : (b : Bool) → same_path q path ≡ b → option_map (node_of objects) (map.get e.nodes q) ≡ (if in_trees s q then node_at s q else None)
-        by false apart =
-            ap (option_map (node_of objects)) (settled.nodes q ∙ ap (λ (b : Bool). if b then option_or placing.node (map.get d.nodes q) else map.get d.nodes q) apart)
-            ∙ so.nodes q (gone_before q apart gone)
-        by true tie =
-            let is : q ≡ path = same_path-true q path tie in
-            ap (option_map (node_of objects)) (settled.nodes q ∙ ap (λ (b : Bool). if b then option_or placing.node (map.get d.nodes q) else map.get d.nodes q) tie
-            ∙ or_none_of placing.node (map.get d.nodes q) (ap (map.get d.nodes) is ∙ waits_here.0))
-            ∙ node_here ∙ ap (λ (b : Bool). if b then node_at s path else None) (sym known_here) ∙ ap (λ (p : PathV). if in_trees s p then node_at s p else None) (sym is)
+    nodes_more q gone = put_more (node_of objects) path q placing.node (map.get d.nodes q) (map.get e.nodes q) (node_at s) (in_trees s) (settled.nodes q)
+        (λ apart. so.nodes q (gone_before q apart gone)) (λ is. ap (map.get d.nodes) is ∙ waits_here.0) node_here known_here
 
     leavers_more : (q : PathV) → map.get after q ≡ None → option_map (version_of objects) (map.get e.leavers q) ≡ (if in_trees s q then leaver_at s q else None)
-    leavers_more q gone = by (same_path q path) refl
-      where
-        by : (b : Bool) → same_path q path ≡ b → option_map (version_of objects) (map.get e.leavers q) ≡ (if in_trees s q then leaver_at s q else None)
-        by false apart =
-            ap (option_map (version_of objects)) (settled.leavers q ∙ ap (λ (b : Bool). if b then option_or placing.leaver (map.get d.leavers q) else map.get d.leavers q) apart)
-            ∙ so.leavers q (gone_before q apart gone)
-        by true tie =
-            let is : q ≡ path = same_path-true q path tie in
-            ap (option_map (version_of objects)) (settled.leavers q ∙ ap (λ (b : Bool). if b then option_or placing.leaver (map.get d.leavers q) else map.get d.leavers q) tie
-            ∙ or_none_of placing.leaver (map.get d.leavers q) (ap (map.get d.leavers) is ∙ waits_here.1))
-            ∙ leaver_here ∙ ap (λ (b : Bool). if b then leaver_at s path else None) (sym known_here) ∙ ap (λ (p : PathV). if in_trees s p then leaver_at s p else None) (sym is)
+    leavers_more q gone = put_more (version_of objects) path q placing.leaver (map.get d.leavers q) (map.get e.leavers q) (leaver_at s) (in_trees s) (settled.leavers q)
+        (λ apart. so.leavers q (gone_before q apart gone)) (λ is. ap (map.get d.leavers) is ∙ waits_here.1) leaver_here known_here
 
     known_at : (q : PathV) → map.get e.known q ≡ cond (same_path q path) (Some tt) (map.get d.known q)
     known_at q = ap (λ (m : Marks). map.get m q) settled.known ∙ get-put d.known path tt q
