@@ -17,6 +17,7 @@ use Rattle.fs_objects.specs.Proper.{IsProperEntry}
 use Rattle.fs_objects.specs.Spelling.{in_written_order}
 use Rattle.fs_objects.specs.declared.dirent.Dirent.{Dirent}
 use Rattle.fs_objects.specs.declared.fs_object.FsObject.TheVariants as fs
+use Rattle.fs_objects.specs.declared.mode.TheConstants.{DIRECTORY_TYPE}
 use Rattle.object_graph.specs.Objects.{fs_key, dirents_at, entry_in, entry_named, entry_of, directory_in}
 use Rattle.object_graph.specs.Unchanged.{Keeps}
 use Rattle.object_graph.specs.declared.entry.Entry.{Entry}
@@ -111,7 +112,7 @@ held_at (Some entries) = entries
 
 -- the entry of a directory
 abbrev pub dirent_of : List ℕ → List ℕ → Dirent
-dirent_of name id = record { name = name; id = id; mode = 0o040000; mtime = pos 0; modifier = []; size = 0 }
+dirent_of name id = record { name = name; id = id; mode = DIRECTORY_TYPE; mtime = pos 0; modifier = []; size = 0 }
 
 -- an object with these bytes was made under the id
 pub record IsMade (made : Objects) (id bytes : List ℕ) : Type 0 where
