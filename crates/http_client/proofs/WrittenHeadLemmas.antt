@@ -216,14 +216,7 @@ judged_so _ target host None size true get = refl
 judged_so _ target host None size false get = refl
 judged_so _ target host (Some secret) size true get = refl
 judged_so _ target host (Some secret) size false get = refl
-judged_so _ target host None size true put = refl
-judged_so _ target host None size false put = refl
-judged_so _ target host (Some secret) size true put = refl
-judged_so _ target host (Some secret) size false put = refl
-judged_so _ target host None size true post = refl
-judged_so _ target host None size false post = refl
-judged_so _ target host (Some secret) size true post = refl
-judged_so _ target host (Some secret) size false post = refl
+judged_so _ target host secret size ends word = refl
 
 pub closes_so : (m : Method) (host : List ℕ) (secret : Option (List ℕ)) (size : ℕ) (ends : Bool) → HasWord m
     → closes_by 1 (map name_and_value (head_fields m host secret size ends)) ≡ ends
@@ -232,14 +225,7 @@ closes_so _ host None size true get = refl
 closes_so _ host None size false get = refl
 closes_so _ host (Some secret) size true get = refl
 closes_so _ host (Some secret) size false get = refl
-closes_so _ host None size true put = refl
-closes_so _ host None size false put = refl
-closes_so _ host (Some secret) size true put = refl
-closes_so _ host (Some secret) size false put = refl
-closes_so _ host None size true post = refl
-closes_so _ host None size false post = refl
-closes_so _ host (Some secret) size true post = refl
-closes_so _ host (Some secret) size false post = refl
+closes_so _ host secret size ends word = refl
 
 pub waits_not : (m : Method) (host : List ℕ) (secret : Option (List ℕ)) (size : ℕ) (ends : Bool) → HasWord m
     → wants_continue (map name_and_value (head_fields m host secret size ends)) ≡ false
@@ -247,14 +233,7 @@ waits_not _ host None size true get = refl
 waits_not _ host None size false get = refl
 waits_not _ host (Some secret) size true get = refl
 waits_not _ host (Some secret) size false get = refl
-waits_not _ host None size true put = refl
-waits_not _ host None size false put = refl
-waits_not _ host (Some secret) size true put = refl
-waits_not _ host (Some secret) size false put = refl
-waits_not _ host None size true post = refl
-waits_not _ host None size false post = refl
-waits_not _ host (Some secret) size true post = refl
-waits_not _ host (Some secret) size false post = refl
+waits_not _ host secret size ends word = refl
 
 abbrev pub token_found : Option (List ℕ) → List (List ℕ)
 token_found None = []
@@ -266,14 +245,7 @@ token_so _ host None size true get = refl
 token_so _ host None size false get = refl
 token_so _ host (Some secret) size true get = refl
 token_so _ host (Some secret) size false get = refl
-token_so _ host None size true put = refl
-token_so _ host None size false put = refl
-token_so _ host (Some secret) size true put = refl
-token_so _ host (Some secret) size false put = refl
-token_so _ host None size true post = refl
-token_so _ host None size false post = refl
-token_so _ host (Some secret) size true post = refl
-token_so _ host (Some secret) size false post = refl
+token_so _ host secret size ends word = refl
 
 secret_by : (secret : Option (List ℕ)) → IsSecretOrNone secret → SecretVisible secret → IsTokenIn (found (token_found secret)) secret
 secret_by None is visible = λ secret is_secret e. absurd (cc)
