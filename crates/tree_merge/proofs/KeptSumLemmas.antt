@@ -5,7 +5,7 @@ use Rattle.std.proofs.lemmas.Bool.{and_parts}
 use Rattle.std.specs.FinMap as map
 use Rattle.std.specs.FinMap.Entries.{below_all}
 use Rattle.std.specs.Ordering.{is_lt}
-use Rattle.ids.proofs.BasicLemmas.{apart_from_is_lt}
+use Rattle.ids.proofs.BasicLemmas.{apart_from_is_lt, both_from_T}
 use Rattle.conflict_names.proofs.GoodNameLemmas.{naming-naming}
 use Rattle.tree_model.proofs.CutLemmas.{merged_cut, merged_none}
 use Rattle.std.specs.List.{AllByRecursion, sum_by}
@@ -33,14 +33,6 @@ use Rattle.tree_merge.proofs.KeptCountLemmas.{kept_count, paths_in}
 use Rattle.tree_merge.proofs.MadeLemmas.{kept_itself}
 use Rattle.tree_merge.proofs.OpeningLemmas.{IsTop, LiesBelow, lies_below, settled_top}
 use Rattle.tree_merge.proofs.ShownPartLemmas.{below_none_kept, own_at}
-
-left_part : (a b : Bool) → T (a && b) → T a
-left_part true b h = tt
-left_part false b h = absurd h
-
-right_part : (a b : Bool) → T (a && b) → T b
-right_part true b h = h
-right_part false b h = absurd h
 
 -- a path below one of a list
 any_below : (e q : PathV) (es : List PathV) → is_in e es ≡ true → is_under e q ≡ true → is_below_any es q ≡ true
@@ -193,7 +185,7 @@ module _ (objects : Objects) (base head pushed : List ℕ) (complete : AreComple
   apart_first x [] rising own all = tt
   apart_first x (y ∷ es) rising own all = (
     λ q over. by q (is_under y.0 q) refl over,
-    apart_first x es (right_part (is_lt (path_cmp x y.0)) (below_all path_cmp x es) rising) own
+    apart_first x es (both_from_T (is_lt (path_cmp x y.0)) (below_all path_cmp x es) rising).1 own
         (λ e there. all e (ap (λ (b : Bool). same_path e y.0 || b) there ∙ or_last (same_path e y.0))),
   )
     where
@@ -205,7 +197,7 @@ module _ (objects : Objects) (base head pushed : List ℕ) (complete : AreComple
       by q false is over = is
       by q true is over =
           let same : x ≡ y.0 = one_of_two x y.0 q own (all y.0 (ap (λ (b : Bool). b || is_in y.0 (list_map (λ (z : PathV × Kept). z.0) es)) (same_path-itself y.0))) over is in
-          absurd (true≢false (sym (ap (same_path x) (sym same) ∙ same_path-itself x) ∙ apart_from_is_lt (path_cmp x y.0) (left_part (is_lt (path_cmp x y.0)) (below_all path_cmp x es) rising)))
+          absurd (true≢false (sym (ap (same_path x) (sym same) ∙ same_path-itself x) ∙ apart_from_is_lt (path_cmp x y.0) (both_from_T (is_lt (path_cmp x y.0)) (below_all path_cmp x es) rising).0))
 
   apart_all : (es : List (PathV × Kept)) → T (map.is_sorted path_cmp es) → ((e : PathV) → is_in e (list_map (λ (y : PathV × Kept). y.0) es) ≡ true → is_some (kept_ids kept e) ≡ true)
       → AreApart (list_map (λ (y : PathV × Kept). y.0) es)
@@ -213,9 +205,9 @@ module _ (objects : Objects) (base head pushed : List ℕ) (complete : AreComple
   apart_all (y ∷ es) rising all =
       let tail : (e : PathV) → is_in e (list_map (λ (z : PathV × Kept). z.0) es) ≡ true → is_some (kept_ids kept e) ≡ true =
       λ e there. all e (ap (λ (b : Bool). same_path e y.0 || b) there ∙ or_last (same_path e y.0)) in (
-        apart_first y.0 es (left_part (below_all path_cmp y.0 es) (map.is_sorted path_cmp es) rising)
+        apart_first y.0 es (both_from_T (below_all path_cmp y.0 es) (map.is_sorted path_cmp es) rising).0
             (all y.0 (ap (λ (b : Bool). b || is_in y.0 (list_map (λ (z : PathV × Kept). z.0) es)) (same_path-itself y.0))) tail,
-        apart_all es (right_part (below_all path_cmp y.0 es) (map.is_sorted path_cmp es) rising) tail,
+        apart_all es (both_from_T (below_all path_cmp y.0 es) (map.is_sorted path_cmp es) rising).1 tail,
       )
     where
       or_last : (b : Bool) → (b || true) ≡ true
