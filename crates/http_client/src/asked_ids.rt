@@ -1,6 +1,5 @@
 //! Ids that are to be among those that were asked for.
-ghost use Rattle.std.specs.Prelude.{◌≡◌, ℕ, List, IfOk, OnOk, OnErr};
-ghost use Rattle.std.specs.FinMap as map;
+ghost use Rattle.std.specs.Prelude.{◌≡◌, ℕ, List, IfOk};
 ghost use Rattle.http_client.specs.AskedIds.{KnowsIds, block_key};
 ghost use Rattle.http_client.specs.OrderOutcome.{are_among, is_among};
 
@@ -21,20 +20,9 @@ fn table_of(alloc: Global, asked: &[ObjId]) -> Result<KeyTable<()>, AllocError>
 {
     let mut known = KeyTable::new(alloc);
     for id in asked {
-        insert(&mut known, id)?;
+        known.put(block_key(id), ())?;
     }
     Ok(known)
-}
-
-/// Puts an id into the table. After an error the table is as it was.
-fn insert(known: &mut KeyTable<()>, id: &ObjId) -> Result<(), AllocError>
-    ensures ok { OnOk result (known.new ≡ map.insert known.old (block_key id.now) tt) }
-    ensures err { OnErr result (known.new ≡ known.old) }
-{
-    match known.insert(block_key(id), ()) {
-        Ok(_) => Ok(()),
-        Err(failed) => Err(failed),
-    }
 }
 
 /// The key that stands for an id in the table.

@@ -94,6 +94,17 @@ impl<V: Drop> KeyTable<V> {
         Ok(before)
     }
 
+    /// Puts the value at the key, and lets go what stood there. After an error the map is as it was.
+    pub fn put(&mut self, key: Key, value: V) -> Result<(), AllocError>
+        ensures ok { OnOk result (self.new ≡ map.insert self.old key value) }
+        ensures err { OnErr result (self.new ≡ self.old) }
+    {
+        match self.insert(key, value) {
+            Ok(_) => Ok(()),
+            Err(failed) => Err(failed),
+        }
+    }
+
     /// Takes the value at the key out of the map.
     pub fn remove(&mut self, key: &Key) -> Option<V>
         ensures value { result ≡ map.get self.old key.now }

@@ -1,6 +1,5 @@
 //! What is known of stored trees.
 use crate::extent::Extent;
-use crate::known::insert;
 use crate::reading::fs_key;
 use ids::{KeyTable, ObjId};
 use std::alloc::Global;
@@ -92,7 +91,7 @@ impl Known {
     pub(crate) fn learn_file(&mut self, id: &ObjId)
         ensures value { (self.new ≡ self.old) ⊎ (self.new ≡ with_file self.old id.now) }
     {
-        match insert(&mut self.files, &fs_key(id)) {
+        match self.files.put(fs_key(id), ()) {
             Ok(()) => {}
             Err(_) => {}
         }

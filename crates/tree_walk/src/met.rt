@@ -1,6 +1,5 @@
 //! What a traversal met.
-ghost use Rattle.std.specs.Prelude.{◌≡◌, OnErr, OnOk};
-ghost use Rattle.std.specs.FinMap as map;
+ghost use Rattle.std.specs.Prelude.{◌≡◌};
 
 use ids::{Key, KeyList, KeyTable};
 use std::alloc::{AllocError, Global};
@@ -61,7 +60,7 @@ impl Met {
         let Met { order, marks } = self;
         let mut order = order;
         let mut marks = marks;
-        mark(&mut marks, key, false)?;
+        marks.put(*key, false)?;
         order.push(*key)?;
         Ok(Met { order, marks })
     }
@@ -73,7 +72,7 @@ impl Met {
         let met = self.visit(key)?;
         let Met { order, marks } = met;
         let mut marks = marks;
-        mark(&mut marks, key, true)?;
+        marks.put(*key, true)?;
         Ok(Met { order, marks })
     }
 
@@ -84,16 +83,5 @@ impl Met {
     {
         let Met { order, marks: _ } = self;
         order
-    }
-}
-
-/// Marks a key. After an error the table is as it was.
-fn mark(marks: &mut KeyTable<bool>, key: &Key, done: bool) -> Result<(), AllocError>
-    ensures ok { OnOk result (marks.new ≡ map.insert marks.old key.now done) }
-    ensures err { OnErr result (marks.new ≡ marks.old) }
-{
-    match marks.insert(*key, done) {
-        Ok(_) => Ok(()),
-        Err(failed) => Err(failed),
     }
 }

@@ -13,5 +13,5 @@ loop-key-init c = knows_nothing c.new-known.result c.new-known.ensures.value
 pub loop-key-preserved : goal.loop-key-preserved
 loop-key-preserved c =
     subst₂ (λ (ks : List Key) (m : map.FinMap key_cmp ⊤). Knows ks m)
-    (sym (next_key c.args.keys.now c.loop-key.key-index c.key-item.result (omega arith) c.key-item.is)) (sym c.in_ok-insert.ensures.ok)
+    (sym (next_key c.args.keys.now c.loop-key.key-index c.key-item.result (omega arith) c.key-item.is)) (sym c.in_ok-put.ensures.ok)
     (knows_more (take c.loop-key.key-index c.args.keys.now) c.loop-key.known c.key-item.result c.loop-key.invariant)
