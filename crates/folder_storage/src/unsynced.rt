@@ -42,7 +42,7 @@ impl Unsynced {
         way: &D::Way,
     ) -> io::Result<()>
         ensures ok { OnOk result (D.steps disk.new ≡ with_steps (D.steps disk.old) (PutObject key.now ∷ [])) }
-        ensures named { OnOk result (In key.now self.new.keys.items) }
+        ensures found { OnOk result (In key.now self.new.keys.items) }
         ensures listed { AreAmong self.old.keys.items self.new.keys.items }
         ensures order { IsInOrder (D.steps disk.old) self.old.keys.items → IsInOrder (D.steps disk.new) self.new.keys.items }
     {
@@ -61,7 +61,7 @@ impl Unsynced {
         text: &[u8],
     ) -> io::Result<()>
         ensures value { PutsDurably (D.steps disk.old) (D.steps disk.new) self.old.keys.items self.new.keys.items text.now result }
-        ensures none { OnOk result (self.new.keys.items ≡ []) }
+        ensures items { OnOk result (self.new.keys.items ≡ []) }
         ensures order { IsInOrder (D.steps disk.old) self.old.keys.items → IsInOrder (D.steps disk.new) self.new.keys.items }
     {
         if let Err(failure) = self.gather(disk) {
@@ -93,7 +93,7 @@ impl Unsynced {
 
 /// Adds a key to a list.
 pub(crate) fn note(keys: &mut Vec<Key>, key: &Key) -> Result<(), AllocError>
-    ensures named { OnOk result (In key.now keys.new.items) }
+    ensures found { OnOk result (In key.now keys.new.items) }
     ensures listed { AreAmong keys.old.items keys.new.items }
 {
     keys.push(*key)?;

@@ -8,4 +8,4 @@ returns-in-Err-clause-order g c = order-same (g.D.Disk.steps c.args.disk.now) (g
 pub returns-clause-order : goal.returns-clause-order
 returns-clause-order g c =
     order-put (g.D.Disk.steps c.args.disk.now) (g.D.Disk.steps c.put_object.new.self) c.args.self.now.keys.items c.note.new.keys.items c.args.key.now c.put_object.result
-    c.put_object.ensures.ok c.put_object.ensures.err c.note.ensures.listed c.in_default.ensures.named
+    c.put_object.ensures.ok c.put_object.ensures.err c.note.ensures.listed c.in_default.ensures.found
