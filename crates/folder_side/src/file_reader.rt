@@ -93,7 +93,7 @@ impl Reading {
     fn new(alloc: Global, cuts: Cuts) -> Self
         ensures value { (bytes : List ℕ) → IsBehind cuts bytes result }
         ensures ready { result.chunker.failed ≡ false }
-        ensures told { result.chunker.cuts ≡ cuts }
+        ensures stays { result.chunker.cuts ≡ cuts }
         ensures bound { result.place ≡ 0 }
     {
         Reading {
