@@ -1,5 +1,5 @@
--- What stored objects stand for: the contents of files and the trees of directories. Our own.
--- Forty zeros name the empty file and the empty directory, and no object is stored for them.
+-- What the bytes under an id mean: a file's contents, or the tree below a directory. Our own.
+-- The id of forty zeros has no object. It stands for a file of no bytes, and for a directory of no entries.
 -- Read fs_at and commit_at, then contents_of, entry_below and IsTreeOf.
 use Rattle.std.specs.Prelude.{◌≡◌, ◌↔◌, ℕ, Bool, nat_eq, if◌then◌else◌, List, [], ◌∷◌, ◌++◌, Option, None, Some, option_map, option_and_then, unwrap_or, Result, Ok, Err}
 use Rattle.std.specs.Cmp.Lexicographic.{pointwise, slice_cmp}

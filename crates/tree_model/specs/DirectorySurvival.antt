@@ -27,7 +27,7 @@ side_at s path = (choice_at s path).side
 abbrev pub gets_file : Sides → PathV → Bool
 gets_file s path = is_some (main_at s path) || is_some (side_at s path)
 
--- it is a directory in head and in pushed, or in one of them and not in base
+-- what the sides have at a path alone keeps a directory there: both have one, or one has it where base has none
 abbrev pub kept_dir : Sides → PathV → Bool
 kept_dir s dir = (has_dir s.head dir && has_dir s.pushed dir) || ((has_dir s.head dir || has_dir s.pushed dir) && not (has_dir s.base dir))
 
