@@ -23,7 +23,7 @@ contains_in x (y ∷ ys) (inr h) =
     let more = contains_in x ys h in
     (suc more.0, omega (arith, more.1), more.2)
 
-keys_len : {X : Type 0} (m : map.FinMap path_cmp X) → length (map.keys m) ≡ map.len m
+pub keys_len : {X : Type 0} (m : map.FinMap path_cmp X) → length (map.keys m) ≡ map.len m
 keys_len m = length-map (map.entries m) (λ e. e.0) ∙ sym (map.len-entries m)
 
 -- enough numbers are tried

@@ -1,11 +1,11 @@
 -- A merge of trees from which is cut what lies below directories in which one side decides. The key lemmas are conflicts_cut,
 -- merged_cut and trees_cut.
-use Rattle.std.proofs.Common.{◌≡◌, ◌≢◌, ◌≤◌, ◌<◌, ◌+◌, ◌==◌, ◌||◌, ◌&&◌, not, ℕ, zero, suc, nat_eq, map as list_map, Bool, true, false, if◌then◌else◌, List, [], ◌∷◌, ◌++◌, length, refl, sym, ap, ap₂, ◌∙◌, subst, arith, eqb-true, Option, Some, None, IsSome, is_some, option_map, true≢false, ◌⊎◌, inl, inr}
+use Rattle.std.proofs.Common.{◌≡◌, ◌≢◌, ◌≤◌, ◌+◌, ◌||◌, ◌&&◌, not, ℕ, nat_eq, map as list_map, Bool, true, false, if◌then◌else◌, List, [], ◌∷◌, ◌++◌, length, refl, sym, ap, ap₂, ◌∙◌, subst, arith, Option, Some, None, IsSome, is_some, option_map, true≢false, inl, inr}
 use Rattle.std.specs.Bool.{one_answer}
 use Rattle.std.specs.Option.{option_or}
 use Rattle.std.specs.Cmp.Lexicographic.{pointwise, bytes_decides}
 use Rattle.std.specs.FinMap as map
-use Rattle.std.proofs.lemmas.Bool.{and_parts, eqb-false, or_cases}
+use Rattle.std.proofs.lemmas.Bool.{and_parts, or_cases}
 use Rattle.ids.proofs.BasicLemmas.{none_from_is_some}
 use Rattle.tree_model.specs.declared.node.FileVersion.{FileVersion}
 use Rattle.tree_model.specs.declared.node.Node.{Node}
@@ -15,15 +15,15 @@ use Rattle.tree_model.specs.PathOrder.{paths_total, paths_exact}
 use Rattle.tree_model.specs.FileMerge.{Choice, choice}
 use Rattle.tree_model.specs.Tree.{Tree, IsTree, file_at, file_of, has_dir, is_dir}
 use Rattle.tree_model.specs.DirectorySurvival.{Sides, choice_at, gets_file, kept_dir, keeps, stays, is_within, is_under, paths_of_all}
-use Rattle.tree_model.specs.ConflictCopies.{Naming, conflict_spot, conflicts, in_trees, is_gone, leaver_at, leavers, least_free, moves, tries}
+use Rattle.tree_model.specs.ConflictCopies.{Naming, conflict_spot, conflicts, in_trees, leaver_at, leavers, moves, tries}
 use Rattle.tree_model.specs.ThreeWayMerge.{file_moved, node_at, merged, IsNaming}
 use Rattle.tree_model.proofs.BelowLemmas.{dir_above, parent_last, some_of_dir, under_within}
-use Rattle.tree_model.proofs.ListedLemmas.{any_at, is_in, listed, same_path}
-use Rattle.tree_model.proofs.MovingLemmas.{In, least_before, least_from, least_is_free}
+use Rattle.tree_model.proofs.ListedLemmas.{any_at, listed, same_path}
 use Rattle.tree_model.proofs.CopyLemmas.{enough, get-leavers, leaver_from, spots_apart}
 use Rattle.tree_model.proofs.MergeLemmas.{get-merged}
 use Rattle.tree_model.proofs.OneSideLemmas.{some_of_file}
 use Rattle.tree_model.proofs.ResultTreeLemmas.{IsCopy, any_keeps, not_root, origin}
+use Rattle.tree_model.proofs.SameMovesLemmas.{moves_same}
 use Rattle.tree_model.proofs.SettledLemmas.{IsSettled, none_leaves}
 
 -- a path is hidden: it lies below a directory that is settled, which itself is shown, and nothing below that is
@@ -44,59 +44,6 @@ pub record IsCut (s c : Sides) (shown : PathV → Bool) : Type 0 where
   pub up : (d : PathV) (n : List ℕ) → shown (d ++ n ∷ []) ≡ true → shown d ≡ true
   pub beside : (d : PathV) (m n : List ℕ) → shown (d ++ m ∷ []) ≡ true → shown (d ++ n ∷ []) ≡ true
   pub hidden : (q : PathV) → shown q ≡ false → IsHidden s shown q
-
--- ---- the least free number
-
--- with two tests of the same answers at a thing's spots, its number is the same
-module _ {X : Type 0} (u v : PathV → Bool) (spot : X → ℕ → PathV) (us vs : List PathV) (in_us : (q : PathV) → u q ≡ true → is_in q us ≡ true) (in_vs : (q : PathV) → v q ≡ true → is_in q vs ≡ true)
-    (apart : (x : X) (i j : ℕ) → spot x (1 + i) ≡ spot x (1 + j) → i ≡ j) (t w : ℕ) where
-  least_same : (taken : List PathV) (x : X) → ((k : ℕ) → u (spot x k) ≡ v (spot x k)) → length us + length taken < t → length vs + length taken < w
-      → least_free same_path u spot taken x t 1 ≡ least_free same_path v spot taken x w 1
-  least_same taken x same enough_u enough_v = by (a == b) refl
-    where
-      a : ℕ
-      a = least_free same_path u spot taken x t 1
-
-      b : ℕ
-      b = least_free same_path v spot taken x w 1
-
-      gone_same : (k : ℕ) → is_gone same_path u spot taken (spot x k) ≡ is_gone same_path v spot taken (spot x k)
-      gone_same k = ap (λ c. c || is_in (spot x k) taken) (same k)
-
-      free_u : is_gone same_path u spot taken (spot x a) ≡ false
-      free_u = least_is_free u spot us in_us apart taken x t enough_u
-
-      free_v : is_gone same_path v spot taken (spot x b) ≡ false
-      free_v = least_is_free v spot vs in_vs apart taken x w enough_v
-
-      not_less : a < b → ⊥
-      not_less less = true≢false (sym (least_before v spot taken x w 1 a (least_from u spot taken x t 1) less) ∙ sym (gone_same a) ∙ free_u)
-
-      not_more : b < a → ⊥
-      not_more less = true≢false (sym (least_before u spot taken x t 1 b (least_from v spot taken x w 1) less) ∙ gone_same b ∙ free_v)
-
-      by : (e : Bool) → (a == b) ≡ e → a ≡ b
-      by true is = eqb-true a b is
-      by false is = let other : a ≢ b = eqb-false a b is in side (nat_less a b other)
-        where
-          nat_less : (m n : ℕ) → m ≢ n → (m < n) ⊎ (n < m)
-          nat_less zero zero other = absurd (other refl)
-          nat_less zero (suc n) other = inl (omega arith)
-          nat_less (suc m) zero other = inr (omega arith)
-          nat_less (suc m) (suc n) other = elim (nat_less m n (λ e. other (ap suc e))) [ inl h ↦ inl (omega arith) | inr h ↦ inr (omega arith) ]
-
-          side : (a < b) ⊎ (b < a) → a ≡ b
-          side (inl less) = absurd (not_less less)
-          side (inr more) = absurd (not_more more)
-
-  moves_same : (xs : List X) (taken : List PathV) → ((x : X) → In x xs → (k : ℕ) → u (spot x k) ≡ v (spot x k)) → length us + length taken + length xs ≤ t → length vs + length taken + length xs ≤ w
-      → moves same_path u spot t taken xs ≡ moves same_path v spot w taken xs
-  moves_same [] taken same enough_u enough_v = refl
-  moves_same (x ∷ xs) taken same enough_u enough_v =
-      let one = least_same taken x (same x (inl refl)) (omega arith) (omega arith) in
-      let to : PathV = spot x (least_free same_path v spot taken x w 1) in
-      ap (λ k. (x, spot x k) ∷ moves same_path u spot t (spot x k ∷ taken) xs) one
-      ∙ ap (λ ms. (x, to) ∷ ms) (moves_same xs (to ∷ taken) (λ y there. same y (inr there)) (omega arith) (omega arith))
 
 -- ---- what a cut keeps
 

@@ -28,20 +28,20 @@ moved_things is_used spot t [] taken = refl
 moved_things is_used spot t (x ∷ xs) taken =
     ap (λ (ys : List _). x ∷ ys) (moved_things is_used spot t xs (spot x (least_free same_path is_used spot taken x t 1) ∷ taken))
 
-abbrev Copy : Type 0
+abbrev pub Copy : Type 0
 Copy = (PathV × FileVersion) × PathV
 
 abbrev long_name : Copy → Bool
 long_name m = nat_lt MAX_NAME (length (last_name m.1))
 
 -- the first of a list that is too long, with what stands of the others
-record Found (ms : List Copy) (path : PathV) (bytes : ℕ) : Type 0 where
-  copy : Copy
-  there : In copy ms
-  of : copy.0.0 ≡ path
-  size : length (last_name copy.1) ≡ bytes
-  long : MAX_NAME < bytes
-  first : AllByRecursion (λ (m : Copy). MAX_NAME < length (last_name m.1) → path_cmp path m.0.0 ≢ Greater) ms
+pub record Found (ms : List Copy) (path : PathV) (bytes : ℕ) : Type 0 where
+  pub copy : Copy
+  pub there : In copy ms
+  pub of : copy.0.0 ≡ path
+  pub size : length (last_name copy.1) ≡ bytes
+  pub long : MAX_NAME < bytes
+  pub first : AllByRecursion (λ (m : Copy). MAX_NAME < length (last_name m.1) → path_cmp path m.0.0 ≢ Greater) ms
 
 not_above : (r : Ordering) → r ≡ Less → r ≢ Greater
 not_above r e h = let both : Less ≡ Greater = sym e ∙ h in cc
@@ -60,7 +60,7 @@ all_above p (m ∷ ms) h = (
 some_same : (x y : PathV × ℕ) → Some x ≡ Some y → x ≡ y
 some_same x y e = cc
 
-found_first : (ms : List Copy) (path : PathV) (bytes : ℕ) → T (map.is_sorted path_cmp (map_list (λ (m : Copy). m.0) ms)) → first_long ms ≡ Some (path, bytes) → Found ms path bytes
+pub found_first : (ms : List Copy) (path : PathV) (bytes : ℕ) → T (map.is_sorted path_cmp (map_list (λ (m : Copy). m.0) ms)) → first_long ms ≡ Some (path, bytes) → Found ms path bytes
 found_first [] path bytes h e = cc
 found_first (m ∷ ms) path bytes h e = by (long_name m) refl e (found_first ms path bytes (right_holds (below_all path_cmp m.0.0 things) (map.is_sorted path_cmp things) h))
   where

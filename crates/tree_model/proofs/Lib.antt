@@ -1,3 +1,4 @@
+pub mod BehindLemmas
 pub mod BelowLemmas
 pub mod ListComparisonLemmas
 pub mod CopyLemmas
@@ -7,6 +8,8 @@ pub mod LeastNumberLemmas
 pub mod LevelLemmas
 pub mod ListedLemmas
 pub mod MergeLemmas
+pub mod RegionLemmas
+pub mod SameMovesLemmas
 pub mod ResultTreeLemmas
 pub mod SettledLemmas
 pub mod CutLemmas
@@ -16,12 +19,15 @@ pub mod LastEntryLemmas
 pub mod MovingLemmas
 pub mod NameLemmas
 pub mod NothingLostLemmas
+pub mod OneLevelLemmas
 pub mod OneSideLemmas
 pub mod OwnDirectoryLemmas
 pub mod PathReadingLemmas
+pub mod PartLemmas
 pub mod PathTextLemmas
 pub mod PathCountLemmas
 pub mod ShownCountLemmas
 pub mod SortedEntryLemmas
 pub mod FirstLongNameLemmas
+pub mod FirstOfLemmas
 pub mod MergedAtLemmas

@@ -151,7 +151,7 @@ module _ {X : Type 0} (is_used : PathV → Bool) (spot : X → ℕ → PathV) (u
       ∙ found_at xs (to ∷ taken) (omega arith) m h
 
 module _ (naming : Naming) (is_naming : IsNaming naming) (s : Sides) where
-  at_place : (m : (PathV × FileVersion) × PathV) → In m (conflicts naming s) → map.get (merged naming s) m.1 ≡ Some (File m.0.1)
+  pub at_place : (m : (PathV × FileVersion) × PathV) → In m (conflicts naming s) → map.get (merged naming s) m.1 ≡ Some (File m.0.1)
   at_place m h =
       get-merged naming s m.1
       ∙ ap (λ (o : Option Node). option_or o (if in_trees s m.1 then node_at s m.1 else None))

@@ -169,7 +169,7 @@ module _ (naming : Naming) (is_naming : IsNaming naming) (s : Sides) (base : IsT
       ap is_dir (get-merged_known naming is_naming s d known)
       ∙ ap (λ (b : Bool). is_dir (if b then Some Dir else option_map File (main_at s d))) stay
 
-  no_root_merged : map.get (merged naming s) [] ≡ None
+  pub no_root_merged : map.get (merged naming s) [] ≡ None
   no_root_merged = by (map.get (merged naming s) []) refl
     where
       root_is_none : (in_trees s [] ≡ true) ⊎ IsCopy naming s [] → ⊥
@@ -180,7 +180,7 @@ module _ (naming : Naming) (is_naming : IsNaming naming) (s : Sides) (base : IsT
       by None e = e
       by (Some node) e = absurd (root_is_none (origin naming s [] (ap is_some e)))
 
-  in_dirs_merged : (d : PathV) (n : List ℕ) → d ≢ [] → IsSome (map.get (merged naming s) (d ++ n ∷ [])) → has_dir (merged naming s) d ≡ true
+  pub in_dirs_merged : (d : PathV) (n : List ℕ) → d ≢ [] → IsSome (map.get (merged naming s) (d ++ n ∷ [])) → has_dir (merged naming s) d ≡ true
   in_dirs_merged d n other there =
       elim (origin naming s (d ++ n ∷ []) there) [
         | inl known ↦

@@ -31,7 +31,7 @@ keys_once t p = once p (map.entries t) (map.entries_sorted t) ∙ ap (λ (o : Op
 some_of_key : (t : Tree) (q : PathV) → is_in q (map.keys t) ≡ true → is_some (map.get t q) ≡ true
 some_of_key t q there = map.contains_key-keys t q ∙ there
 
-same_turned : (p q : PathV) → same_path p q ≡ same_path q p
+pub same_turned : (p q : PathV) → same_path p q ≡ same_path q p
 same_turned p q = by (same_path p q) refl (same_path q p) refl
   where
     by : (a : Bool) → same_path p q ≡ a → (b : Bool) → same_path q p ≡ b → a ≡ b
@@ -123,7 +123,7 @@ abbrev pub AreDistinctPaths : List PathV → Type 0
 AreDistinctPaths [] = ⊤
 AreDistinctPaths (x ∷ xs) = AllByRecursion (λ y. same_path y x ≡ false) xs × AreDistinctPaths xs
 
-same_behind : (d r q : PathV) → same_path (d ++ r) (d ++ q) ≡ same_path r q
+pub same_behind : (d r q : PathV) → same_path (d ++ r) (d ++ q) ≡ same_path r q
 same_behind d r q = by (same_path r q) refl
   where
     by : (b : Bool) → same_path r q ≡ b → same_path (d ++ r) (d ++ q) ≡ same_path r q

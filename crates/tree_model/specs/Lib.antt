@@ -2,6 +2,7 @@ pub mod ConflictCopies
 pub mod DirectorySurvival
 pub mod EmptyPart
 pub mod FileMerge
+pub mod MergeParts
 pub mod Name
 pub mod Path
 pub mod PathCounts

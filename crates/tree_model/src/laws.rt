@@ -1,15 +1,16 @@
 //! Theorems on names, paths and trees, each the contract of a function that does nothing.
-ghost use Rattle.std.specs.Prelude.{◌≡◌, ℕ, None, ◌↔◌, ◌⊎◌, ◌∷◌, ◌++◌, List, filter, All, Some, true, false};
+ghost use Rattle.std.specs.Prelude.{◌≡◌, ℕ, Bool, None, ◌↔◌, ◌⊎◌, ◌∷◌, ◌++◌, List, filter, All, Some, true, false};
 ghost use Rattle.std.specs.FinMap as map;
 ghost use Rattle.std.specs.Ordering.{nat_cmp};
 ghost use Rattle.std.specs.Cmp.Lexicographic.{slice_cmp};
 ghost use Rattle.tree_model.specs.Path.{PathV, IsPath, path_cmp, path_text};
 ghost use Rattle.tree_model.specs.Tree.{Tree, IsTree, Fits, IsAlike, file_at};
-ghost use Rattle.tree_model.specs.ConflictCopies.{stands_in, copies_alone, leavers, Naming, conflicts, in_trees, places_of, IsLeastFree};
+ghost use Rattle.tree_model.specs.ConflictCopies.{stands_in, copies_alone, first_long, leavers, Naming, conflicts, in_trees, places_of, IsLeastFree};
 ghost use Rattle.tree_model.specs.ThreeWayMerge.{merge, merged, MergedTree, MergesLike, IsNaming, HasVersion, IsFirstLong, IsFromSide, TooLong, node_at};
 ghost use Rattle.tree_model.specs.DirectorySurvival.{Sides, AgreeBelow, Stays, stays, kept_dir, HasKeptEntry, is_under};
 ghost use Rattle.tree_model.specs.EmptyPart.{IsEmptyBelow};
-ghost use Rattle.tree_model.specs.PathCounts.{CountsAddUp};
+ghost use Rattle.tree_model.specs.PathCounts.{CountsAddUp, paths_below};
+ghost use Rattle.tree_model.specs.MergeParts.{AreParts, IsFirst, IsLevel, MergesBelow, MergesHere, long_at};
 ghost use Rattle.tree_model.specs.FileMerge.{same_file};
 ghost use Rattle.tree_model.specs.declared.node.FileVersion.{FileVersion};
 ghost use Rattle.tree_model.specs.declared.node.Node.TheVariants.{File};
@@ -141,4 +142,24 @@ pub fn nothing_stands_below_what_does_not_survive()
 pub fn a_merge_makes_up_no_file()
     ensures { (naming : Naming) → (s : Sides) → IsNaming naming → (path : PathV) → (version : FileVersion)
         → map.get (merged naming s) path ≡ Some (File version) → IsFromSide naming s path version }
+{}
+
+/// Below a directory the merge of three trees is the merge of the three parts that they have there: the same directories survive,
+/// the same files leave their names for the same copies, the same stands at each path, and there are as many paths. The directory
+/// itself survives by what the three trees have at its path, or where something of the parts does.
+pub fn below_a_directory_the_merge_is_that_of_the_parts()
+    ensures { (naming : Naming) → (s : Sides) → (part : Sides) → IsNaming naming → IsTree s.base → IsTree s.head → IsTree s.pushed
+        → (dir : PathV) → AreParts dir s part → MergesBelow naming dir s part × (paths_below (merged naming s) dir ≡ map.len (merged naming part)) }
+{}
+
+/// The entries of the root are merged by these entries alone, once it is told below which of them something survives. Each
+/// directory is the root of the parts below it.
+pub fn a_directory_is_merged_by_its_entries_and_by_what_survives_below_them()
+    ensures { (naming : Naming) → (s : Sides) → (level : Sides) → (survives : List ℕ → Bool) → IsNaming naming → IsTree s.base → IsTree s.head → IsTree s.pushed
+        → IsLevel s level survives → MergesHere naming s level }
+{}
+
+/// The file that is refused as too long is the first one, by path, of those whose copies' names are; none is where there is none.
+pub fn the_first_long_name_is_the_least_of_all()
+    ensures { (naming : Naming) → (s : Sides) → IsFirst (long_at naming s) (first_long (conflicts naming s)) }
 {}
