@@ -1,11 +1,11 @@
 //! One sync fails, the server goes on or starts anew, and then the power fails: what stands?
 use crate::library::{done, holds, is_fault, lib, slot_of, there};
-use crate::lossy_files::{Also, LossyFiles};
+use crate::lossy_files::LossyFiles;
+use crate::lossy_nodes::Also;
 use folder_storage::{FileSystem, FolderGround, FolderShelf, Ground};
 use ids::Kind;
 use object_store::{Shelf, ShelfFailed, Slot};
 use std::alloc::Global;
-use std::process::Abort;
 use std::test::Fail;
 
 /// Objects of each kind, and in two folders of one. State texts from `2` on name them.
@@ -23,7 +23,7 @@ pub(crate) fn opened(files: LossyFiles) -> Result<FolderShelf<LossyFiles>, Fail>
 
 /// The run that makes the library, in a folder that is durable.
 fn made(alloc: Global) -> Result<FolderShelf<LossyFiles>, Fail> {
-    let mut files = LossyFiles::new(alloc);
+    let mut files = LossyFiles::new(alloc)?;
     files.make_folder("F")?;
     files.sync_folder("")?;
     there(FolderGround::over(files).make("F", lib()))
@@ -77,37 +77,45 @@ fn text_of(shelf: &mut FolderShelf<LossyFiles>) -> Result<u8, Fail> {
     }
 }
 
-/// The power fails now: a text stands that is not before the one that was answered last, and all that it names.
-fn stands(rt: &impl Abort, files: &LossyFiles, answered: u8, case: u64) -> Result<(), Fail> {
-    for has_names in [false, true] {
-        let mut shelf = opened(files.cut(has_names)?)?;
-        let told = text_of(&mut shelf)?;
-        assert!(rt; told >= answered, "the text of case {case}");
-        let is_whole = told == b'1' || has_all(&mut shelf);
-        assert!(rt; is_whole, "the objects of case {case}");
-    }
-    Ok(())
+/// Whether a text stands that is not before the one that was answered last, and all that it names.
+fn stands_on(shelf: &mut FolderShelf<LossyFiles>, answered: u8) -> Result<bool, Fail> {
+    let told = text_of(shelf)?;
+    Ok(told >= answered && (told == b'1' || has_all(shelf)))
 }
 
-/// The sync with this number fails in an update; the update is tried again in the same run, and then in another.
-fn one_sync_fails(rt: &impl Abort, files: &LossyFiles, case: u64) -> Result<(), Fail> {
-    let mut shelf = opened(files.failing(case)?)?;
-    put_what_lacks(&mut shelf)?;
-    let answered = put_text(&mut shelf, b'2', b'1');
+/// The power fails now: whether that holds, be the names that the disk lacks taken over or not.
+fn stands(files: &LossyFiles, answered: u8) -> Result<bool, Fail> {
+    Ok(
+        stands_on(&mut opened(files.cut(false)?)?, answered)?
+            && stands_on(&mut opened(files.cut(true)?)?, answered)?,
+    )
+}
+
+/// An update in which the sync with this number fails, and another one in the same run: whether what is answered is so, and
+/// stands, and the text that was answered last.
+fn goes_on(shelf: &mut FolderShelf<LossyFiles>, case: u64) -> Result<(bool, u8), Fail> {
+    put_what_lacks(shelf)?;
+    let first = put_text(shelf, b'2', b'1');
     // What of an object was not synced is written anew at once: the failures of the others are answered.
-    let is_answered = (4..SYNCS).contains(&case);
-    assert_eq!(rt; answered == b'1', is_answered, "the answer of case {case}");
-    stands(rt, shelf.files(), answered, case)?;
-    let answered = put_text(&mut shelf, b'3', answered);
-    stands(rt, shelf.files(), answered, case)?;
-    let mut shelf = opened(shelf.files().failing(u64::MAX)?)?;
-    put_what_lacks(&mut shelf)?;
-    assert_eq!(rt;
-        put_text(&mut shelf, b'4', answered),
-        b'4',
-        "the end of case {case}"
-    );
-    stands(rt, shelf.files(), b'4', case)
+    let is_told = (first == b'1') == (4..SYNCS).contains(&case);
+    let stood = stands(shelf.files(), first)?;
+    let second = put_text(shelf, b'3', first);
+    Ok((is_told && stood && stands(shelf.files(), second)?, second))
+}
+
+/// Whether a new run's update is answered, and stands.
+fn ends(shelf: &mut FolderShelf<LossyFiles>, answered: u8) -> Result<bool, Fail> {
+    put_what_lacks(shelf)?;
+    Ok(put_text(shelf, b'4', answered) == b'4' && stands(shelf.files(), b'4')?)
+}
+
+/// Whether that holds where the sync with this number fails in an update, which is tried again in the same run, and then in
+/// another.
+fn one_sync_fails(files: &LossyFiles, case: u64) -> Result<bool, Fail> {
+    let mut shelf = opened(files.failing(case)?)?;
+    let (is_right, answered) = goes_on(&mut shelf, case)?;
+    let mut next = opened(shelf.files().failing(u64::MAX)?)?;
+    Ok(is_right && ends(&mut next, answered)?)
 }
 
 /// The syncs of a run's first update: four objects, their four folders and the three of their kinds, the text, the
@@ -118,19 +126,43 @@ const SYNCS: u64 = 14;
 fn an_update_syncs_each_object_and_each_folder(rt: HostRuntime) -> Result<(), Fail> {
     let mut shelf = opened(with_text(rt.alloc())?)?;
     put_what_lacks(&mut shelf)?;
-    assert_eq!(rt; shelf.files().syncs(), 0);
+    assert!(rt; shelf.files().syncs() == 0);
     done(shelf.put(Slot::Status, b"2"))?;
-    assert_eq!(rt; shelf.files().syncs(), SYNCS);
-    stands(&rt, shelf.files(), b'2', 0)
+    assert!(rt; shelf.files().syncs() == SYNCS);
+    assert!(rt; stands(shelf.files(), b'2')?);
+    Ok(())
 }
 
 #[test]
 fn no_text_stands_over_what_a_failed_sync_lost(rt: HostRuntime) -> Result<(), Fail> {
     let files = with_text(rt.alloc())?;
     for case in 0..17 {
-        one_sync_fails(&rt, &files, case)?;
+        assert!(rt; one_sync_fails(&files, case)?, "case {case}");
     }
     Ok(())
+}
+
+/// Whether a shelf tells an object of a kind.
+fn tells(shelf: &mut FolderShelf<LossyFiles>, kind: Kind) -> bool {
+    shelf.next(kind, None) != Ok(None)
+}
+
+/// Whether a shelf tells no object.
+fn tells_none(shelf: &mut FolderShelf<LossyFiles>) -> bool {
+    !tells(shelf, Kind::Commit) && !tells(shelf, Kind::Fs) && !tells(shelf, Kind::Block)
+}
+
+/// Whether nothing is stored, and all can be put, is told, and stands after a text.
+fn takes_anew(shelf: &mut FolderShelf<LossyFiles>) -> Result<bool, Fail> {
+    let was_bare = tells_none(shelf);
+    put_what_lacks(shelf)?;
+    Ok(was_bare && tells(shelf, Kind::Block) && stands_with_text(shelf)?)
+}
+
+/// Whether all stands after a text.
+fn stands_with_text(shelf: &mut FolderShelf<LossyFiles>) -> Result<bool, Fail> {
+    done(shelf.put(Slot::Status, b"2"))?;
+    stands(shelf.files(), b'2')
 }
 
 #[test]
@@ -138,16 +170,10 @@ fn a_new_run_trusts_nothing_that_was_not_synced(rt: HostRuntime) -> Result<(), F
     let mut shelf = opened(with_text(rt.alloc())?)?;
     put_what_lacks(&mut shelf)?;
     let mut torn = opened(shelf.files().cut(true)?)?;
-    for kind in [Kind::Commit, Kind::Fs, Kind::Block] {
-        assert_eq!(rt; torn.next(kind, None), Ok(None));
-    }
-    put_what_lacks(&mut torn)?;
-    assert!(rt; torn.next(Kind::Block, None) != Ok(None));
-    done(torn.put(Slot::Status, b"2"))?;
-    stands(&rt, torn.files(), b'2', 0)?;
+    assert!(rt; takes_anew(&mut torn)?);
     let mut whole = opened(shelf.files().another()?)?;
-    done(whole.put(Slot::Status, b"2"))?;
-    stands(&rt, whole.files(), b'2', 1)
+    assert!(rt; stands_with_text(&mut whole)?);
+    Ok(())
 }
 
 /// Whether a put of the block `abc` is done.
@@ -244,10 +270,10 @@ sync F
 fn the_calls_come_in_their_order(rt: HostRuntime) -> Result<(), Fail> {
     let mut shelf = made(rt.alloc())?;
     done(shelf.put(Slot::Status, b"1"))?;
-    assert_eq!(rt; shelf.files().calls(), MAKING);
+    assert!(rt; shelf.files().calls() == MAKING);
     let mut shelf = opened(shelf.files().another()?)?;
     done(shelf.put(slot_of(Kind::Block, "abc"), b"abc"))?;
     done(shelf.put(Slot::Status, b"2"))?;
-    assert_eq!(rt; shelf.files().calls(), UPDATE);
+    assert!(rt; shelf.files().calls() == UPDATE);
     Ok(())
 }

@@ -2,15 +2,11 @@
 use crate::durable_rows::{opened, with_text};
 use crate::library::{done, slot_of};
 use crate::lossy_files::LossyFiles;
-use crate::scratch::{clear, scratch, within};
-use folder_storage::{FileSystem, FolderShelf, SystemFiles};
+use folder_storage::{FileSystem, FolderShelf};
 use ids::Kind;
 use object_store::{Shelf, Slot};
 use std::alloc::Global;
-use std::fs::File;
 use std::test::Fail;
-use std::time::{Duration, UNIX_EPOCH};
-use std::{fs, io};
 
 /// When the state text of these rows was written, in nanoseconds.
 const WRITTEN: i64 = 1_000_000_000_000_000_000;
@@ -116,33 +112,4 @@ fn without_a_state_text_all_objects_are_made_durable_once(rt: HostRuntime) -> Re
     // Besides the folder of both and that of their kind, the text, and the folders that name it and the library.
     assert!(rt; texts_sync(&mut shelf, &BOTH, 7)?);
     Ok(())
-}
-
-/// Sets when what stands at a path was changed, on the disk.
-fn set_time(rt: &HostRuntime, path: &str, seconds: u64) -> Result<(), Fail> {
-    match UNIX_EPOCH.checked_add(Duration::from_secs(seconds)) {
-        Some(time) => Ok(File::open(rt, path)?.set_modified(time)?),
-        None => Err("no such time".into()),
-    }
-}
-
-/// When these files tell that something was changed.
-fn told_time<F: FileSystem>(files: &mut F, path: &str) -> io::Result<i64> {
-    match files.look(path)? {
-        Some(facts) => Ok(facts.changed),
-        None => Ok(0),
-    }
-}
-
-#[test]
-fn the_system_tells_when_files_and_folders_were_changed(rt: HostRuntime) -> Result<(), Fail> {
-    let folder = scratch(&rt, "times")?;
-    let file = within(&rt, folder.as_str(), "file")?;
-    fs::write(&rt, file.as_str(), b"x")?;
-    set_time(&rt, file.as_str(), 999_999_990)?;
-    set_time(&rt, folder.as_str(), 999_999_989)?;
-    let mut files = SystemFiles::new(rt.clone()?);
-    assert!(rt; told_time(&mut files, file.as_str())? == WRITTEN - 10 * SECOND);
-    assert!(rt; told_time(&mut files, folder.as_str())? == WRITTEN - 11 * SECOND);
-    Ok(clear(&rt, folder.as_str())?)
 }

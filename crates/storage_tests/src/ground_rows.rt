@@ -1,181 +1,137 @@
 //! Rows over grounds: which libraries are there, and who has them.
-use crate::library::{LIB, done, holds, is_absent, is_fault, lib, slot_of, there};
+use crate::library::{LIB, done, holds, is_absent, is_fault, lib, there};
 use crate::scratch::{clear, ground, scratch, within};
 use folder_storage::{FolderGround, Ground, MemoryGround, SystemFiles};
-use ids::{Kind, LibId};
+use ids::LibId;
 use object_store::{Shelf, Slot};
 use std::fs;
-use std::process::Abort;
 use std::test::Fail;
 
-/// Makes the library, puts its state text, and gives it back.
-fn make_library<G: Ground>(libraries: &mut G, folder: &str) -> Result<(), Fail>
+/// Whether a library that is out is not made, and not found either.
+fn is_out<G: Ground>(libraries: &mut G) -> bool
 where
     G::S: Drop,
 {
-    let mut shelf = there(libraries.make(folder, lib()))?;
+    is_absent(libraries.make("F", lib())) && is_fault(libraries.find("F", lib()))
+}
+
+/// Makes the library and puts its state text. The answer is whether it was out then.
+fn is_made<G: Ground>(libraries: &mut G) -> Result<bool, Fail>
+where
+    G::S: Drop,
+{
+    let mut shelf = there(libraries.make("F", lib()))?;
     done(shelf.put(Slot::Status, b"state"))?;
-    libraries.give_back(folder, lib(), shelf);
-    Ok(())
+    let was_out = is_out(libraries);
+    libraries.give_back("F", lib(), shelf);
+    Ok(was_out)
+}
+
+/// Whether the library is found as it was given back.
+fn is_found_again<G: Ground>(libraries: &mut G) -> Result<bool, Fail>
+where
+    G::S: Drop,
+{
+    let mut shelf = there(libraries.find("F", lib()))?;
+    let is_same = holds(&mut shelf, &Slot::Status, b"state");
+    libraries.give_back("F", lib(), shelf);
+    Ok(is_same)
+}
+
+/// Whether a library isn't there, in this folder.
+fn lacks<G: Ground>(libraries: &mut G, folder: &str, id: LibId) -> bool
+where
+    G::S: Drop,
+{
+    is_absent(libraries.find(folder, id))
 }
 
 /// Whether there is no such library, and one can be had once it was made.
-fn keeps_libraries<G: Ground>(rt: &impl Abort, libraries: &mut G, folder: &str) -> Result<(), Fail>
+fn keeps_libraries<G: Ground>(libraries: &mut G) -> Result<bool, Fail>
 where
     G::S: Drop,
 {
-    assert!(rt; is_absent(libraries.find(folder, lib())));
-    let mut shelf = there(libraries.make(folder, lib()))?;
-    done(shelf.put(Slot::Status, b"state"))?;
-    assert!(rt; is_absent(libraries.make(folder, lib())));
-    assert!(rt; is_fault(libraries.find(folder, lib())));
-    libraries.give_back(folder, lib(), shelf);
-    assert!(rt; is_absent(libraries.make(folder, lib())));
-    let mut shelf = there(libraries.find(folder, lib()))?;
-    assert!(rt; holds(&mut shelf, &Slot::Status, b"state"));
-    libraries.give_back(folder, lib(), shelf);
-    assert!(rt; is_absent(libraries.find(folder, LibId::from_bytes([0; 16]))));
-    assert!(rt; libraries.faults() == 1);
-    Ok(())
-}
-
-#[test]
-fn a_folder_keeps_libraries(rt: HostRuntime) -> Result<(), Fail> {
-    let folder = scratch(&rt, "keeps")?;
-    keeps_libraries(&rt, &mut ground(&rt)?, folder.as_str())?;
-    Ok(clear(&rt, folder.as_str())?)
+    Ok(
+        lacks(libraries, "F", lib())
+            && is_made(libraries)?
+            && is_absent(libraries.make("F", lib()))
+            && is_found_again(libraries)?
+            && lacks(libraries, "F", LibId::from_bytes([0; 16]))
+            && libraries.faults() == 1
+            && lacks(libraries, "G", lib()),
+    )
 }
 
 #[test]
 fn memory_keeps_libraries(rt: HostRuntime) -> Result<(), Fail> {
-    let mut libraries = MemoryGround::new(rt.alloc());
-    keeps_libraries(&rt, &mut libraries, "F")?;
-    assert!(rt; is_absent(libraries.find("G", lib())));
+    assert!(rt; keeps_libraries(&mut MemoryGround::new(rt.alloc()))?);
     Ok(())
 }
 
 /// The ground of these rows.
 type Libraries = FolderGround<SystemFiles<HostRuntime>>;
 
-/// A library is moved away for one call: whether that fails, the shelf's count, and the ground's once the shelf is back.
-fn one_fault(
+/// Makes the library, puts its state text, and gives it back.
+fn make_library(libraries: &mut Libraries, folder: &str) -> Result<(), Fail> {
+    let mut shelf = there(libraries.make(folder, lib()))?;
+    done(shelf.put(Slot::Status, b"state"))?;
+    libraries.give_back(folder, lib(), shelf);
+    Ok(())
+}
+
+/// Whether a shelf fails as its library is moved away, and counts that once.
+fn fails_away(
     rt: &HostRuntime,
-    libraries: &mut Libraries,
-    folder: &str,
-) -> Result<(bool, [u64; 2]), Fail> {
+    shelf: &mut impl Shelf,
+    here: &str,
+    away: &str,
+) -> Result<bool, Fail> {
+    fs::rename(rt, here, away)?;
+    let is_failed = is_fault(shelf.fetch(Slot::Status));
+    fs::rename(rt, away, here)?;
+    Ok(is_failed && shelf.faults() == 1)
+}
+
+/// A library is moved away for one call: whether that fails and is counted once, by the shelf and, once that is back, by
+/// the ground.
+fn one_fault(rt: &HostRuntime, libraries: &mut Libraries, folder: &str) -> Result<bool, Fail> {
     let here = within(rt, folder, LIB)?;
     let away = within(rt, folder, "away")?;
     let mut shelf = there(libraries.find(folder, lib()))?;
-    fs::rename(rt, here.as_str(), away.as_str())?;
-    let failed = shelf.fetch(Slot::Status);
-    fs::rename(rt, away.as_str(), here.as_str())?;
-    let counted = shelf.faults();
+    let is_counted = fails_away(rt, &mut shelf, here.as_str(), away.as_str())?;
     libraries.give_back(folder, lib(), shelf);
-    Ok((is_fault(failed), [counted, libraries.faults()]))
+    Ok(is_counted && libraries.faults() == 1)
 }
 
-/// Whether a fault is counted once, and a shelf that is handed out after it has counted none.
-fn counts_once(rt: &HostRuntime, libraries: &mut Libraries, folder: &str) -> Result<bool, Fail> {
-    let told = one_fault(rt, libraries, folder)?;
+/// Whether a shelf that is handed out has counted no fault, and adds none as it comes back.
+fn is_fresh(libraries: &mut Libraries, folder: &str) -> Result<bool, Fail> {
     let shelf = there(libraries.find(folder, lib()))?;
     let fresh = shelf.faults();
     libraries.give_back(folder, lib(), shelf);
-    Ok(told == (true, [1, 1]) && fresh == 0 && libraries.faults() == 1)
+    Ok(fresh == 0 && libraries.faults() == 1)
+}
+
+/// Whether a fault is counted once, and a shelf that is handed out after it has counted none.
+fn counts_once(rt: &HostRuntime, folder: &str) -> Result<bool, Fail> {
+    let mut libraries = ground(rt)?;
+    make_library(&mut libraries, folder)?;
+    Ok(one_fault(rt, &mut libraries, folder)? && is_fresh(&mut libraries, folder)?)
 }
 
 #[test]
 fn a_fault_is_counted_once(rt: HostRuntime) -> Result<(), Fail> {
     let folder = scratch(&rt, "once")?;
-    let mut libraries = ground(&rt)?;
-    make_library(&mut libraries, folder.as_str())?;
-    assert!(rt; counts_once(&rt, &mut libraries, folder.as_str())?);
+    assert!(rt; counts_once(&rt, folder.as_str())?);
     Ok(clear(&rt, folder.as_str())?)
 }
 
-/// Whether nothing lies on a shelf.
-fn is_bare<S: Shelf>(shelf: &mut S) -> bool {
-    matches!(shelf.fetch(Slot::Status), Ok(None)) && shelf.next(Kind::Block, None) == Ok(None)
+/// Whether no library is found or made in the folder of no name.
+fn refuses_no_name(libraries: &mut Libraries) -> bool {
+    is_fault(libraries.find("", lib())) && is_fault(libraries.make("", lib()))
 }
 
-/// Makes the library, puts one block and no state text, and gives it back.
-fn leave_without_text(libraries: &mut Libraries, folder: &str) -> Result<(), Fail> {
-    let mut shelf = there(libraries.make(folder, lib()))?;
-    done(shelf.put(slot_of(Kind::Block, "abc"), b"abc"))?;
-    libraries.give_back(folder, lib(), shelf);
+#[test]
+fn a_folder_without_a_name_is_a_fault(rt: HostRuntime) -> Result<(), Fail> {
+    assert!(rt; refuses_no_name(&mut ground(&rt)?));
     Ok(())
-}
-
-/// Lays a state text where the library was left.
-fn lay_text(rt: &HostRuntime, folder: &str) -> Result<(), Fail> {
-    let left = format!(in rt.alloc(); "{folder}/{LIB}.new/status")?;
-    Ok(fs::write(rt, left.as_str(), b"left")?)
-}
-
-/// Whether the library is made from nothing.
-fn is_made_anew(libraries: &mut Libraries, folder: &str) -> Result<bool, Fail> {
-    let mut shelf = there(libraries.make(folder, lib()))?;
-    let is_anew = is_bare(&mut shelf);
-    done(shelf.put(Slot::Status, b"state"))?;
-    libraries.give_back(folder, lib(), shelf);
-    Ok(is_anew)
-}
-
-#[test]
-fn a_library_without_a_state_text_is_made_again(rt: HostRuntime) -> Result<(), Fail> {
-    let folder = scratch(&rt, "again")?;
-    let mut libraries = ground(&rt)?;
-    leave_without_text(&mut libraries, folder.as_str())?;
-    assert!(rt; is_absent(libraries.find(folder.as_str(), lib())));
-    lay_text(&rt, folder.as_str())?;
-    assert!(rt; is_made_anew(&mut libraries, folder.as_str())?);
-    let _shelf = there(libraries.find(folder.as_str(), lib()))?;
-    Ok(clear(&rt, folder.as_str())?)
-}
-
-/// Whether a library that the first has is a fault for the second, made or found, and stays as it is.
-fn is_had_by_one(
-    first: &mut Libraries,
-    second: &mut Libraries,
-    folder: &str,
-) -> Result<bool, Fail> {
-    let mut shelf = there(first.make(folder, lib()))?;
-    let is_made_fault = is_fault(second.make(folder, lib()));
-    done(shelf.put(Slot::Status, b"state"))?;
-    let is_found_fault = is_fault(second.find(folder, lib()));
-    let is_kept = holds(&mut shelf, &Slot::Status, b"state");
-    first.give_back(folder, lib(), shelf);
-    Ok(is_made_fault && is_found_fault && is_kept && second.faults() == 2)
-}
-
-#[test]
-fn a_library_that_another_has_is_a_fault_and_stays(rt: HostRuntime) -> Result<(), Fail> {
-    let folder = scratch(&rt, "lock")?;
-    let mut first = ground(&rt)?;
-    let mut second = ground(&rt)?;
-    assert!(rt; is_had_by_one(&mut first, &mut second, folder.as_str())?);
-    let shelf = there(second.find(folder.as_str(), lib()))?;
-    second.give_back(folder.as_str(), lib(), shelf);
-    assert!(rt; first.faults() == 0);
-    Ok(clear(&rt, folder.as_str())?)
-}
-
-/// Whether no library can be made in a folder, and whether one can be looked for there.
-fn refuses(libraries: &mut Libraries, folder: &str, is_readable: bool) -> bool {
-    let is_found_fault = is_fault(libraries.find(folder, lib()));
-    is_found_fault != is_readable && is_fault(libraries.make(folder, lib()))
-}
-
-#[test]
-fn a_folder_that_is_missing_is_a_fault_and_is_not_made(rt: HostRuntime) -> Result<(), Fail> {
-    let above = scratch(&rt, "missing")?;
-    let missing = within(&rt, above.as_str(), "F")?;
-    let file = within(&rt, above.as_str(), "file")?;
-    fs::write(&rt, file.as_str(), b"x")?;
-    let mut libraries = ground(&rt)?;
-    assert!(rt; refuses(&mut libraries, missing.as_str(), false));
-    assert!(rt; refuses(&mut libraries, file.as_str(), false));
-    assert!(rt; refuses(&mut libraries, "/proc/self", true));
-    assert!(rt; refuses(&mut libraries, "", false));
-    assert!(rt; !fs::exists(&rt, missing.as_str())?);
-    Ok(clear(&rt, above.as_str())?)
 }

@@ -1,38 +1,22 @@
 //! A file system in memory that fails one sync, and loses what was not made durable.
-use crate::lossy_nodes::{Home, NOWHERE, Node};
+use crate::lossy_nodes::{Also, Failures, Home, NOWHERE, Node};
 use folder_storage::{FileFacts, FileKind, FileSystem};
 use std::alloc::{AllocError, Global};
 use std::io;
 use std::io::ErrorKind;
 
-/// When a file or folder was changed, unless it is set: long after any time that a row sets.
-const NOW: i64 = 2_000_000_000_000_000_000;
-
-/// A call that fails beside the syncs.
-#[derive(Clone, Copy, PartialEq, Eq)]
-pub(crate) enum Also {
-    Nothing,
-    /// A look, for want of memory.
-    Look,
-    /// A move.
-    Move,
-    /// A removal, for want of memory.
-    Remove,
-}
-
-/// Files in memory. From the sync with the number `fails` on, from 0, the next `left` calls that sync, or are of the kind
-/// `also`, fail; what such a sync was to write is never written, unless it is written anew, though later syncs say that all
-/// is well.
+/// Files in memory. Some calls fail; what a sync that fails was to write is never written, unless it is written anew, though
+/// later syncs say that all is well.
 #[derive(Drop)]
 pub(crate) struct LossyFiles {
     alloc: Global,
+    /// The files and folders, by their numbers, and the bytes of each. The first is the folder of all.
     nodes: Vec<Node>,
-    next: u64,
-    fails: u64,
-    left: u64,
-    also: Also,
-    /// The syncs of this handle, and all its calls that change something or sync it, a line each.
-    syncs: u64,
+    bytes: Vec<Vec<u8>>,
+    /// All names, by their numbers.
+    names: Vec<String>,
+    fails: Failures,
+    /// All calls of this handle that change something or sync it, a line each.
     calls: String,
 }
 
@@ -50,32 +34,43 @@ fn parted(path: &str) -> (&str, &str) {
 
 impl LossyFiles {
     /// Files with nothing in them, of which no sync fails.
-    pub(crate) fn new(alloc: Global) -> LossyFiles {
-        LossyFiles {
+    pub(crate) fn new(alloc: Global) -> Result<LossyFiles, AllocError> {
+        let mut files = LossyFiles {
             alloc,
             nodes: Vec::new(alloc),
-            next: 1,
-            fails: u64::MAX,
-            left: 1,
-            also: Also::Nothing,
-            syncs: 0,
+            bytes: Vec::new(alloc),
+            names: Vec::new(alloc),
+            fails: Failures::one(u64::MAX),
             calls: String::new(alloc),
-        }
+        };
+        let nowhere = Home {
+            folder: NOWHERE,
+            name: 0,
+        };
+        files.push(Node::new(FileKind::Folder, nowhere), b"")?;
+        Ok(files)
     }
 
-    /// Another handle of the files as they are now, of which the sync with this number fails.
-    pub(crate) fn failing(&self, fails: u64) -> io::Result<LossyFiles> {
+    /// Another handle of the files as they are now, of which these calls fail.
+    fn failing_so(&self, fails: Failures) -> io::Result<LossyFiles> {
         let mut files = self.another()?;
         files.fails = fails;
         Ok(files)
     }
 
+    /// Another handle of the files as they are now, of which the sync with this number fails.
+    pub(crate) fn failing(&self, number: u64) -> io::Result<LossyFiles> {
+        self.failing_so(Failures::one(number))
+    }
+
     /// Another handle of the files as they are now, of which so many calls fail, from the first sync on.
     pub(crate) fn failing_from_the_first(&self, left: u64, also: Also) -> io::Result<LossyFiles> {
-        let mut files = self.failing(0)?;
-        files.left = left;
-        files.also = also;
-        Ok(files)
+        self.failing_so(Failures {
+            first: 0,
+            left,
+            also,
+            syncs: 0,
+        })
     }
 
     /// What stands after the power failed: what the disk has. Before that it may have taken over each name of what had
@@ -83,13 +78,13 @@ impl LossyFiles {
     pub(crate) fn cut(&self, has_names: bool) -> io::Result<LossyFiles> {
         let mut left = self.another()?;
         for node in left.nodes.iter_mut() {
-            node.cut(self.alloc, has_names)?;
+            node.cut(has_names);
         }
         Ok(left)
     }
 
     pub(crate) fn syncs(&self) -> u64 {
-        self.syncs
+        self.fails.syncs
     }
 
     pub(crate) fn calls(&self) -> &str {
@@ -99,50 +94,68 @@ impl LossyFiles {
     /// Sets when what stands at a path was changed.
     pub(crate) fn set_changed(&mut self, path: &str, changed: i64) -> io::Result<()> {
         let number = self.number_at(path)?;
-        for node in self.nodes.iter_mut() {
-            if node.number == number {
-                node.changed = changed;
-            }
+        if let Some(node) = self.nodes.get_mut(number) {
+            node.changed = changed;
         }
         Ok(())
     }
 
-    fn changed_at(&self, number: u64) -> i64 {
-        for node in self.nodes.iter() {
-            if node.number == number {
-                return node.changed;
-            }
-        }
-        NOW
-    }
-
-    /// What stands at a path: its number and kind. The empty path is the folder of all.
-    fn find(&self, path: &str) -> Option<(u64, FileKind)> {
-        let mut at = (0, FileKind::Folder);
+    /// What stands at a path. The empty path is the folder of all.
+    fn find(&self, path: &str) -> Option<usize> {
+        let mut at = 0;
         if path.is_empty() {
             return Some(at);
         }
         for name in path.split('/') {
-            at = self.child(at.0, name)?;
+            at = self.child(at, name)?;
         }
         Some(at)
     }
 
-    fn child(&self, folder: u64, name: &str) -> Option<(u64, FileKind)> {
-        for node in self.nodes.iter() {
-            if node.seen.is_at(folder, name) {
-                return Some((node.number, node.kind));
+    fn child(&self, folder: usize, name: &str) -> Option<usize> {
+        let name = self.name_at(name)?;
+        let home = Home { folder, name };
+        for (number, node) in self.nodes.iter().enumerate() {
+            if node.seen == home {
+                return Some(number);
+            }
+        }
+        None
+    }
+
+    /// The number of a name.
+    fn name_at(&self, name: &str) -> Option<usize> {
+        for (number, known) in self.names.iter().enumerate() {
+            if known.as_str() == name {
+                return Some(number);
             }
         }
         None
     }
 
     /// The number of what stands at a path, which has to be there.
-    fn number_at(&self, path: &str) -> io::Result<u64> {
+    fn number_at(&self, path: &str) -> io::Result<usize> {
         match self.find(path) {
-            Some(found) => Ok(found.0),
+            Some(number) => Ok(number),
             None => Err(failure(ErrorKind::NotFound)),
         }
+    }
+
+    /// Where a path names something, in a folder that has to be there.
+    fn home_of(&mut self, path: &str) -> io::Result<Home> {
+        let (folder, name) = parted(path);
+        let folder = self.number_at(folder)?;
+        let name = self.add_name(name)?;
+        Ok(Home { folder, name })
+    }
+
+    /// The number of a name, which is added where it isn't there.
+    fn add_name(&mut self, name: &str) -> Result<usize, AllocError> {
+        if let Some(number) = self.name_at(name) {
+            return Ok(number);
+        }
+        self.names.push(String::from_str(self.alloc, name)?)?;
+        Ok(self.names.len().saturating_sub(1))
     }
 
     fn note(&mut self, call: &str, path: &str) -> Result<(), AllocError> {
@@ -151,77 +164,63 @@ impl LossyFiles {
         self.calls.push('\n')
     }
 
+    fn push(&mut self, node: Node, bytes: &[u8]) -> Result<(), AllocError> {
+        self.bytes.push(Vec::from_slice(self.alloc, bytes)?)?;
+        self.nodes.push(node)?;
+        Ok(())
+    }
+
     /// Adds a file or folder, which takes the place of what stands there.
     fn add(&mut self, path: &str, kind: FileKind, bytes: &[u8]) -> io::Result<()> {
-        let folder = self.number_at(parted(path).0)?;
-        self.unname(folder, parted(path).1);
-        let number = self.next;
-        self.next = number.saturating_add(1);
-        let seen = Home::new(self.alloc, folder, parted(path).1)?;
-        let disk = Home::new(self.alloc, NOWHERE, "")?;
-        let mut held = Vec::new(self.alloc);
-        held.extend_from_slice(bytes)?;
-        self.nodes.push(Node {
-            number,
-            kind,
-            changed: NOW,
-            bytes: held,
-            seen,
-            disk,
-            is_synced: false,
-            is_broken: false,
-            is_name_broken: false,
-        })?;
+        let home = self.home_of(path)?;
+        self.unname(home);
+        self.push(Node::new(kind, home), bytes)?;
         Ok(())
     }
 
     /// Takes a name away. The disk may still have it.
-    fn unname(&mut self, folder: u64, name: &str) {
+    fn unname(&mut self, home: Home) {
         for node in self.nodes.iter_mut() {
-            if node.seen.is_at(folder, name) {
+            if node.seen == home {
                 node.seen.folder = NOWHERE;
             }
         }
     }
 
-    /// Counts a sync. The answer is whether it fails.
-    fn is_failing(&mut self) -> bool {
-        let number = self.syncs;
-        self.syncs = number.saturating_add(1);
-        if number < self.fails || self.left == 0 {
-            return false;
-        }
-        self.left -= 1;
-        true
+    /// Begins a sync of what has to be there: its number, and whether the sync fails.
+    fn begin_sync(&mut self, path: &str) -> io::Result<(usize, bool)> {
+        self.note("sync ", path)?;
+        let number = self.number_at(path)?;
+        Ok((number, self.fails.is_failing()))
     }
 
-    /// Whether a call of this kind fails.
-    fn is_failing_at(&mut self, call: Also) -> bool {
-        if self.syncs <= self.fails || self.left == 0 || self.also != call {
-            return false;
-        }
-        self.left -= 1;
-        true
-    }
-
-    fn sync_bytes(&mut self, number: u64, is_failing: bool) {
-        for node in self.nodes.iter_mut() {
-            if node.number == number && !node.is_synced {
-                node.is_broken = node.is_broken || is_failing;
-                node.is_synced = !node.is_broken;
-            }
-        }
-    }
-
-    fn sync_names(&mut self, folder: u64, is_failing: bool) -> Result<(), AllocError> {
-        for node in self.nodes.iter_mut() {
-            if node.seen.folder == folder {
-                node.sync_name(self.alloc, is_failing)?;
-            } else if node.disk.folder == folder && !is_failing {
-                node.disk.folder = NOWHERE;
-            }
+    fn push_name(&self, names: &mut Vec<String>, number: usize) -> Result<(), AllocError> {
+        if let Some(name) = self.names.get(number) {
+            names.push(name.clone()?)?;
         }
         Ok(())
+    }
+
+    /// The names in a folder.
+    fn names_in(&self, folder: usize) -> Result<Vec<String>, AllocError> {
+        let mut names = Vec::new(self.alloc);
+        for node in self.nodes.iter() {
+            if node.seen.folder == folder {
+                self.push_name(&mut names, node.seen.name)?;
+            }
+        }
+        Ok(names)
+    }
+
+    /// The bytes with this number, or one byte of none where the disk lost them.
+    fn bytes_at(&self, number: usize) -> &[u8] {
+        match self.nodes.get(number) {
+            Some(node) if node.is_torn => b"\0",
+            _ => match self.bytes.get(number) {
+                Some(bytes) => bytes.as_slice(),
+                None => b"",
+            },
+        }
     }
 }
 
@@ -239,26 +238,35 @@ impl FileSystem for LossyFiles {
     }
 
     fn another(&self) -> io::Result<LossyFiles> {
-        let mut files = LossyFiles::new(self.alloc);
-        for node in self.nodes.iter() {
-            files.nodes.push(node.copied(self.alloc)?)?;
-        }
-        files.next = self.next;
-        files.fails = self.fails;
-        files.left = self.left;
-        files.also = self.also;
-        Ok(files)
+        let nodes = self.nodes.clone()?;
+        let bytes = self.bytes.clone()?;
+        let names = self.names.clone()?;
+        Ok(LossyFiles {
+            alloc: self.alloc,
+            nodes,
+            bytes,
+            names,
+            fails: Failures {
+                syncs: 0,
+                ..self.fails
+            },
+            calls: String::new(self.alloc),
+        })
     }
 
     fn look(&mut self, path: &str) -> io::Result<Option<FileFacts>> {
-        if self.is_failing_at(Also::Look) {
+        if self.fails.is_failing_at(Also::Look) {
             return Err(failure(ErrorKind::OutOfMemory));
         }
-        match self.find(path) {
-            Some((number, kind)) => Ok(Some(FileFacts {
-                kind,
+        let number = match self.find(path) {
+            Some(number) => number,
+            None => return Ok(None),
+        };
+        match self.nodes.get(number) {
+            Some(node) => Ok(Some(FileFacts {
+                kind: node.kind,
                 size: 1,
-                changed: self.changed_at(number),
+                changed: node.changed,
             })),
             None => Ok(None),
         }
@@ -269,30 +277,17 @@ impl FileSystem for LossyFiles {
     }
 
     fn list(&mut self, folder: &str) -> io::Result<Option<Vec<String>>> {
-        let number = match self.find(folder) {
-            Some((number, _)) => number,
-            None => return Ok(None),
-        };
-        let mut names = Vec::new(self.alloc);
-        for node in self.nodes.iter() {
-            if node.seen.folder == number {
-                names.push(node.seen.name.clone()?)?;
-            }
+        match self.find(folder) {
+            Some(number) => Ok(Some(self.names_in(number)?)),
+            None => Ok(None),
         }
-        Ok(Some(names))
     }
 
     fn read(&mut self, path: &str) -> io::Result<Option<Vec<u8>>> {
-        let number = match self.find(path) {
-            Some((number, _)) => number,
-            None => return Ok(None),
-        };
-        for node in self.nodes.iter() {
-            if node.number == number {
-                return Ok(Some(node.bytes.clone()?));
-            }
+        match self.find(path) {
+            Some(number) => Ok(Some(Vec::from_slice(self.alloc, self.bytes_at(number))?)),
+            None => Ok(None),
         }
-        Ok(None)
     }
 
     fn write(&mut self, path: &str, bytes: &[u8], is_durable: bool) -> io::Result<()> {
@@ -305,48 +300,45 @@ impl FileSystem for LossyFiles {
     }
 
     fn sync_file(&mut self, path: &str) -> io::Result<bool> {
-        self.note("sync ", path)?;
-        let number = self.number_at(path)?;
-        let is_failing = self.is_failing();
-        self.sync_bytes(number, is_failing);
+        let (number, is_failing) = self.begin_sync(path)?;
+        if let Some(node) = self.nodes.get_mut(number) {
+            node.sync_bytes(is_failing);
+        }
         synced(is_failing)
     }
 
     fn sync_folder(&mut self, path: &str) -> io::Result<bool> {
-        self.note("sync ", path)?;
-        let number = self.number_at(path)?;
-        let is_failing = self.is_failing();
-        self.sync_names(number, is_failing)?;
+        let (folder, is_failing) = self.begin_sync(path)?;
+        for node in self.nodes.iter_mut() {
+            node.sync_in(folder, is_failing);
+        }
         synced(is_failing)
     }
 
     fn rename(&mut self, from: &str, to: &str) -> io::Result<()> {
-        if self.is_failing_at(Also::Move) {
+        if self.fails.is_failing_at(Also::Move) {
             return Err(failure(ErrorKind::StorageFull));
         }
         self.note("rename to ", to)?;
         let number = self.number_at(from)?;
-        let folder = self.number_at(parted(to).0)?;
-        self.unname(folder, parted(to).1);
-        for node in self.nodes.iter_mut() {
-            if node.number == number {
-                node.seen = Home::new(self.alloc, folder, parted(to).1)?;
-                node.is_name_broken = false;
-            }
+        let home = self.home_of(to)?;
+        self.unname(home);
+        if let Some(node) = self.nodes.get_mut(number) {
+            node.move_to(home);
         }
         Ok(())
     }
 
     fn remove_file(&mut self, path: &str) -> io::Result<bool> {
-        if self.is_failing_at(Also::Remove) {
+        if self.fails.is_failing_at(Also::Remove) {
             return Err(failure(ErrorKind::OutOfMemory));
         }
         if self.find(path).is_none() {
             return Ok(false);
         }
         self.note("remove ", path)?;
-        let folder = self.number_at(parted(path).0)?;
-        self.unname(folder, parted(path).1);
+        let home = self.home_of(path)?;
+        self.unname(home);
         Ok(true)
     }
 

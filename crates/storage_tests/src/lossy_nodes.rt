@@ -1,95 +1,152 @@
-//! A file or folder in memory, with what the disk has of it.
+//! A file or folder of a stand-in for the disk, with what the disk has of it, and which calls fail.
 use folder_storage::FileKind;
-use std::alloc::{AllocError, Global};
 
 /// The number of no folder.
-pub(crate) const NOWHERE: u64 = u64::MAX;
+pub(crate) const NOWHERE: usize = usize::MAX;
 
-/// Where something is named: the number of a folder, and a name in it.
-#[derive(Drop)]
+/// When a file or folder was changed, unless it is set: long after any time that a row sets.
+const NOW: i64 = 2_000_000_000_000_000_000;
+
+/// Where something is named: the number of a folder, and that of a name in it.
+#[derive(Clone, Copy, PartialEq, Eq)]
 pub(crate) struct Home {
-    pub(crate) folder: u64,
-    pub(crate) name: String,
-}
-
-impl Home {
-    pub(crate) fn new(alloc: Global, folder: u64, name: &str) -> Result<Home, AllocError> {
-        let name = String::from_str(alloc, name)?;
-        Ok(Home { folder, name })
-    }
-
-    pub(crate) fn copied(&self, alloc: Global) -> Result<Home, AllocError> {
-        Home::new(alloc, self.folder, self.name.as_str())
-    }
-
-    /// Whether something is named so in a folder.
-    pub(crate) fn is_at(&self, folder: u64, name: &str) -> bool {
-        self.folder == folder && self.name.as_str() == name
-    }
+    pub(crate) folder: usize,
+    pub(crate) name: usize,
 }
 
 /// A file or folder, with what the disk has of it beside what is seen.
-#[derive(Drop)]
+#[derive(Clone, Copy)]
 pub(crate) struct Node {
-    pub(crate) number: u64,
     pub(crate) kind: FileKind,
     pub(crate) changed: i64,
-    pub(crate) bytes: Vec<u8>,
     /// Where it is seen, and where the disk has it.
     pub(crate) seen: Home,
-    pub(crate) disk: Home,
+    disk: Home,
     /// Whether the disk has its bytes.
-    pub(crate) is_synced: bool,
+    is_synced: bool,
     /// Whether a sync of its bytes failed: another one writes nothing.
-    pub(crate) is_broken: bool,
+    is_broken: bool,
     /// Whether a sync of its name failed: another one writes nothing, until it is named anew.
-    pub(crate) is_name_broken: bool,
+    is_name_broken: bool,
+    /// Whether the disk lost its bytes: it has one byte of none.
+    pub(crate) is_torn: bool,
 }
 
 impl Node {
-    pub(crate) fn copied(&self, alloc: Global) -> Result<Node, AllocError> {
-        let bytes = self.bytes.clone()?;
-        let seen = self.seen.copied(alloc)?;
-        let disk = self.disk.copied(alloc)?;
-        Ok(Node {
-            number: self.number,
-            kind: self.kind,
-            changed: self.changed,
-            bytes,
+    /// A file or folder of which the disk has nothing.
+    pub(crate) fn new(kind: FileKind, seen: Home) -> Node {
+        Node {
+            kind,
+            changed: NOW,
             seen,
-            disk,
-            is_synced: self.is_synced,
-            is_broken: self.is_broken,
-            is_name_broken: self.is_name_broken,
-        })
+            disk: Home {
+                folder: NOWHERE,
+                name: 0,
+            },
+            is_synced: false,
+            is_broken: false,
+            is_name_broken: false,
+            is_torn: false,
+        }
+    }
+
+    /// The disk takes over its bytes, unless it has them, or a sync of them fails or failed.
+    pub(crate) fn sync_bytes(&mut self, is_failing: bool) {
+        if !self.is_synced {
+            self.is_broken = self.is_broken || is_failing;
+            self.is_synced = !self.is_broken;
+        }
+    }
+
+    /// A sync of a folder: the disk takes over its name there, or forgets the one that it has no longer.
+    pub(crate) fn sync_in(&mut self, folder: usize, is_failing: bool) {
+        if self.seen.folder == folder {
+            self.sync_name(is_failing);
+        } else if self.disk.folder == folder && !is_failing {
+            self.disk.folder = NOWHERE;
+        }
     }
 
     /// The disk takes over its name, unless that is its name there, or a sync of it fails or failed.
-    pub(crate) fn sync_name(&mut self, alloc: Global, is_failing: bool) -> Result<(), AllocError> {
-        if self.disk.is_at(self.seen.folder, self.seen.name.as_str()) {
-            return Ok(());
+    fn sync_name(&mut self, is_failing: bool) {
+        if self.disk == self.seen {
+            return;
         }
         self.is_name_broken = self.is_name_broken || is_failing;
-        if self.is_name_broken {
-            return Ok(());
+        if !self.is_name_broken {
+            self.disk = self.seen;
         }
-        self.disk = self.seen.copied(alloc)?;
-        Ok(())
+    }
+
+    /// Names it anew.
+    pub(crate) fn move_to(&mut self, home: Home) {
+        self.seen = home;
+        self.is_name_broken = false;
     }
 
     /// What the disk has of it is seen, and nothing else.
-    pub(crate) fn cut(&mut self, alloc: Global, has_names: bool) -> Result<(), AllocError> {
+    pub(crate) fn cut(&mut self, has_names: bool) {
         if has_names && self.disk.folder == NOWHERE && !self.is_name_broken {
-            self.disk = self.seen.copied(alloc)?;
+            self.disk = self.seen;
         }
-        self.seen = self.disk.copied(alloc)?;
+        self.seen = self.disk;
         self.is_broken = false;
         self.is_name_broken = false;
-        if !self.is_synced && self.kind == FileKind::File {
-            self.bytes.clear();
-            self.bytes.push(0)?;
-        }
+        self.is_torn = self.is_torn || !self.is_synced;
         self.is_synced = true;
-        Ok(())
+    }
+}
+
+/// A call that fails beside the syncs.
+#[derive(Clone, Copy, PartialEq, Eq)]
+pub(crate) enum Also {
+    Nothing,
+    /// A look, for want of memory.
+    Look,
+    /// A move.
+    Move,
+    /// A removal, for want of memory.
+    Remove,
+}
+
+/// Which calls fail: from the sync with the number `first` on, from 0, the next `left` that sync, or are of the kind `also`.
+#[derive(Clone, Copy)]
+pub(crate) struct Failures {
+    pub(crate) first: u64,
+    pub(crate) left: u64,
+    pub(crate) also: Also,
+    /// The syncs so far.
+    pub(crate) syncs: u64,
+}
+
+impl Failures {
+    /// One sync fails, that with this number.
+    pub(crate) fn one(first: u64) -> Failures {
+        Failures {
+            first,
+            left: 1,
+            also: Also::Nothing,
+            syncs: 0,
+        }
+    }
+
+    /// Counts a sync. The answer is whether it fails.
+    pub(crate) fn is_failing(&mut self) -> bool {
+        let number = self.syncs;
+        self.syncs = number.saturating_add(1);
+        if number < self.first || self.left == 0 {
+            return false;
+        }
+        self.left -= 1;
+        true
+    }
+
+    /// Whether a call of this kind fails.
+    pub(crate) fn is_failing_at(&mut self, call: Also) -> bool {
+        if self.syncs <= self.first || self.left == 0 || self.also != call {
+            return false;
+        }
+        self.left -= 1;
+        true
     }
 }

@@ -35,11 +35,3 @@ pub(crate) fn made(
 ) -> Result<FolderShelf<SystemFiles<HostRuntime>>, Fail> {
     there(ground(rt)?.make(folder, lib()))
 }
-
-/// The library of these tests, found in a folder.
-pub(crate) fn found_again(
-    rt: &HostRuntime,
-    folder: &str,
-) -> Result<FolderShelf<SystemFiles<HostRuntime>>, Fail> {
-    there(ground(rt)?.find(folder, lib()))
-}
