@@ -5,8 +5,7 @@ use ids::{Bytes, Items, LibId};
 use json_words::ReadFault;
 use local_index::*;
 use std::alloc::{AllocError, Global};
-use std::test::Fail;
-use tree_model::{Name, NameFault, Path};
+use tree_model::Path;
 
 /// The text of an empty directory `d` with an empty file `a`.
 const TEXT: &str =
@@ -24,27 +23,37 @@ fn index_text(alloc: Global, entries: &str) -> Result<String, AllocError> {
     Ok(text)
 }
 
-fn path(alloc: Global, text: &str) -> Result<Path, NameFault> {
-    let mut path = Path::root(alloc);
-    for name in text.split('/') {
-        path.push(Name::read(alloc, name)?)?;
+/// The path of a text, which is that of the folder itself where it is no path.
+fn path(alloc: Global, text: &str) -> Result<Path, AllocError> {
+    match Path::read(alloc, text)? {
+        Some(path) => Ok(path),
+        None => Ok(Path::root(alloc)),
     }
-    Ok(path)
 }
 
-/// The scan of a folder: directories end in `/`, and all others are files with the bytes `abc`.
-fn scan_of(alloc: Global, paths: &[&str]) -> Result<Option<Scan>, NameFault> {
-    let mut folder = MemoryFolder::new(alloc, Items::new(alloc));
+fn add_dir(alloc: Global, folder: &mut MemoryFolder, text: &str) -> Result<bool, AllocError> {
+    folder.add(path(alloc, text)?, Holding::Dir)
+}
+
+/// Adds a file with the bytes `abc`.
+fn add_file(alloc: Global, folder: &mut MemoryFolder, text: &str) -> Result<bool, AllocError> {
+    let path = path(alloc, text)?;
+    folder.add(path, Holding::File(Items::copy(alloc, b"abc")?))
+}
+
+/// Fills a folder: paths of directories end in `/`, and all others are files with the bytes `abc`. The answer is whether
+/// each has a directory to stand in.
+fn fill(alloc: Global, folder: &mut MemoryFolder, paths: &[&str]) -> Result<bool, AllocError> {
     for text in paths {
-        let _ = match text.strip_suffix('/') {
-            Some(dir) => folder.add(path(alloc, dir)?, Holding::Dir)?,
-            None => folder.add(
-                path(alloc, text)?,
-                Holding::File(Items::copy(alloc, b"abc")?),
-            )?,
+        let is_added = match text.strip_suffix('/') {
+            Some(dir) => add_dir(alloc, folder, dir)?,
+            None => add_file(alloc, folder, text)?,
         };
+        if !is_added {
+            return Ok(false);
+        }
     }
-    Ok(scan(alloc, &mut folder, Cuts::USUAL).ok())
+    Ok(true)
 }
 
 fn word(kind: ChangeKind) -> &'static str {
@@ -64,15 +73,22 @@ fn lines(alloc: Global, changes: &Items<Change>) -> Result<String, AllocError> {
     Ok(text)
 }
 
-/// Whether this key, as it is printed, is what is first wrong with a text; no text where nothing is.
-fn is_told(alloc: Global, text: &str, wanted: &str) -> Result<bool, AllocError> {
-    match Index::read(alloc, text.as_bytes()) {
-        Err(ReadFault::Bad(key)) => {
-            Ok(format!(in alloc; "{key:?}")?.as_bytes() == wanted.as_bytes())
-        }
+/// Whether this key, as it is printed, is what was first wrong with a text; no text where nothing was.
+fn is_first_wrong(
+    alloc: Global,
+    told: &Result<Index, IndexFault>,
+    wanted: &str,
+) -> Result<bool, AllocError> {
+    match told {
+        Err(ReadFault::Bad(key)) => Ok(format!(in alloc; "{key:?}")?.as_str() == wanted),
         Err(ReadFault::NoMemory) => Ok(false),
         Ok(_) => Ok(wanted.is_empty()),
     }
+}
+
+/// Whether this key is what is first wrong with a text.
+fn is_told(alloc: Global, text: &str, wanted: &str) -> Result<bool, AllocError> {
+    is_first_wrong(alloc, &Index::read(alloc, text.as_bytes()), wanted)
 }
 
 /// Whether a text has two entries and is written back as itself.
@@ -91,12 +107,17 @@ fn empty_text(alloc: Global) -> Result<Bytes, AllocError> {
     Index::empty(alloc, lib).write(alloc)
 }
 
+/// Whether that is the text of no entries.
+fn is_empty_text(alloc: Global) -> Result<bool, AllocError> {
+    let text = index_text(alloc, "")?;
+    Ok(empty_text(alloc)?.slice() == text.as_bytes())
+}
+
 // The text is that of docs/FORMATS.md.
 #[test]
 fn an_index_text_is_written_back_as_itself(rt: HostRuntime) -> Result<(), AllocError> {
-    let alloc = rt.alloc();
-    assert!(rt; is_written_back(alloc, TEXT.as_bytes())?);
-    assert!(rt; empty_text(alloc)?.slice() == index_text(alloc, "")?.as_bytes());
+    assert!(rt; is_written_back(rt.alloc(), TEXT.as_bytes())?);
+    assert!(rt; is_empty_text(rt.alloc())?);
     Ok(())
 }
 
@@ -157,30 +178,60 @@ const ENTRIES: [(&str, &str); 10] = [
     ("1", "Entries"),
 ];
 
+/// Whether this key is what is first wrong with the index text of these entries.
+fn is_told_of(alloc: Global, entries: &str, wanted: &str) -> Result<bool, AllocError> {
+    is_told(alloc, index_text(alloc, entries)?.as_str(), wanted)
+}
+
 #[test]
 fn entries_are_distinct_paths_in_directories(rt: HostRuntime) -> Result<(), AllocError> {
     for (entries, wanted) in ENTRIES {
-        let text = index_text(rt.alloc(), entries)?;
-        assert!(rt; is_told(rt.alloc(), text.as_str(), wanted)?, "{entries}");
+        assert!(rt; is_told_of(rt.alloc(), entries, wanted)?, "{entries}");
     }
     Ok(())
 }
 
-/// The index of these entries.
-fn index_of(alloc: Global, entries: &str) -> Result<Index, Fail> {
-    let text = index_text(alloc, entries)?;
-    match Index::read(alloc, text.as_bytes()) {
-        Ok(index) => Ok(index),
-        Err(_) => Err(Fail::from("no index")),
+/// Whether a scan differs so from an index.
+fn differs(alloc: Global, scan: &Scan, index: &Index, wanted: &str) -> Result<bool, AllocError> {
+    let changes = changes(alloc, scan, index)?;
+    Ok(lines(alloc, &changes)?.as_str() == wanted)
+}
+
+/// Whether the scan of a folder differs so from an index.
+fn scan_differs(
+    alloc: Global,
+    folder: &mut MemoryFolder,
+    index: &Index,
+    wanted: &str,
+) -> Result<bool, AllocError> {
+    match scan(alloc, folder, Cuts::USUAL) {
+        Ok(scan) => differs(alloc, &scan, index, wanted),
+        Err(_) => Ok(false),
     }
 }
 
+/// Whether the scan of these paths differs so from an index.
+fn paths_differ(
+    alloc: Global,
+    paths: &[&str],
+    index: &Index,
+    wanted: &str,
+) -> Result<bool, AllocError> {
+    let mut folder = MemoryFolder::new(alloc, Items::new(alloc));
+    Ok(fill(alloc, &mut folder, paths)? && scan_differs(alloc, &mut folder, index, wanted)?)
+}
+
 /// Whether the scan of these paths differs so from the index of these entries.
-fn differs_so(alloc: Global, entries: &str, paths: &[&str], wanted: &str) -> Result<bool, Fail> {
-    let index = index_of(alloc, entries)?;
-    match scan_of(alloc, paths)? {
-        Some(scan) => Ok(lines(alloc, &changes(alloc, &scan, &index)?)?.as_str() == wanted),
-        None => Ok(false),
+fn differs_so(
+    alloc: Global,
+    entries: &str,
+    paths: &[&str],
+    wanted: &str,
+) -> Result<bool, AllocError> {
+    let text = index_text(alloc, entries)?;
+    match Index::read(alloc, text.as_bytes()) {
+        Ok(index) => paths_differ(alloc, paths, &index, wanted),
+        Err(_) => Ok(false),
     }
 }
 
@@ -213,7 +264,7 @@ const CHANGED: [(&str, &[&str], &str); 7] = [
 
 // The id of the file `abc` is the SHA-1 of its object's 88 bytes.
 #[test]
-fn changes_are_told_in_byte_order_of_path(rt: HostRuntime) -> Result<(), Fail> {
+fn changes_are_told_in_byte_order_of_path(rt: HostRuntime) -> Result<(), AllocError> {
     for (entries, paths, wanted) in CHANGED {
         assert!(rt;
             differs_so(rt.alloc(), entries, paths, wanted)?,
