@@ -29,11 +29,15 @@ fn made(alloc: Global) -> Result<FolderShelf<LossyFiles>, Fail> {
     there(FolderGround::over(files).make("F", lib()))
 }
 
-/// The files of a library whose state text is `1`.
-pub(crate) fn with_text(alloc: Global) -> Result<LossyFiles, Fail> {
-    let mut shelf = made(alloc)?;
+/// The files of a shelf, once a state text is put.
+fn after_text(shelf: &mut FolderShelf<LossyFiles>) -> Result<LossyFiles, Fail> {
     done(shelf.put(Slot::Status, b"1"))?;
     Ok(shelf.files().another()?)
+}
+
+/// The files of a library whose state text is `1`.
+pub(crate) fn with_text(alloc: Global) -> Result<LossyFiles, Fail> {
+    after_text(&mut made(alloc)?)
 }
 
 /// Whether an object is there, whole.
@@ -109,36 +113,55 @@ fn ends(shelf: &mut FolderShelf<LossyFiles>, answered: u8) -> Result<bool, Fail>
     Ok(put_text(shelf, b'4', answered) == b'4' && stands(shelf.files(), b'4')?)
 }
 
+/// The same of a new run over these files.
+fn ends_anew(files: &LossyFiles, answered: u8) -> Result<bool, Fail> {
+    ends(&mut opened(files.failing(u64::MAX)?)?, answered)
+}
+
 /// Whether that holds where the sync with this number fails in an update, which is tried again in the same run, and then in
 /// another.
 fn one_sync_fails(files: &LossyFiles, case: u64) -> Result<bool, Fail> {
     let mut shelf = opened(files.failing(case)?)?;
     let (is_right, answered) = goes_on(&mut shelf, case)?;
-    let mut next = opened(shelf.files().failing(u64::MAX)?)?;
-    Ok(is_right && ends(&mut next, answered)?)
+    Ok(is_right && ends_anew(shelf.files(), answered)?)
 }
 
 /// The syncs of a run's first update: four objects, their four folders and the three of their kinds, the text, the
 /// library's folder, and the one above.
 const SYNCS: u64 = 14;
 
+/// Whether a first update syncs so often, before the text alone.
+fn syncs_all(shelf: &mut FolderShelf<LossyFiles>) -> Result<bool, Fail> {
+    put_what_lacks(shelf)?;
+    let before = shelf.files().syncs();
+    let is_put = shelf.put(Slot::Status, b"2").is_ok();
+    Ok(before == 0 && is_put && shelf.files().syncs() == SYNCS && stands(shelf.files(), b'2')?)
+}
+
 #[test]
 fn an_update_syncs_each_object_and_each_folder(rt: HostRuntime) -> Result<(), Fail> {
     let mut shelf = opened(with_text(rt.alloc())?)?;
-    put_what_lacks(&mut shelf)?;
-    assert!(rt; shelf.files().syncs() == 0);
-    done(shelf.put(Slot::Status, b"2"))?;
-    assert!(rt; shelf.files().syncs() == SYNCS);
-    assert!(rt; stands(shelf.files(), b'2')?);
+    assert!(rt; syncs_all(&mut shelf)?);
     Ok(())
+}
+
+/// The cases that are to be tried.
+const CASES: u64 = 17;
+
+/// The first case that fails, or the number of all.
+fn first_failing(files: &LossyFiles) -> Result<u64, Fail> {
+    for case in 0..CASES {
+        if !one_sync_fails(files, case)? {
+            return Ok(case);
+        }
+    }
+    Ok(CASES)
 }
 
 #[test]
 fn no_text_stands_over_what_a_failed_sync_lost(rt: HostRuntime) -> Result<(), Fail> {
-    let files = with_text(rt.alloc())?;
-    for case in 0..17 {
-        assert!(rt; one_sync_fails(&files, case)?, "case {case}");
-    }
+    let case = first_failing(&with_text(rt.alloc())?)?;
+    assert!(rt; case == CASES, "case {case}");
     Ok(())
 }
 
@@ -165,14 +188,19 @@ fn stands_with_text(shelf: &mut FolderShelf<LossyFiles>) -> Result<bool, Fail> {
     stands(shelf.files(), b'2')
 }
 
+/// Whether nothing was stored of what these files would have lost, and all that they have stands after a text.
+fn trusts_nothing(files: &LossyFiles) -> Result<bool, Fail> {
+    Ok(
+        takes_anew(&mut opened(files.cut(true)?)?)?
+            && stands_with_text(&mut opened(files.another()?)?)?,
+    )
+}
+
 #[test]
 fn a_new_run_trusts_nothing_that_was_not_synced(rt: HostRuntime) -> Result<(), Fail> {
     let mut shelf = opened(with_text(rt.alloc())?)?;
     put_what_lacks(&mut shelf)?;
-    let mut torn = opened(shelf.files().cut(true)?)?;
-    assert!(rt; takes_anew(&mut torn)?);
-    let mut whole = opened(shelf.files().another()?)?;
-    assert!(rt; stands_with_text(&mut whole)?);
+    assert!(rt; trusts_nothing(shelf.files())?);
     Ok(())
 }
 
@@ -196,18 +224,20 @@ fn failed(files: &LossyFiles, left: u64, also: Also) -> Result<FolderShelf<Lossy
     Err("no fault was counted".into())
 }
 
-/// Whether the block that was lost as it could not be made durable, and whose next put fails in its move, stays lost.
+/// Whether the block that was lost as it could not be made durable, and whose next put fails in its move, stays lost until
+/// it is put again.
 fn stays_lost(shelf: &mut FolderShelf<LossyFiles>) -> bool {
-    !puts_block(shelf) && text_is_fault(shelf)
+    !puts_block(shelf)
+        && text_is_fault(shelf)
+        && puts_block(shelf)
+        && shelf.put(Slot::Status, b"2").is_ok()
+        && has(shelf, Kind::Block, "abc")
 }
 
 #[test]
 fn an_object_that_was_lost_is_lost_until_it_is_put_again(rt: HostRuntime) -> Result<(), Fail> {
     let mut shelf = failed(&with_text(rt.alloc())?, 3, Also::Move)?;
     assert!(rt; stays_lost(&mut shelf));
-    assert!(rt; puts_block(&mut shelf));
-    done(shelf.put(Slot::Status, b"2"))?;
-    assert!(rt; has(&mut shelf, Kind::Block, "abc"));
     Ok(())
 }
 
@@ -224,13 +254,20 @@ fn wants_memory(shelf: &mut FolderShelf<LossyFiles>) -> bool {
     matches!(put, Err(ShelfFailed::NoMemory))
 }
 
+/// A run whose first sync fails, and its first look after that for want of memory.
+fn wanting(files: &LossyFiles) -> Result<FolderShelf<LossyFiles>, Fail> {
+    opened(files.failing_from_the_first(2, Also::Look)?)
+}
+
+/// Whether the put of the block that fails then can be made again.
+fn changes_nothing(shelf: &mut FolderShelf<LossyFiles>) -> bool {
+    text_is_fault(shelf) && wants_memory(shelf) && puts_block(shelf)
+}
+
 #[test]
 fn want_of_memory_before_a_move_changes_nothing(rt: HostRuntime) -> Result<(), Fail> {
-    let files = with_text(rt.alloc())?;
-    let mut shelf = opened(files.failing_from_the_first(2, Also::Look)?)?;
-    assert!(rt; text_is_fault(&mut shelf));
-    assert!(rt; wants_memory(&mut shelf));
-    assert!(rt; puts_block(&mut shelf));
+    let mut shelf = wanting(&with_text(rt.alloc())?)?;
+    assert!(rt; changes_nothing(&mut shelf));
     Ok(())
 }
 
@@ -266,14 +303,24 @@ rename to F/11111111-2222-4333-8444-555555555555
 sync F
 ";
 
+/// Whether the first text of a library comes by these calls.
+fn makes_so(shelf: &mut FolderShelf<LossyFiles>) -> bool {
+    shelf.put(Slot::Status, b"1").is_ok() && shelf.files().calls() == MAKING
+}
+
+/// Whether a block and a text come by these calls.
+fn updates_so(shelf: &mut FolderShelf<LossyFiles>) -> bool {
+    puts_block(shelf) && shelf.put(Slot::Status, b"2").is_ok() && shelf.files().calls() == UPDATE
+}
+
+/// The same of a new run over these files.
+fn next_updates_so(files: &LossyFiles) -> Result<bool, Fail> {
+    Ok(updates_so(&mut opened(files.another()?)?))
+}
+
 #[test]
 fn the_calls_come_in_their_order(rt: HostRuntime) -> Result<(), Fail> {
     let mut shelf = made(rt.alloc())?;
-    done(shelf.put(Slot::Status, b"1"))?;
-    assert!(rt; shelf.files().calls() == MAKING);
-    let mut shelf = opened(shelf.files().another()?)?;
-    done(shelf.put(slot_of(Kind::Block, "abc"), b"abc"))?;
-    done(shelf.put(Slot::Status, b"2"))?;
-    assert!(rt; shelf.files().calls() == UPDATE);
+    assert!(rt; makes_so(&mut shelf) && next_updates_so(shelf.files())?);
     Ok(())
 }

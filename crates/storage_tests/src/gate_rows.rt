@@ -1,5 +1,5 @@
 //! A put that is held at a gate until another thread opens it.
-use crate::library::{done, holds};
+use crate::library::holds;
 use crate::shelf_rows::memory;
 use object_store::{Gate, GateShelf, Shelf, Slot};
 use std::sync::Arc;
@@ -21,20 +21,27 @@ fn open_once_held(gate: &Gate) -> bool {
     false
 }
 
+/// Whether a put over an open gate is done, and not held.
+fn is_open<S: Shelf>(gate: &Gate, shelf: &mut S) -> bool {
+    shelf.put(Slot::Status, b"before").is_ok() && !gate.held()
+}
+
+/// Whether the put that was held is done, for no want of looks.
+fn is_put<S: Shelf>(gate: &Gate, shelf: &mut S) -> bool {
+    !gate.limit_met() && holds(shelf, &Slot::Status, b"after")
+}
+
 #[test]
 fn a_put_is_held_until_the_gate_is_open(rt: HostRuntime) -> Result<(), Fail> {
     let gate = Arc::new(rt.alloc(), Gate::new())?;
     let mut shelf = GateShelf::new(memory(rt.alloc(), &[])?, Arc::try_clone(&gate)?);
-    done(shelf.put(Slot::Status, b"before"))?;
-    assert!(rt; !gate.held());
+    let was_open = is_open(&gate, &mut shelf);
     gate.close();
     let (put, was_held) = thread::join(
         &rt,
         || shelf.put(Slot::Status, b"after"),
         || open_once_held(&gate),
     );
-    done(put)?;
-    assert!(rt; was_held && !gate.limit_met());
-    assert!(rt; holds(&mut shelf, &Slot::Status, b"after"));
+    assert!(rt; was_open && was_held && put.is_ok() && is_put(&gate, &mut shelf));
     Ok(())
 }

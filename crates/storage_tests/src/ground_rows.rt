@@ -1,5 +1,5 @@
 //! Rows over grounds: which libraries are there, and who has them.
-use crate::library::{LIB, done, holds, is_absent, is_fault, lib, there};
+use crate::library::{LIB, holds, is_absent, is_fault, lib, there};
 use crate::scratch::{clear, ground, scratch, within};
 use folder_storage::{FolderGround, Ground, MemoryGround, SystemFiles};
 use ids::LibId;
@@ -15,16 +15,16 @@ where
     is_absent(libraries.make("F", lib())) && is_fault(libraries.find("F", lib()))
 }
 
-/// Makes the library and puts its state text. The answer is whether it was out then.
+/// Makes the library and puts its state text. The answer is whether that was done, and it was out then.
 fn is_made<G: Ground>(libraries: &mut G) -> Result<bool, Fail>
 where
     G::S: Drop,
 {
     let mut shelf = there(libraries.make("F", lib()))?;
-    done(shelf.put(Slot::Status, b"state"))?;
+    let is_put = shelf.put(Slot::Status, b"state").is_ok();
     let was_out = is_out(libraries);
     libraries.give_back("F", lib(), shelf);
-    Ok(was_out)
+    Ok(is_put && was_out)
 }
 
 /// Whether the library is found as it was given back.
@@ -71,34 +71,29 @@ fn memory_keeps_libraries(rt: HostRuntime) -> Result<(), Fail> {
 /// The ground of these rows.
 type Libraries = FolderGround<SystemFiles<HostRuntime>>;
 
-/// Makes the library, puts its state text, and gives it back.
-fn make_library(libraries: &mut Libraries, folder: &str) -> Result<(), Fail> {
+/// Makes the library, puts its state text, and gives it back. The answer is whether that was done.
+fn make_library(libraries: &mut Libraries, folder: &str) -> Result<bool, Fail> {
     let mut shelf = there(libraries.make(folder, lib()))?;
-    done(shelf.put(Slot::Status, b"state"))?;
+    let is_put = shelf.put(Slot::Status, b"state").is_ok();
     libraries.give_back(folder, lib(), shelf);
-    Ok(())
+    Ok(is_put)
 }
 
 /// Whether a shelf fails as its library is moved away, and counts that once.
-fn fails_away(
-    rt: &HostRuntime,
-    shelf: &mut impl Shelf,
-    here: &str,
-    away: &str,
-) -> Result<bool, Fail> {
-    fs::rename(rt, here, away)?;
+fn fails_away(rt: &HostRuntime, shelf: &mut impl Shelf, folder: &str) -> Result<bool, Fail> {
+    let here = within(rt, folder, LIB)?;
+    let away = within(rt, folder, "away")?;
+    fs::rename(rt, here.as_str(), away.as_str())?;
     let is_failed = is_fault(shelf.fetch(Slot::Status));
-    fs::rename(rt, away, here)?;
+    fs::rename(rt, away.as_str(), here.as_str())?;
     Ok(is_failed && shelf.faults() == 1)
 }
 
 /// A library is moved away for one call: whether that fails and is counted once, by the shelf and, once that is back, by
 /// the ground.
 fn one_fault(rt: &HostRuntime, libraries: &mut Libraries, folder: &str) -> Result<bool, Fail> {
-    let here = within(rt, folder, LIB)?;
-    let away = within(rt, folder, "away")?;
     let mut shelf = there(libraries.find(folder, lib()))?;
-    let is_counted = fails_away(rt, &mut shelf, here.as_str(), away.as_str())?;
+    let is_counted = fails_away(rt, &mut shelf, folder)?;
     libraries.give_back(folder, lib(), shelf);
     Ok(is_counted && libraries.faults() == 1)
 }
@@ -114,8 +109,11 @@ fn is_fresh(libraries: &mut Libraries, folder: &str) -> Result<bool, Fail> {
 /// Whether a fault is counted once, and a shelf that is handed out after it has counted none.
 fn counts_once(rt: &HostRuntime, folder: &str) -> Result<bool, Fail> {
     let mut libraries = ground(rt)?;
-    make_library(&mut libraries, folder)?;
-    Ok(one_fault(rt, &mut libraries, folder)? && is_fresh(&mut libraries, folder)?)
+    Ok(
+        make_library(&mut libraries, folder)?
+            && one_fault(rt, &mut libraries, folder)?
+            && is_fresh(&mut libraries, folder)?,
+    )
 }
 
 #[test]

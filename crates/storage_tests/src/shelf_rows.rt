@@ -1,5 +1,5 @@
 //! Rows that every shelf meets: those in memory, those over another shelf, and the one over a folder.
-use crate::library::{done, holds, is_fault, slot_of};
+use crate::library::{holds, is_fault, slot_of};
 use crate::scratch::{clear, made, scratch};
 use folder_storage::{CountedShelf, SteadyShelf};
 use ids::{Bytes, Items, Key, Kind, ObjId};
@@ -53,24 +53,6 @@ fn gives_in_each_slot<S: Shelf>(shelf: &mut S) -> bool {
     gives_what_was_put(shelf, &slot_of(Kind::Block, "abc"))
         && gives_what_was_put(shelf, &Slot::Status)
         && shelf.faults() == 0
-}
-
-#[test]
-fn every_shelf_gives_what_was_put(rt: HostRuntime) -> Result<(), Fail> {
-    let alloc = rt.alloc();
-    assert!(rt; gives_in_each_slot(&mut memory(alloc, &[])?));
-    assert!(rt; gives_in_each_slot(&mut odd(alloc, &[])?));
-    assert!(rt; gives_in_each_slot(&mut fuse(alloc, 100)?));
-    assert!(rt; gives_in_each_slot(&mut counted(alloc, &[])?));
-    assert!(rt; gives_in_each_slot(&mut SteadyShelf::new(alloc)));
-    Ok(())
-}
-
-#[test]
-fn a_folder_gives_what_was_put(rt: HostRuntime) -> Result<(), Fail> {
-    let folder = scratch(&rt, "gives")?;
-    assert!(rt; gives_in_each_slot(&mut made(&rt, folder.as_str())?));
-    Ok(clear(&rt, folder.as_str())?)
 }
 
 /// An id of twenty equal bytes.
@@ -136,41 +118,50 @@ fn forgets_the_first<S: Shelf>(shelf: &mut S) -> bool {
     shelf.remove(Slot::Object(first)) == Ok(()) && tells(shelf, Kind::Block, None, Some((255, 2)))
 }
 
-fn memory_tells(alloc: Global) -> Result<bool, AllocError> {
-    Ok(tells_names_in_order(&mut memory(alloc, &[])?))
+/// Whether a shelf gives what was put, and tells its names in order.
+fn gives_and_tells<S: Shelf>(shelf: &mut S) -> bool {
+    gives_in_each_slot(shelf) && tells_names_in_order(shelf)
 }
 
-fn odd_tells(alloc: Global) -> Result<bool, AllocError> {
-    Ok(tells_names_in_order(&mut odd(alloc, &[])?))
+fn memory_gives(alloc: Global) -> Result<bool, AllocError> {
+    Ok(gives_and_tells(&mut memory(alloc, &[])?))
 }
 
-fn fuse_tells(alloc: Global) -> Result<bool, AllocError> {
-    Ok(tells_names_in_order(&mut fuse(alloc, 100)?))
+fn odd_gives(alloc: Global) -> Result<bool, AllocError> {
+    Ok(gives_and_tells(&mut odd(alloc, &[])?))
 }
 
-fn counted_tells(alloc: Global) -> Result<bool, AllocError> {
-    Ok(tells_names_in_order(&mut counted(alloc, &[])?))
+fn fuse_gives(alloc: Global) -> Result<bool, AllocError> {
+    Ok(gives_and_tells(&mut fuse(alloc, 100)?))
+}
+
+fn counted_gives(alloc: Global) -> Result<bool, AllocError> {
+    Ok(gives_and_tells(&mut counted(alloc, &[])?))
 }
 
 #[test]
-fn every_shelf_tells_its_names_in_order(rt: HostRuntime) -> Result<(), Fail> {
+fn every_shelf_gives_what_was_put_and_tells_names_in_order(
+    rt: HostRuntime,
+) -> Result<(), AllocError> {
     let alloc = rt.alloc();
-    assert!(rt; memory_tells(alloc)?);
-    assert!(rt; odd_tells(alloc)?);
-    assert!(rt; fuse_tells(alloc)?);
-    assert!(rt; counted_tells(alloc)?);
-    assert!(rt; tells_names_in_order(&mut SteadyShelf::new(alloc)));
+    assert!(rt; memory_gives(alloc)? && odd_gives(alloc)? && fuse_gives(alloc)?);
+    assert!(rt; counted_gives(alloc)? && gives_and_tells(&mut SteadyShelf::new(alloc)));
     Ok(())
 }
 
+/// Whether the shelf of a library in this folder does.
+fn folder_gives(rt: &HostRuntime, folder: &str) -> Result<bool, Fail> {
+    Ok(gives_and_tells(&mut made(rt, folder)?))
+}
+
 #[test]
-fn a_folder_tells_its_names_in_order(rt: HostRuntime) -> Result<(), Fail> {
-    let folder = scratch(&rt, "names")?;
-    assert!(rt; tells_names_in_order(&mut made(&rt, folder.as_str())?));
+fn a_folder_gives_what_was_put_and_tells_names_in_order(rt: HostRuntime) -> Result<(), Fail> {
+    let folder = scratch(&rt, "gives")?;
+    assert!(rt; folder_gives(&rt, folder.as_str())?);
     Ok(clear(&rt, folder.as_str())?)
 }
 
-/// Whether the second call of the shelf fails and is counted.
+/// Whether the second of two puts fails and is counted.
 fn counts_a_failing_put<S: Shelf>(shelf: &mut S) -> bool {
     shelf.put(Slot::Status, b"old") == Ok(())
         && shelf.put(Slot::Status, b"new") == Err(ShelfFailed::Shelf)
@@ -182,61 +173,85 @@ fn keeps_the_old<S: Shelf>(shelf: &mut S) -> bool {
     counts_a_failing_put(shelf) && holds(shelf, &Slot::Status, b"old")
 }
 
-#[test]
-fn a_failing_put_is_counted_and_leaves_the_old_or_the_new(rt: HostRuntime) -> Result<(), Fail> {
-    let alloc = rt.alloc();
-    assert!(rt; keeps_the_old(&mut memory(alloc, &[1])?));
-    assert!(rt; keeps_the_old(&mut odd(alloc, &[1])?));
-    assert!(rt; keeps_the_old(&mut counted(alloc, &[1])?));
-    Ok(())
-}
-
-#[test]
-fn a_fuse_that_is_spent_leaves_the_old(rt: HostRuntime) -> Result<(), Fail> {
-    let mut fuse = fuse(rt.alloc(), 1)?;
-    assert!(rt; counts_a_failing_put(&mut fuse));
-    assert!(rt; holds(&mut fuse.into_inner(), &Slot::Status, b"old"));
-    Ok(())
-}
-
 /// Whether each of five calls fails, is told as a fault, and is counted.
-fn counts_each_call<S: Shelf>(shelf: &mut S) -> bool {
+fn counts_each_call<S: Shelf>(shelf: &mut S, before: u64) -> bool {
     is_fault(shelf.fetch(Slot::Status))
         && is_fault(shelf.put(slot_of(Kind::Block, "abc"), b"abc"))
         && is_fault(shelf.put(Slot::Status, b"new"))
         && is_fault(shelf.remove(Slot::Status))
         && shelf.next(Kind::Fs, None) == Err(ShelfFailed::Shelf)
-        && shelf.faults() == 5
+        && shelf.faults() == before.saturating_add(5)
 }
 
-const FIRST_FIVE: [u64; 5] = [0, 1, 2, 3, 4];
+/// Whether a failing put leaves the old text, and five failing calls after it are counted.
+fn counts_all<S: Shelf>(shelf: &mut S) -> bool {
+    keeps_the_old(shelf) && counts_each_call(shelf, 1)
+}
+
+/// The second call, and five behind the one that looks for the old text.
+const FAILING: [u64; 6] = [1, 3, 4, 5, 6, 7];
+
+fn memory_counts(alloc: Global) -> Result<bool, AllocError> {
+    Ok(counts_all(&mut memory(alloc, &FAILING)?))
+}
+
+fn odd_counts(alloc: Global) -> Result<bool, AllocError> {
+    Ok(counts_all(&mut odd(alloc, &FAILING)?))
+}
+
+fn counted_counts(alloc: Global) -> Result<bool, AllocError> {
+    Ok(counts_all(&mut counted(alloc, &FAILING)?))
+}
 
 #[test]
-fn every_failing_call_is_told_and_counted(rt: HostRuntime) -> Result<(), Fail> {
+fn a_failing_call_is_told_and_counted_and_a_put_leaves_the_old(
+    rt: HostRuntime,
+) -> Result<(), AllocError> {
     let alloc = rt.alloc();
-    assert!(rt; counts_each_call(&mut memory(alloc, &FIRST_FIVE)?));
-    assert!(rt; counts_each_call(&mut odd(alloc, &FIRST_FIVE)?));
-    assert!(rt; counts_each_call(&mut fuse(alloc, 0)?));
-    assert!(rt; counts_each_call(&mut counted(alloc, &FIRST_FIVE)?));
+    assert!(rt; memory_counts(alloc)? && odd_counts(alloc)? && counted_counts(alloc)?);
     Ok(())
+}
+
+/// Whether a shelf that stops after one call fails in each later one.
+fn counts_until_the_end<S: Shelf>(shelf: &mut S) -> bool {
+    counts_a_failing_put(shelf) && counts_each_call(shelf, 1)
+}
+
+#[test]
+fn a_fuse_that_is_spent_leaves_the_old(rt: HostRuntime) -> Result<(), AllocError> {
+    let mut fuse = fuse(rt.alloc(), 1)?;
+    assert!(rt; counts_until_the_end(&mut fuse));
+    assert!(rt; holds(&mut fuse.into_inner(), &Slot::Status, b"old"));
+    Ok(())
+}
+
+/// Whether each call over a library whose folder is lost fails, is told as a fault, and is counted.
+fn counts_without_folder(rt: &HostRuntime, folder: &str) -> Result<bool, Fail> {
+    let mut shelf = made(rt, folder)?;
+    clear(rt, folder)?;
+    Ok(counts_each_call(&mut shelf, 0))
 }
 
 #[test]
 fn a_lost_folder_is_a_fault_and_no_empty_slot(rt: HostRuntime) -> Result<(), Fail> {
     let folder = scratch(&rt, "lost")?;
-    let mut shelf = made(&rt, folder.as_str())?;
-    clear(&rt, folder.as_str())?;
-    assert!(rt; counts_each_call(&mut shelf));
+    assert!(rt; counts_without_folder(&rt, folder.as_str())?);
     Ok(())
 }
 
-#[test]
-fn odd_bytes_are_given_until_the_slot_is_put(rt: HostRuntime) -> Result<(), Fail> {
-    let alloc = rt.alloc();
+/// A shelf that gives other bytes for the status text.
+fn odd_status(alloc: Global) -> Result<OddShelf, AllocError> {
     let text = Bytes::copy(alloc, b"odd")?;
-    let mut shelf = OddShelf::new(alloc, memory(alloc, &[])?, Slot::Status, text);
-    assert!(rt; holds(&mut shelf, &Slot::Status, b"odd"));
-    done(shelf.put(Slot::Status, b"abc"))?;
-    assert!(rt; holds(&mut shelf, &Slot::Status, b"abc"));
+    Ok(OddShelf::new(alloc, memory(alloc, &[])?, Slot::Status, text))
+}
+
+/// Whether a shelf gives odd bytes until the slot is put.
+fn gives_odd_bytes<S: Shelf>(shelf: &mut S) -> bool {
+    holds(shelf, &Slot::Status, b"odd") && gives_back(shelf, &Slot::Status, b"abc")
+}
+
+#[test]
+fn odd_bytes_are_given_until_the_slot_is_put(rt: HostRuntime) -> Result<(), AllocError> {
+    assert!(rt; gives_odd_bytes(&mut odd_status(rt.alloc())?));
     Ok(())
 }
