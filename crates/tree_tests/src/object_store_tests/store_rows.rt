@@ -1,4 +1,4 @@
-//! Rows of a store: what is put, what is damaged, and shelves that fail.
+//! Rows of a store: what is put and given up, and shelves that fail.
 use super::*;
 
 fn store_on<S: Shelf + Drop>(alloc: Global, shelf: S) -> Result<Store<S>, Fail> {
@@ -10,9 +10,9 @@ fn store_on<S: Shelf + Drop>(alloc: Global, shelf: S) -> Result<Store<S>, Fail> 
 
 type Shelved = Store<MemoryShelf>;
 
-/// An empty store in memory.
-fn empty(alloc: Global) -> Result<Shelved, Fail> {
-    store_on(alloc, memory(alloc, &[])?)
+/// An empty store in memory, whose calls of these numbers fail.
+fn store_that_fails(alloc: Global, fails: &[u64]) -> Result<Shelved, Fail> {
+    store_on(alloc, memory(alloc, fails)?)
 }
 
 /// Whether a put was told so.
@@ -24,10 +24,10 @@ fn is_put(told: Result<Put, StoreFault>, wanted: Put) -> bool {
 }
 
 /// Whether a call of a store was refused with this fault.
-fn is_refused<T>(told: &Result<T, StoreFault>, wanted: &StoreFault) -> bool {
+fn is_refused(told: Result<Put, StoreFault>, wanted: StoreFault) -> bool {
     match told {
         Ok(_) => false,
-        Err(fault) => *fault == *wanted,
+        Err(fault) => fault == wanted,
     }
 }
 
@@ -40,59 +40,49 @@ fn is_given(told: &Result<Option<Bytes>, StoreFault>, wanted: &[u8]) -> bool {
     }
 }
 
+/// Whether a block is new, then the same, and given.
+fn keeps(store: &mut Shelved, block: &Key) -> bool {
+    store.has(*block).is_none()
+        && is_put(store.put(*block, b"abc"), Put::New)
+        && is_put(store.put(*block, b"abc"), Put::Same)
+        && store.has(*block) == Some(3)
+        && is_given(&store.get(*block), b"abc")
+}
+
 #[test]
 fn a_block_that_was_put_is_given_back(rt: HostRuntime) -> Result<(), Fail> {
-    let mut store = empty(rt.alloc())?;
-    let block = &key(Kind::Block, b"abc");
-    assert!(rt; store.has(*block).is_none());
-    assert!(rt; is_put(store.put(*block, b"abc"), Put::New));
-    assert!(rt; is_put(store.put(*block, b"abc"), Put::Same));
-    assert!(rt; store.has(*block) == Some(3));
-    assert!(rt; is_given(&store.get(*block), b"abc"));
+    let mut store = store_that_fails(rt.alloc(), &[])?;
+    assert!(rt; keeps(&mut store, &key(Kind::Block, b"abc")));
     Ok(())
 }
 
-#[test]
-fn a_block_under_a_wrong_name_is_refused(rt: HostRuntime) -> Result<(), Fail> {
-    let mut store = empty(rt.alloc())?;
-    let block = &key(Kind::Block, b"abc");
-    let wrong = StoreFault::Wrong(ObjId::of(b"hello world"));
-    assert!(rt; is_refused(&store.put(*block, b"hello world"), &wrong));
-    assert!(rt; store.has(*block).is_none());
-    Ok(())
-}
-
-#[test]
-fn the_first_text_of_a_commit_stays(rt: HostRuntime) -> Result<(), Fail> {
-    let mut store = empty(rt.alloc())?;
-    let commit = &key(Kind::Commit, b"one");
-    assert!(rt; is_put(store.put(*commit, b"one"), Put::New));
-    assert!(rt; is_refused(&store.put(*commit, b"two!"), &StoreFault::Taken(commit.id)));
-    assert!(rt; store.has(*commit) == Some(3));
-    Ok(())
-}
-
-#[test]
-fn nothing_is_stored_under_nil(rt: HostRuntime) -> Result<(), Fail> {
-    let mut store = empty(rt.alloc())?;
+/// Whether a commit is stored at its first text alone, and none under forty zeros.
+fn keeps_the_first(store: &mut Shelved, commit: &Key) -> bool {
     let nil = Key {
         kind: Kind::Commit,
         id: ObjId::NIL,
     };
-    assert!(rt; is_refused(&store.put(nil, b"one"), &StoreFault::Taken(ObjId::NIL)));
+    is_put(store.put(*commit, b"one"), Put::New)
+        && is_refused(
+            store.put(*commit, b"two!"),
+            StoreFault::Taken(ObjId::of(b"one")),
+        )
+        && store.has(*commit) == Some(3)
+        && is_refused(store.put(nil, b"one"), StoreFault::Taken(ObjId::NIL))
+}
+
+#[test]
+fn the_first_text_of_a_commit_stays_and_nothing_is_stored_under_nil(
+    rt: HostRuntime,
+) -> Result<(), Fail> {
+    let mut store = store_that_fails(rt.alloc(), &[])?;
+    assert!(rt; keeps_the_first(&mut store, &key(Kind::Commit, b"one")));
     Ok(())
 }
 
-/// A store of a commit and a block, which were put the other way round.
-fn two(alloc: Global, commit: &Key, block: &Key) -> Result<Shelved, Fail> {
-    let mut store = empty(alloc)?;
-    if !is_put(store.put(*block, b"abc"), Put::New) {
-        return Err(Fail::from("no block"));
-    }
-    if !is_put(store.put(*commit, b"one"), Put::New) {
-        return Err(Fail::from("no commit"));
-    }
-    Ok(store)
+/// Puts a commit and a block, the other way round.
+fn takes_two(store: &mut Shelved, commit: &Key, block: &Key) -> bool {
+    is_put(store.put(*block, b"abc"), Put::New) && is_put(store.put(*commit, b"one"), Put::New)
 }
 
 fn is_in_order(store: &Shelved, commit: &Key, block: &Key) -> bool {
@@ -106,69 +96,67 @@ fn is_alone(store: &Shelved, block: &Key) -> bool {
     store.count() == 1 && store.after(None) == Some(*block)
 }
 
+/// Whether a commit that is there is given up.
+fn gives_up(store: &mut Shelved, commit: &Key) -> bool {
+    if store.has(*commit).is_none() {
+        return false;
+    }
+    store.give_up(*commit).is_ok()
+}
+
+/// Whether the shelf of a store has the slot of this object empty.
+fn ends_without(store: Shelved, commit: &Key) -> bool {
+    let mut shelf = store.end();
+    is_empty(&shelf.fetch(Slot::Object(*commit)))
+}
+
 #[test]
 fn keys_come_in_order_until_they_are_given_up(rt: HostRuntime) -> Result<(), Fail> {
     let commit = &key(Kind::Commit, b"one");
     let block = &key(Kind::Block, b"abc");
-    let mut store = two(rt.alloc(), commit, block)?;
-    assert!(rt; is_in_order(&store, commit, block));
-    if store.has(*commit).is_none() {
-        return Err(Fail::from("absent"));
-    }
-    assert!(rt; store.give_up(*commit).is_ok());
-    assert!(rt; is_alone(&store, block));
-    let mut shelf = store.end();
-    assert!(rt; is_empty(&shelf.fetch(Slot::Object(*commit))));
+    let mut store = store_that_fails(rt.alloc(), &[])?;
+    assert!(rt;
+        takes_two(&mut store, commit, block)
+            && is_in_order(&store, commit, block)
+            && gives_up(&mut store, commit)
+            && is_alone(&store, block)
+    );
+    assert!(rt; ends_without(store, commit));
     Ok(())
+}
+
+/// Whether no text was noted, and one is now.
+fn notes(store: &mut Shelved) -> bool {
+    matches!(store.noted(), Ok(None)) && store.note(b"state").is_ok()
+}
+
+fn is_noted(store: &mut Shelved) -> bool {
+    is_given(&store.noted(), b"state") && store.count() == 0
 }
 
 #[test]
 fn a_noted_text_is_there_when_the_store_starts_again(rt: HostRuntime) -> Result<(), Fail> {
-    let mut store = empty(rt.alloc())?;
-    assert!(rt; matches!(store.noted(), Ok(None)));
-    assert!(rt; store.note(b"state").is_ok());
+    let mut store = store_that_fails(rt.alloc(), &[])?;
+    assert!(rt; notes(&mut store));
     let mut store = store_on(rt.alloc(), store.end())?;
-    assert!(rt; is_given(&store.noted(), b"state"));
-    assert!(rt; store.count() == 0);
+    assert!(rt; is_noted(&mut store));
     Ok(())
 }
 
-/// A store over a shelf that gives `hello world` for the block `abc`.
-fn damaged(alloc: Global, block: &Key) -> Result<Store<OddShelf>, Fail> {
-    let mut inner = memory(alloc, &[])?;
-    if inner.put(Slot::Object(*block), b"abc").is_err() {
-        return Err(Fail::from("not put"));
-    }
-    let odd = Bytes::copy(alloc, b"hello world")?;
-    store_on(
-        alloc,
-        OddShelf::new(alloc, inner, Slot::Object(*block), odd),
-    )
-}
-
-#[test]
-fn damaged_bytes_are_told_and_not_given(rt: HostRuntime) -> Result<(), Fail> {
-    let block = &key(Kind::Block, b"abc");
-    let mut store = damaged(rt.alloc(), block)?;
-    let fault = StoreFault::Damaged {
-        want: block.id,
-        got: Some(ObjId::of(b"hello world")),
-    };
-    assert!(rt; is_refused(&store.get(*block), &fault));
-    assert!(rt; is_refused(&store.put(*block, b"abc"), &fault));
-    Ok(())
+/// Whether a put fails, and the next one of the same does.
+fn fails_once(store: &mut Shelved, block: &Key) -> bool {
+    store.faults() == 0
+        && is_refused(store.put(*block, b"abc"), StoreFault::Shelf)
+        && store.faults() == 1
+        && store.has(*block).is_none()
+        && is_put(store.put(*block, b"abc"), Put::New)
 }
 
 // A start over no object makes three calls.
 #[test]
 fn a_failing_put_stores_nothing_and_may_be_tried_again(rt: HostRuntime) -> Result<(), Fail> {
-    let mut store = store_on(rt.alloc(), memory(rt.alloc(), &[3])?)?;
-    let block = &key(Kind::Block, b"abc");
-    assert!(rt; store.faults() == 0);
-    assert!(rt; is_refused(&store.put(*block, b"abc"), &StoreFault::Shelf));
-    assert!(rt; store.faults() == 1);
-    assert!(rt; store.has(*block).is_none());
-    assert!(rt; is_put(store.put(*block, b"abc"), Put::New));
+    let mut store = store_that_fails(rt.alloc(), &[3])?;
+    assert!(rt; fails_once(&mut store, &key(Kind::Block, b"abc")));
     Ok(())
 }
 
@@ -197,14 +185,21 @@ fn starts(shelf: MemoryShelf, alloc: Global) -> Option<bool> {
     }
 }
 
+/// The same where the call with this number fails.
+fn starts_failing(alloc: Global, failing: u64) -> Result<Option<bool>, AllocError> {
+    let mut shelf = memory(alloc, &[failing])?;
+    if !takes_three(&mut shelf) {
+        return Ok(None);
+    }
+    Ok(starts(shelf, alloc))
+}
+
 // Three puts, then the start's calls 3 to 8.
 #[test]
 fn a_start_makes_one_call_an_object_and_three_more(rt: HostRuntime) -> Result<(), AllocError> {
     for (failing, is_started) in [(3, false), (8, false), (9, true)] {
-        let mut shelf = memory(rt.alloc(), &[failing])?;
-        assert!(rt; takes_three(&mut shelf));
         assert!(rt;
-            starts(shelf, rt.alloc()) == Some(is_started),
+            starts_failing(rt.alloc(), failing)? == Some(is_started),
             "at {failing}"
         );
     }
