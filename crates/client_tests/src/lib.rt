@@ -4,6 +4,8 @@
 #![tactic(auto)]
 
 #[cfg(test)]
+mod orders;
+#[cfg(test)]
 mod reply_tests;
 #[cfg(test)]
 mod request_tests;

@@ -1,65 +1,18 @@
 //! Replies as a client reads them: each outcome once, and beginnings that are no reply, with their places.
+use crate::orders::order;
 use http_client::next_response;
-use http_front::{Order, What};
-use ids::{Bytes, IdList, Items, Key, Kind, LibId, ObjId};
-use library_state::{Op, Secret};
-use std::alloc::Global;
-use std::process::Abort;
-use std::test::Fail;
+use http_front::Order;
+use std::alloc::{AllocError, Global};
 
-const LIB: &str = "11111111-2222-4333-8444-555555555555";
-
-/// The SHA-1 of `abc`.
-const ABC: &str = "a9993e364706816aba3e25717850c26c9cd0d89d";
-
-const SECRET: &str = "aaaaaaaaaaaaaaaaaaaaaaaaaaaaaaaaaaaaaaaa";
-
-/// What is told of some bytes to one who gave an order, as it is printed.
-fn told(alloc: Global, what: What, buffer: &[u8]) -> Result<String, Fail> {
-    let order = Order {
-        lib: Some(LibId::read(LIB)?),
-        secret: Some(Secret::read(SECRET)?),
-        what,
-    };
-    let response = next_response(alloc, &order, buffer)?;
-    Ok(format!(in alloc; "{response:?}")?)
-}
-
-fn block() -> Result<Key, Fail> {
-    Ok(Key {
-        kind: Kind::Block,
-        id: ObjId::read(ABC)?,
-    })
-}
-
-/// The order of a word.
-fn order(alloc: Global, word: &str) -> Result<What, Fail> {
-    let id = ObjId::read(ABC)?;
-    Ok(match word {
-        "version" => What::Version,
-        "check" => What::Check(Op::Upload),
-        "update" => What::Update(id),
-        "get" => What::Get(block()?),
-        "missing" => What::Missing(Kind::Block, one(alloc)?),
-        "objects" => What::GetFs(one(alloc)?),
-        "list" => What::Ids(id, None),
-        "put" => What::Put(block()?, Bytes::copy(alloc, b"abc")?),
-        "send" => What::PutFs(Items::new(alloc)),
-        _ => What::Head,
-    })
-}
-
-/// The list of the id of `abc` alone.
-fn one(alloc: Global) -> Result<IdList, Fail> {
-    let mut ids = IdList::new(alloc);
-    ids.push(ObjId::read(ABC)?)?;
-    Ok(ids)
+/// Whether one who gave an order is told so of some bytes, as it is printed.
+fn is_told(alloc: Global, order: &Order, buffer: &[u8], wanted: &str) -> Result<bool, AllocError> {
+    let response = next_response(alloc, order, buffer)?;
+    Ok(format!(in alloc; "{response:?}")?.as_bytes() == wanted.as_bytes())
 }
 
 /// Whether one who gave the order of a word is told so of a reply.
-fn holds(alloc: Global, word: &str, reply: &str, wanted: &str) -> Result<bool, Fail> {
-    let found = told(alloc, order(alloc, word)?, reply.as_bytes())?;
-    Ok(found.as_str() == wanted)
+fn holds(alloc: Global, word: &str, reply: &[u8], wanted: &str) -> Result<bool, AllocError> {
+    is_told(alloc, &order(alloc, word)?, reply, wanted)
 }
 
 /// Orders, replies to them, and what is told.
@@ -112,25 +65,31 @@ const OUTCOMES: [(&str, &str, &str); 9] = [
 ];
 
 #[test]
-fn each_reply_tells_the_outcome_of_its_order(rt: HostRuntime) -> Result<(), Fail> {
+fn each_reply_tells_the_outcome_of_its_order(rt: HostRuntime) -> Result<(), AllocError> {
     for (word, reply, wanted) in OUTCOMES {
-        assert!(rt; holds(rt.alloc(), word, reply, wanted)?, "{word}: {wanted}");
+        assert!(rt;
+            holds(rt.alloc(), word, reply.as_bytes(), wanted)?,
+            "{word}: {wanted}"
+        );
     }
     Ok(())
 }
 
+const BLOCK: &[u8] =
+    b"HTTP/1.1 200 OK\r\nContent-Type: application/octet-stream\r\nContent-Length: 3\r\nConnection: close\r\n\r\nabc";
+
+const GOT: &str =
+    "Whole { outcome: Plain(Got(Items { inner: [97, 98, 99] }), Tag { opening: 0, count: 0 }), used: 100, closes: true }";
+
 #[test]
-fn a_cut_reply_is_never_whole(rt: HostRuntime) -> Result<(), Fail> {
-    let reply =
-        b"HTTP/1.1 200 OK\r\nContent-Type: application/octet-stream\r\nContent-Length: 3\r\nConnection: close\r\n\r\nabc";
-    let whole = told(rt.alloc(), What::Get(block()?), reply)?;
-    assert_eq!(rt;
-        whole.as_str(),
-        "Whole { outcome: Plain(Got(Items { inner: [97, 98, 99] }), Tag { opening: 0, count: 0 }), used: 100, closes: true }"
-    );
+fn a_cut_reply_is_never_whole(rt: HostRuntime) -> Result<(), AllocError> {
+    let order = order(rt.alloc(), "get")?;
+    assert!(rt; is_told(rt.alloc(), &order, BLOCK, GOT)?);
     for length in 0..100 {
-        let cut = told(rt.alloc(), What::Get(block()?), &reply[..length])?;
-        assert_eq!(rt; cut.as_str(), "Need", "at {length}");
+        assert!(rt;
+            is_told(rt.alloc(), &order, &BLOCK[..length], "Need")?,
+            "at {length}"
+        );
     }
     Ok(())
 }
@@ -166,9 +125,12 @@ const FRONTS: [(&str, &str); 17] = [
 ];
 
 #[test]
-fn what_is_no_reply_is_told_with_its_place(rt: HostRuntime) -> Result<(), Fail> {
+fn what_is_no_reply_is_told_with_its_place(rt: HostRuntime) -> Result<(), AllocError> {
     for (front, wanted) in FRONTS {
-        assert!(rt; holds(rt.alloc(), "head", front, wanted)?, "{front}");
+        assert!(rt;
+            holds(rt.alloc(), "head", front.as_bytes(), wanted)?,
+            "{front}"
+        );
     }
     Ok(())
 }
@@ -258,31 +220,42 @@ const THINGS: [(&str, &str, &str); 16] = [
 ];
 
 #[test]
-fn each_id_row_and_path_is_told(rt: HostRuntime) -> Result<(), Fail> {
+fn each_id_row_and_path_is_told(rt: HostRuntime) -> Result<(), AllocError> {
     for (word, reply, wanted) in THINGS {
-        assert!(rt; holds(rt.alloc(), word, reply, wanted)?, "{word}: {wanted}");
+        assert!(rt;
+            holds(rt.alloc(), word, reply.as_bytes(), wanted)?,
+            "{word}: {wanted}"
+        );
     }
     Ok(())
 }
 
 #[test]
-fn a_head_has_its_limits(rt: HostRuntime) -> Result<(), Fail> {
-    let short = told(rt.alloc(), What::Head, &[b'\n'; 16_383])?;
-    assert!(rt; short.as_str() == "Need");
-    let long = told(rt.alloc(), What::Head, &[b'\n'; 16_400])?;
-    assert!(rt; long.as_str() == "Bad(16384)");
+fn a_head_has_its_limits(rt: HostRuntime) -> Result<(), AllocError> {
+    assert!(rt; holds(rt.alloc(), "head", &[b'\n'; 16_383], "Need")?);
+    assert!(rt; holds(rt.alloc(), "head", &[b'\n'; 16_400], "Bad(16384)")?);
     Ok(())
 }
 
-#[test]
-fn a_head_of_more_fields_is_none(rt: HostRuntime) -> Result<(), Fail> {
-    let mut text = String::new(rt.alloc());
-    text.push_str("HTTP/1.1 200 OK\r\n")?;
+/// A head of 65 fields.
+fn crowded(alloc: Global) -> Result<String, AllocError> {
+    let mut text = String::from_str(alloc, "HTTP/1.1 200 OK\r\n")?;
     for _ in 0..65 {
         text.push_str("A:b\r\n")?;
     }
     text.push_str("\r\n")?;
-    let found = told(rt.alloc(), What::Head, text.as_bytes())?;
-    assert!(rt; found.as_str() == "Bad(341)");
+    Ok(text)
+}
+
+#[test]
+fn a_head_of_more_fields_is_none(rt: HostRuntime) -> Result<(), AllocError> {
+    assert!(rt;
+        holds(
+            rt.alloc(),
+            "head",
+            crowded(rt.alloc())?.as_bytes(),
+            "Bad(341)"
+        )?
+    );
     Ok(())
 }
