@@ -87,33 +87,42 @@ fn a_text_that_is_no_library_id_is_refused_at_its_place(rt: HostRuntime) {
     }
 }
 
+fn is_twenty_zeros(id: &ObjId) -> bool {
+    id.as_bytes() == [0; 20].as_slice() && id.is_nil() && *id == ObjId::from_bytes([0; 20])
+}
+
 #[test]
 fn nil_is_twenty_zeros(rt: HostRuntime) {
-    assert!(rt; ObjId::NIL.as_bytes() == [0; 20].as_slice());
-    assert!(rt; ObjId::NIL.is_nil());
+    assert!(rt; is_twenty_zeros(&ObjId::NIL));
     assert!(rt; !ObjId::of(b"").is_nil());
-    assert!(rt; ObjId::from_bytes([0; 20]) == ObjId::NIL);
 }
 
 fn key(kind: Kind, id: ObjId) -> Key {
     Key { kind, id }
 }
 
+fn are_ordered(low: &ObjId, high: &ObjId) -> bool {
+    key(Kind::Commit, *high) < key(Kind::Fs, *low)
+        && key(Kind::Fs, *high) < key(Kind::Block, *low)
+        && key(Kind::Block, *low) < key(Kind::Block, *high)
+}
+
 #[test]
 fn keys_go_by_kind_and_then_by_id(rt: HostRuntime) {
-    let low = ObjId::NIL;
-    let high = ObjId::of(b"");
-    assert!(rt; key(Kind::Commit, high) < key(Kind::Fs, low));
-    assert!(rt; key(Kind::Fs, high) < key(Kind::Block, low));
-    assert!(rt; key(Kind::Block, low) < key(Kind::Block, high));
+    assert!(rt; are_ordered(&ObjId::NIL, &ObjId::of(b"")));
+}
+
+/// The list of forty zeros.
+fn one(alloc: Global) -> Result<IdList, AllocError> {
+    let mut ids = IdList::new(alloc);
+    ids.push(ObjId::NIL)?;
+    Ok(ids)
 }
 
 #[test]
 fn a_list_keeps_what_is_pushed(rt: HostRuntime) -> Result<(), AllocError> {
-    let mut ids = IdList::new(rt.alloc());
-    assert!(rt; ids.is_empty());
-    ids.push(ObjId::NIL)?;
-    assert!(rt; ids.slice() == [ObjId::NIL].as_slice());
+    assert!(rt; IdList::new(rt.alloc()).is_empty());
+    assert!(rt; one(rt.alloc())?.slice() == [ObjId::NIL].as_slice());
     Ok(())
 }
 
@@ -140,13 +149,21 @@ fn is_of_three_bytes(text: &Text) -> bool {
     text.slice() == "né" && text.len() == 3 && text.as_bytes() == "né".as_bytes()
 }
 
+fn moved(alloc: Global) -> Result<Text, AllocError> {
+    Ok(Text::from_string(String::from_str(alloc, "né")?))
+}
+
 #[test]
 fn a_text_keeps_its_bytes(rt: HostRuntime) -> Result<(), AllocError> {
-    assert!(rt; Text::new(rt.alloc()).is_empty());
     assert!(rt; is_of_three_bytes(&pushed(rt.alloc())?));
     assert!(rt; is_of_three_bytes(&Text::copy(rt.alloc(), "né")?));
-    let moved = Text::from_string(String::from_str(rt.alloc(), "né")?);
-    assert!(rt; is_of_three_bytes(&moved));
+    Ok(())
+}
+
+#[test]
+fn a_text_of_a_string_keeps_its_bytes(rt: HostRuntime) -> Result<(), AllocError> {
+    assert!(rt; Text::new(rt.alloc()).is_empty());
+    assert!(rt; is_of_three_bytes(&moved(rt.alloc())?));
     Ok(())
 }
 
@@ -166,13 +183,17 @@ fn filled(alloc: Global) -> Result<KeyTable<u64>, AllocError> {
     Ok(table)
 }
 
+/// Whether a table tells what a key had before.
+fn tells_before(table: &mut KeyTable<u64>) -> Result<bool, AllocError> {
+    let new = table.insert(second(), 2)?;
+    let other = table.insert(first(), 1)?;
+    let before = table.insert(first(), 3)?;
+    Ok(new.is_none() && other.is_none() && before == Some(1) && table.len() == 2)
+}
+
 #[test]
 fn a_table_tells_what_a_key_had(rt: HostRuntime) -> Result<(), AllocError> {
-    let mut table: KeyTable<u64> = KeyTable::new(rt.alloc());
-    assert!(rt; table.insert(second(), 2)?.is_none());
-    assert!(rt; table.insert(first(), 1)?.is_none());
-    assert!(rt; table.insert(first(), 3)? == Some(1));
-    assert!(rt; table.len() == 2);
+    assert!(rt; tells_before(&mut KeyTable::new(rt.alloc()))?);
     Ok(())
 }
 
@@ -198,10 +219,11 @@ fn sum(table: &KeyTable<u64>) -> u64 {
 #[test]
 fn a_table_finds_what_was_put_in_the_order_of_the_keys(rt: HostRuntime) -> Result<(), AllocError> {
     let mut table = filled(rt.alloc())?;
-    assert!(rt; has_both(&table));
-    assert!(rt; is_in_order(&table));
-    assert!(rt; table.remove(&first()) == Some(3));
-    assert!(rt; !table.has(&first()));
+    assert!(rt; has_both(&table) && is_in_order(&table) && gives_up(&mut table));
     assert!(rt; KeyTable::<u64>::new(rt.alloc()).next(None).is_none());
     Ok(())
+}
+
+fn gives_up(table: &mut KeyTable<u64>) -> bool {
+    table.remove(&first()) == Some(3) && !table.has(&first())
 }

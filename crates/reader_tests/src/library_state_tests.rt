@@ -1,6 +1,5 @@
 //! Each public call once.
 use ids::{Items, ObjId};
-use json_words::ReadFault;
 use library_state::*;
 use std::alloc::{AllocError, Global};
 use std::test::Fail;
@@ -27,9 +26,11 @@ fn is_bad_secret(text: &str, at: usize) -> bool {
 
 #[test]
 fn a_text_that_is_no_secret_is_refused_at_its_place(rt: HostRuntime) {
-    assert!(rt; is_bad_secret("", 0));
-    assert!(rt; is_bad_secret("aaaa-", 4));
-    assert!(rt; is_bad_secret("aaaaaaaaaaaaaaaaaaaaaaaaaaaaaaaaaaaaaaaaa", 40));
+    assert!(rt;
+        is_bad_secret("", 0)
+            && is_bad_secret("aaaa-", 4)
+            && is_bad_secret("aaaaaaaaaaaaaaaaaaaaaaaaaaaaaaaaaaaaaaaaa", 40)
+    );
 }
 
 #[test]
@@ -47,14 +48,18 @@ fn is_right(text: &str, right: Right) -> bool {
     }
 }
 
+fn are_words() -> bool {
+    is_right("r", Right::Read)
+        && is_right("rw", Right::Write)
+        && is_right("own", Right::Owner)
+        && Right::of("w").is_none()
+        && Right::of("").is_none()
+}
+
 #[test]
 fn rights_rise_from_reading_to_owning(rt: HostRuntime) {
     assert!(rt; Right::Read < Right::Write && Right::Write < Right::Owner);
-    assert!(rt; is_right("r", Right::Read));
-    assert!(rt; is_right("rw", Right::Write));
-    assert!(rt; is_right("own", Right::Owner));
-    assert!(rt; Right::of("w").is_none());
-    assert!(rt; Right::of("").is_none());
+    assert!(rt; are_words());
 }
 
 /// A clock of one moment.
@@ -68,42 +73,6 @@ fn a_clock_of_a_list_shows_one_of_its_moments(rt: HostRuntime) -> Result<(), All
     Ok(())
 }
 
-// The text of a library at its making, as docs/FORMATS.md has it.
-const STATE: &str =
-    "{\"collection\":0,\"days\":-1,\"kept\":[{\"at\":5,\"head\":\"cccccccccccccccccccccccccccccccccccccccc\",\"pushed\":\"cccccccccccccccccccccccccccccccccccccccc\"}],\"lib\":\"11111111-2222-4333-8444-555555555555\",\"name\":\"docs\",\"opening\":1,\"tokens\":[{\"last\":0,\"right\":\"own\",\"secret\":\"aaaaaaaaaaaaaaaaaaaaaaaaaaaaaaaaaaaaaaaa\",\"user\":\"me\"}],\"version\":1}";
-
-fn has_numbers(state: &LibState) -> bool {
-    state.days == -1 && state.collection == 0 && state.opening == 1
-}
-
-fn has_one_commit(state: &LibState) -> bool {
-    state.name.slice() == "docs" && state.kept.slice() == [install(0xcc, 5)].as_slice()
-}
-
-fn is_of_owner(token: &Token) -> bool {
-    token.secret == Secret::from_bytes([170; 20])
-        && token.user.slice() == "me"
-        && token.right == Right::Owner
-        && token.last == 0
-}
-
-fn has_one_token(state: &LibState) -> bool {
-    match state.tokens.slice() {
-        [token] => is_of_owner(token),
-        _ => false,
-    }
-}
-
-#[test]
-fn a_state_text_is_read_and_written(rt: HostRuntime) -> Result<(), Fail> {
-    let state = LibState::read(rt.alloc(), STATE.as_bytes())?;
-    assert!(rt; has_numbers(&state));
-    assert!(rt; has_one_commit(&state));
-    assert!(rt; has_one_token(&state));
-    assert!(rt; state.write(rt.alloc())?.slice() == STATE.as_bytes());
-    Ok(())
-}
-
 fn install(byte: u8, at: u64) -> Install {
     let head = ObjId::from_bytes([byte; 20]);
     Install {
@@ -111,50 +80,6 @@ fn install(byte: u8, at: u64) -> Install {
         pushed: head,
         at,
     }
-}
-
-/// Whether this is the key whose check fails first, as it is printed; no text where none fails.
-fn has_fault(alloc: Global, text: &str, wanted: &str) -> Result<bool, AllocError> {
-    match LibState::read(alloc, text.as_bytes()) {
-        Err(ReadFault::Bad(key)) => Ok(
-            format!(in alloc; "{key:?}")?.as_bytes() == wanted.as_bytes(),
-        ),
-        Err(ReadFault::NoMemory) => Err(AllocError),
-        Ok(_) => Ok(wanted.is_empty()),
-    }
-}
-
-// The state text above with one place of it changed, and what is then the first failing check. The verdicts are those
-// of a reader that was written apart from this one, from the description of the format.
-const CHANGED: [(&str, &str, &str); 11] = [
-    ("{", "[", "Whole"),
-    ("n\":1}", "n\":1.0}", "Version"),
-    ("n\":0", "n\":9223372036854775809", "Collection"),
-    ("s\":-1", "s\":-2,\"kept\":[]", "Days"),
-    ("{\"at\":5", "{\"at\":5,\"to\":5", "Kept"),
-    ("-555555555555", "", "Lib"),
-    ("\"docs\"", "null", "LibName"),
-    ("g\":1", "g\":0", "Opening"),
-    ("t\":0", "t\":1", "Tokens"),
-    ("n\":1}", "n\":1,\"quota\":null}", "Extra"),
-    ("n\":1}", "n\":1,\"version\":1}", ""),
-];
-
-/// The state text with this changed.
-fn changed(alloc: Global, from: &str, to: &str) -> Result<String, AllocError> {
-    match STATE.split_once(from) {
-        Some((front, rest)) => format!(in alloc; "{front}{to}{rest}"),
-        None => Ok(String::new(alloc)),
-    }
-}
-
-#[test]
-fn the_first_failing_check_of_a_state_text_is_answered(rt: HostRuntime) -> Result<(), AllocError> {
-    for (from, to, wanted) in CHANGED {
-        let text = changed(rt.alloc(), from, to)?;
-        assert!(rt; has_fault(rt.alloc(), text.as_str(), wanted)?, "{to}");
-    }
-    Ok(())
 }
 
 const DAY: u64 = 86_400;
@@ -184,14 +109,21 @@ fn keeps(alloc: Global, days: i64, kept: &[u8]) -> Result<bool, AllocError> {
     Ok(heads(alloc, &history)?.as_slice() == kept)
 }
 
+/// Days, and the head updates that are left.
+const LEFT: [(i64, &[u8]); 7] = [
+    (-1, &[1, 2, 3]),
+    (0, &[3]),
+    (1, &[2, 3]),
+    (99, &[2, 3]),
+    (100, &[2, 3]),
+    (101, &[1, 2, 3]),
+    (36_500, &[1, 2, 3]),
+];
+
 #[test]
 fn history_is_cut_to_the_retained_days(rt: HostRuntime) -> Result<(), AllocError> {
-    assert!(rt; keeps(rt.alloc(), -1, &[1, 2, 3])?);
-    assert!(rt; keeps(rt.alloc(), 0, &[3])?);
-    assert!(rt; keeps(rt.alloc(), 1, &[2, 3])?);
-    assert!(rt; keeps(rt.alloc(), 99, &[2, 3])?);
-    assert!(rt; keeps(rt.alloc(), 100, &[2, 3])?);
-    assert!(rt; keeps(rt.alloc(), 101, &[1, 2, 3])?);
-    assert!(rt; keeps(rt.alloc(), 36_500, &[1, 2, 3])?);
+    for (days, kept) in LEFT {
+        assert!(rt; keeps(rt.alloc(), days, kept)?, "{days}");
+    }
     Ok(())
 }

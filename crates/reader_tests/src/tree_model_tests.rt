@@ -1,7 +1,6 @@
 //! Names, orders of paths and tables with ample memory.
 use std::alloc::{AllocError, Global};
 use std::cmp::Ordering;
-use std::test::Fail;
 use tree_model::{Name, NameFault, Path, PathTable};
 
 fn path(alloc: Global, names: &[&str]) -> Result<Path, NameFault> {
@@ -40,36 +39,32 @@ fn is_told(alloc: Global, text: &str, wanted: &str) -> Result<bool, AllocError> 
     Ok(has_fault(alloc, text, wanted)? && is_read(alloc, text, wanted)?)
 }
 
-/// The same for a name of so many of these letters.
-fn is_told_long(
-    alloc: Global,
-    letter: &str,
-    count: usize,
-    wanted: &str,
-) -> Result<bool, AllocError> {
-    let text = letter.repeat(alloc, count)?;
+/// The same for the texts that are so many of these.
+fn is_told_of(alloc: Global, part: &str, count: usize, wanted: &str) -> Result<bool, AllocError> {
+    let text = part.repeat(alloc, count)?;
     is_told(alloc, text.as_str(), wanted)
 }
 
-const FAULTS: [(&str, &str); 8] = [
-    ("a", ""),
-    ("", "Empty"),
-    ("a/b", "Forbidden(1)"),
-    ("../", "Forbidden(2)"),
-    ("\0/", "Forbidden(0)"),
-    (".", "Dots"),
-    ("..", "Dots"),
-    ("...", ""),
+/// What stands in a name, how often, and its fault.
+const FAULTS: [(&str, usize, &str); 11] = [
+    ("a", 1, ""),
+    ("", 1, "Empty"),
+    ("a/b", 1, "Forbidden(1)"),
+    ("../", 1, "Forbidden(2)"),
+    ("\0/", 1, "Forbidden(0)"),
+    (".", 1, "Dots"),
+    (".", 2, "Dots"),
+    (".", 3, ""),
+    ("a", 255, ""),
+    ("a", 256, "TooLong(256)"),
+    ("/", 256, "TooLong(256)"),
 ];
 
 #[test]
 fn the_first_fault_of_a_name_is_told(rt: HostRuntime) -> Result<(), AllocError> {
-    for (text, wanted) in FAULTS {
-        assert!(rt; is_told(rt.alloc(), text, wanted)?, "{text}");
+    for (part, count, wanted) in FAULTS {
+        assert!(rt; is_told_of(rt.alloc(), part, count, wanted)?);
     }
-    assert!(rt; is_told_long(rt.alloc(), "a", 255, "")?);
-    assert!(rt; is_told_long(rt.alloc(), "a", 256, "TooLong(256)")?);
-    assert!(rt; is_told_long(rt.alloc(), "/", 256, "TooLong(256)")?);
     Ok(())
 }
 
@@ -86,46 +81,56 @@ fn a_path_has_the_text_of_its_names(rt: HostRuntime) -> Result<(), NameFault> {
     Ok(())
 }
 
-/// Whether the first path is the same as its copy and stands before the second.
-fn is_before(alloc: Global, first: &Path, second: &Path) -> Result<bool, AllocError> {
-    Ok(*first < *second && first.cmp(&first.copy(alloc)?) == Ordering::Equal)
+fn is_copy(path: &Path, copy: &Path) -> bool {
+    path.cmp(copy) == Ordering::Equal
 }
 
-// The path `a` stands before what is below it, and `a-b` before `a/b`.
+/// Whether the path of the first names is the same as its copy and stands before that of the second.
+fn is_before(alloc: Global, first: &[&str], second: &[&str]) -> Result<bool, NameFault> {
+    let first = path(alloc, first)?;
+    let second = path(alloc, second)?;
+    Ok(first < second && is_copy(&first, &first.copy(alloc)?))
+}
+
+/// The path `a` stands before what is below it, and `a-b` before `a/b`.
+const ORDERED: [(&[&str], &[&str]); 3] = [
+    (&["a-b"], &["a", "b"]),
+    (&["a"], &["a-b"]),
+    (&["a"], &["a", "b"]),
+];
+
 #[test]
 fn paths_stand_in_the_byte_order_of_their_texts(rt: HostRuntime) -> Result<(), NameFault> {
-    let alloc = rt.alloc();
-    let dashed = path(alloc, &["a-b"])?;
-    let below = path(alloc, &["a", "b"])?;
-    let above = path(alloc, &["a"])?;
-    assert!(rt; is_before(alloc, &dashed, &below)?);
-    assert!(rt; is_before(alloc, &above, &dashed)?);
-    assert!(rt; is_before(alloc, &above, &below)?);
+    for (first, second) in ORDERED {
+        assert!(rt; is_before(rt.alloc(), first, second)?);
+    }
     Ok(())
+}
+
+/// The path `a`, which grew by `b`.
+fn grown(alloc: Global) -> Result<Path, NameFault> {
+    let mut grown = path(alloc, &["a"])?;
+    grown.push(Name::read(alloc, "b")?)?;
+    Ok(grown)
 }
 
 #[test]
 fn a_path_grows_by_a_name(rt: HostRuntime) -> Result<(), NameFault> {
-    let alloc = rt.alloc();
-    let mut grown = path(alloc, &["a"])?;
-    grown.push(Name::read(alloc, "b")?)?;
-    assert!(rt; grown == path(alloc, &["a", "b"])?);
+    assert!(rt; is_path(rt.alloc(), &grown(rt.alloc())?, "a/b", 2)?);
     Ok(())
 }
 
-/// Whether the parent of a path is the other.
-fn is_child(alloc: Global, path: &Path, parent: &Path) -> Result<bool, AllocError> {
-    Ok(path.parent(alloc)? == *parent)
+/// Whether the parent of a path has this text and so many names.
+fn is_below(alloc: Global, names: &[&str], parent: &str, count: usize) -> Result<bool, NameFault> {
+    let above = path(alloc, names)?.parent(alloc)?;
+    Ok(is_path(alloc, &above, parent, count)?)
 }
 
 #[test]
 fn the_root_is_its_own_parent(rt: HostRuntime) -> Result<(), NameFault> {
-    let alloc = rt.alloc();
-    let root = Path::root(alloc);
-    let above = path(alloc, &["a"])?;
-    assert!(rt; is_child(alloc, &path(alloc, &["a", "b"])?, &above)?);
-    assert!(rt; is_child(alloc, &above, &root)?);
-    assert!(rt; is_child(alloc, &root, &root)?);
+    assert!(rt; is_below(rt.alloc(), &["a", "b"], "a", 1)?);
+    assert!(rt; is_below(rt.alloc(), &["a"], "", 0)?);
+    assert!(rt; is_below(rt.alloc(), &[], "", 0)?);
     Ok(())
 }
 
@@ -137,30 +142,49 @@ fn is_split(path: Path, dir: &Path, last: &str) -> bool {
     }
 }
 
+/// Whether the path `a/b` is split into `a` and `b`.
+fn is_split_at_its_end(alloc: Global) -> Result<bool, NameFault> {
+    let dir = path(alloc, &["a"])?;
+    Ok(is_split(path(alloc, &["a", "b"])?, &dir, "b"))
+}
+
 #[test]
 fn a_path_but_the_root_is_split(rt: HostRuntime) -> Result<(), NameFault> {
-    let alloc = rt.alloc();
-    let dir = path(alloc, &["a"])?;
-    assert!(rt; is_split(path(alloc, &["a", "b"])?, &dir, "b"));
-    assert!(rt; Path::root(alloc).split_last().is_none());
+    assert!(rt; is_split_at_its_end(rt.alloc())?);
+    assert!(rt; Path::root(rt.alloc()).split_last().is_none());
     Ok(())
+}
+
+/// Whether a name is the same as its copy, and stands before the other.
+fn is_first(alloc: Global, name: &Name, other: &Name) -> Result<bool, AllocError> {
+    Ok(*name == name.copy(alloc)? && *name < *other)
 }
 
 #[test]
 fn names_stand_in_their_byte_order(rt: HostRuntime) -> Result<(), NameFault> {
     let name = Name::read(rt.alloc(), "a")?;
-    assert!(rt; name == name.copy(rt.alloc())?);
-    assert!(rt; name < Name::read(rt.alloc(), "a!")?);
+    assert!(rt; is_first(rt.alloc(), &name, &Name::read(rt.alloc(), "a!")?)?);
     Ok(())
 }
 
 /// A table of 1 at `a/b`, 2 at `a-b` and 3 at `a`.
 fn filled(alloc: Global) -> Result<PathTable<u64>, NameFault> {
     let mut table = PathTable::new(alloc);
-    table.insert(path(alloc, &["a", "b"])?, 1)?;
-    table.insert(path(alloc, &["a-b"])?, 2)?;
-    table.insert(path(alloc, &["a"])?, 3)?;
+    put(alloc, &mut table, &["a", "b"], 1)?;
+    put(alloc, &mut table, &["a-b"], 2)?;
+    put(alloc, &mut table, &["a"], 3)?;
     Ok(table)
+}
+
+fn put(
+    alloc: Global,
+    table: &mut PathTable<u64>,
+    names: &[&str],
+    value: u64,
+) -> Result<(), NameFault> {
+    let path = path(alloc, names)?;
+    table.insert(path, value)?;
+    Ok(())
 }
 
 fn values(alloc: Global, table: &PathTable<u64>) -> Result<Vec<u64>, AllocError> {
@@ -175,41 +199,56 @@ fn has_one(table: &PathTable<u64>, below: &Path) -> bool {
     table.has(below) && table.get(below).copied() == Some(1) && table.len() == 3
 }
 
+fn is_in_order(alloc: Global, table: &PathTable<u64>) -> Result<bool, AllocError> {
+    Ok(values(alloc, table)?.as_slice() == [3, 2, 1].as_slice())
+}
+
 #[test]
 fn a_table_is_gone_over_in_the_byte_order_of_its_paths(rt: HostRuntime) -> Result<(), NameFault> {
-    let alloc = rt.alloc();
-    let table = filled(alloc)?;
-    assert!(rt; has_one(&table, &path(alloc, &["a", "b"])?));
-    assert!(rt; values(alloc, &table)?.as_slice() == [3, 2, 1].as_slice());
+    let table = filled(rt.alloc())?;
+    assert!(rt; is_in_order(rt.alloc(), &table)?);
+    assert!(rt; has_one(&table, &path(rt.alloc(), &["a", "b"])?));
     Ok(())
+}
+
+fn gives_up(table: &mut PathTable<u64>, below: &Path) -> bool {
+    table.remove(below) == Some(1) && !table.has(below) && table.len() == 2
 }
 
 #[test]
 fn what_is_removed_of_a_table_is_told(rt: HostRuntime) -> Result<(), NameFault> {
-    let below = path(rt.alloc(), &["a", "b"])?;
     let mut table = filled(rt.alloc())?;
-    assert!(rt; table.remove(&below) == Some(1));
-    assert!(rt; !table.has(&below));
-    assert!(rt; table.len() == 2);
+    assert!(rt; gives_up(&mut table, &path(rt.alloc(), &["a", "b"])?));
     Ok(())
 }
 
 /// Whether this is the value at the path of one name.
-fn is_at(alloc: Global, found: &(Path, u64), name: &str, value: u64) -> Result<bool, AllocError> {
-    Ok(found.0.text(alloc)?.slice() == name && found.1 == value)
+fn is_at(found: &Option<(Path, u64)>, text: &str, value: u64) -> bool {
+    match found {
+        Some((path, at)) => has_name(path, text) && *at == value,
+        None => false,
+    }
+}
+
+fn has_name(path: &Path, text: &str) -> bool {
+    match path.names() {
+        [name] => name.as_str() == text,
+        _ => false,
+    }
+}
+
+/// Whether a table gives 1 at `a/b` no sooner than 3 at `a` and 2 at `a-b`.
+fn gives_all(table: &mut PathTable<u64>) -> bool {
+    table.pop_last().is_some()
+        && is_at(&table.pop_last(), "a-b", 2)
+        && table.len() == 1
+        && is_at(&table.pop_first(), "a", 3)
+        && table.pop_first().is_none()
 }
 
 #[test]
-fn a_table_gives_its_first_and_its_last(rt: HostRuntime) -> Result<(), Fail> {
-    let alloc = rt.alloc();
-    let mut table = PathTable::new(alloc);
-    table.insert(path(alloc, &["a-b"])?, 2)?;
-    table.insert(path(alloc, &["a"])?, 3)?;
-    let last = table.pop_last().ok_or("no last")?;
-    assert!(rt; is_at(alloc, &last, "a-b", 2)?);
-    assert!(rt; table.len() == 1);
-    table.insert(path(alloc, &["b"])?, 4)?;
-    let first = table.pop_first().ok_or("no first")?;
-    assert!(rt; is_at(alloc, &first, "a", 3)?);
+fn a_table_gives_its_first_and_its_last(rt: HostRuntime) -> Result<(), NameFault> {
+    let mut table = filled(rt.alloc())?;
+    assert!(rt; gives_all(&mut table));
     Ok(())
 }
