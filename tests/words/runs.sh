@@ -73,8 +73,11 @@ hang_up() {
         printf '%s %s %s\n' "$status" "$began" "$ended" > how
     }
     read -r status began ended < how
-    connection=$((${connection-0} + 1))
-    ran="connection $connection"
+    met "$1"
+}
+
+# spell: the file wanted has the replies, and the name of the merge, if there is one, is that of a moment of the run.
+spell() {
     cat wanted.0 > wanted
     if [ -n "$merge_parent" ]; then
         for merged_at in $(seq "$began" "$ended"); do
@@ -83,9 +86,56 @@ hang_up() {
             ! cmp -s wanted got || break
         done
     fi
+}
+
+# met STATUS: the connection gave the replies, nothing else, and ended with that status.
+met() {
+    connection=$((${connection-0} + 1))
+    ran="connection $connection"
+    spell
     same "$ran, which ended with status $status" wanted got
     [ "$status" = "$1" ] || fail "$ran: status $status, and not $1: $(cat -v complaint)"
     [ ! -s complaint ] || fail "$ran: it wrote to standard error: $(cat -v complaint)"
+}
+
+# begin [PLACE [LIB]]: like connect, but the program runs from here on. What is asked goes out with the word `replied`.
+begin() {
+    connect "$@"
+    rm -f input
+    mkfifo input
+    began=$(date +%s)
+    "$PROGRAM" inetd "$place" "$asked_of" < input > got 2> complaint &
+    process=$!
+    exec 3> input
+}
+
+# replied: what was asked goes out, and all replies come while the client waits.
+replied() {
+    cat asked >&3
+    : > asked
+    tries=0
+    until ended=$(date +%s) && spell && cmp -s wanted got; do
+        tries=$((tries + 1))
+        [ "$tries" -lt 1000 ] || same 'the replies so far' wanted got
+        sleep 0.02
+    done
+}
+
+# end STATUS: what was asked goes out, and its replies come. Then nothing more is sent or given, and the status is this one.
+end() {
+    replied
+    exec 3>&-
+    status=0
+    wait "$process" || status=$?
+    ended=$(date +%s)
+    met "$1"
+}
+
+# counted: like replied, and `count` is how often the program read meanwhile, as Linux counts it, the request aside.
+counted() {
+    before=$(sed -n 's/^syscr: //p' "/proc/$process/io")
+    replied
+    count=$(($(sed -n 's/^syscr: //p' "/proc/$process/io") - before - 1))
 }
 
 # path_of KIND ID: where an object lies in the folder, for the kinds block, fs and commit.
