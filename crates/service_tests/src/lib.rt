@@ -1,4 +1,4 @@
-//! Tests of the turnstile, of the depot and of what the server does, over their public calls alone: what no scenario over the
+//! Tests of the turnstile, of the depot and of how connections end, over their public calls alone: what no scenario over the
 //! built program can show.
 //!
 //! They stand apart, since a crate with tests is proved twice. It has no code but its tests.
@@ -7,12 +7,8 @@
 #[cfg(test)]
 mod depot_tests;
 #[cfg(test)]
-mod fetch_tests;
-#[cfg(test)]
 mod library;
 #[cfg(test)]
 mod library_server_tests;
-#[cfg(test)]
-mod taken_tests;
 #[cfg(test)]
 mod turnstile_tests;

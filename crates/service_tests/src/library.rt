@@ -4,28 +4,22 @@ use ids::{Items, LibId, Text};
 use library_state::Secret;
 use object_store::{MemoryShelf, Store};
 use std::alloc::{AllocError, Global};
-use std::test::Fail;
-
-pub(crate) const LIB: &str = "11111111-2222-4333-8444-555555555555";
 
 /// What making it gives.
 pub(crate) type Made = Result<Depot<MemoryShelf>, (Store<MemoryShelf>, MakeFault)>;
 
-/// An empty store over a shelf whose calls of these numbers fail. Opening the store takes the calls 0 to 2.
-pub(crate) fn empty(alloc: Global, fails: &[u64]) -> Result<Store<MemoryShelf>, Fail> {
+/// An empty store over a shelf whose calls of these numbers fail. Opening the store takes the calls 0 to 2. Each fault is told
+/// as want of memory.
+fn empty(alloc: Global, fails: &[u64]) -> Result<Store<MemoryShelf>, AllocError> {
     let shelf = MemoryShelf::new(alloc, Items::copy(alloc, fails)?);
     match Store::start(alloc, shelf) {
         Ok(store) => Ok(store),
-        Err(_) => Err(Fail::from("no store")),
+        Err(_) => Err(AllocError),
     }
 }
 
 /// Makes the library `docs` of `me`, whose secret is forty `a`, on that store. It takes the calls 3 to 5.
-pub(crate) fn made(
-    alloc: Global,
-    store: Store<MemoryShelf>,
-    moment: u64,
-) -> Result<Made, AllocError> {
+pub(crate) fn made(alloc: Global, store: Store<MemoryShelf>) -> Result<Made, AllocError> {
     let lib = LibId::from_bytes([
         0x11, 0x11, 0x11, 0x11, 0x22, 0x22, 0x43, 0x33, 0x84, 0x44, 0x55, 0x55, 0x55, 0x55, 0x55,
         0x55,
@@ -33,17 +27,13 @@ pub(crate) fn made(
     let name = Text::copy(alloc, "docs")?;
     let user = Text::copy(alloc, "me")?;
     let secret = Secret::from_bytes([0xaa; 20]);
-    Ok(Depot::make(alloc, store, lib, &name, &user, secret, moment))
+    Ok(Depot::make(alloc, store, lib, &name, &user, secret, 7))
 }
 
-/// That library, over a shelf whose calls of these numbers fail.
-pub(crate) fn library_on(
-    alloc: Global,
-    fails: &[u64],
-    moment: u64,
-) -> Result<Depot<MemoryShelf>, Fail> {
-    match made(alloc, empty(alloc, fails)?, moment)? {
+/// That library, over a shelf whose calls of these numbers fail. Each refusal is told as want of memory.
+pub(crate) fn library_on(alloc: Global, fails: &[u64]) -> Result<Depot<MemoryShelf>, AllocError> {
+    match made(alloc, empty(alloc, fails)?)? {
         Ok(depot) => Ok(depot),
-        Err(_) => Err(Fail::from("refused")),
+        Err(_) => Err(AllocError),
     }
 }

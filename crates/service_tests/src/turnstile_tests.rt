@@ -1,5 +1,5 @@
 //! The turnstile over a tally, by one thread and by two.
-ghost use Rattle.std.specs.Prelude.{◌≡◌, ◌+◌, ◌≤◌, length, IfOk};
+ghost use Rattle.std.specs.Prelude.{◌≡◌, ◌+◌, ◌≤◌, length, IfOk, OnOk};
 ghost use Rattle.turnstile.specs.Rule.{most_turns};
 ghost use Rattle.turnstile.specs.PassView.{IsPassOf};
 
@@ -83,31 +83,86 @@ fn two_passes(
     }
 }
 
-#[test]
-fn a_spent_turnstile_gives_no_turn_and_still_closes(rt: HostRuntime) -> Result<(), Fail> {
-    let (turnstile, mut first, second) = two_passes(rt.alloc(), TURNS)?;
-    assert!(rt; add_one(&rt, &turnstile, &mut first) == Err(Spent));
-    assert!(rt; turnstile.count(&mut first) == 0);
-    let Err((turnstile, mut first, made)) = turnstile.close(first) else {
-        return Err("closed with a pass still out".into());
-    };
-    assert!(rt; made == 2);
+/// Whether no turn is given, and no entry is there.
+fn is_spent<R: Wait>(rt: &R, turnstile: &Turnstile<Tally>, pass: &mut Pass<Tally>) -> bool
+    requires ready { IsPassOf turnstile.now pass.old }
+    ensures ready { IsPassOf turnstile.now pass.new }
+{
+    add_one(rt, turnstile, pass) == Err(Spent) && turnstile.count(pass) == 0
+}
+
+/// What the tally counts once both passes are in. `None` where it doesn't close.
+fn closed(turnstile: Turnstile<Tally>, mut first: Pass<Tally>, second: Pass<Tally>) -> Option<u64>
+    requires first { IsPassOf turnstile first }
+    requires second { IsPassOf turnstile second }
+{
     turnstile.join(&mut first, second);
-    let Ok(tally) = turnstile.close(first) else {
-        return Err("refused with all passes in".into());
-    };
-    assert!(rt; tally.count == 0);
-    Ok(())
+    match turnstile.close(first) {
+        Ok(tally) => Some(tally.count),
+        Err(_) => None,
+    }
+}
+
+/// Of how many passes it is told that closes with one, and what the tally counts once both are in.
+fn closed_late(
+    turnstile: Turnstile<Tally>,
+    first: Pass<Tally>,
+    second: Pass<Tally>,
+) -> Option<(u64, Option<u64>)>
+    requires first { IsPassOf turnstile first }
+    requires second { IsPassOf turnstile second }
+{
+    match turnstile.close(first) {
+        Ok(_) => None,
+        Err((turnstile, first, made)) => Some((made, closed(turnstile, first, second))),
+    }
 }
 
 #[test]
-fn the_last_turn_is_given_and_then_none(rt: HostRuntime) -> Result<(), Fail> {
-    let (turnstile, mut first, mut second) = two_passes(rt.alloc(), TURNS - 1)?;
-    assert!(rt; add_one(&rt, &turnstile, &mut first) == Ok(0));
-    assert!(rt; add_one(&rt, &turnstile, &mut second) == Err(Spent));
-    assert!(rt; add_one(&rt, &turnstile, &mut first) == Err(Spent));
-    assert!(rt; turnstile.count(&mut second) == 1);
+fn a_spent_turnstile_gives_no_turn_and_still_closes(rt: HostRuntime) -> Result<(), AllocError> {
+    let (turnstile, mut first, second) = two_passes(rt.alloc(), TURNS)?;
+    assert!(rt; is_spent(&rt, &turnstile, &mut first));
+    assert!(rt; closed_late(turnstile, first, second) == Some((2, Some(0))));
     Ok(())
+}
+
+/// Whether a turn is given, no more are, and one entry is there.
+fn is_last<R: Wait>(
+    rt: &R,
+    turnstile: &Turnstile<Tally>,
+    first: &mut Pass<Tally>,
+    second: &mut Pass<Tally>,
+) -> bool
+    requires first { IsPassOf turnstile.now first.old }
+    requires second { IsPassOf turnstile.now second.old }
+{
+    add_one(rt, turnstile, first) == Ok(0)
+        && add_one(rt, turnstile, second) == Err(Spent)
+        && add_one(rt, turnstile, first) == Err(Spent)
+        && turnstile.count(second) == 1
+}
+
+#[test]
+fn the_last_turn_is_given_and_then_none(rt: HostRuntime) -> Result<(), AllocError> {
+    let (turnstile, mut first, mut second) = two_passes(rt.alloc(), TURNS - 1)?;
+    assert!(rt; is_last(&rt, &turnstile, &mut first, &mut second));
+    Ok(())
+}
+
+/// What one turn more sees: what the tally counts, its own place, and how many entries a count tells.
+fn seen<R: Wait>(
+    rt: &R,
+    turnstile: &Turnstile<Tally>,
+    pass: &mut Pass<Tally>,
+) -> Result<(u64, u64, u64), Spent>
+    requires ready { IsPassOf turnstile.now pass.old }
+    ensures ready { OnOk result (IsPassOf turnstile.now pass.new) }
+{
+    let mut held = pass.turn(rt, turnstile)?;
+    let seen = held.value().count;
+    let place = held.place();
+    held.done();
+    Ok((seen, place, turnstile.count(pass)))
 }
 
 #[test]
@@ -127,44 +182,43 @@ fn two_threads_of_a_thousand_turns_lose_nothing(rt: HostRuntime) -> Result<(), F
     );
     let mut first = one?;
     let second = two?;
-    let mut held = first.turn(&rt, &turnstile)?;
-    let seen = held.value().count;
-    let place = held.place();
-    held.done();
-    assert!(rt; seen == 2000);
-    assert!(rt; place == 2000);
-    assert!(rt; turnstile.count(&mut first) == 2000);
-    turnstile.join(&mut first, second);
-    let Ok(tally) = turnstile.close(first) else {
-        return Err("refused with all passes in".into());
-    };
-    assert!(rt; tally.count == 2000);
+    assert!(rt; seen(&rt, &turnstile, &mut first)? == (2000, 2000, 2000));
+    assert!(rt; closed(turnstile, first, second) == Some(2000));
     Ok(())
 }
 
+/// The places of two entries that one turn publishes, and what the other pass counts before them and after, while the turn
+/// goes on. `None` where the tally has begun.
+fn published<R: Wait>(
+    rt: &R,
+    turnstile: &Turnstile<Tally>,
+    first: &mut Pass<Tally>,
+    second: &mut Pass<Tally>,
+) -> Result<Option<[u64; 4]>, Spent>
+    requires first { IsPassOf turnstile.now first.old }
+    requires second { IsPassOf turnstile.now second.old }
+{
+    let mut held = first.turn(rt, turnstile)?;
+    if held.value().count > 0 {
+        held.done();
+        return Ok(None);
+    }
+    held.value().count = 2;
+    let before = turnstile.count(second);
+    let one = held.publish(Snapshot::of(&1));
+    let two = held.publish(Snapshot::of(&2));
+    let after = turnstile.count(second);
+    held.done();
+    Ok(Some([one, two, before, after]))
+}
+
+// A count neither waits for the turn to end nor keeps an old number.
 #[test]
 fn a_turn_publishes_entries_at_their_places_while_others_count(
     rt: HostRuntime,
 ) -> Result<(), Fail> {
     let (turnstile, mut first, mut second) = two_passes(rt.alloc(), 0)?;
-    let mut held = first.turn(&rt, &turnstile)?;
-    let count = held.value().count;
-    if count > 0 {
-        held.done();
-        return Err("begun with entries".into());
-    }
-    held.value().count = 2;
-    let before = turnstile.count(&mut second);
-    let one = held.publish(Snapshot::of(&1));
-    let two = held.publish(Snapshot::of(&2));
-    let after = turnstile.count(&mut second);
-    held.done();
-    assert!(rt; one == 0 && two == 1);
-    assert!(rt; before == 0);
-    assert!(rt;
-        after == 2,
-        "a count neither waits for the turn to end nor keeps an old number"
-    );
+    assert!(rt; published(&rt, &turnstile, &mut first, &mut second)? == Some([0, 1, 0, 2]));
     Ok(())
 }
 
@@ -179,7 +233,7 @@ fn both_cross<V: Story + Send>(turnstile: &Turnstile<V>, pass: Pass<V>) -> Pass<
 }
 
 #[test]
-fn a_pass_and_its_turnstile_cross_threads(rt: HostRuntime) -> Result<(), Fail> {
+fn a_pass_and_its_turnstile_cross_threads(rt: HostRuntime) -> Result<(), AllocError> {
     let (turnstile, first, _) = two_passes(rt.alloc(), 0)?;
     let _first = both_cross(&turnstile, first);
     Ok(())
