@@ -82,7 +82,7 @@ module _ {S : Type 0} (contents : S → Option Contents) (may_give : S → Slot 
       absurd (no_print (line_printed (created_line lib made.created)) out_before out_now status made.prints (no_creation lib made.created) two)
   runs_usage command old new before now out_before out_now status (adds location lib token is added left) two =
       absurd (no_print (line_printed (added_line added.added)) out_before out_now status added.prints (no_addition added.added) two)
-  runs_usage command old new before now out_before out_now status (serves location lib is (opened depot after state opens given service caused good back) out) two =
+  runs_usage command old new before now out_before out_now status (serves location lib is (opened depot after state opens given none service caused good back) out) two =
       absurd (no_service depot after before now status service two)
   runs_usage command old new before now out_before out_now status (serves location lib is (unbrought why refused code left) out) two =
       absurd (no_fault (fault_of_not_brought why) (sym code ∙ two))

@@ -10,7 +10,6 @@ use Rattle.library_rules.specs.Creation.{with_token}
 use Rattle.library_rules.specs.LibraryState.{State}
 use Rattle.library_state.specs.StateSpelling.{text_of}
 use Rattle.library_state.specs.declared.state.LibState.{LibState}
-use Rattle.object_graph.specs.Unchanged.{Keeps}
 use Rattle.object_store.specs.Shelf.{Contents}
 use Rattle.object_store.specs.Store.{is_free, is_of_shelf}
 use Rattle.object_store.specs.declared.shelf.Slot.{Slot}
@@ -25,11 +24,11 @@ use Rattle.library_server.specs.declared.not_done.NotAdded.TheVariants as unadde
 abbrev pub with_new : NewToken → State → State
 with_new new s = with_token new.user new.secret new.right s
 
--- the library is there with the objects of this state, and with the text of that one
+-- the library is there with just the objects of this state, and with the text of that one
 pub record StandsWithText (standing : Option Standing) (s t : State) : Type 0 where
   pub held : Contents
   pub there : standing ≡ Some (Kept held)
-  pub lies : Keeps s.objects held.objects
+  pub objects : held.objects ≡ s.objects
   pub text : held.status ≡ Some (text_of t.state)
 
 -- why a token is not added to the library that was opened, and how that stands then: as it was opened, but that where the

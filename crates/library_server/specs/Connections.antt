@@ -6,6 +6,7 @@ use Rattle.folder_storage.specs.Ground.{MayGive, Standing}
 use Rattle.http_front.specs.Link.{LinkTells}
 use Rattle.library_rules.specs.LibraryState.{State}
 use Rattle.object_store.specs.Shelf.{Contents}
+use Rattle.object_store.specs.StoreView.{HasNoStray}
 use Rattle.object_store.specs.declared.shelf.Slot.{Slot}
 use Rattle.server_words.specs.Lines.{fault_status}
 use Rattle.server_words.specs.Spelling.{location_text}
@@ -66,6 +67,7 @@ pub data ServesLocation {S : Type 0} (contents : S → Option Contents) (may_giv
   opened : (depot after : DepotView S) → IsOpenedState (gives (location_text location) lib) location lib shows depot.state
       → ((standing : Standing) → old.stands (location_text location) lib ≡ Some standing → (s : State) × (state_of contents faults depot ≡ Some s) × OpensTo location lib shows standing s)
       → GivesBy (IsOfOpening location lib shows depot.state) (gives (location_text location) lib) (may_give depot.store.shelf)
+      → HasNoStray contents depot.store
       → (service : ServesOpened contents may_give texts faults shows depot after before now status)
       → AreCaused (gives (location_text location) lib) service.ran.0
       → IsGood contents faults after → ComesBack old.stands new.stands (location_text location) lib (contents after.store.shelf)

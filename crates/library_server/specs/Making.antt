@@ -7,11 +7,13 @@ use Rattle.depot.specs.DepotView.{DepotView, state_of}
 use Rattle.depot.specs.Make.{IsMakeFault, first_state, is_make_counted, is_make_free, make_refusal}
 use Rattle.depot.specs.declared.error.MakeFault.{MakeFault}
 use Rattle.folder_storage.specs.Ground.{Absent, Kept, Standing, no_contents}
+use Rattle.library_rules.specs.Changes.{put_new}
 use Rattle.library_rules.specs.Creation.{created, opening_commit, opening_object}
 use Rattle.library_rules.specs.LibraryState.{State}
 use Rattle.library_rules.specs.declared.entry.Stored.{Stored}
 use Rattle.library_state.specs.StateSpelling.{text_of}
 use Rattle.library_state.specs.declared.state.LibState.{LibState}
+use Rattle.object_graph.specs.Unchanged.{Keeps}
 use Rattle.object_store.specs.Shelf.{Contents, is_counted}
 use Rattle.object_store.specs.Store.{put_refusal}
 use Rattle.object_store.specs.declared.shelf.Slot.{Slot}
@@ -40,9 +42,10 @@ new_refusal new moment =
     make_refusal None (put_refusal no_objects (opening_object (opening_commit new.lib new.user moment)).key (opening_object (opening_commit new.lib new.user moment)).bytes)
 
 -- what lies in the slot where a library could not be made: what lay there, or, where the storage failed, the text of the
--- new library
+-- new library, whose opening commit then lies there too
 abbrev pub MayBegin : NewLibrary → ℕ → MakeFault → Contents → Contents → Type 0
-MayBegin new moment why held h = (h.status ≡ held.status) ⊎ (IsTrue (is_make_counted why) × (h.status ≡ Some (text_of (first_of new moment))))
+MayBegin new moment why held h = (h.status ≡ held.status)
+    ⊎ (IsTrue (is_make_counted why) × (h.status ≡ Some (text_of (first_of new moment))) × Keeps (put_new held.objects (new_commit new moment)) h.objects)
 
 abbrev pub LeavesText : NewLibrary → ℕ → MakeFault → Contents → Option Contents → Type 0
 LeavesText new moment why held now = (h : Contents) × (now ≡ Some h) × MayBegin new moment why held h

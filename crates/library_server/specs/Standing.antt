@@ -32,8 +32,9 @@ HandsOutOr contents old new folder lib (Err e) = Returned contents old new folde
 abbrev pub OthersGiveNoMore : MayGive → MayGive → (folder lib : List ℕ) → Type 0
 OthersGiveNoMore old new folder lib = (f l : List ℕ) → ((f ≡ folder) × (l ≡ lib) → ⊥) → GivesNoMore (old f l) (new f l)
 
--- the library is there, and its shelf stands for this state
+-- the library is there, its shelf stands for this state, and just the state's objects lie there
 pub record StandsAs (standing : Option Standing) (s : State) : Type 0 where
   pub held : Contents
   pub there : standing ≡ Some (Kept held)
   pub stands : StandsFor held.status held.objects s
+  pub objects : held.objects ≡ s.objects

@@ -7,7 +7,6 @@ use Rattle.library_state.specs.StateText.{state_of as read_state}
 use Rattle.library_state.specs.StateSpelling.{text_of}
 use Rattle.library_state.specs.declared.state.LibState.{LibState}
 use Rattle.library_state.specs.declared.state_fault.StateKey.{StateKey}
-use Rattle.object_graph.specs.Unchanged.{Keeps}
 use Rattle.depot.specs.DepotView.{DepotView, library, state_of}
 use Rattle.depot.specs.Start.{IsGiven, IsNextOf, IsStartFault, IsStartFree, LeftUnopenedBy, next_opening, is_start_counted, state_refusal}
 use Rattle.depot.specs.declared.error.StartFault.{StartFault}
@@ -140,9 +139,9 @@ abbrev pub MayRaise : StartFault → Contents → Contents → Type 0
 MayRaise why held h = (h.status ≡ held.status)
     ⊎ (IsTrue (is_start_counted why) × (text : List ℕ) × (found : LibState) × (held.status ≡ Some text) × (read_state text ≡ Ok found) × (h.status ≡ Some (text_of (next_opening found))))
 
--- a library that could not be opened keeps all its objects
+-- a library that could not be opened has just the objects that it had
 abbrev pub LeavesOpened : StartFault → Contents → Option Contents → Type 0
-LeavesOpened why held now = (h : Contents) × (now ≡ Some h) × Keeps held.objects h.objects × MayRaise why held h
+LeavesOpened why held now = (h : Contents) × (now ≡ Some h) × (h.objects ≡ held.objects) × MayRaise why held h
 
 -- another library stays as it is
 abbrev pub LeavesShelf : NotStarted → Contents → Option Contents → Type 0

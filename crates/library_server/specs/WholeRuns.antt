@@ -28,7 +28,7 @@ NoneOfStorage calls = AllByRecursion (λ t. is_storage_reply t.answer.reply ≡ 
 abbrev pub ServesWhole : {S : Type 0} {contents : S → Option Contents} {may_give : S → Slot → Option (List ℕ) → Type 0} {texts faults : S → ℕ} {gives : MayGive}
     {location : Location} {lib : List ℕ} {shows : ℕ → Type 0} {old new : GroundView} {before now : LinkView} {status : ℕ}
     → ServesLocation contents may_give texts faults gives location lib shows old new before now status → Type 0
-ServesWhole (opened depot after state opens given service caused good back) = NoneOfStorage service.ran.0
+ServesWhole (opened depot after state opens given none service caused good back) = NoneOfStorage service.ran.0
 ServesWhole (unbrought why refused code left) = is_storage_fault (fault_of_not_brought why) ≡ false
 
 -- of what a command did: the line that it put tells no fault of the storage, or it served so; a text and a status alone tell

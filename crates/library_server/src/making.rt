@@ -9,6 +9,7 @@ ghost use Rattle.folder_storage.specs.Ground.{Standing};
 ghost use Rattle.library_rules.specs.Creation.{created, opening_commit, opening_object};
 ghost use Rattle.object_store.specs.Shelf.{Contents};
 ghost use Rattle.object_store.specs.Store.{put_refusal};
+ghost use Rattle.object_store.specs.StoreView.{HasNoStray};
 ghost use Rattle.library_server.specs.Answering.{NeverFails};
 ghost use Rattle.library_server.specs.Lines.{fault_of_not_made};
 ghost use Rattle.library_server.specs.Making.{IsNew, IsNotMade, LeavesText, MakesSo, RoseWhere, first_of, is_unmade_counted, new_commit};
@@ -46,6 +47,7 @@ pub(crate) fn make_library<G: Ground>(
     requires fits { length new.now.name ≤ MAX_STATE_NAME }
     requires ready { (1 ≤ length new.now.user) × (length new.now.user ≤ MAX_STATE_NAME) }
     ensures value { IfOk result (IsNew new.now moment) }
+    ensures lying { IfOk result (λ depot. HasNoStray G.S.contents depot.store) }
     ensures gives { IfOk result (λ depot. GivesBy (IsOfMaking (new_commit new.now moment) (first_of new.now moment)) (G.may_give libraries.old folder.now new.now.lib) (G.S.may_give depot.store.shelf)) }
     ensures shown { (standing : Standing) → G.stands libraries.old folder.now new.now.lib ≡ Some standing
         → MakesSo G.S.contents G.S.faults new.now moment standing result (G.stands libraries.new folder.now new.now.lib) }
@@ -82,6 +84,7 @@ fn make_on<S: Shelf>(
     requires fits { length new.now.name ≤ MAX_STATE_NAME }
     requires ready { (1 ≤ length new.now.user) × (length new.now.user ≤ MAX_STATE_NAME) }
     ensures value { IfOk result (IsNew new.now moment) }
+    ensures lying { IfOk result (λ depot. HasNoStray S.contents depot.store) }
     ensures gives { IfOk result (λ depot. GivesBy (IsOfMaking (new_commit new.now moment) (first_of new.now moment)) (S.may_give shelf) (S.may_give depot.store.shelf)) }
     ensures shown { (held : Contents) → S.contents shelf ≡ Some held → IfOk result (λ depot. state_of S.contents S.faults depot
         ≡ Some (created new.now.lib new.now.name new.now.user new.now.secret moment held.objects (S.faults shelf))) }

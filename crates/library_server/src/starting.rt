@@ -9,7 +9,7 @@ ghost use Rattle.folder_storage.specs.Ground.{Absent, GivesBack, Standing, Takes
 ghost use Rattle.library_state.specs.StateSpelling.{text_of};
 ghost use Rattle.object_store.specs.Shelf.{Contents, GivesAlso};
 ghost use Rattle.object_store.specs.declared.shelf.Slot.TheVariants as slots;
-ghost use Rattle.object_store.specs.StoreView.{Keeps, ReadsShelf, objects_of, status_of};
+ghost use Rattle.object_store.specs.StoreView.{AddsNoStray, HasNoStray, Keeps, ReadsShelf, objects_of, status_of};
 ghost use Rattle.server_words.specs.Spelling.{location_text};
 ghost use Rattle.library_server.specs.Answering.{NeverFails};
 ghost use Rattle.library_server.specs.Starting.{IsDueOpening, IsMemory, IsNotBrought, IsNotStarted, IsOfOpening, IsOpenedState, IsTextOf, LeavesShelf, LeftUnstarted, OpensAs, OpensFrom, OpensSo, is_unbrought_counted, is_unstarted_counted, memory_library};
@@ -52,6 +52,7 @@ pub(crate) fn start_library<G: Ground, C: Clock>(
     ensures any { IfOk result (λ depot. IsOpenedState (G.may_give libraries.old (location_text location.now) lib) location.now lib (C.shows clock.now) depot.state) }
     ensures gives { IfOk result (λ depot. GivesBy (IsOfOpening location.now lib (C.shows clock.now) depot.state) (G.may_give libraries.old (location_text location.now) lib) (G.S.may_give depot.store.shelf)) }
     ensures settled { IfOk result (λ depot. depot.unsettled ≡ false) }
+    ensures lying { IfOk result (λ depot. HasNoStray G.S.contents depot.store) }
     ensures shown { (standing : Standing) → G.stands libraries.old (location_text location.now) lib ≡ Some standing
         → OpensSo G.S.contents G.S.faults location.now lib (C.shows clock.now) standing result (G.stands libraries.new (location_text location.now) lib) }
     ensures back { HandsOutOr G.S.contents (G.stands libraries.old) (G.stands libraries.new) (location_text location.now) lib result }
@@ -99,6 +100,7 @@ fn start_absent<G: Ground, C: Clock>(
     ensures any { IfOk result (λ depot. IsOpenedState (G.may_give libraries.old (location_text location.now) lib) location.now lib (C.shows clock.now) depot.state) }
     ensures gives { IfOk result (λ depot. GivesBy (IsOfOpening location.now lib (C.shows clock.now) depot.state) (G.may_give libraries.old (location_text location.now) lib) (G.S.may_give depot.store.shelf)) }
     ensures settled { IfOk result (λ depot. depot.unsettled ≡ false) }
+    ensures lying { IfOk result (λ depot. HasNoStray G.S.contents depot.store) }
     ensures shown { G.stands libraries.old (location_text location.now) lib ≡ Some Absent
         → OpensSo G.S.contents G.S.faults location.now lib (C.shows clock.now) Absent result (G.stands libraries.new (location_text location.now) lib) }
     ensures back { HandsOutOr G.S.contents (G.stands libraries.old) (G.stands libraries.new) (location_text location.now) lib result }
@@ -125,6 +127,7 @@ fn make_in_memory<G: Ground, C: Clock>(
     ensures any { IfOk result (λ depot. IsOpenedState (G.may_give libraries.old (codes ":memory:") lib) Location.Memory lib (C.shows clock.now) depot.state) }
     ensures gives { IfOk result (λ depot. GivesBy (IsOfOpening Location.Memory lib (C.shows clock.now) depot.state) (G.may_give libraries.old (codes ":memory:") lib) (G.S.may_give depot.store.shelf)) }
     ensures settled { IfOk result (λ depot. depot.unsettled ≡ false) }
+    ensures lying { IfOk result (λ depot. HasNoStray G.S.contents depot.store) }
     ensures shown { G.stands libraries.old (codes ":memory:") lib ≡ Some Absent
         → OpensSo G.S.contents G.S.faults Location.Memory lib (C.shows clock.now) Absent result (G.stands libraries.new (codes ":memory:") lib) }
     ensures back { HandsOutOr G.S.contents (G.stands libraries.old) (G.stands libraries.new) (codes ":memory:") lib result }
@@ -164,6 +167,7 @@ fn memory_library(alloc: Global, lib: LibId) -> Result<NewLibrary, AllocError>
 fn start_on<S: Shelf>(alloc: Global, shelf: S, lib: &LibId) -> Result<Depot<S>, (S, NotStarted)>
     ensures gives { IfOk result (λ depot. GivesAlso (S.may_give shelf) (S.may_give depot.store.shelf) slots.Status (Some (text_of depot.state))) }
     ensures settled { IfOk result (λ depot. depot.unsettled ≡ false) }
+    ensures lying { IfOk result (λ depot. HasNoStray S.contents depot.store) }
     ensures named { IfOk result (λ depot. depot.state.lib ≡ lib.now) }
     ensures any { IfOk result (λ depot. IsNextOf (S.may_give shelf) depot.state) }
     ensures good { IfOk result (IsGood S.contents S.faults) }
@@ -216,6 +220,8 @@ fn start_named<S: Shelf>(
 ) -> Result<Depot<S>, (Store<S>, NotStarted)>
     ensures gives { IfOk result (λ depot. GivesAlso (S.may_give store.shelf) (S.may_give depot.store.shelf) slots.Status (Some (text_of depot.state))) }
     ensures settled { IfOk result (λ depot. depot.unsettled ≡ false) }
+    ensures lying { IfOk result (λ depot. AddsNoStray S.contents store depot.store) }
+    ensures err_lying { IfErr result (λ refused. AddsNoStray S.contents store refused.0) }
     ensures named { IfOk result (λ depot. depot.state.lib ≡ lib.now) }
     ensures any { IfOk result (λ depot. IsNextOf (S.may_give store.shelf) depot.state) }
     ensures good { IfOk result (IsGood S.contents S.faults) }

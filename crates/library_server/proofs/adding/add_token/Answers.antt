@@ -16,7 +16,7 @@ returns-in-Ok-add_token-clause-shown g c = λ standing there.
       opens.0,
       opens.2,
       stands_back g.G.S.Shelf.contents g.G.S.Shelf.faults c.add_token.new.self _ _ _ _ _ standing
-          c.add_token.ensures.stands c.in-Ok-add_token.ensures.text.0 (c.in-Ok-add_token.ensures.shown opens.0 opens.1)
+          c.add_token.ensures.stands (λ key stray. c.in-Ok.ensures.lying key (c.add_token.ensures.lying key stray)) c.in-Ok-add_token.ensures.text.0 (c.in-Ok-add_token.ensures.shown opens.0 opens.1)
           (comes_back _ _ _ _ _ _ c.in-Ok.ensures.back (rw c.folder_word.ensures.value at c.bring_back.ensures.ok)) there,
     )
 
@@ -31,7 +31,7 @@ returns-in-Err-add_token-clause-shown g c = λ standing there.
       opens.0,
       opens.2,
       refuses_token g.G.S.Shelf.contents g.G.S.Shelf.faults c.in-Ok.depot c.add_token.new.self opens.0 c.args.token.now c.in-Err-add_token.fault _
-          c.in-Ok.ensures.good c.in-Ok.ensures.settled opens.1 c.in-Err-add_token.ensures.refused c.in-Err-add_token.ensures.untouched c.in-Err-add_token.ensures.text
+          c.in-Ok.ensures.good c.in-Ok.ensures.lying (λ key stray. c.in-Ok.ensures.lying key (c.add_token.ensures.lying key stray)) c.in-Ok.ensures.settled opens.1 c.in-Err-add_token.ensures.refused c.in-Err-add_token.ensures.untouched c.in-Err-add_token.ensures.text
           c.add_token.ensures.stays (λ held told. back.here standing held there told),
     )
 

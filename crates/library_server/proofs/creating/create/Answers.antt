@@ -10,7 +10,7 @@ returns-in-Ok-clause-shown g c = λ standing there.
       made.0,
       made.1,
       stands_back g.G.S.Shelf.contents g.G.S.Shelf.faults c.in-Ok.depot _ _ _ _ _ standing
-          c.bring_back.ensures.good c.in-Ok.ensures.value.1 made.2 (comes_back _ _ _ _ _ _ c.in-Ok.ensures.back c.bring_back.ensures.ok) there,
+          c.bring_back.ensures.good c.in-Ok.ensures.lying c.in-Ok.ensures.value.1 made.2 (comes_back _ _ _ _ _ _ c.in-Ok.ensures.back c.bring_back.ensures.ok) there,
     )
 
 pub returns-in-Ok-clause-back : goal.returns-in-Ok-clause-back

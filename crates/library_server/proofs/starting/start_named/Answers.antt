@@ -23,6 +23,9 @@ returns-then-ne-clause-left g c = λ status at is.
 pub returns-then-ne-clause-stays : goal.returns-then-ne-clause-stays
 returns-then-ne-clause-stays g c = rw c.close.ensures.value c.in-Ok.ensures.value.objects
 
+pub returns-then-ne-clause-err_lying : goal.returns-then-ne-clause-err_lying
+returns-then-ne-clause-err_lying g c = rw c.close.ensures.value c.in-Ok.ensures.lying
+
 pub returns-then-ne-clause-cause : goal.returns-then-ne-clause-cause
 returns-then-ne-clause-cause g c = gives_other (g.S.Shelf.may_give c.args.store.shelf) c.args.lib.now _ c.in-Ok.ensures.any (λ same. is_other _ _ c.if-ne.ensures (c.lib.ensures.value ∙ same))
 
