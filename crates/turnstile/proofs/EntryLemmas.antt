@@ -132,7 +132,7 @@ module _ {V E : Type 0} (stands : V → List E → V → Type 0) (k : About V) w
       let first = prefix_length me.0.seen r.history f.seen_first in
       let w : View V E = record me.0 { looked = n; looks = me.0.looks + 1 } in
       let fits : Fits k r.history r.serving r.drawn r.owner r.maker id w
-          = moves f r.serving r.drawn r.owner me.0.ticket me.0.turn me.0.told me.0.turns me.0.drawn n (me.0.looks + 1) f.ticketed f.turning (omega arith) f.drawn_below f.spent in (
+      = moves f r.serving r.drawn r.owner me.0.ticket me.0.turn me.0.told me.0.turns me.0.drawn n (me.0.looks + 1) f.ticketed f.turning (omega arith) f.drawn_below f.spent in (
         w,
         keeps,
         tt,
