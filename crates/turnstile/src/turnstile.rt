@@ -101,13 +101,14 @@ impl<V: Story> Turnstile<V> {
     /// Makes one pass of two. It takes no memory.
     ///
     /// One of the two known lists begins the other, and `into` keeps the longer one. Its book gets
-    /// the places of both passes, each once.
+    /// the places of both passes, each once. It stands for no more passes than were made.
     pub fn join(&self, into: &mut Pass<V>, from: Pass<V>)
         requires ready { IsPassOf self.now into.old × IsPassOf self.now from }
         ensures ready { IsPassOf self.now into.new }
         ensures view { view_of into.new ≡ both_of (view_of into.old) (view_of from) }
         ensures seen { IsPrefix (shorter (seen_of into.old) (seen_of from)) (seen_of into.new) }
         ensures once { IsOnce (book_of into.new) }
+        ensures bound { parts_of into.new ≤ passes_of into.new }
     {
         let (seat, parts) = from.into_seat();
         self.merge(into, seat);
