@@ -16,7 +16,7 @@ use Rattle.object_graph.specs.Unchanged.{Keeps}
 use Rattle.object_graph.specs.declared.entry.Entry.{Entry}
 use Rattle.object_graph.specs.declared.entry.Entry.TheVariants.{Dir, File}
 use Rattle.tree_merge.specs.Sides.{Entries}
-use Rattle.tree_merge.specs.TreeBuilding.{IsSound, IsShownPart, HasMade, directory_id_in, IsEntryListed, IsOwnListed}
+use Rattle.tree_merge.specs.TreeBuilding.{Given, IsSound, IsShownPart, HasMade, directory_id_in, IsEntryListed, IsOwnListed}
 use Rattle.tree_merge.proofs.TableLemmas.{apart_by}
 use Rattle.tree_merge.proofs.PathOrderLemmas.{before_child}
 use Rattle.tree_merge.proofs.DirentLemmas.{named_push, named_push_other}
@@ -37,7 +37,7 @@ entry_name made n None Dir es e h = ap (λ (f : Dirent). f.name) h.is
 entry_name made n (Some id) Dir es e h = ap (λ (f : Dirent). f.name) h
 entry_name made n o (File id mode mtime modifier size) es e h = ap (λ (f : Dirent). f.name) h
 
-module _ (stored : Objects) (K : PathV → Option (List ℕ)) (W N R after : Entries) (H H2 : PathV → List Dirent) (M M2 : Objects) (path d : PathV) (n : List ℕ) (x : Entry) (e : Dirent)
+module _ (stored : Given) (K : PathV → Option (List ℕ)) (W N R after : Entries) (H H2 : PathV → List Dirent) (M M2 : Objects) (path d : PathV) (n : List ℕ) (x : Entry) (e : Dirent)
     (part : IsShownPart stored K W N) (so : BuiltSo stored K W N R H M) (split : path ≡ d ++ n ∷ []) (there : map.get R path ≡ Some x)
     (popped : (q : PathV) → map.get after q ≡ cond (same_path q path) None (map.get R q))
     (behind : (q : PathV) → path_cmp path q ≡ Less → map.get R q ≡ None)

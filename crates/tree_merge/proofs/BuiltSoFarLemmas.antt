@@ -9,7 +9,7 @@ use Rattle.fs_objects.specs.declared.dirent.Dirent.{Dirent}
 use Rattle.object_graph.specs.Objects.{fs_key, entry_named, entry_in}
 use Rattle.object_graph.specs.Unchanged.{Keeps}
 use Rattle.tree_merge.specs.Sides.{Entries}
-use Rattle.tree_merge.specs.TreeBuilding.{IsShownPart, HasMade, directory_id_in}
+use Rattle.tree_merge.specs.TreeBuilding.{AreThere, Given, IsShownPart, HasMade, directory_id_in}
 use Rattle.tree_merge.proofs.SameEntryLemmas.{nothing_named}
 
 -- the id of the directory at a path is reached from what some directory above it holds that isn't made yet
@@ -22,11 +22,11 @@ pub record Reach (R : Entries) (H : PathV → List Dirent) (M : Objects) (path :
   pub at : (objects : Objects) → Keeps M objects → directory_id_in objects (H dir) (name ∷ rest) ≡ Some id
 
 -- one name is told by a directory alone, more of them by the stored objects too
-abbrev pub Sees : Objects → Objects → PathV → Type 0
-Sees stored objects q = (q ≡ []) ⊎ Keeps stored objects
+abbrev pub Sees : Given → Objects → PathV → Type 0
+Sees stored objects q = (q ≡ []) ⊎ AreThere stored objects
 
 -- W the whole tree, N the entries that are given, R what is left of them, H what each directory has so far, M what was made
-pub record BuiltSo (stored : Objects) (K : PathV → Option (List ℕ)) (W N R : Entries) (H : PathV → List Dirent) (M : Objects) : Type 0 where
+pub record BuiltSo (stored : Given) (K : PathV → Option (List ℕ)) (W N R : Entries) (H : PathV → List Dirent) (M : Objects) : Type 0 where
   pub proper : (d : PathV) → All IsProperEntry (H d)
   pub still : (q : PathV) → IsSome (map.get R q) → map.get R q ≡ map.get N q
   pub gone : (q r : PathV) → IsSome (map.get N q) → map.get R q ≡ None → IsSome (map.get R r) → path_cmp r q ≡ Less
@@ -36,7 +36,7 @@ pub record BuiltSo (stored : Objects) (K : PathV → Option (List ℕ)) (W N R :
   pub reach : (id : List ℕ) → HasMade M id → (q : PathV) × Reach R H M q id
   pub listed : (q : PathV) (id : List ℕ) → K q ≡ Some id → map.get R q ≡ None → Reach R H M q id
 
-pub built_start : (stored : Objects) (K : PathV → Option (List ℕ)) (W N : Entries) (H : PathV → List Dirent) (M : Objects) → IsShownPart stored K W N → ((d : PathV) → H d ≡ []) → M ≡ map.empty
+pub built_start : (stored : Given) (K : PathV → Option (List ℕ)) (W N : Entries) (H : PathV → List Dirent) (M : Objects) → IsShownPart stored K W N → ((d : PathV) → H d ≡ []) → M ≡ map.empty
     → BuiltSo stored K W N N H M
 built_start stored K W N H M part none empty = record {
   proper = λ d. subst (All IsProperEntry) (sym (none d)) all_of_none;

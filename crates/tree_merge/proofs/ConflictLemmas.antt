@@ -1,5 +1,5 @@
 -- Files that leave their paths, named one by one. The key lemmas are named_start, named_more, named_long and named_all.
-use Rattle.std.proofs.Common.{◌≡◌, ◌≢◌, ℕ, suc, ◌+◌, ◌<◌, ◌≤◌, ◌&&◌, ◌||◌, Bool, true, false, cond, if◌then◌else◌, T, List, [], ◌∷◌, ◌++◌, length, find, nat_lt, map as map_list, refl, sym, ap, ap₂, ◌∙◌, subst, arith, append-nil, append_assoc, Option, Some, None, is_some, option_map, Err, true≢false, le-ltb}
+use Rattle.std.proofs.Common.{◌≡◌, ◌≢◌, ℕ, suc, ◌+◌, ◌<◌, ◌≤◌, ◌&&◌, ◌||◌, Bool, true, false, cond, if◌then◌else◌, T, List, [], ◌∷◌, ◌++◌, length, find, nat_lt, map as map_list, refl, sym, ap, ap₂, ◌∙◌, subst, arith, append-nil, append_assoc, Option, Some, None, IsSome, is_some, option_map, Err, true≢false, le-ltb}
 use Rattle.std.proofs.lemmas.Bool.{lt-ltb}
 use Rattle.std.proofs.lemmas.List.{map-append}
 use Rattle.std.specs.Option.{option_or}
@@ -13,22 +13,24 @@ use Rattle.tree_model.specs.declared.node.Node.TheVariants as tree_node
 use Rattle.tree_model.specs.Path.{PathV, IsPath, path_cmp, parent_of, last_name}
 use Rattle.tree_model.specs.PathOrder.{paths_total, paths_exact}
 use Rattle.tree_model.specs.DirectorySurvival.{Sides, paths_of_all}
-use Rattle.tree_model.specs.ConflictCopies.{in_trees, leavers, conflicts, conflict_spot, first_long, is_gone, least_free, moves, places_of, tries}
+use Rattle.tree_model.specs.ConflictCopies.{in_trees, leavers, conflicts, conflict_spot, first_long, is_gone, least_free, moves, tries}
+use Rattle.tree_model.specs.MergeParts.{copy_at, left_for}
 use Rattle.tree_model.specs.ThreeWayMerge.{node_at, merged, file_moved}
 use Rattle.tree_model.proofs.BelowLemmas.{last_push}
-use Rattle.tree_model.proofs.ListedLemmas.{same_path, same_path-true, is_in}
+use Rattle.tree_model.proofs.ListedLemmas.{same_path, same_path-itself, same_path-true, is_in}
 use Rattle.tree_model.proofs.MovingLemmas.{or_none, least_from, least_before, least_is_free}
 use Rattle.tree_model.proofs.MergeLemmas.{get-merged}
 use Rattle.tree_model.proofs.CopyLemmas.{spots_apart, in_list, enough, get-leavers}
 use Rattle.tree_model.proofs.NameLemmas.{IsName-short}
 use Rattle.tree_model.proofs.ResultTreeLemmas.{known_by, last_named}
+use Rattle.tree_model.proofs.SortedEntryLemmas.{left_holds, none_below}
 use Rattle.object_graph.specs.Objects.{node_of}
 use Rattle.conflict_names.specs.Naming.{naming}
 use Rattle.conflict_names.proofs.GoodNameLemmas.{naming-naming}
 use Rattle.tree_merge.specs.FileEntry.{as_entry, version_of}
 use Rattle.tree_merge.specs.Sides.{Entries, IsSeen, AreTrees}
 use Rattle.tree_merge.specs.Decision.{Marks, IsDecided}
-use Rattle.tree_merge.specs.ConflictNaming.{name_of, place_of, IsFreePlace, IsLongPlace, AreKnown, HasCopied, IsNamed}
+use Rattle.tree_merge.specs.ConflictNaming.{Places, name_of, place_of, IsFreePlace, IsLongPlace, AreKnown, HasCopied, IsNamed}
 use Rattle.tree_merge.specs.declared.conflict_copies.CopyFault.{CopyFault}
 use Rattle.tree_merge.specs.declared.conflict_copies.CopyFault.TheVariants.{TooLong, NoMemory}
 use Rattle.tree_merge.specs.declared.decision.Decided.{Decided}
@@ -113,11 +115,12 @@ abbrev seen_leavers : Objects → Table FileEntry → List (PathV × FileVersion
 seen_leavers objects rest = mapped (version_of objects) (map.entries rest)
 
 -- the copies so far, and what is left
-pub record NamedSo (objects : Objects) (s : Sides) (rest : Table FileEntry) (known : Marks) (nodes : Entries) (places : List PathV) : Type 0 where
+pub record NamedSo (objects : Objects) (s : Sides) (rest : Table FileEntry) (known : Marks) (nodes : Entries) (places : Places) : Type 0 where
   pub done : List Copy
   pub taken : List PathV
   pub is : conflicts naming s ≡ done ++ moves same_path (in_trees s) (conflict_spot naming) (tries s) taken (seen_leavers objects rest)
-  pub told : places ≡ places_of done
+  pub told : (q : PathV) → map.get places q ≡ map.find path_cmp q (map_list left_for done)
+  pub waits : (q : PathV) → IsSome (map.get rest q) → map.find path_cmp q (map_list left_for done) ≡ None
   pub gone : (q : PathV) → is_some (map.get known q) ≡ is_gone same_path (in_trees s) (conflict_spot naming) taken q
   pub stands : (q : PathV) → option_map (node_of objects) (map.get nodes q) ≡ option_or (map.find path_cmp q (map_list file_moved done)) (if in_trees s q then node_at s q else None)
   pub others : (q : PathV) → is_in q taken ≡ false → map.find path_cmp q (map_list file_moved done) ≡ None
@@ -132,7 +135,7 @@ or_false false = refl
 none_or : {X : Type 0} (o : Option X) → o ≡ option_or None o
 none_or o = refl
 
-pub named_start : (objects : Objects) (s : Sides) (d : Decided) → IsDecided objects s d → (places : List PathV) → places ≡ [] → NamedSo objects s d.leavers d.known d.nodes places
+pub named_start : (objects : Objects) (s : Sides) (d : Decided) → IsDecided objects s d → (places : Places) → places ≡ map.empty → NamedSo objects s d.leavers d.known d.nodes places
 named_start objects s d is places none =
     let same : seen_leavers objects d.leavers ≡ map.entries (leavers s) =
     mapped_entries (version_of objects) d.leavers (leavers s) (λ q. is.leavers q ∙ sym (get-leavers s q)) in
@@ -141,7 +144,8 @@ named_start objects s d is places none =
       done = [];
       taken = [];
       is = ap (moves same_path (in_trees s) (conflict_spot naming) (tries s) []) (sym same);
-      told = none;
+      told = λ q. ap (λ (m : Places). map.get m q) none ∙ map.get-empty path_cmp q;
+      waits = λ q some. refl;
       gone = λ q. is.known q ∙ or_false (in_trees s q);
       stands = is.nodes;
       others = λ q apart. refl;
@@ -153,7 +157,7 @@ named_start objects s d is places none =
 either_less : (m n : ℕ) → (m < n → ⊥) → (n < m → ⊥) → m ≡ n
 either_less m n a b = omega (arith, a, b)
 
-module _ (objects : Objects) (s : Sides) (trees : AreTrees s) (rest after : Table FileEntry) (known : Marks) (nodes : Entries) (places : List PathV) (path : PathV) (file : FileEntry)
+module _ (objects : Objects) (s : Sides) (trees : AreTrees s) (rest after : Table FileEntry) (known : Marks) (nodes : Entries) (places : Places) (path : PathV) (file : FileEntry)
     (so : NamedSo objects s rest known nodes places) (taken_out : map.entries rest ≡ (path, file) ∷ map.entries after) where
   abbrev leaver : PathV × FileVersion
   leaver = (path, version_of objects file)
@@ -231,8 +235,8 @@ module _ (objects : Objects) (s : Sides) (trees : AreTrees s) (rest after : Tabl
       some_pair : PathV → ℕ → Option (PathV × ℕ)
       some_pair p n = Some (p, n)
 
-  module _ (known_after : Marks) (nodes_after : Entries) (places_after : List PathV) (to : PathV) (free : IsFreePlace known path file to)
-      (copied : HasCopied to file known known_after nodes nodes_after places places_after) where
+  module _ (known_after : Marks) (nodes_after : Entries) (places_after : Places) (to : PathV) (free : IsFreePlace known path file to)
+      (copied : HasCopied path to file known known_after nodes nodes_after places places_after) where
     here : to ≡ place_of path file free.number
     here = free.at.is
 
@@ -306,12 +310,53 @@ module _ (objects : Objects) (s : Sides) (trees : AreTrees s) (rest after : Tabl
         by true tie e = subst (λ (p : PathV). length (last_name p) ≤ 255) (sym (same_path-true q to tie)) short_here
         by false apart e = so.short_taken q e
 
+    -- the copy is told by the path that its file left, at which none was told before
+    left_more : (q : PathV) → map.find path_cmp q (map_list left_for (so.done ++ copy ∷ [])) ≡ option_or (map.find path_cmp q (map_list left_for so.done)) (cond (same_path q path) (Some to) None)
+    left_more q = ap (map.find path_cmp q) (map-append left_for so.done (copy ∷ [])) ∙ find_append q (map_list left_for so.done) (map_list left_for (copy ∷ []))
+
+    first_rest : map.find path_cmp path (map.entries rest) ≡ Some file
+    first_rest = ap (map.find path_cmp path) taken_out ∙ ap (λ (b : Bool). cond b (Some file) (map.find path_cmp path (map.entries after))) (same_path-itself path)
+
+    told_more : (q : PathV) → map.get places_after q ≡ map.find path_cmp q (map_list left_for (so.done ++ copy ∷ []))
+    told_more q = ap (λ (m : Places). map.get m q) copied.told ∙ get-put places path to q ∙ by (same_path q path) refl ∙ sym (left_more q)
+      where
+        none_else : (o : Option PathV) → o ≡ option_or o None
+        none_else None = refl
+        none_else (Some p) = refl
+
+        by : (b : Bool) → same_path q path ≡ b → cond b (Some to) (map.get places q) ≡ option_or (map.find path_cmp q (map_list left_for so.done)) (cond b (Some to) None)
+        by true tie =
+            sym (ap (λ (o : Option PathV). option_or o (Some to))
+            (so.waits q (ap is_some (map.get-entries rest q ∙ ap (λ (p : PathV). map.find path_cmp p (map.entries rest)) (same_path-true q path tie) ∙ first_rest))))
+        by false apart = so.told q ∙ none_else (map.find path_cmp q (map_list left_for so.done))
+
+    waits_more : (q : PathV) → IsSome (map.get after q) → map.find path_cmp q (map_list left_for (so.done ++ copy ∷ [])) ≡ None
+    waits_more q some =
+        left_more q
+        ∙ ap₂ (λ (o : Option PathV) (b : Bool). option_or o (cond b (Some to) None))
+        (so.waits q (ap is_some (map.get-entries rest q ∙ ap (map.find path_cmp q) taken_out ∙ ap (λ (b : Bool). cond b (Some file) (map.find path_cmp q (map.entries after))) other) ∙ (ap is_some (sym (map.get-entries after q)) ∙ some)))
+        other
+      where
+        -- the first of a list in order isn't among the others
+        rising : T (map.is_sorted path_cmp ((path, file) ∷ map.entries after))
+        rising = subst (λ (es : List (PathV × FileEntry)). T (map.is_sorted path_cmp es)) taken_out (map.entries_sorted rest)
+
+        other : same_path q path ≡ false
+        other = by (same_path q path) refl
+          where
+            by : (b : Bool) → same_path q path ≡ b → same_path q path ≡ false
+            by false e = e
+            by true tie =
+                let none : map.find path_cmp path (map.entries after) ≡ None = none_below path (map.entries after) (left_holds (below_all path_cmp path (map.entries after)) (map.is_sorted path_cmp (map.entries after)) rising) in
+                absurd (true≢false (sym some ∙ ap is_some (map.get-entries after q ∙ ap (λ (p : PathV). map.find path_cmp p (map.entries after)) (same_path-true q path tie) ∙ none)))
+
     pub named_more : NamedSo objects s after known_after nodes_after places_after
     named_more = record {
       done = so.done ++ copy ∷ [];
       taken = to ∷ so.taken;
       is = is_more;
-      told = copied.told ∙ ap (λ (ps : List PathV). ps ++ to ∷ []) so.told ∙ sym (map-append (λ (m : Copy). m.1) so.done (copy ∷ []));
+      told = told_more;
+      waits = waits_more;
       gone = gone_more;
       stands = stands_more;
       others = others_more;
@@ -322,12 +367,12 @@ module _ (objects : Objects) (s : Sides) (trees : AreTrees s) (rest after : Tabl
 
 -- ---- at the end
 
-pub record AllNamed (objects : Objects) (s : Sides) (nodes : Entries) (places : List PathV) : Type 0 where
+pub record AllNamed (objects : Objects) (s : Sides) (nodes : Entries) (places : Places) : Type 0 where
   pub short : first_long (conflicts naming s) ≡ None
   pub nodes_seen : IsSeen objects nodes (merged naming s)
-  pub told : places ≡ places_of (conflicts naming s)
+  pub told : (q : PathV) → map.get places q ≡ copy_at naming s q
 
-pub named_all : (objects : Objects) (s : Sides) (rest : Table FileEntry) (known : Marks) (nodes : Entries) (places : List PathV)
+pub named_all : (objects : Objects) (s : Sides) (rest : Table FileEntry) (known : Marks) (nodes : Entries) (places : Places)
     → map.entries rest ≡ [] → NamedSo objects s rest known nodes places → AllNamed objects s nodes places
 named_all objects s rest known nodes places none so =
     let all : conflicts naming s ≡ so.done =
@@ -338,7 +383,7 @@ named_all objects s rest known nodes places none so =
           get-merged naming s q
           ∙ ap (λ (ms : List Copy). option_or (map.find path_cmp q (map_list file_moved ms)) (if in_trees s q then node_at s q else None)) all
           ∙ sym (so.stands q);
-      told = so.told ∙ ap places_of (sym all);
+      told = λ q. so.told q ∙ ap (λ (ms : List Copy). map.find path_cmp q (map_list left_for ms)) (sym all);
     }
 
 -- the refusal of the first name that is too long

@@ -22,7 +22,7 @@ use Rattle.object_graph.specs.Unchanged.{Keeps}
 use Rattle.object_graph.specs.declared.entry.Entry.{Entry}
 use Rattle.object_graph.specs.declared.entry.Entry.TheVariants.{Dir, File}
 use Rattle.tree_merge.specs.Sides.{Entries}
-use Rattle.tree_merge.specs.TreeBuilding.{AreDirectoriesOver, AreNamed, HasMade, IsClash, IsDirectoryText, IsEntryListed, IsNilMadeOrKept, IsNilOrMade, IsNilWhereEmpty, IsOwnListed, IsOwnName, IsRefusedList, IsShownPart, IsWritten, Lists}
+use Rattle.tree_merge.specs.TreeBuilding.{Given, AreDirectoriesOver, AreNamed, HasMade, IsClash, IsDirectoryText, IsEntryListed, IsNilMadeOrKept, IsNilOrMade, IsNilWhereEmpty, IsOwnListed, IsOwnName, IsRefusedList, IsShownPart, IsWritten, Lists}
 use Rattle.tree_merge.proofs.BuiltSoFarLemmas.{BuiltSo}
 use Rattle.tree_merge.proofs.BuildingLemmas.{entry_name, no_directory}
 use Rattle.object_graph.proofs.EntryLemmas.{named_name}
@@ -103,7 +103,7 @@ dirs_start K W H M none empty = record {
     no_entry d n e is = let both : None ≡ Some e = sym (ap (entry_named n) (none d)) ∙ is in cc
 
 -- the text of what a directory holds, all of whose entries are listed
-pub text_here : (stored : Objects) (K : PathV → Option (List ℕ)) (W N R : Entries) (H : PathV → List Dirent) (M : Objects) → BuiltSo stored K W N R H M → DirsSo K W H M → (path : PathV) → (path ≡ []) ⊎ IsSome (map.get R path) → (path ≡ []) ⊎ (map.get W path ≡ Some Dir) → K path ≡ None
+pub text_here : (stored : Given) (K : PathV → Option (List ℕ)) (W N R : Entries) (H : PathV → List Dirent) (M : Objects) → BuiltSo stored K W N R H M → DirsSo K W H M → (path : PathV) → (path ≡ []) ⊎ IsSome (map.get R path) → (path ≡ []) ⊎ (map.get W path ≡ Some Dir) → K path ≡ None
     → ((name : List ℕ) → map.get R (path ++ name ∷ []) ≡ None) → IsDistinct bytes_eq (names_of (H path)) → H path ≢ [] → (bytes : List ℕ)
     → (All IsProperEntry (H path) → fs_of bytes ≡ Ok (fs.Dir (in_written_order (H path)))) → IsDirectoryText W bytes
 text_here stored K W N R H M so dirs path waits is_dir is_open gone distinct some bytes reads = record {
@@ -128,7 +128,7 @@ below_here K H M M2 keeps held path distinct bytes reads dirents also name e fou
     one es more e = cc
 
 -- a directory that is made is new, or was made before
-fresh_here : (stored : Objects) (K : PathV → Option (List ℕ)) (W N R : Entries) (H : PathV → List Dirent) (M M2 : Objects) → BuiltSo stored K W N R H M → DirsSo K W H M → (path : PathV) → (path ≡ []) ⊎ IsSome (map.get R path) → (path ≡ []) ⊎ (map.get W path ≡ Some Dir) → K path ≡ None
+fresh_here : (stored : Given) (K : PathV → Option (List ℕ)) (W N R : Entries) (H : PathV → List Dirent) (M M2 : Objects) → BuiltSo stored K W N R H M → DirsSo K W H M → (path : PathV) → (path ≡ []) ⊎ IsSome (map.get R path) → (path ≡ []) ⊎ (map.get W path ≡ Some Dir) → K path ≡ None
     → ((name : List ℕ) → map.get R (path ++ name ∷ []) ≡ None) → Keeps M M2 → AreNamed M2 → (i : List ℕ) → Lists M2 i (H path) → HasMade M2 i → IsFresh K W M2 i
 fresh_here stored K W N R H M M2 so dirs path waits is_dir is_open gone keeps named i lists has = by (map.get M2 (fs_key i)) refl has lists.written
   where
@@ -164,7 +164,7 @@ named_pushed (x ∷ es) e f n = by (same_name n x.name) (named_pushed es e f n)
     by true more is = inl is
     by false more is = more is
 
-module _ (stored : Objects) (K : PathV → Option (List ℕ)) (W N R : Entries) (H H2 : PathV → List Dirent) (M M2 : Objects) (path d : PathV) (n : List ℕ) (x : Entry) (e : Dirent)
+module _ (stored : Given) (K : PathV → Option (List ℕ)) (W N R : Entries) (H H2 : PathV → List Dirent) (M M2 : Objects) (path d : PathV) (n : List ℕ) (x : Entry) (e : Dirent)
     (part : IsShownPart stored K W N) (so : BuiltSo stored K W N R H M) (dirs : DirsSo K W H M) (split : path ≡ d ++ n ∷ []) (there : map.get R path ≡ Some x)
     (behind : (q : PathV) → path_cmp path q ≡ Less → map.get R q ≡ None) (children : (name : List ℕ) → path_cmp path (path ++ name ∷ []) ≡ Less)
     (made : IsEntryListed M2 n (K path) x (H path) e) (keeps : Keeps M M2) (named : AreNamed M2) (told : (id : List ℕ) → HasMade M2 id → (HasMade M id) ⊎ IsOwnListed (K path) x e id)
@@ -263,7 +263,7 @@ module _ (stored : Objects) (K : PathV → Option (List ℕ)) (W N R : Entries) 
 
 -- ---- at the end
 
-pub dirs_all : (stored : Objects) (K : PathV → Option (List ℕ)) (W N R : Entries) (H : PathV → List Dirent) (M M2 : Objects) (root : List ℕ) → IsShownPart stored K W N → BuiltSo stored K W N R H M → DirsSo K W H M → ((q : PathV) → map.get R q ≡ None) → Keeps M M2 → AreNamed M2
+pub dirs_all : (stored : Given) (K : PathV → Option (List ℕ)) (W N R : Entries) (H : PathV → List Dirent) (M M2 : Objects) (root : List ℕ) → IsShownPart stored K W N → BuiltSo stored K W N R H M → DirsSo K W H M → ((q : PathV) → map.get R q ≡ None) → Keeps M M2 → AreNamed M2
     → Lists M2 root (H []) → ((id : List ℕ) → HasMade M2 id → (HasMade M id) ⊎ (id ≡ root)) → AreDirectoriesOver K W M2 × IsNilOrMade M2 root
 dirs_all stored K W N R H M M2 root part so dirs none keeps named lists told = (
   dirs_grown K W M M2 dirs.made keeps named told_more,
@@ -277,14 +277,14 @@ dirs_all stored K W N R H M M2 root part so dirs none keeps named lists told = (
           | inr own ↦ inr (fresh_here stored K W N R H M M2 so dirs [] (inl refl) (inl refl) part.top (λ name. none (name ∷ [])) keeps named i (subst (λ (j : List ℕ). Lists M2 j (H [])) (sym own) lists) has)
         ]
 
-pub root_nil : (stored : Objects) (K : PathV → Option (List ℕ)) (W N R : Entries) (H : PathV → List Dirent) (M M2 : Objects) (root : List ℕ) → IsShownPart stored K W N → BuiltSo stored K W N R H M → ((q : PathV) → map.get R q ≡ None)
+pub root_nil : (stored : Given) (K : PathV → Option (List ℕ)) (W N R : Entries) (H : PathV → List Dirent) (M M2 : Objects) (root : List ℕ) → IsShownPart stored K W N → BuiltSo stored K W N R H M → ((q : PathV) → map.get R q ≡ None)
     → Lists M2 root (H []) → IsNilWhereEmpty W [] root
 root_nil stored K W N R H M M2 root part so none lists =
     nil_where_empty W M2 [] root (H []) (so.proper []) lists (λ name. so.done M (kept_itself M) [] name [] (inl refl) (inl refl) part.top (none (name ∷ [])))
 
 -- ---- a directory that can't be made
 
-pub clash_here : (stored : Objects) (K : PathV → Option (List ℕ)) (W N R : Entries) (H : PathV → List Dirent) (M : Objects) (path : PathV) (id : List ℕ) → BuiltSo stored K W N R H M → DirsSo K W H M → AreNamed M
+pub clash_here : (stored : Given) (K : PathV → Option (List ℕ)) (W N R : Entries) (H : PathV → List Dirent) (M : Objects) (path : PathV) (id : List ℕ) → BuiltSo stored K W N R H M → DirsSo K W H M → AreNamed M
     → (path ≡ []) ⊎ IsSome (map.get R path) → (path ≡ []) ⊎ (map.get W path ≡ Some Dir) → K path ≡ None → ((name : List ℕ) → map.get R (path ++ name ∷ []) ≡ None)
     → IsRefusedList M (H path) id → IsClash W id
 clash_here stored K W N R H M path id so dirs named waits is_dir is_open gone refused = record {

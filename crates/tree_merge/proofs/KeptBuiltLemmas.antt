@@ -8,7 +8,7 @@ use Rattle.fs_objects.specs.declared.dirent.Dirent.{Dirent}
 use Rattle.object_graph.specs.Objects.{dirents_at, AreEntriesOf}
 use Rattle.object_graph.specs.Unchanged.{Keeps}
 use Rattle.tree_merge.specs.Sides.{Entries}
-use Rattle.tree_merge.specs.TreeBuilding.{AreDirectories, AreDirectoriesOver, IsNilMadeOrKept, IsNilOrMade, IsSound, IsNilWhereEmpty, IsShownPart, HasMade, IsDirectoryOf, directory_id_in, Lists}
+use Rattle.tree_merge.specs.TreeBuilding.{AreThere, Given, AreDirectories, AreDirectoriesOver, IsNilMadeOrKept, IsNilOrMade, IsSound, IsNilWhereEmpty, IsShownPart, HasMade, IsDirectoryOf, directory_id_in, Lists}
 use Rattle.tree_merge.proofs.MadeLemmas.{kept_then}
 use Rattle.tree_merge.proofs.BuiltSoFarLemmas.{BuiltSo, Reach}
 use Rattle.tree_merge.proofs.SoundEntryLemmas.{below_none, nothing_below}
@@ -19,9 +19,9 @@ use Rattle.tree_merge.proofs.SameEntryLemmas.{entries_same, ids_same}
 
 -- ---- at the end
 
-module _ (stored : Objects) (K : PathV → Option (List ℕ)) (W N R : Entries) (H : PathV → List Dirent) (M M2 : Objects) (root : List ℕ) (part : IsShownPart stored K W N) (so : BuiltSo stored K W N R H M) (none : (q : PathV) → map.get R q ≡ None)
+module _ (stored : Given) (K : PathV → Option (List ℕ)) (W N R : Entries) (H : PathV → List Dirent) (M M2 : Objects) (root : List ℕ) (part : IsShownPart stored K W N) (so : BuiltSo stored K W N R H M) (none : (q : PathV) → map.get R q ≡ None)
     (keeps : Keeps M M2) (lists : Lists M2 root (H [])) where
-  pub built_all : (objects : Objects) → Keeps stored objects → Keeps M2 objects → AreEntriesOf objects root W
+  pub built_all : (objects : Objects) → AreThere stored objects → Keeps M2 objects → AreEntriesOf objects root W
   built_all objects also all [] = part.sound.no_root
   built_all objects also all (n ∷ q) =
       sym (entries_same objects (dirents_at objects root) (H []) (lists.names (so.proper []) objects all) (n ∷ q)
@@ -66,8 +66,12 @@ root_empty W root sound zeros = (λ is path. nothing (zeros.0 is) path, λ none.
     nothing none (n ∷ []) = none n
     nothing none (n ∷ m ∷ q) = nothing_below W sound (n ∷ []) m q (λ e. cc) (λ dir. differ (sym (none n) ∙ dir))
 
+-- no objects are given
+abbrev pub no_objects : Given
+no_objects = record { stored = map.empty; made = map.empty }
+
 -- where nothing is kept the entries are the whole
-pub no_kept : (K : PathV → Option (List ℕ)) → ((q : PathV) → K q ≡ None) → (W : Entries) → IsSound W → IsShownPart map.empty K W W
+pub no_kept : (K : PathV → Option (List ℕ)) → ((q : PathV) → K q ≡ None) → (W : Entries) → IsSound W → IsShownPart no_objects K W W
 no_kept K none W sound = record {
   sound = sound;
   nodes = sound;
@@ -96,14 +100,17 @@ dirs_no_kept K none W M dirs = record {
     plain id (inl made) = made
     plain id (inr kept) = absurd (no_id id (sym (none kept.0) ∙ kept.1))
 
-pub keeps_nothing : (objects : Objects) → Keeps map.empty objects
-keeps_nothing objects = record { kept = λ key bytes there. absurd (nothing key bytes there) }
+keeps_none : (objects : Objects) → Keeps map.empty objects
+keeps_none objects = record { kept = λ key bytes there. absurd (nothing key bytes there) }
   where
     nothing : (key : Key) (bytes : List ℕ) → (let m : Objects = map.empty in map.get m key) ≡ Some bytes → ⊥
     nothing key bytes there = let both : None ≡ Some bytes = sym (map.get-empty key_cmp key) ∙ there in cc
 
+pub keeps_nothing : (objects : Objects) → AreThere no_objects objects
+keeps_nothing objects = (keeps_none objects, keeps_none objects)
+
 -- the same entries, told by another table
-pub part_same : (stored : Objects) (K : PathV → Option (List ℕ)) (W E N : Entries) → ((q : PathV) → map.get N q ≡ map.get E q) → IsShownPart stored K W E → IsShownPart stored K W N
+pub part_same : (stored : Given) (K : PathV → Option (List ℕ)) (W E N : Entries) → ((q : PathV) → map.get N q ≡ map.get E q) → IsShownPart stored K W E → IsShownPart stored K W N
 part_same stored K W E N same part = record {
   sound = part.sound;
   nodes = same_sound N E same part.nodes;

@@ -30,7 +30,7 @@ use Rattle.ids.proofs.BasicLemmas.{none_from_option_map}
 
 -- ---- the merged entries
 
-side_mode : (objects : Objects) (root : List ℕ) (tree : Tree) → IsTreeOf objects root tree → (path : PathV) (version : FileVersion) → file_at tree path ≡ Some version
+pub side_mode : (objects : Objects) (root : List ℕ) (tree : Tree) → IsTreeOf objects root tree → (path : PathV) (version : FileVersion) → file_at tree path ≡ Some version
     → is_file_mode version.mode ≡ true
 side_mode objects root tree is path version there = by (entry_below objects path root) refl (ap file_of (sym (is path)) ∙ there)
   where
@@ -42,7 +42,7 @@ side_mode objects root tree is path version there = by (entry_below objects path
         let one : version_of objects file ≡ version = cc in
         subst (λ (v : FileVersion). is_file_mode v.mode ≡ true) one (file_modes objects path root (as_entry file) found file refl)
 
-dir_back : (objects : Objects) (o : Option Entry) → is_dir (option_map (node_of objects) o) ≡ true → o ≡ Some Dir
+pub dir_back : (objects : Objects) (o : Option Entry) → is_dir (option_map (node_of objects) o) ≡ true → o ≡ Some Dir
 dir_back objects None is = cc
 dir_back objects (Some Dir) is = refl
 dir_back objects (Some (File id mode mtime modifier size)) is = cc

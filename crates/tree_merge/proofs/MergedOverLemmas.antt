@@ -9,6 +9,7 @@ use Rattle.tree_model.specs.Path.{PathV}
 use Rattle.tree_model.specs.Tree.{Tree, Fits, is_dir}
 use Rattle.tree_model.specs.DirectorySurvival.{Sides}
 use Rattle.tree_model.specs.ThreeWayMerge.{merged}
+use Rattle.tree_model.proofs.FirstOfLemmas.{in_order}
 use Rattle.tree_model.proofs.ResultTreeLemmas.{merge_fits}
 use Rattle.fs_objects.specs.Mode.{is_directory_mode}
 use Rattle.fs_objects.specs.declared.dirent.Dirent.{Dirent}
@@ -38,7 +39,7 @@ use Rattle.tree_merge.proofs.MergedEntryLemmas.{few, here, sound}
 use Rattle.tree_merge.proofs.UnstoredLemmas.{kept_left}
 use Rattle.tree_merge.proofs.VisitedLemmas.{directory_visited}
 use Rattle.tree_merge.proofs.WholeLemmas.{complete_kept, whole_kept}
-use Rattle.tree_merge.proofs.ShownPartLemmas.{complete_at}
+use Rattle.tree_merge.proofs.ListedBelowLemmas.{complete_at}
 use Rattle.tree_merge.proofs.WholeSideLemmas.{complete_directory}
 
 -- ---- directories that were made, among more objects
@@ -171,10 +172,10 @@ module _ (objects : Objects) (base head pushed : List ℕ) (complete : AreComple
         let whole_more : (d : PathV) (id : List ℕ) → K d ≡ Some id → IsCompleteRoot more id = λ d id at. complete_kept objects more keeps id (kept_whole d id at) in
         let at : AreEntriesOf more built.root named.nodes = is.value more keeps all in
         record {
-          readable = readable named.nodes K built.made more dirs_built all whole_more built.root is.dirs.1;
+          readable = known_readable named.nodes K built.made more dirs_built all whole_more built.root is.dirs.1;
           deep = λ q x there.
               (merged_fits is.few).depth q (ap is_some (seen_here q) ∙ same_some (node_of objects) (map.get named.nodes q) ∙ ap is_some (at q ∙ there));
-          dirs = λ q i there. ids_readable named.nodes K built.made more dirs_built all whole_more q built.root (inl is.dirs.1) i there;
+          dirs = λ q i there. ids_readable named.nodes K built.made more dirs_built all whole_more q built.root is.dirs.1 i there;
           files = λ q file there. whole_below more keeps (map.get named.nodes q) file (whole q) (at q ∙ there);
         }
 
@@ -192,7 +193,7 @@ module _ (objects : Objects) (base head pushed : List ℕ) (complete : AreComple
         let same : key ≡ fs_key key.id = ap (λ k. record { kind = k; id = key.id }) own.is_fs in
         ap (is_in (walk_root true more built.root start).visits) same
         ∙ directory_visited more built.root (complete_left more keeps also) key.id (not_nil key.id own.some)
-        (is.needed key.id (ap (λ k. is_some (map.get built.made k)) (sym same) ∙ ap is_some there) more (left_or_stored more keeps also))
+        (is.needed key.id own.some (ap (λ k. is_some (map.get built.made k)) (sym same) ∙ ap is_some there) more keeps (left_or_stored more keeps also))
 
     pub is_merged : IsMerged objects s (record { root = built.root; made = left; conflicts = built.conflicts })
     is_merged = record {
@@ -205,7 +206,7 @@ module _ (objects : Objects) (base head pushed : List ℕ) (complete : AreComple
         λ root_is q. nodes_none objects named.nodes (merged naming s) seen_here q (is.zeros.0 root_is q),
         λ none. is.zeros.1 (λ q. entries_none objects named.nodes (merged naming s) seen_here q (none q)),
       );
-      conflicts = is.conflicts ∙ (here objects base head pushed complete s are named told).conflicts;
+      conflicts = is.conflicts ∙ in_order naming s named.copies (here objects base head pushed complete s are named told).copies;
       new = λ key some. new_left key (map.get objects key) (are_left.is key) some;
       needed = λ key some. needed_left key (map.get left key) refl some;
       dirs = λ key bytes there.

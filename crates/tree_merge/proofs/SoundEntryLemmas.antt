@@ -9,7 +9,7 @@ use Rattle.tree_merge.specs.TreeBuilding.{IsSound}
 use Rattle.ids.proofs.BasicLemmas.{pushed_is_some}
 
 -- what has something below it is a directory
-above : (W : Entries) → IsSound W → (p : PathV) (m : List ℕ) (q : PathV) → p ≢ [] → IsSome (map.get W (p ++ m ∷ q)) → map.get W p ≡ Some Dir
+pub above : (W : Entries) → IsSound W → (p : PathV) (m : List ℕ) (q : PathV) → p ≢ [] → IsSome (map.get W (p ++ m ∷ q)) → map.get W p ≡ Some Dir
 above W sound p m [] other there = sound.in_dirs p m other there
 above W sound p m (k ∷ q) other there =
     let split : (p ++ m ∷ []) ++ k ∷ q ≡ p ++ m ∷ k ∷ q = append_assoc p (m ∷ []) (k ∷ q) in

@@ -14,6 +14,14 @@ pub on_ok_more : {A E : Type 0} {P Q : Type 0} (r : Result A E) → (P → Q) �
 on_ok_more (Ok x) more h = more h
 on_ok_more (Err e) more h = tt
 
+pub on_ok_of : {A E : Type 0} {P : Type 0} (r : Result A E) → P → OnOk r P
+on_ok_of (Ok x) h = h
+on_ok_of (Err e) h = tt
+
+pub on_ok_if : {A E : Type 0} {P : A → Type 0} {Q : Type 0} (r : Result A E) → ((x : A) → P x → Q) → IfOk r P → OnOk r Q
+on_ok_if (Ok x) more h = more x h
+on_ok_if (Err e) more h = tt
+
 pub if_ok_more : {A E : Type 0} {P Q : A → Type 0} (r : Result A E) → ((x : A) → P x → Q x) → IfOk r P → IfOk r Q
 if_ok_more (Ok x) more h = more x h
 if_ok_more (Err e) more h = tt

@@ -1,5 +1,5 @@
 -- What is read where nothing is wrong. The key lemmas are well_more, well_of, version_kept and same_found.
-use Rattle.std.proofs.Common.{◌≡◌, ◌==◌, ◌&&◌, ℕ, Bool, true, false, List, [], refl, sym, ap, ap₂, ◌∙◌, subst, Option, None, Result, Ok, Err}
+use Rattle.std.proofs.Common.{◌≡◌, ◌==◌, ◌&&◌, ℕ, Bool, true, false, List, [], refl, sym, ap, ap₂, ◌∙◌, subst, Option, None, Result, Ok, Err, IfErr, IfOk, OnOk}
 use Rattle.std.specs.Cmp.Lexicographic.{bytes_decides}
 use Rattle.ids.specs.Key.{Objects}
 use Rattle.ids.specs.declared.key.Key.{Key}
@@ -38,9 +38,27 @@ well_err objects good other fault is = is
 pub well_value : {T : Type 0} (objects : Objects) (good : T → Type 0) (value : T) → good value → AnswersWell objects good (Ok value)
 well_value objects good value is = (refl, is)
 
+-- what is good of each thing of a kind, of which there is one
+pub well_each : {T X : Type 0} (objects : Objects) (Q : X → Type 0) (good : T → X → Type 0) (result : Result T WalkFault) (one : X) → Q one → ((x : X) → Q x → AnswersWell objects (λ value. good value x) result)
+    → AnswersWell objects (λ value. (x : X) → Q x → good value x) result
+well_each objects Q good (Ok value) one there all = ((all one there).0, λ x is. (all x is).1)
+well_each objects Q good (Err fault) one there all = all one there
+
 -- want of memory alone
 pub well_memory : {T : Type 0} (objects : Objects) (good : T → Type 0) (fault : WalkFault) → fault ≡ Store NoMemory → AnswersWell objects good (Err fault)
 well_memory objects good fault is = subst (IsDue objects None) (sym is) tt
+
+-- a call that fails for want of memory alone
+pub well_made : {T : Type 0} (objects : Objects) (good made : T → Type 0) (result : Result T WalkFault) → IfErr result (λ fault. fault ≡ Store NoMemory) → ((value : T) → made value → good value)
+    → IfOk result made → AnswersWell objects good result
+well_made objects good made (Ok value) memory more is = (refl, more value is)
+well_made objects good made (Err fault) memory more is = well_memory objects good fault memory
+
+-- the same, where two things are told of it
+pub well_both : {T : Type 0} (objects : Objects) (good one : T → Type 0) (other : Type 0) (result : Result T WalkFault) → IfErr result (λ fault. fault ≡ Store NoMemory)
+    → ((value : T) → one value → other → good value) → IfOk result one → OnOk result other → AnswersWell objects good result
+well_both objects good one other (Ok value) memory more is also = (refl, more value is also)
+well_both objects good one other (Err fault) memory more is also = well_memory objects good fault memory
 
 -- what was due of two files that are whole is nothing
 pub two_whole : (objects : Objects) (left right : List ℕ) → IsWhole objects left → IsWhole objects right → files_due objects left right ≡ None

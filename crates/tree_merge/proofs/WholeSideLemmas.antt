@@ -30,7 +30,7 @@ use Rattle.tree_merge.specs.declared.opening.Ids.{Ids}
 use Rattle.tree_merge.proofs.CompleteRootLemmas.{StandsWell, completes, fine_below}
 use Rattle.tree_merge.proofs.JoinedSideLemmas.{seen_len}
 use Rattle.tree_merge.proofs.ListedPathLemmas.{Item, StandsBelow, all_prefixed, distinct_prefixed, fits_in, lists_below}
-use Rattle.tree_merge.proofs.OpenedLemmas.{trio_at}
+use Rattle.tree_merge.proofs.SideLemmas.{trio_of}
 use Rattle.tree_merge.proofs.StoredTreeLemmas.{whole_entries}
 use Rattle.tree_merge.proofs.VisitedLemmas.{WasWalked, entry_walks, walks_below}
 
@@ -136,7 +136,7 @@ module _ (objects : Objects) where
       by (Some e) f = refl
 
   pub whole_entries_of : (room : ℕ) (ids : Ids) (name : List ℕ) (trio : Trio) → AreWholeSides objects room ids
-      → trio ≡ trio_at objects name (dirents_if objects ids.base) (dirents_if objects ids.head) (dirents_if objects ids.pushed)
+      → trio ≡ trio_of objects ids name
       → (is_some trio.base || (is_some trio.head || is_some trio.pushed)) ≡ true → AreWholeEntries objects room trio
   whole_entries_of room ids name trio whole is some =
       subst (AreWholeEntries objects room) (sym is) (record {
@@ -167,3 +167,15 @@ module _ (objects : Objects) where
       by : (c : Bool) → IsCompleteIf objects (if c then ids.head else ids.pushed)
       by true = complete_side room ids.head whole.1
       by false = complete_side room ids.pushed whole.2
+
+  -- the files that a directory lists are whole
+  file_at_entry : (room : ℕ) (o : Option (List ℕ)) → IsWholeIf objects room o → (n : List ℕ) → IsWholeFile objects (file_in (option_map entry_of (entry_named n (dirents_if objects o))))
+  file_at_entry room None whole n = tt
+  file_at_entry room (Some id) whole n =
+      let at : AreEntriesOf objects id (map.from_entries (listed objects 100 id)) = table_entries true objects id whole.complete in
+      subst (λ (o : Option Entry). IsWholeFile objects (file_in o)) (at (n ∷ [])) (whole_entries objects id whole.complete (map.from_entries (listed objects 100 id)) at (n ∷ []))
+
+  pub files_at : (room : ℕ) (ids : Ids) → AreWholeSides objects room ids → (n : List ℕ)
+      → IsWholeFile objects (file_in (option_map entry_of (entry_named n (dirents_if objects ids.base)))) × IsWholeFile objects (file_in (option_map entry_of (entry_named n (dirents_if objects ids.head))))
+      × IsWholeFile objects (file_in (option_map entry_of (entry_named n (dirents_if objects ids.pushed))))
+  files_at room ids whole n = (file_at_entry room ids.base whole.0 n, file_at_entry room ids.head whole.1 n, file_at_entry room ids.pushed whole.2 n)

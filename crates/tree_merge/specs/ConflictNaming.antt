@@ -3,9 +3,10 @@ use Rattle.tree_model.specs.declared.limits.TheConstants.{MAX_NAME}
 use Rattle.std.specs.Prelude.{◌≡◌, ℕ, ◌≤◌, ◌<◌, true, List, [], ◌∷◌, ◌++◌, length, Some, None, is_some, Result, Ok, Err, ⊤}
 use Rattle.std.specs.FinMap as map
 use Rattle.ids.specs.Key.{Objects}
-use Rattle.tree_model.specs.Path.{PathV, parent_of, last_name}
+use Rattle.tree_model.specs.Path.{PathV, parent_of, last_name, path_cmp}
 use Rattle.tree_model.specs.DirectorySurvival.{Sides}
-use Rattle.tree_model.specs.ConflictCopies.{conflicts, first_long, places_of}
+use Rattle.tree_model.specs.ConflictCopies.{conflicts, first_long}
+use Rattle.tree_model.specs.MergeParts.{copy_at}
 use Rattle.tree_model.specs.ThreeWayMerge.{merged}
 use Rattle.conflict_names.specs.Naming.{naming}
 use Rattle.tree_merge.specs.FileEntry.{as_entry}
@@ -15,6 +16,10 @@ use Rattle.tree_merge.specs.declared.conflict_copies.CopyFault.{CopyFault}
 use Rattle.tree_merge.specs.declared.conflict_copies.CopyFault.TheVariants.{TooLong, NoMemory}
 use Rattle.tree_merge.specs.declared.conflict_copies.Named.{Named}
 use Rattle.tree_merge.specs.declared.file_entry.FileEntry.{FileEntry}
+
+-- paths by paths
+abbrev pub Places : Type 0
+Places = map.FinMap path_cmp PathV
 
 -- the name of a file's conflict copy of a number
 abbrev pub name_of : PathV → FileEntry → ℕ → List ℕ
@@ -54,17 +59,17 @@ pub record IsLongPlace (known : Marks) (path : PathV) (file : FileEntry) (of : P
   pub at : IsLongAt path file number of bytes
   pub least : AreKnown known path file number
 
--- a file stands at the place of its copy, which is known now and told as a conflict
-pub record HasCopied (place : PathV) (file : FileEntry) (known known_after : Marks) (nodes nodes_after : Entries) (places places_after : List PathV) : Type 0 where
+-- a file that left a path stands at the place of its copy, which is known now and told
+pub record HasCopied (path place : PathV) (file : FileEntry) (known known_after : Marks) (nodes nodes_after : Entries) (copies copies_after : Places) : Type 0 where
   pub marked : known_after ≡ map.insert known place tt
   pub stands : nodes_after ≡ map.insert nodes place (as_entry file)
-  pub told : places_after ≡ places ++ place ∷ []
+  pub told : copies_after ≡ map.insert copies path place
 
--- the merged tree and the paths of its conflict copies
+-- the merged tree, and the paths of its conflict copies by those that their files left
 pub record IsNamedTree (objects : Objects) (s : Sides) (named : Named) : Type 0 where
   pub short : first_long (conflicts naming s) ≡ None
   pub nodes : IsSeen objects named.nodes (merged naming s)
-  pub conflicts : named.conflicts ≡ places_of (conflicts naming s)
+  pub copies : (path : PathV) → map.get named.copies path ≡ copy_at naming s path
 
 -- the merged tree with its copies, or the first file whose conflict name is too long
 abbrev pub IsNamed : Objects → Sides → Result Named CopyFault → Type 0

@@ -7,6 +7,9 @@ pub mod Decision
 pub mod Telling
 pub mod Compared
 pub mod Merging
-pub mod MergedObjects
+pub mod LevelMerge
+pub mod DirectoryMerge
+pub mod HeadDirectory
+pub mod WorkSoFar
 pub mod Opening
 pub mod Level

@@ -6,31 +6,25 @@ use Rattle.sha1.specs.Sha1.{sha1}
 use Rattle.ids.specs.Key.{Objects}
 use Rattle.ids.specs.ObjectId.{nil}
 use Rattle.ids.specs.declared.key.Key.{Key}
-use Rattle.tree_model.specs.Path.{PathV, path_cmp}
+use Rattle.tree_model.specs.Path.{PathV}
 use Rattle.tree_model.specs.Tree.{Tree, has_dir}
 use Rattle.tree_model.specs.DirectorySurvival.{Sides}
-use Rattle.tree_model.specs.ConflictCopies.{conflicts, first_long, places_of}
+use Rattle.tree_model.specs.ConflictCopies.{conflicts, places_of}
 use Rattle.tree_model.specs.ThreeWayMerge.{MergedTree as merged_tree, TooLong as too_long, TooMany as too_many}
 use Rattle.fs_objects.specs.FsObject.{fs_of}
 use Rattle.fs_objects.specs.Mode.{is_directory_mode}
 use Rattle.fs_objects.specs.declared.dirent.Dirent.{Dirent}
 use Rattle.fs_objects.specs.declared.fs_object.FsObject.TheVariants as fs
 use Rattle.conflict_names.specs.Naming.{merge_of, naming}
-use Rattle.object_store.specs.declared.error.StoreFault.TheVariants.{NoMemory}
 use Rattle.object_graph.specs.Objects.{AreEntriesOf, IsNilWhereNone, IsNilWhereNoPath, IsTreeOf, dirents_at, entry_named, entry_of, fs_key, node_of}
 use Rattle.object_graph.specs.Traversal.{IsCompleteRoot, is_in, start, walk_root}
 use Rattle.object_graph.specs.Unchanged.{Keeps}
 use Rattle.tree_walk.specs.Extent.{extent_of}
 use Rattle.tree_walk.specs.Reading.{IsDue}
 use Rattle.tree_walk.specs.declared.fault.WalkFault.{WalkFault}
-use Rattle.tree_walk.specs.declared.fault.WalkFault.TheVariants.{Store}
-use Rattle.tree_merge.specs.ConflictNaming.{IsNamedTree}
 use Rattle.tree_merge.specs.Opening.{settled_in}
-use Rattle.tree_merge.specs.TreeBuilding.{AreDirectoriesOver, AreNamed, HasMade, IsCollision, IsDirectoryOf, IsNilOrMade, directory_id_in}
+use Rattle.tree_merge.specs.TreeBuilding.{AreDirectoriesOver, AreNamed, HasMade, IsCollision, IsDirectoryOf, IsNilMadeOrKept, directory_id_in}
 use Rattle.tree_merge.specs.declared.conflict_copies.Named.{Named}
-use Rattle.tree_merge.specs.declared.sides.Three.{Three}
-use Rattle.tree_merge.specs.declared.tree_builder.BuildFault.{BuildFault}
-use Rattle.tree_merge.specs.declared.tree_builder.BuildFault.TheVariants as build
 use Rattle.tree_merge.specs.declared.merging.MergeFault.{MergeFault}
 use Rattle.tree_merge.specs.declared.merging.MergeFault.TheVariants.{TooLong, TooMany, Taken, Walk}
 use Rattle.tree_merge.specs.declared.merging.Merged.{Merged}
@@ -114,34 +108,16 @@ as_read (Err (Walk fault)) = Err fault
 
 -- ---- for private clauses
 
--- no more paths than three trees have, and not the root
-pub record AreFew (joined : map.FinMap path_cmp Three) : Type 0 where
-  pub no_root : map.get joined [] ≡ None
-  pub few : map.len joined ≤ 3000000
-
--- the merged entries, or the first file whose name is too long
-abbrev pub NamesSo : (objects more : Objects) → Sides → Result Named MergeFault → Type 0
-NamesSo objects more s (Ok named) = IsNamedTree more s named
-NamesSo objects more s (Err (TooLong path bytes)) = first_long (conflicts naming s) ≡ Some (path, bytes)
-NamesSo objects more s (Err (TooMany paths)) = ⊥
-NamesSo objects more s (Err (Taken id)) = ⊥
-NamesSo objects more s (Err (Walk fault)) = IsDue objects None fault
-
 -- the objects of the merged entries, of which some directories are kept by their ids, as they are stored
 pub record IsBuiltOver (objects : Objects) (kept : PathV → Option (List ℕ)) (named : Named) (merged : Merged) : Type 0 where
   pub few : map.len named.nodes ≤ MAX_PATHS
   pub value : (more : Objects) → Keeps objects more → Keeps merged.made more → AreEntriesOf more merged.root named.nodes
-  pub needed : (id : List ℕ) → HasMade merged.made id → (more : Objects) → Keeps merged.made more → IsDirectoryOf more merged.root id
-  pub dirs : AreDirectoriesOver kept named.nodes merged.made × IsNilOrMade merged.made merged.root
-  pub ids : (dir : PathV) (id : List ℕ) → kept dir ≡ Some id → (more : Objects) → Keeps merged.made more → directory_id_in more (dirents_at more merged.root) dir ≡ Some id
+  pub needed : (id : List ℕ) → id ≢ nil → HasMade merged.made id → (more : Objects) → Keeps objects more → Keeps merged.made more → IsDirectoryOf more merged.root id
+  pub dirs : AreDirectoriesOver kept named.nodes merged.made × IsNilMadeOrKept kept merged.made merged.root
+  pub ids : (dir : PathV) (id : List ℕ) → dir ≢ [] → kept dir ≡ Some id → (more : Objects) → Keeps objects more → Keeps merged.made more → directory_id_in more (dirents_at more merged.root) dir ≡ Some id
   pub zeros : (merged.root ≡ nil) ↔ ((path : PathV) → map.get named.nodes path ≡ None)
   pub names : AreNamed merged.made
-  pub conflicts : merged.conflicts ≡ named.conflicts
-
--- the fault of a build as one of a merge
-abbrev pub as_merge_fault : BuildFault → MergeFault
-as_merge_fault (build.Taken id) = Taken id
-as_merge_fault build.NoMemory = Walk (Store NoMemory)
+  pub conflicts : merged.conflicts ≡ map.values named.copies
 
 -- what is stored under a key is these bytes, if anything is
 abbrev pub IsSameAt : Objects → Key → List ℕ → Type 0

@@ -1,15 +1,18 @@
--- Which directories a merge opens, and what it takes of those that it doesn't. Our own. Read is_settled and part_of, then is_shown and settled_in.
-use Rattle.std.specs.Prelude.{◌≡◌, ◌≤◌, ℕ, zero, suc, ◌||◌, ◌&&◌, not, Bool, true, false, if◌then◌else◌, List, [], ◌∷◌, ◌++◌, length, Option, Some, None, IsSome, is_some, option_map, ⊤}
+-- Which directories a merge opens, and what it takes of those that it doesn't. Our own. Read is_settled and part_of, then settled_in and kept_if.
+use Rattle.std.specs.Prelude.{◌≡◌, ◌≤◌, ℕ, zero, suc, ◌||◌, ◌&&◌, not, Bool, true, false, if◌then◌else◌, List, [], ◌∷◌, length, Option, Some, None, IsSome, is_some, option_map, ⊤}
 use Rattle.std.specs.FinMap as map
+use Rattle.std.specs.Option.{option_or}
+use Rattle.std.specs.Ordering.{eq_by_cmp}
 use Rattle.ids.specs.Key.{Objects}
+use Rattle.ids.specs.ObjectId.{nil}
 use Rattle.tree_model.specs.Path.{PathV, path_cmp}
-use Rattle.tree_model.specs.DirectorySurvival.{is_under, is_within}
 use Rattle.fs_objects.specs.declared.dirent.Dirent.{Dirent}
-use Rattle.object_graph.specs.Objects.{directory_in, dirents_at, entry_below, entry_in, entry_named, entry_of, same_id}
+use Rattle.object_graph.specs.Objects.{directory_in, dirents_at, entry_below, entry_named, entry_of, same_id}
 use Rattle.object_graph.specs.Traversal.{IsCompleteRoot}
 use Rattle.tree_walk.specs.Extent.{extent_of}
 use Rattle.tree_merge.specs.Level.{IsDirectoryAt, Tells}
-use Rattle.tree_merge.specs.Sides.{join_of}
+use Rattle.object_graph.specs.declared.entry.Entry.{Entry}
+use Rattle.tree_merge.specs.FileEntry.{is_directory}
 use Rattle.tree_merge.specs.declared.level.Level.{Level}
 use Rattle.tree_merge.specs.declared.level.Trio.{Trio}
 use Rattle.tree_merge.specs.declared.opening.Ids.{Ids}
@@ -57,14 +60,7 @@ module _ (objects : Objects) where
   abbrev pub dirents_of : List ℕ → List Dirent → List Dirent
   dirents_of name entries = dirents_if (directory_in (entry_named name entries))
 
-  -- whether a path below three directories is shown: each directory on the way is opened, and none is settled
-  abbrev pub is_shown : (base head pushed : List Dirent) → PathV → Bool
-  is_shown base head pushed [] = true
-  is_shown base head pushed (name ∷ []) = true
-  is_shown base head pushed (name ∷ next ∷ path) =
-      not (is_settled_at name base head pushed) && is_shown (dirents_of name base) (dirents_of name head) (dirents_of name pushed) (next ∷ path)
-
-  -- the directory that has what lies below a path that is shown, where that is settled
+  -- the directory that has what lies below a path below three directories, where that is settled, and nothing on the way to it is
   abbrev pub settled_in : (base head pushed : List Dirent) → PathV → Option (List ℕ)
   settled_in base head pushed [] = None
   settled_in base head pushed (name ∷ []) = if is_settled_at name base head pushed then part_at name base head pushed else None
@@ -73,16 +69,13 @@ module _ (objects : Objects) where
 
 -- ---- for private clauses
 
--- the directories that three entries name, and what the entries are
+-- the directories that three entries name
 abbrev pub ids_in : Trio → Ids
 ids_in trio = record { base = directory_in trio.base; head = directory_in trio.head; pushed = directory_in trio.pushed }
 
 -- the directory that has what lies below, where it is settled
 abbrev pub part_in : Ids → Option (List ℕ)
 part_in ids = part_of ids.base ids.head ids.pushed
-
-abbrev pub three_of : Trio → Three
-three_of trio = record { base = option_map entry_of trio.base; head = option_map entry_of trio.head; pushed = option_map entry_of trio.pushed }
 
 -- the id is none, or that of a directory that can be read
 abbrev pub IsDirectoryIf : Objects → Option (List ℕ) → Type 0
@@ -106,13 +99,22 @@ pub record AreWholeEntries (objects : Objects) (room : ℕ) (trio : Trio) : Type
   pub some_room : 1 ≤ room
   pub below : (less : ℕ) → room ≡ suc less → AreWholeSides objects less (ids_in trio)
 
--- the entries of the three directories at a path
-pub record IsLevelOf (objects : Objects) (path : PathV) (ids : Ids) (level : Level) : Type 0 where
-  pub base : Tells path (dirents_if objects ids.base) level.base
-  pub head : Tells path (dirents_if objects ids.head) level.head
-  pub pushed : Tells path (dirents_if objects ids.pushed) level.pushed
+-- the entries of the three directories, each at the path of its name
+pub record IsLevelOf (objects : Objects) (ids : Ids) (level : Level) : Type 0 where
+  pub base : Tells [] (dirents_if objects ids.base) level.base
+  pub head : Tells [] (dirents_if objects ids.head) level.head
+  pub pushed : Tells [] (dirents_if objects ids.pushed) level.pushed
 
--- the directory that is kept at a settled path: that of its side, if it isn't empty
+-- what is left of a directory: its id, and how many paths lie below it
+abbrev pub id_in : Option Kept → List ℕ
+id_in None = nil
+id_in (Some part) = part.id
+
+abbrev pub paths_in : Option Kept → ℕ
+paths_in None = 0
+paths_in (Some part) = part.paths
+
+-- a directory as it stands, if it isn't empty
 abbrev pub kept_by : List ℕ → ℕ → Option Kept
 kept_by id zero = None
 kept_by id (suc n) = Some (record { id = id; paths = suc n })
@@ -121,56 +123,18 @@ abbrev pub kept_if : Objects → Option (List ℕ) → Option Kept
 kept_if objects None = None
 kept_if objects (Some id) = kept_by id (extent_of objects id).paths
 
--- what three directories have at a path below them, if it is shown
-abbrev pub joined_in : Objects → (base head pushed : List Dirent) → PathV → Option Three
-joined_in objects base head pushed path =
-    if is_shown objects base head pushed path then join_of (entry_in objects base path) (entry_in objects head path) (entry_in objects pushed path) else None
-
--- nothing is written down of what lies below the path, or at it and below it
-pub record IsClearBelow (path : PathV) (opened : Opened) : Type 0 where
-  pub joined : (name : List ℕ) (rest : PathV) → map.get opened.joined (path ++ name ∷ rest) ≡ None
-  pub kept : (name : List ℕ) (rest : PathV) → map.get opened.kept (path ++ name ∷ rest) ≡ None
-
-pub record IsClearAt (path : PathV) (opened : Opened) : Type 0 where
-  pub joined : (rest : PathV) → map.get opened.joined (path ++ rest) ≡ None
-  pub kept : (rest : PathV) → map.get opened.kept (path ++ rest) ≡ None
-
--- what lies below a path is written down, and nothing else is changed
-pub record OpensBelow (objects : Objects) (path : PathV) (ids : Ids) (old new : Opened) : Type 0 where
-  pub joined : (name : List ℕ) (rest : PathV) → map.get new.joined (path ++ name ∷ rest)
-      ≡ joined_in objects (dirents_if objects ids.base) (dirents_if objects ids.head) (dirents_if objects ids.pushed) (name ∷ rest)
-  pub kept : (name : List ℕ) (rest : PathV) → map.get new.kept (path ++ name ∷ rest)
-      ≡ kept_if objects (settled_in objects (dirents_if objects ids.base) (dirents_if objects ids.head) (dirents_if objects ids.pushed) (name ∷ rest))
-  pub other_joined : (q : PathV) → is_under path q ≡ false → map.get new.joined q ≡ map.get old.joined q
-  pub other_kept : (q : PathV) → is_under path q ≡ false → map.get new.kept q ≡ map.get old.kept q
-
--- so is an entry, with what lies below it
-pub record OpensEntry (objects : Objects) (path : PathV) (trio : Trio) (old new : Opened) : Type 0 where
-  pub here : map.get new.joined path ≡ Some (three_of trio)
-  pub kept_here : map.get new.kept path ≡ (if is_settled (ids_in trio).base (ids_in trio).head (ids_in trio).pushed then kept_if objects (part_in (ids_in trio)) else None)
-  pub below : (name : List ℕ) (rest : PathV) → map.get new.joined (path ++ name ∷ rest)
-      ≡ (if is_settled (ids_in trio).base (ids_in trio).head (ids_in trio).pushed then None
-      else joined_in objects (dirents_if objects (ids_in trio).base) (dirents_if objects (ids_in trio).head) (dirents_if objects (ids_in trio).pushed) (name ∷ rest))
-  pub kept_below : (name : List ℕ) (rest : PathV) → map.get new.kept (path ++ name ∷ rest)
-      ≡ (if is_settled (ids_in trio).base (ids_in trio).head (ids_in trio).pushed then None
-      else kept_if objects (settled_in objects (dirents_if objects (ids_in trio).base) (dirents_if objects (ids_in trio).head) (dirents_if objects (ids_in trio).pushed) (name ∷ rest)))
-  pub other_joined : (q : PathV) → is_within path q ≡ false → map.get new.joined q ≡ map.get old.joined q
-  pub other_kept : (q : PathV) → is_within path q ≡ false → map.get new.kept q ≡ map.get old.kept q
-
--- a directory is put at a path, if there is one
-abbrev pub put_kept : PathV → Option Kept → map.FinMap path_cmp Kept → map.FinMap path_cmp Kept
-put_kept path None table = table
-put_kept path (Some kept) table = map.insert table path kept
-
 abbrev pub IsCompleteIf : Objects → Option (List ℕ) → Type 0
 IsCompleteIf objects None = ⊤
 IsCompleteIf objects (Some id) = IsCompleteRoot objects id
 
--- what three trees have that is shown, and the directories that have what is settled
-pub record IsOpened (objects : Objects) (base head pushed : List ℕ) (opened : Opened) : Type 0 where
-  pub no_root : map.get opened.joined [] ≡ None
-  pub joined : (name : List ℕ) (rest : PathV) → map.get opened.joined (name ∷ rest)
-      ≡ joined_in objects (dirents_at objects base) (dirents_at objects head) (dirents_at objects pushed) (name ∷ rest)
-  pub root_opened : map.get opened.kept [] ≡ None
-  pub kept : (name : List ℕ) (rest : PathV) → map.get opened.kept (name ∷ rest)
-      ≡ kept_if objects (settled_in objects (dirents_at objects base) (dirents_at objects head) (dirents_at objects pushed) (name ∷ rest))
+-- what the three sides have at an entry, where it is told whether something survives below it: there base has no directory
+abbrev pub base_over : Bool → Option Dirent → Option Entry
+base_over survives entry = if survives && is_directory (option_map entry_of entry) then None else option_map entry_of entry
+
+abbrev pub three_over : Option Kept → Trio → Three
+three_over part trio = record { base = base_over (is_some part) trio.base; head = option_map entry_of trio.head; pushed = option_map entry_of trio.pushed }
+
+-- an entry is written down with what is left below it
+pub record HasEntry (own : PathV) (trio : Trio) (part : Option Kept) (old new : Opened) : Type 0 where
+  pub joined : new.joined ≡ map.insert old.joined own (three_over part trio)
+  pub kept : (q : PathV) → map.get new.kept q ≡ (if eq_by_cmp path_cmp q own then option_or part (map.get old.kept q) else map.get old.kept q)

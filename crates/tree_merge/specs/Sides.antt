@@ -7,6 +7,7 @@ use Rattle.tree_model.specs.Tree.{Tree, IsTree}
 use Rattle.tree_model.specs.DirectorySurvival.{Sides}
 use Rattle.tree_model.specs.ConflictCopies.{in_trees}
 use Rattle.object_graph.specs.Objects.{node_of}
+use Rattle.object_graph.specs.Unchanged.{Keeps}
 use Rattle.object_graph.specs.declared.entry.Entry.{Entry}
 use Rattle.tree_merge.specs.declared.sides.Three.{Three}
 
@@ -56,3 +57,7 @@ pub record AreSeen (objects : Objects) (joined : map.FinMap path_cmp Three) (s :
   pub base : (path : PathV) → map.get s.base path ≡ option_map (node_of objects) (base_in (map.get joined path))
   pub head : (path : PathV) → map.get s.head path ≡ option_map (node_of objects) (head_in (map.get joined path))
   pub pushed : (path : PathV) → map.get s.pushed path ≡ option_map (node_of objects) (pushed_in (map.get joined path))
+
+-- a table tells three trees among all objects that keep these
+abbrev pub AreSeenIn : Objects → map.FinMap path_cmp Three → Sides → Type 0
+AreSeenIn objects joined s = (more : Objects) → Keeps objects more → AreSeen more joined s

@@ -163,9 +163,17 @@ emptied path held q = if eq_by_cmp path_cmp q path then [] else held_at (map.get
 abbrev pub kept_ids : map.FinMap path_cmp Kept → PathV → Option (List ℕ)
 kept_ids kept path = option_map (λ own. own.id) (map.get kept path)
 
+-- the objects among which directories are kept: those that are stored, and those that were made
+pub record Given : Type 0 where
+  pub stored : Objects
+  pub made : Objects
+
+abbrev pub AreThere : Given → Objects → Type 0
+AreThere given objects = Keeps given.stored objects × Keeps given.made objects
+
 -- entries are those of a whole tree but for what lies below directories that are kept by their ids; below such an id stands,
--- among the stored objects, what the tree has there
-pub record IsShownPart (stored : Objects) (kept : PathV → Option (List ℕ)) (whole entries : Entries) : Type 0 where
+-- among these objects, what the tree has there
+pub record IsShownPart (given : Given) (kept : PathV → Option (List ℕ)) (whole entries : Entries) : Type 0 where
   pub sound : IsSound whole
   pub nodes : IsSound entries
   pub top : kept [] ≡ None
@@ -174,7 +182,7 @@ pub record IsShownPart (stored : Objects) (kept : PathV → Option (List ℕ)) (
       → map.get whole (dir ++ name ∷ path) ≡ None
   pub stands : (dir : PathV) (id : List ℕ) → kept dir ≡ Some id → map.get entries dir ≡ Some entry.Dir
   pub hidden : (dir : PathV) (name : List ℕ) → IsSome (kept dir) → map.get entries (dir ++ name ∷ []) ≡ None
-  pub below : (dir : PathV) (id : List ℕ) → kept dir ≡ Some id → (objects : Objects) → Keeps stored objects → (name : List ℕ) (path : PathV)
+  pub below : (dir : PathV) (id : List ℕ) → kept dir ≡ Some id → (objects : Objects) → AreThere given objects → (name : List ℕ) (path : PathV)
       → entry_in objects (dirents_at objects id) (name ∷ path) ≡ map.get whole (dir ++ name ∷ path)
   pub some : (dir : PathV) (id : List ℕ) → kept dir ≡ Some id → IsNilWhereEmpty whole dir id
 

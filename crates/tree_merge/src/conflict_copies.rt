@@ -12,7 +12,6 @@ use crate::decision::Decided;
 use crate::file_entry::FileEntry;
 use crate::tables::put;
 use conflict_names::{ConflictFault, conflict_name};
-use ids::Items;
 use object_graph::Entry;
 use std::alloc::{AllocError, Global};
 use tree_model::{Path, PathTable};
@@ -21,8 +20,8 @@ use tree_model::{Path, PathTable};
 #[derive(Drop)]
 pub(crate) struct Named {
     pub nodes: PathTable<Entry>,
-    /// The paths of the conflict copies, in the byte order of the paths that the files left.
-    pub conflicts: Items<Path>,
+    /// The path of each conflict copy, by the path that its file left.
+    pub copies: PathTable<Path>,
 }
 
 /// Why a conflict copy has no name.
@@ -56,18 +55,26 @@ pub(crate) fn name_leavers(alloc: Global, decided: Decided) -> Result<Named, Cop
         mut leavers,
         mut known,
     } = decided;
-    let mut conflicts = Items::new(alloc);
+    let mut copies = PathTable::new(alloc);
     while let Some((path, file)) = leavers.pop_first() {
         let place = match free_place(alloc, &known, &path, &file) {
             Ok(place) => place,
             Err(fault) => return Err(fault),
         };
-        match put_copy(alloc, place, file, &mut known, &mut nodes, &mut conflicts) {
+        match put_copy(
+            alloc,
+            path,
+            place,
+            file,
+            &mut known,
+            &mut nodes,
+            &mut copies,
+        ) {
             Ok(()) => {}
             Err(_) => return Err(CopyFault::NoMemory),
         }
     }
-    Ok(Named { nodes, conflicts })
+    Ok(Named { nodes, copies })
 }
 
 /// The place of a file's conflict copy: that of the least number from 1 on which is no known path.
@@ -112,18 +119,19 @@ fn place_at(alloc: Global, path: &Path, file: &FileEntry, number: u32) -> Result
     }
 }
 
-/// Puts a file at the place of its conflict copy.
+/// Puts a file that leaves a path at the place of its conflict copy.
 fn put_copy(
     alloc: Global,
+    path: Path,
     place: Path,
     file: FileEntry,
     known: &mut PathTable<()>,
     nodes: &mut PathTable<Entry>,
-    conflicts: &mut Items<Path>,
+    copies: &mut PathTable<Path>,
 ) -> Result<(), AllocError>
-    ensures ok { OnOk result (HasCopied place file known.old known.new nodes.old nodes.new conflicts.old conflicts.new) }
+    ensures ok { OnOk result (HasCopied path place file known.old known.new nodes.old nodes.new copies.old copies.new) }
 {
     put(known, place.copy(alloc)?, ())?;
     put(nodes, place.copy(alloc)?, file.into_entry())?;
-    conflicts.push(place)
+    put(copies, path, place)
 }

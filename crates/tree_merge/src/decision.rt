@@ -53,19 +53,20 @@ pub(crate) struct Placing {
 pub(crate) fn decide<S: Shelf>(
     alloc: Global,
     store: &mut Store<S>,
+    compared: &mut Compared,
     mut joined: PathTable<Three>,
 ) -> Result<Decided, WalkFault>
     ensures value { (objects : Objects) → objects_of S.contents store.old ≡ Some objects
-        → (more : Objects) → Keeps objects more
+        → AreCompared objects compared.old → (more : Objects) → Keeps objects more
         → ((path : PathV) → IsWholeAt objects (map.get joined path))
         → (s : Sides) → AreTrees s → AreSeen more joined s → AnswersWell objects (IsDecided more s) result }
     ensures whole { IfOk result (λ decided. (objects : Objects) → ((path : PathV) → IsWholeAt objects (map.get joined path)) → IsWholeDecided objects decided) }
     ensures bound { IfOk result (λ decided. map.len decided.leavers ≤ map.len joined) }
     ensures few { IfOk result (λ decided. map.len decided.known ≤ map.len joined) }
     ensures root { IfOk result (λ decided. map.get joined [] ≡ None → map.get decided.leavers [] ≡ None) }
+    ensures known { StayCompared (objects_of S.contents store.old) compared.old compared.new }
     ensures stays { Reads S.contents S.may_give S.texts S.faults store.old store.new result }
 {
-    let mut compared = Compared::new(alloc);
     let mut staying = PathTable::new(alloc);
     let mut decided = Decided {
         nodes: PathTable::new(alloc),
@@ -76,7 +77,7 @@ pub(crate) fn decide<S: Shelf>(
         match decide_at(
             alloc,
             store,
-            &mut compared,
+            compared,
             path,
             three,
             &mut staying,

@@ -1,38 +1,38 @@
-//! What a merge looks at: it goes down three directories together, and leaves alone what is settled.
-ghost use Rattle.std.specs.Prelude.{◌≡◌, IfOk, OnOk, Some};
-ghost use Rattle.std.specs.FinMap as map;
+//! What three directories list, and what of it is settled.
+ghost use Rattle.std.specs.Prelude.{◌≡◌, OnOk, Some};
 ghost use Rattle.ids.specs.Key.{Objects};
 ghost use Rattle.object_store.specs.StoreView.{objects_of};
 ghost use Rattle.tree_walk.specs.KnownTrees.{Fits};
 ghost use Rattle.tree_walk.specs.Reading.{Reads};
 ghost use Rattle.tree_merge.specs.Level.{Tells};
-ghost use Rattle.tree_merge.specs.Merging.{AreComplete, AreFew};
-ghost use Rattle.tree_merge.specs.Opening.{AreWholeEntries, AreWholeSides, IsClearAt, IsClearBelow, IsCompleteIf, IsDirectoryIf, IsLevelOf, IsOpened, OpensBelow, OpensEntry, dirents_if, ids_in, is_left_alone, is_pusheds, is_settled, kept_if, part_in, put_kept, same_directory, three_of};
+ghost use Rattle.tree_merge.specs.Opening.{HasEntry, IsCompleteIf, IsDirectoryIf, IsLevelOf, base_over, dirents_if, ids_in, is_left_alone, is_pusheds, is_settled, kept_by, kept_if, part_in, same_directory};
 ghost use Rattle.tree_merge.specs.Telling.{AnswersWell};
 
-use crate::level::{Level, Trio, directory_of, entries_at, entry_in, next};
+use crate::file_entry::is_directory;
+use crate::level::{Level, Trio, directory_of, entries_at, entry_in};
 use crate::sides::Three;
-use crate::tables::{drop_root, put};
+use crate::tables::{put, put_if};
 use fs_objects::Dirent;
 use ids::ObjId;
-use object_store::{Shelf, Store, StoreFault};
+use object_graph::Entry;
+use object_store::{Shelf, Store};
 use std::alloc::{AllocError, Global};
-use tree_model::{MAX_NAMES, MAX_PATHS, Path, PathTable};
+use tree_model::{Path, PathTable};
 use tree_walk::{Known, WalkFault, extent_at};
 
-/// A directory of one side that is taken as it stands, with the number of paths below it, of which there is at least one.
+/// A directory that survives, with the number of paths below it, of which there is at least one.
 #[derive(Drop)]
 pub(crate) struct Kept {
     pub id: ObjId,
     pub paths: u64,
 }
 
-/// What a merge looks at.
+/// The entries of three directories, each at the path of its name.
 #[derive(Drop)]
 pub(crate) struct Opened {
-    /// What the three trees have in the directories that are opened.
+    /// What the three sides have, but for directories of base below which something survives.
     pub joined: PathTable<Three>,
-    /// The directories that have what is settled, if they aren't empty.
+    /// The directories below which something survives.
     pub kept: PathTable<Kept>,
 }
 
@@ -44,102 +44,26 @@ pub(crate) struct Ids {
     pub pushed: Option<ObjId>,
 }
 
-/// Opens three trees from their roots. Only of what a shelf lies about can it be more than three trees have.
-pub(crate) fn open_trees<S: Shelf>(
+/// What three directories list, each entry at the path of its name.
+pub(crate) fn level_at<S: Shelf>(
     alloc: Global,
     store: &mut Store<S>,
-    known: &mut Known,
-    base: ObjId,
-    head: ObjId,
-    pushed: ObjId,
-) -> Result<Opened, WalkFault>
-    requires known { (objects : Objects) → objects_of S.contents store.old ≡ Some objects → Fits objects known.old }
-    ensures value { (objects : Objects) → objects_of S.contents store.old ≡ Some objects → AreComplete objects base head pushed
-        → AnswersWell objects (IsOpened objects base head pushed) result }
-    ensures bound { IfOk result (λ opened. AreFew opened.joined) }
-    ensures known { (objects : Objects) → objects_of S.contents store.old ≡ Some objects → Fits objects known.new }
-    ensures stays { Reads S.contents S.may_give S.texts S.faults store.old store.new result }
-{
-    let ids = Ids {
-        base: Some(base),
-        head: Some(head),
-        pushed: Some(pushed),
-    };
-    let mut opened = Opened {
-        joined: PathTable::new(alloc),
-        kept: PathTable::new(alloc),
-    };
-    let root = Path::root(alloc);
-    match open_directory(
-        alloc,
-        store,
-        known,
-        &root,
-        &ids,
-        MAX_NAMES as u32,
-        &mut opened,
-    ) {
-        Ok(()) => {}
-        Err(fault) => return Err(fault),
-    }
-    drop_root(alloc, &mut opened.joined);
-    let paths = opened.joined.len();
-    if paths > 3 * MAX_PATHS {
-        return Err(WalkFault::TooMany(paths as u64));
-    }
-    Ok(opened)
-}
-
-/// Opens three directories at a path, and those below them that aren't settled. Forty zeros stand for none.
-#[cycle(opening)]
-pub(crate) fn open_directory<S: Shelf>(
-    alloc: Global,
-    store: &mut Store<S>,
-    known: &mut Known,
-    path: &Path,
-    ids: &Ids,
-    room: u32,
-    opened: &mut Opened,
-) -> Result<(), WalkFault>
-    requires known { (objects : Objects) → objects_of S.contents store.old ≡ Some objects → Fits objects known.old }
-    ensures value { (objects : Objects) → objects_of S.contents store.old ≡ Some objects → AreWholeSides objects room ids.now → IsClearBelow path.now opened.old
-        → AnswersWell objects (λ done. OpensBelow objects path.now ids.now opened.old opened.new) result }
-    ensures known { (objects : Objects) → objects_of S.contents store.old ≡ Some objects → Fits objects known.new }
-    ensures stays { Reads S.contents S.may_give S.texts S.faults store.old store.new result }
-{
-    let mut level = match level_at(alloc, store, path, ids) {
-        Ok(level) => level,
-        Err(fault) => return Err(fault),
-    };
-    while let Some((own, trio)) = next(&mut level) {
-        match open_entry(alloc, store, known, own, trio, room, opened) {
-            Ok(()) => {}
-            Err(fault) => return Err(fault),
-        }
-    }
-    Ok(())
-}
-
-/// What three directories list at a path.
-fn level_at<S: Shelf>(
-    alloc: Global,
-    store: &mut Store<S>,
-    path: &Path,
     ids: &Ids,
 ) -> Result<Level, WalkFault>
     ensures value { (objects : Objects) → objects_of S.contents store.old ≡ Some objects → IsDirectoryIf objects ids.now.base → IsDirectoryIf objects ids.now.head → IsDirectoryIf objects ids.now.pushed
-        → AnswersWell objects (IsLevelOf objects path.now ids.now) result }
+        → AnswersWell objects (IsLevelOf objects ids.now) result }
     ensures stays { Reads S.contents S.may_give S.texts S.faults store.old store.new result }
 {
-    let base = match entries_of(alloc, store, path, &ids.base) {
+    let root = Path::root(alloc);
+    let base = match entries_of(alloc, store, &root, &ids.base) {
         Ok(base) => base,
         Err(fault) => return Err(fault),
     };
-    let head = match entries_of(alloc, store, path, &ids.head) {
+    let head = match entries_of(alloc, store, &root, &ids.head) {
         Ok(head) => head,
         Err(fault) => return Err(fault),
     };
-    let pushed = match entries_of(alloc, store, path, &ids.pushed) {
+    let pushed = match entries_of(alloc, store, &root, &ids.pushed) {
         Ok(pushed) => pushed,
         Err(fault) => return Err(fault),
     };
@@ -163,41 +87,8 @@ fn entries_of<S: Shelf>(
     }
 }
 
-/// Takes an entry of three directories, and opens the directories that it names, unless they are settled.
-#[cycle(opening)]
-fn open_entry<S: Shelf>(
-    alloc: Global,
-    store: &mut Store<S>,
-    known: &mut Known,
-    path: Path,
-    trio: Trio,
-    room: u32,
-    opened: &mut Opened,
-) -> Result<(), WalkFault>
-    requires known { (objects : Objects) → objects_of S.contents store.old ≡ Some objects → Fits objects known.old }
-    ensures value { (objects : Objects) → objects_of S.contents store.old ≡ Some objects → AreWholeEntries objects room trio → IsClearAt path opened.old
-        → AnswersWell objects (λ done. OpensEntry objects path trio opened.old opened.new) result }
-    ensures known { (objects : Objects) → objects_of S.contents store.old ≡ Some objects → Fits objects known.new }
-    ensures stays { Reads S.contents S.may_give S.texts S.faults store.old store.new result }
-{
-    if room == 0 {
-        return Err(WalkFault::TooDeep(path));
-    }
-    let ids = ids_of(&trio);
-    match put_three(alloc, opened, &path, trio) {
-        Ok(()) => {}
-        Err(_) => return Err(WalkFault::Store(StoreFault::NoMemory)),
-    }
-    if is_settled(&ids) {
-        let part = part_of(&ids);
-        keep(alloc, store, known, path, &part, opened)
-    } else {
-        open_directory(alloc, store, known, &path, &ids, room - 1, opened)
-    }
-}
-
 /// The directories that three entries name.
-fn ids_of(trio: &Trio) -> Ids
+pub(crate) fn ids_of(trio: &Trio) -> Ids
     ensures value { result ≡ ids_in trio.now }
 {
     Ids {
@@ -208,7 +99,7 @@ fn ids_of(trio: &Trio) -> Ids
 }
 
 /// Whether what lies below is what one side has: the head, or pushed.
-fn is_settled(ids: &Ids) -> bool
+pub(crate) fn is_settled(ids: &Ids) -> bool
     ensures value { result ≡ is_settled ids.now.base ids.now.head ids.now.pushed }
 {
     is_left_alone(ids) || is_pusheds(ids)
@@ -229,7 +120,7 @@ fn is_pusheds(ids: &Ids) -> bool
 }
 
 /// The directory of the side that has what lies below, where that is settled.
-fn part_of(ids: &Ids) -> Option<ObjId>
+pub(crate) fn part_of(ids: &Ids) -> Option<ObjId>
     ensures value { result ≡ part_in ids.now }
 {
     if is_left_alone(ids) {
@@ -249,51 +140,65 @@ fn same_directory(left: &Option<ObjId>, right: &Option<ObjId>) -> bool
     }
 }
 
-/// Writes down what the three trees have at a path.
-fn put_three(alloc: Global, opened: &mut Opened, path: &Path, trio: Trio) -> Result<(), AllocError>
-    ensures ok { OnOk result (opened.new ≡ record opened.old { joined = map.insert opened.old.joined path.now (three_of trio) }) }
+/// Writes down what the three sides have at an entry, and what survives below it: there base has no directory.
+pub(crate) fn put_entry(
+    alloc: Global,
+    opened: &mut Opened,
+    own: Path,
+    trio: Trio,
+    part: Option<Kept>,
+) -> Result<(), AllocError>
+    ensures ok { OnOk result (HasEntry own trio part opened.old opened.new) }
 {
     let Trio { base, head, pushed } = trio;
     let three = Three {
-        base: entry_in(base),
+        base: base_entry(base, part.is_some()),
         head: entry_in(head),
         pushed: entry_in(pushed),
     };
-    put(&mut opened.joined, path.copy(alloc)?, three)
+    put_if(alloc, &mut opened.kept, &own, part)?;
+    put(&mut opened.joined, own, three)
 }
 
-/// Writes down the directory that has what is settled, unless it is empty.
-fn keep<S: Shelf>(
+/// The entry of base, but no directory where something survives.
+fn base_entry(entry: Option<Dirent>, survives: bool) -> Option<Entry>
+    ensures value { result ≡ base_over survives entry }
+{
+    let own = entry_in(entry);
+    if survives & is_directory(&own) {
+        return None;
+    }
+    own
+}
+
+/// A directory as it stands, unless it is empty.
+pub(crate) fn own_part<S: Shelf>(
     alloc: Global,
     store: &mut Store<S>,
     known: &mut Known,
-    path: Path,
     part: &Option<ObjId>,
-    opened: &mut Opened,
-) -> Result<(), WalkFault>
+) -> Result<Option<Kept>, WalkFault>
     requires known { (objects : Objects) → objects_of S.contents store.old ≡ Some objects → Fits objects known.old }
     ensures value { (objects : Objects) → objects_of S.contents store.old ≡ Some objects → IsCompleteIf objects part.now
-        → AnswersWell objects (λ done. opened.new ≡ record opened.old { kept = put_kept path (kept_if objects part.now) opened.old.kept }) result }
+        → AnswersWell objects (λ kept. kept ≡ kept_if objects part.now) result }
     ensures known { (objects : Objects) → objects_of S.contents store.old ≡ Some objects → Fits objects known.new }
     ensures stays { Reads S.contents S.may_give S.texts S.faults store.old store.new result }
 {
     let id = match part {
         Some(id) => id,
-        None => return Ok(()),
+        None => return Ok(None),
     };
-    let extent = match extent_at(alloc, store, known, *id) {
-        Ok(extent) => extent,
-        Err(fault) => return Err(fault),
-    };
-    if extent.paths == 0 {
-        return Ok(());
+    match extent_at(alloc, store, known, *id) {
+        Ok(extent) => Ok(kept_by(*id, extent.paths)),
+        Err(fault) => Err(fault),
     }
-    let kept = Kept {
-        id: *id,
-        paths: extent.paths,
-    };
-    match put(&mut opened.kept, path, kept) {
-        Ok(()) => Ok(()),
-        Err(_) => Err(WalkFault::Store(StoreFault::NoMemory)),
+}
+
+fn kept_by(id: ObjId, paths: u64) -> Option<Kept>
+    ensures value { result ≡ kept_by id paths }
+{
+    if paths == 0 {
+        return None;
     }
+    Some(Kept { id, paths })
 }

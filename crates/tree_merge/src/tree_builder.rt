@@ -15,7 +15,7 @@ ghost use Rattle.object_graph.specs.Objects.{AreEntriesOf, dirents_at};
 ghost use Rattle.object_graph.specs.Unchanged.{Keeps};
 ghost use Rattle.object_graph.specs.declared.entry.Entry.TheVariants.{Dir as dir_entry};
 ghost use Rattle.tree_merge.specs.Sides.{Entries};
-ghost use Rattle.tree_merge.specs.TreeBuilding.{IsSound, AreNamed, AreDirectories, AreDirectoriesOver, HasListed, IsCausedInBuild, IsDirectoryMade, IsDirectoryOf, IsClash, IsEntryListed, IsMade, IsNilOrMade, IsOwnListed, IsRefused, IsRefusedEntry, IsRefusedList, IsShownPart, Lists, HasMade, held_at, directory_id_in, dirent_of, kept_ids};
+ghost use Rattle.tree_merge.specs.TreeBuilding.{AreThere, Given, IsSound, AreNamed, AreDirectories, AreDirectoriesOver, HasListed, IsCausedInBuild, IsDirectoryMade, IsDirectoryOf, IsClash, IsEntryListed, IsMade, IsNilOrMade, IsOwnListed, IsRefused, IsRefusedEntry, IsRefusedList, IsShownPart, Lists, HasMade, held_at, directory_id_in, dirent_of, kept_ids};
 
 use crate::opening::Kept;
 use crate::tables::{drop_root, put};
@@ -80,19 +80,19 @@ pub(crate) fn build_over(
     mut entries: PathTable<Entry>,
     kept: &PathTable<Kept>,
 ) -> Result<BuiltTree, BuildFault>
-    ensures value { IfOk result (λ built. (stored : Objects) → (whole : Entries) → IsShownPart stored (kept_ids kept.now) whole entries
-        → (objects : Objects) → Keeps stored objects → Keeps built.made objects → AreEntriesOf objects built.root whole) }
-    ensures needed { IfOk result (λ built. (stored : Objects) → (whole : Entries) → IsShownPart stored (kept_ids kept.now) whole entries
+    ensures value { IfOk result (λ built. (stored : Given) → (whole : Entries) → IsShownPart stored (kept_ids kept.now) whole entries
+        → (objects : Objects) → AreThere stored objects → Keeps built.made objects → AreEntriesOf objects built.root whole) }
+    ensures needed { IfOk result (λ built. (stored : Given) → (whole : Entries) → IsShownPart stored (kept_ids kept.now) whole entries
         → (id : List ℕ) → HasMade built.made id → (objects : Objects) → Keeps built.made objects → IsDirectoryOf objects built.root id) }
-    ensures ids { IfOk result (λ built. (stored : Objects) → (whole : Entries) → IsShownPart stored (kept_ids kept.now) whole entries
+    ensures ids { IfOk result (λ built. (stored : Given) → (whole : Entries) → IsShownPart stored (kept_ids kept.now) whole entries
         → (dir : PathV) → (id : List ℕ) → kept_ids kept.now dir ≡ Some id → (objects : Objects) → Keeps built.made objects
         → directory_id_in objects (dirents_at objects built.root) dir ≡ Some id) }
-    ensures dirs { IfOk result (λ built. (stored : Objects) → (whole : Entries) → IsShownPart stored (kept_ids kept.now) whole entries
+    ensures dirs { IfOk result (λ built. (stored : Given) → (whole : Entries) → IsShownPart stored (kept_ids kept.now) whole entries
         → AreDirectoriesOver (kept_ids kept.now) whole built.made × IsNilOrMade built.made built.root) }
-    ensures zeros { IfOk result (λ built. (stored : Objects) → (whole : Entries) → IsShownPart stored (kept_ids kept.now) whole entries
+    ensures zeros { IfOk result (λ built. (stored : Given) → (whole : Entries) → IsShownPart stored (kept_ids kept.now) whole entries
         → (built.root ≡ nil) ↔ ((path : PathV) → map.get whole path ≡ None)) }
     ensures stays { IfOk result (λ built. AreNamed built.made) }
-    ensures taken { (id : List ℕ) → result ≡ Err (BuildFault.Taken id) → (stored : Objects) → (whole : Entries) → IsShownPart stored (kept_ids kept.now) whole entries
+    ensures taken { (id : List ℕ) → result ≡ Err (BuildFault.Taken id) → (stored : Given) → (whole : Entries) → IsShownPart stored (kept_ids kept.now) whole entries
         → IsClash whole id }
     ensures cause { IfErr result IsCausedInBuild }
 {

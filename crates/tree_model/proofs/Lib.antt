@@ -12,7 +12,6 @@ pub mod RegionLemmas
 pub mod SameMovesLemmas
 pub mod ResultTreeLemmas
 pub mod SettledLemmas
-pub mod CutLemmas
 pub mod SurvivalLemmas
 pub mod UnmovedLemmas
 pub mod LastEntryLemmas

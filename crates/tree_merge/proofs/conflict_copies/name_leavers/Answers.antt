@@ -10,14 +10,14 @@ loop-path-init c = record {
   root = c.requires.some;
   fits = c.requires.fits;
   whole = λ objects whole. (whole.nodes, whole.leavers);
-  named = λ objects s trees is. named_start objects s c.args.decided is c.new-conflicts.result c.new-conflicts.ensures.value;
+  named = λ objects s trees is. named_start objects s c.args.decided is c.new-copies.result c.new-copies.ensures.value;
 }
 
 pub returns-in-Err : goal.returns-in-Err
 returns-in-Err c = record {
   value = λ objects s trees is.
       refused objects s c.in-Err.fault (λ of bytes e.
-      named_long objects s trees c.loop-path.leavers c.pop_first.new.self c.loop-path.known c.loop-path.nodes c.loop-path.conflicts c.in-Some.path c.in-Some.file
+      named_long objects s trees c.loop-path.leavers c.pop_first.new.self c.loop-path.known c.loop-path.nodes c.loop-path.copies c.in-Some.path c.in-Some.file
       (c.loop-path.invariant.named objects s trees is) c.in-Some.ensures.found of bytes (c.in-Err.ensures.too_long of bytes (ap Err e)));
   whole = tt;
 }
@@ -43,16 +43,16 @@ loop-path-preserved c =
             whole_popped objects c.loop-path.leavers c.pop_first.new.self (c.in-Some.path, c.in-Some.file) c.in-Some.ensures.ok before.1,
           );
       named = λ objects s trees is.
-          named_more objects s trees c.loop-path.leavers c.pop_first.new.self c.loop-path.known c.loop-path.nodes c.loop-path.conflicts c.in-Some.path c.in-Some.file
+          named_more objects s trees c.loop-path.leavers c.pop_first.new.self c.loop-path.known c.loop-path.nodes c.loop-path.copies c.in-Some.path c.in-Some.file
           (c.loop-path.invariant.named objects s trees is) c.in-Some.ensures.found
-          c.put_copy.new.known c.put_copy.new.nodes c.put_copy.new.conflicts c.in-Ok.place free copied;
+          c.put_copy.new.known c.put_copy.new.nodes c.put_copy.new.copies c.in-Ok.place free copied;
     }
 
 pub returns : goal.returns
 returns c = record {
   value = λ objects s trees is.
-      let all = named_all objects s c.loop-path.leavers c.loop-path.known c.loop-path.nodes c.loop-path.conflicts
+      let all = named_all objects s c.loop-path.leavers c.loop-path.known c.loop-path.nodes c.loop-path.copies
       (no_entries c.loop-path.leavers c.in_default.ensures.absent) (c.loop-path.invariant.named objects s trees is) in
-      record { short = all.short; nodes = all.nodes_seen; conflicts = all.told };
+      record { short = all.short; nodes = all.nodes_seen; copies = all.told };
   whole = λ objects whole. (c.loop-path.invariant.whole objects whole).0;
 }

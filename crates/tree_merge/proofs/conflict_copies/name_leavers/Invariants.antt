@@ -12,7 +12,7 @@ invariant-loop-path l = record {
   root : map.get l.leavers [] ≡ None;
   fits : map.len l.known + map.len l.leavers ≤ 4_000_000_000;
   whole : (objects : Objects) → IsWholeDecided objects l.fn.decided → AreWholeIn objects l.nodes × AreWholeFiles objects l.leavers;
-  named : (objects : Objects) (s : Sides) → AreTrees s → IsDecided objects s l.fn.decided → NamedSo objects s l.leavers l.known l.nodes l.conflicts;
+  named : (objects : Objects) (s : Sides) → AreTrees s → IsDecided objects s l.fn.decided → NamedSo objects s l.leavers l.known l.nodes l.copies;
 }
 
 abbrev pub decreases-loop-path : goal.decreases-loop-path

@@ -27,8 +27,8 @@ loop-path-init g c =
       known = omega arith;
       root = λ none. no_items c.new-2.result c.new-2.ensures.value [];
       whole = λ objects whole. whole_start objects (record { nodes = c.new.result; leavers = c.new-2.result; known = c.new-3.result }) c.new.ensures.value c.new-2.ensures.value;
-      compared = λ objects told. c.new-compared.ensures.value objects;
-      decided = λ objects told more keeps whole s trees seen.
+      compared = λ objects told are. are;
+      decided = λ objects told are more keeps whole s trees seen.
           decided_start more s trees c.args.joined seen c.new-staying.result (record { nodes = c.new.result; leavers = c.new-2.result; known = c.new-3.result })
           (no_items c.new-staying.result c.new-staying.ensures.value) (no_items c.new.result c.new.ensures.value)
           (no_items c.new-2.result c.new-2.ensures.value) (no_items c.new-3.result c.new-3.ensures.value);
@@ -72,25 +72,28 @@ loop-path-preserved g c =
           grown.others [] (same_path-apart [] c.in-Some.path (λ e. no_root c.in-Some.three (sym in_whole ∙ ap (map.get c.args.joined) (sym e) ∙ none))) ∙ inv.root none;
       whole = λ objects whole.
           c.in-Ok.ensures.whole objects (whole_three objects c.args.joined c.in-Some.path c.in-Some.three in_whole whole) (inv.whole objects whole);
-      compared = λ objects told. c.in-Ok.ensures.known objects (told_after inv.reads told) (inv.compared objects told);
-      decided = λ objects told more keeps whole s trees seen.
-          let at = (c.in-Ok.ensures.value objects (told_after inv.reads told) (inv.compared objects told) more keeps (whole_three objects c.args.joined c.in-Some.path c.in-Some.three in_whole whole)).1 in
+      compared = λ objects told are. c.in-Ok.ensures.known objects (told_after inv.reads told) (inv.compared objects told are);
+      decided = λ objects told are more keeps whole s trees seen.
+          let at = (c.in-Ok.ensures.value objects (told_after inv.reads told) (inv.compared objects told are) more keeps (whole_three objects c.args.joined c.in-Some.path c.in-Some.three in_whole whole)).1 in
           decided_more more s trees c.args.joined seen c.loop-path.joined c.pop_last.new.self c.loop-path.staying c.decide_at.new.staying
           c.loop-path.decided c.decide_at.new.decided c.in-Some.path c.in-Some.three
-          (inv.decided objects told more keeps whole s trees seen) there in_whole
+          (inv.decided objects told are more keeps whole s trees seen) there in_whole
           (above_popped c.loop-path.joined c.pop_last.new.self (c.in-Some.path, c.in-Some.three) c.in-Some.ensures.found)
           popped at.placing at.placed at.settled;
     }
 
 pub returns-clause-value : goal.returns-clause-value
-returns-clause-value g c objects told more keeps whole s trees seen = (
+returns-clause-value g c objects told are more keeps whole s trees seen = (
   refl,
   decided_all more s c.loop-path.joined c.loop-path.staying c.loop-path.decided (no_items c.loop-path.joined c.in_default.ensures.absent)
-      (c.loop-path.invariant.decided objects told more keeps whole s trees seen),
+      (c.loop-path.invariant.decided objects told are more keeps whole s trees seen),
 )
 
 pub returns-in-Err-clause-value : goal.returns-in-Err-clause-value
-returns-in-Err-clause-value g c objects told more keeps whole s trees seen =
+returns-in-Err-clause-value g c objects told are more keeps whole s trees seen =
     let in_whole = sym (c.loop-path.invariant.left c.in-Some.path (ap is_some c.in-Some.ensures.value)) ∙ c.in-Some.ensures.value in
-    c.in-Err.ensures.value objects (told_after c.loop-path.invariant.reads told) (c.loop-path.invariant.compared objects told) more keeps
+    c.in-Err.ensures.value objects (told_after c.loop-path.invariant.reads told) (c.loop-path.invariant.compared objects told are) more keeps
     (whole_three objects c.args.joined c.in-Some.path c.in-Some.three in_whole whole)
+
+pub returns-in-Err-clause-known : goal.returns-in-Err-clause-known
+returns-in-Err-clause-known g c objects told are = c.in-Err.ensures.known objects (told_after c.loop-path.invariant.reads told) (c.loop-path.invariant.compared objects told are)

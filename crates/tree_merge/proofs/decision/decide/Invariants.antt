@@ -7,7 +7,7 @@ use Rattle.tree_model.specs.DirectorySurvival.{Sides}
 use Rattle.object_graph.specs.Unchanged.{Keeps}
 use Rattle.object_store.specs.StoreView.{objects_of}
 use Rattle.tree_walk.specs.Reading.{Reads}
-use Rattle.tree_merge.specs.Compared.{AreCompared}
+use Rattle.tree_merge.specs.Compared.{AreCompared, StayCompared}
 use Rattle.tree_merge.specs.Decision.{IsWholeDecided}
 use Rattle.tree_merge.specs.FileChoice.{IsWholeAt}
 use Rattle.tree_merge.specs.Sides.{AreSeen, AreTrees}
@@ -22,8 +22,8 @@ invariant-loop-path g l = record {
   known : map.len l.decided.known + map.len l.joined ≤ map.len l.initial.joined;
   root : map.get l.initial.joined [] ≡ None → map.get l.decided.leavers [] ≡ None;
   whole : (objects : Objects) → ((path : PathV) → IsWholeAt objects (map.get l.initial.joined path)) → IsWholeDecided objects l.decided;
-  compared : (objects : Objects) → objects_of g.S.Shelf.contents l.initial.store ≡ Some objects → AreCompared objects l.compared;
-  decided : (objects : Objects) → objects_of g.S.Shelf.contents l.initial.store ≡ Some objects → (more : Objects) → Keeps objects more
+  compared : StayCompared (objects_of g.S.Shelf.contents l.initial.store) l.initial.compared l.compared;
+  decided : (objects : Objects) → objects_of g.S.Shelf.contents l.initial.store ≡ Some objects → AreCompared objects l.initial.compared → (more : Objects) → Keeps objects more
       → ((path : PathV) → IsWholeAt objects (map.get l.initial.joined path)) → (s : Sides) → AreTrees s → AreSeen more l.initial.joined s → DecidedSo more s l.joined l.staying l.decided;
 }
 

@@ -3,7 +3,7 @@ use Rattle.std.specs.FinMap as map
 use Rattle.tree_model.specs.Path.{PathV, path_cmp}
 use Rattle.tree_merge.specs.TreeBuilding.{kept_ids}
 use Rattle.tree_merge.specs.declared.opening.Kept.{Kept}
-use Rattle.tree_merge.proofs.KeptBuiltLemmas.{dirs_no_kept, keeps_nothing, no_kept}
+use Rattle.tree_merge.proofs.KeptBuiltLemmas.{dirs_no_kept, keeps_nothing, no_kept, no_objects}
 use Rattle.tree_merge.proofs.TableLemmas.{if_ok_more}
 use Rattle.tree_merge.proofs.tree_builder.build.Goals as goal
 
@@ -14,13 +14,13 @@ pub returns : goal.returns
 returns c =
     let none = nothing_kept c.new-kept.result c.new-kept.ensures.value in
     record {
-      value = if_ok_more c.build_over.result (λ built h sound objects keeps. h map.empty c.args.entries (no_kept (kept_ids c.new-kept.result) none c.args.entries sound) objects (keeps_nothing objects) keeps) c.build_over.ensures.value;
-      needed = if_ok_more c.build_over.result (λ built h sound id has objects keeps. h map.empty c.args.entries (no_kept (kept_ids c.new-kept.result) none c.args.entries sound) id has objects keeps) c.build_over.ensures.needed;
+      value = if_ok_more c.build_over.result (λ built h sound objects keeps. h no_objects c.args.entries (no_kept (kept_ids c.new-kept.result) none c.args.entries sound) objects (keeps_nothing objects) keeps) c.build_over.ensures.value;
+      needed = if_ok_more c.build_over.result (λ built h sound id has objects keeps. h no_objects c.args.entries (no_kept (kept_ids c.new-kept.result) none c.args.entries sound) id has objects keeps) c.build_over.ensures.needed;
       dirs = if_ok_more c.build_over.result
-          (λ built h sound. let both = h map.empty c.args.entries (no_kept (kept_ids c.new-kept.result) none c.args.entries sound) in (dirs_no_kept (kept_ids c.new-kept.result) none c.args.entries built.made both.0, both.1))
+          (λ built h sound. let both = h no_objects c.args.entries (no_kept (kept_ids c.new-kept.result) none c.args.entries sound) in (dirs_no_kept (kept_ids c.new-kept.result) none c.args.entries built.made both.0, both.1))
           c.build_over.ensures.dirs;
-      zeros = if_ok_more c.build_over.result (λ built h sound. h map.empty c.args.entries (no_kept (kept_ids c.new-kept.result) none c.args.entries sound)) c.build_over.ensures.zeros;
+      zeros = if_ok_more c.build_over.result (λ built h sound. h no_objects c.args.entries (no_kept (kept_ids c.new-kept.result) none c.args.entries sound)) c.build_over.ensures.zeros;
       stays = c.build_over.ensures.stays;
-      taken = λ id e sound. c.build_over.ensures.taken id e map.empty c.args.entries (no_kept (kept_ids c.new-kept.result) none c.args.entries sound);
+      taken = λ id e sound. c.build_over.ensures.taken id e no_objects c.args.entries (no_kept (kept_ids c.new-kept.result) none c.args.entries sound);
       cause = c.build_over.ensures.cause;
     }

@@ -10,7 +10,7 @@ use Rattle.fs_objects.specs.Directory.{names_of}
 use Rattle.fs_objects.specs.declared.dirent.Dirent.{Dirent}
 use Rattle.object_graph.specs.Objects.{entry_named}
 use Rattle.tree_merge.specs.Sides.{Entries}
-use Rattle.tree_merge.specs.TreeBuilding.{IsRefusedList, IsShownPart, Lists, held_at, kept_ids}
+use Rattle.tree_merge.specs.TreeBuilding.{Given, IsRefusedList, IsShownPart, Lists, held_at, kept_ids}
 use Rattle.object_graph.specs.declared.entry.Entry.{Entry}
 use Rattle.tree_merge.proofs.TableLemmas.{get-popped, popped_len, above_popped, below_popped, gone_too}
 use Rattle.tree_merge.proofs.DirentLemmas.{distinct_none}
@@ -87,7 +87,7 @@ top_lists : (made : Objects) (root : List ℕ) (held : map.FinMap path_cmp (List
     → Lists made root (held_at got) → Lists made root (held_at (map.get held []))
 top_lists made root held top got is told lists = subst (λ (o : Option (List Dirent)). Lists made root (held_at o)) (told ∙ ap (map.get held) is) lists
 
-part_here : (stored : Objects) (kept : PathV → Option (List ℕ)) (whole old new : Entries) → new ≡ map.remove old [] → IsShownPart stored kept whole old → IsShownPart stored kept whole new
+part_here : (stored : Given) (kept : PathV → Option (List ℕ)) (whole old new : Entries) → new ≡ map.remove old [] → IsShownPart stored kept whole old → IsShownPart stored kept whole new
 part_here stored kept whole old new is part = part_same stored kept whole old new (without_root old new is part.nodes.no_root) part
 
 pub returns-in-Ok-make_directory-clause-value : goal.returns-in-Ok-make_directory-clause-value
