@@ -1,7 +1,80 @@
 //! What a folder's shelf does on the disk.
+use crate::library::slot_of;
 use crate::scratch::{clear, made, scratch};
 use folder_storage::{FileSystem, FolderShelf};
+use ids::{Kind, ObjId};
+use object_store::{Found, Shelf};
+use std::alloc::{AllocError, Global};
 use std::test::Fail;
+
+/// How many blocks are put: some twelve in each of the 256 folders that are listed one by one.
+const BLOCKS: u64 = 3_000;
+
+/// Puts a block under the name of the text of its number. The answer is whether that was done.
+fn put_block<S: Shelf>(alloc: Global, shelf: &mut S, number: u64) -> Result<bool, AllocError> {
+    let text = format!(in alloc; "{number}")?;
+    let slot = slot_of(Kind::Block, text.as_str());
+    Ok(shelf.put(slot, text.as_bytes()).is_ok())
+}
+
+/// Puts all of them.
+fn put_blocks<S: Shelf>(alloc: Global, shelf: &mut S) -> Result<bool, AllocError> {
+    for number in 0..BLOCKS {
+        if !put_block(alloc, shelf, number)? {
+            return Ok(false);
+        }
+    }
+    Ok(true)
+}
+
+/// The next block above an id.
+fn next_block<S: Shelf>(shelf: &mut S, after: &Option<ObjId>) -> Option<Found> {
+    match shelf.next(Kind::Block, *after) {
+        Ok(found) => found,
+        Err(_) => None,
+    }
+}
+
+/// Whether an id is above another, if there is one.
+fn is_above(id: &ObjId, after: &Option<ObjId>) -> bool {
+    match after {
+        Some(after) => *after < *id,
+        None => true,
+    }
+}
+
+/// How many blocks are told, each above the one before, and the sum of their sizes.
+fn told_blocks<S: Shelf>(shelf: &mut S) -> (u64, u64) {
+    let mut last = None;
+    let mut count = 0u64;
+    let mut bytes = 0u64;
+    for _ in 0..100_000u64 {
+        let found = match next_block(shelf, &last) {
+            Some(found) => found,
+            None => break,
+        };
+        if !is_above(&found.id, &last) {
+            break;
+        }
+        count = count.saturating_add(1);
+        bytes = bytes.saturating_add(found.size);
+        last = Some(found.id);
+    }
+    (count, bytes)
+}
+
+/// Whether all are told, with the 10,890 bytes of their texts.
+fn tells_each_once(rt: &HostRuntime, folder: &str) -> Result<bool, Fail> {
+    let mut shelf = made(rt, folder)?;
+    Ok(put_blocks(rt.alloc(), &mut shelf)? && told_blocks(&mut shelf) == (BLOCKS, 10_890))
+}
+
+#[test]
+fn thousands_of_blocks_are_told_once_each(rt: HostRuntime) -> Result<(), Fail> {
+    let folder = scratch(&rt, "thousands")?;
+    assert!(rt; tells_each_once(&rt, folder.as_str())?);
+    Ok(clear(&rt, folder.as_str())?)
+}
 
 /// What takes every write, and no sync.
 const NEVER_DURABLE: &str = "/dev/null";

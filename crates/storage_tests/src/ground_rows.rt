@@ -8,33 +8,33 @@ use std::fs;
 use std::test::Fail;
 
 /// Whether a library that is out is not made, and not found either.
-fn is_out<G: Ground>(libraries: &mut G) -> bool
+fn is_out<G: Ground>(libraries: &mut G, folder: &str) -> bool
 where
     G::S: Drop,
 {
-    is_absent(libraries.make("F", lib())) && is_fault(libraries.find("F", lib()))
+    is_absent(libraries.make(folder, lib())) && is_fault(libraries.find(folder, lib()))
 }
 
 /// Makes the library and puts its state text. The answer is whether that was done, and it was out then.
-fn is_made<G: Ground>(libraries: &mut G) -> Result<bool, Fail>
+fn is_made<G: Ground>(libraries: &mut G, folder: &str) -> Result<bool, Fail>
 where
     G::S: Drop,
 {
-    let mut shelf = there(libraries.make("F", lib()))?;
+    let mut shelf = there(libraries.make(folder, lib()))?;
     let is_put = shelf.put(Slot::Status, b"state").is_ok();
-    let was_out = is_out(libraries);
-    libraries.give_back("F", lib(), shelf);
+    let was_out = is_out(libraries, folder);
+    libraries.give_back(folder, lib(), shelf);
     Ok(is_put && was_out)
 }
 
 /// Whether the library is found as it was given back.
-fn is_found_again<G: Ground>(libraries: &mut G) -> Result<bool, Fail>
+fn is_found_again<G: Ground>(libraries: &mut G, folder: &str) -> Result<bool, Fail>
 where
     G::S: Drop,
 {
-    let mut shelf = there(libraries.find("F", lib()))?;
+    let mut shelf = there(libraries.find(folder, lib()))?;
     let is_same = holds(&mut shelf, &Slot::Status, b"state");
-    libraries.give_back("F", lib(), shelf);
+    libraries.give_back(folder, lib(), shelf);
     Ok(is_same)
 }
 
@@ -47,25 +47,41 @@ where
 }
 
 /// Whether there is no such library, and one can be had once it was made.
-fn keeps_libraries<G: Ground>(libraries: &mut G) -> Result<bool, Fail>
+fn keeps_libraries<G: Ground>(libraries: &mut G, folder: &str) -> Result<bool, Fail>
 where
     G::S: Drop,
 {
     Ok(
-        lacks(libraries, "F", lib())
-            && is_made(libraries)?
-            && is_absent(libraries.make("F", lib()))
-            && is_found_again(libraries)?
-            && lacks(libraries, "F", LibId::from_bytes([0; 16]))
-            && libraries.faults() == 1
-            && lacks(libraries, "G", lib()),
+        lacks(libraries, folder, lib())
+            && is_made(libraries, folder)?
+            && is_absent(libraries.make(folder, lib()))
+            && is_found_again(libraries, folder)?
+            && lacks(libraries, folder, LibId::from_bytes([0; 16]))
+            && libraries.faults() == 1,
     )
+}
+
+/// Whether libraries in memory are kept so, each in its folder alone.
+fn memory_keeps(libraries: &mut MemoryGround) -> Result<bool, Fail> {
+    Ok(keeps_libraries(libraries, "F")? && lacks(libraries, "G", lib()))
 }
 
 #[test]
 fn memory_keeps_libraries(rt: HostRuntime) -> Result<(), Fail> {
-    assert!(rt; keeps_libraries(&mut MemoryGround::new(rt.alloc()))?);
+    assert!(rt; memory_keeps(&mut MemoryGround::new(rt.alloc()))?);
     Ok(())
+}
+
+/// Whether libraries in a folder are kept so.
+fn folder_keeps(rt: &HostRuntime, folder: &str) -> Result<bool, Fail> {
+    keeps_libraries(&mut ground(rt)?, folder)
+}
+
+#[test]
+fn a_folder_keeps_libraries(rt: HostRuntime) -> Result<(), Fail> {
+    let folder = scratch(&rt, "keeps")?;
+    assert!(rt; folder_keeps(&rt, folder.as_str())?);
+    Ok(clear(&rt, folder.as_str())?)
 }
 
 /// The ground of these rows.
@@ -132,4 +148,43 @@ fn refuses_no_name(libraries: &mut Libraries) -> bool {
 fn a_folder_without_a_name_is_a_fault(rt: HostRuntime) -> Result<(), Fail> {
     assert!(rt; refuses_no_name(&mut ground(&rt)?));
     Ok(())
+}
+
+/// Whether a library that is out is a fault for a second ground, made or found, counted twice, and stays as it is.
+fn is_refused<S: Shelf>(second: &mut Libraries, shelf: &mut S, folder: &str) -> bool {
+    is_fault(second.make(folder, lib()))
+        && shelf.put(Slot::Status, b"state").is_ok()
+        && is_fault(second.find(folder, lib()))
+        && holds(shelf, &Slot::Status, b"state")
+        && second.faults() == 2
+}
+
+/// Whether that is so while the first has the library, which is then given back.
+fn is_had_by_one(
+    first: &mut Libraries,
+    second: &mut Libraries,
+    folder: &str,
+) -> Result<bool, Fail> {
+    let mut shelf = there(first.make(folder, lib()))?;
+    let is_refused = is_refused(second, &mut shelf, folder);
+    first.give_back(folder, lib(), shelf);
+    Ok(is_refused)
+}
+
+/// Whether the second then finds it, and the first has counted no fault.
+fn is_handed_on(rt: &HostRuntime, folder: &str) -> Result<bool, Fail> {
+    let mut first = ground(rt)?;
+    let mut second = ground(rt)?;
+    Ok(
+        is_had_by_one(&mut first, &mut second, folder)?
+            && is_found_again(&mut second, folder)?
+            && first.faults() == 0,
+    )
+}
+
+#[test]
+fn a_library_that_another_has_is_a_fault_and_stays(rt: HostRuntime) -> Result<(), Fail> {
+    let folder = scratch(&rt, "lock")?;
+    assert!(rt; is_handed_on(&rt, folder.as_str())?);
+    Ok(clear(&rt, folder.as_str())?)
 }
