@@ -1,8 +1,32 @@
-//! The name of a conflict copy whose number no library reaches, with ample memory.
-use conflict_names::{ConflictFault, conflict_name};
+//! Where extensions begin, and the name of a conflict copy whose number no library reaches; with ample memory.
+use conflict_names::{ConflictFault, conflict_name, ext_at};
 use ids::Text;
 use std::alloc::Global;
 use tree_model::{Name, NameFault};
+
+/// Whether the extension of a name begins at this place.
+fn has_extension_at(alloc: Global, text: &str, place: u64) -> Result<bool, NameFault> {
+    let name = Name::read(alloc, text)?;
+    Ok(ext_at(&name) == place)
+}
+
+/// A name, and where its extension begins.
+const EXTENSIONS: [(&str, u64); 6] = [
+    ("a.b.c", 3),
+    (".rc", 3),
+    ("a", 1),
+    ("..rc", 1),
+    ("a.", 1),
+    ("\u{1f600}.png", 4),
+];
+
+#[test]
+fn an_extension_begins_at_the_last_dot_past_place_0(rt: HostRuntime) -> Result<(), NameFault> {
+    for (name, place) in EXTENSIONS {
+        assert!(rt; has_extension_at(rt.alloc(), name, place)?, "{name}");
+    }
+    Ok(())
+}
 
 fn is_made(made: &Result<Name, ConflictFault>, wanted: &str) -> bool {
     match made {

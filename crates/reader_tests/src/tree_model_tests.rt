@@ -252,3 +252,19 @@ fn a_table_gives_its_first_and_its_last(rt: HostRuntime) -> Result<(), NameFault
     assert!(rt; gives_all(&mut table));
     Ok(())
 }
+
+/// Whether a table of two entries gives 3 at `a` first, and keeps 2 at `a-b`.
+fn gives_first_of_two(table: &mut PathTable<u64>) -> bool {
+    table.pop_last().is_some()
+        && table.len() == 2
+        && is_at(&table.pop_first(), "a", 3)
+        && table.len() == 1
+        && is_at(&table.pop_last(), "a-b", 2)
+}
+
+#[test]
+fn a_table_of_two_gives_its_first_and_keeps_the_other(rt: HostRuntime) -> Result<(), NameFault> {
+    let mut table = filled(rt.alloc())?;
+    assert!(rt; gives_first_of_two(&mut table));
+    Ok(())
+}
