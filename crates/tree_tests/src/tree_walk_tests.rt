@@ -1,9 +1,9 @@
 //! The limits of a traversal that no update makes, and the bytes of a file; each public call once with ample memory.
 use ids::{Bytes, Items, Key, Kind, ObjId};
-use object_store::{MemoryShelf, Store};
+use object_store::{MemoryShelf, Shelf, Store};
 use std::alloc::{AllocError, Global};
 use std::test::Fail;
-use tree_walk::{WalkFault, file_bytes, needs, tree};
+use tree_walk::{Known, WalkFault, extent_at, file_bytes, laws, needs, tree};
 
 type Shelved = Store<MemoryShelf>;
 
@@ -31,7 +31,7 @@ const CUT: &str =
     "{\"block_ids\":[\"da23614e02469a0d7c7bd1bdab5c9c474b1904dc\",\"84a516841ba77a5b4648de2cd0dfcb30ea46dbb4\"],\"size\":3,\"type\":1,\"version\":1}";
 
 /// An empty store.
-fn empty(alloc: Global) -> Result<Shelved, Fail> {
+pub(crate) fn empty(alloc: Global) -> Result<Shelved, Fail> {
     match Store::start(alloc, MemoryShelf::new(alloc, Items::new(alloc))) {
         Ok(store) => Ok(store),
         Err(_) => Err(Fail::from("start")),
@@ -39,7 +39,12 @@ fn empty(alloc: Global) -> Result<Shelved, Fail> {
 }
 
 /// Puts an object under a name, and gives it.
-fn put_as(store: &mut Shelved, kind: Kind, id: ObjId, text: &str) -> Result<ObjId, Fail> {
+pub(crate) fn put_as(
+    store: &mut Shelved,
+    kind: Kind,
+    id: ObjId,
+    text: &str,
+) -> Result<ObjId, Fail> {
     let id = &id;
     match store.put(Key { kind, id: *id }, text.as_bytes()) {
         Ok(_) => Ok(*id),
@@ -48,7 +53,7 @@ fn put_as(store: &mut Shelved, kind: Kind, id: ObjId, text: &str) -> Result<ObjI
 }
 
 /// Puts an object under the name of its text.
-fn put(store: &mut Shelved, kind: Kind, text: &str) -> Result<ObjId, Fail> {
+pub(crate) fn put(store: &mut Shelved, kind: Kind, text: &str) -> Result<ObjId, Fail> {
     put_as(store, kind, ObjId::of(text.as_bytes()), text)
 }
 
@@ -192,5 +197,33 @@ fn is_joined(alloc: Global, store: &mut Shelved) -> Result<bool, Fail> {
 fn the_bytes_of_a_file_are_those_of_its_blocks_in_order(rt: HostRuntime) -> Result<(), Fail> {
     let mut store = blocks(rt.alloc())?;
     assert!(rt; is_joined(rt.alloc(), &mut store)?);
+    Ok(())
+}
+
+/// Whether a root is found whole in one store and, once that is forgotten, not in the other.
+fn is_read_again<S: Shelf>(
+    alloc: Global,
+    full: &mut Store<S>,
+    other: &mut Store<S>,
+    root: ObjId,
+) -> bool {
+    laws::what_is_known_is_right_at_first();
+    let mut known = Known::new(alloc);
+    let is_found = extent_at(alloc, full, &mut known, root).is_ok();
+    known.forget();
+    is_found && extent_at(alloc, other, &mut known, root).is_err()
+}
+
+/// The same of a directory that the other store lacks.
+fn is_forgotten(alloc: Global) -> Result<bool, Fail> {
+    let mut full = empty(alloc)?;
+    let mut other = empty(alloc)?;
+    let root = put_directory(alloc, &mut full, LEVEL_HEAD, &ObjId::NIL, LEVEL_TAIL)?;
+    Ok(is_read_again(alloc, &mut full, &mut other, root))
+}
+
+#[test]
+fn what_is_forgotten_is_read_again(rt: HostRuntime) -> Result<(), Fail> {
+    assert!(rt; is_forgotten(rt.alloc())?);
     Ok(())
 }
