@@ -30,19 +30,19 @@ ends_in_cut cuts chunk = (nat_le cuts.min (length chunk) && (window_hash (window
 abbrev pub HasNoCutBefore : Cuts → List ℕ → ℕ → Type 0
 HasNoCutBefore cuts bytes n = (k : ℕ) → 0 < k → k < n → ends_in_cut cuts (take k bytes) ≡ false
 
--- the shortest beginning of what is left that ends in a cut
+-- a chunk that goes to a cut, and has none before
 pub record IsNextChunk (cuts : Cuts) (chunk : List ℕ) : Type 0 where
   pub some : chunk ≢ []
   pub ends : ends_in_cut cuts chunk ≡ true
   pub shortest : HasNoCutBefore cuts chunk (length chunk)
 
--- what is left without a cut, if anything is
+-- a last chunk: some bytes, and no cut in them
 pub record IsLastChunk (cuts : Cuts) (bytes : List ℕ) : Type 0 where
   pub some : bytes ≢ []
   pub uncut : HasNoCutBefore cuts bytes (length bytes + 1)
 
--- These bytes have these chunks: each one the shortest beginning of what is left that ends in a cut, and
--- what is left without a cut the last one
+-- The chunks of some bytes. Cut after cut: a chunk goes to the first place after its start that is a cut, where there is one;
+-- else it goes to the end
 pub data AreChunks (cuts : Cuts) : List ℕ → List (List ℕ) → Type 0 where
   none : AreChunks cuts [] []
   last : (bytes : List ℕ) → IsLastChunk cuts bytes → AreChunks cuts bytes (bytes ∷ [])

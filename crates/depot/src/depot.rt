@@ -13,9 +13,9 @@ use tree_walk::Known;
 /// A library that is kept: its objects in a store, and the rest of its state, of which the shelf's status slot holds the
 /// text. Where the shelf tells its contents, contracts see the state of a library (`state_of`), which is always sound.
 ///
-/// Objects are put before the text that names them. A write of the text that fails leaves the depot unsettled: the slot
-/// holds the present state or the one that the refused call would have made, and the present one is written again before
-/// any other text.
+/// Objects are put before the text that names them. Where a write of the text fails, the slot has the present state's text
+/// or that of the state that the refused call was to make. The depot is unsettled then: before it writes another text it
+/// writes the present one anew.
 ///
 /// It keeps which directories and files it found whole, so that the check of a pushed commit reads what wasn't found whole
 /// before, and a merge counts by them what it doesn't open. No clause says how much is read: what is kept is no part of what

@@ -15,7 +15,7 @@ pub record IsOf (form : Form) (text : List ℕ) : Type 0 where
 abbrev pub Begins : Form → List ℕ → Type 0
 Begins form text = (rest : List ℕ) × IsOf form (text ++ rest)
 
--- n is the length of the longest prefix of the text that begins some text of the form
+-- how far the text can be gone on to one of the form: n characters, and not more
 pub record IsLongestBeginning (form : Form) (text : List ℕ) (n : ℕ) : Type 0 where
   pub within : n ≤ length text
   pub begins : Begins form (take n text)

@@ -1,4 +1,3 @@
-pub mod ChoiceLemmas
 pub mod SoundEntryLemmas
 pub mod BuiltSoFarLemmas
 pub mod BuildingLemmas

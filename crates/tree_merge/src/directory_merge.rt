@@ -1,4 +1,4 @@
-//! The merge of three directories together with what lies below them: at each moment the entries of one directory a level are held.
+//! The merge of three directories together with what lies below them: at each moment three directories' entries a level are held.
 ghost use Rattle.std.specs.Prelude.{◌≡◌, ◌++◌, OnOk, Some};
 ghost use Rattle.ids.specs.Key.{Objects};
 ghost use Rattle.object_store.specs.StoreView.{objects_of};

@@ -51,9 +51,9 @@ pub enum MergeFault {
 
 /// Merges two trees over their base, by the table of docs/MERGE.md. The three roots are complete.
 ///
-/// It opens only what differs, counts by what is known what it doesn't open, and adds to what is known, also where it is
-/// refused. It puts nothing into the store: the objects that the merged tree needs in addition are given back. Want of memory
-/// may come in the place of each answer.
+/// Below the three roots it opens only what differs. What it doesn't open it counts by what is known, and it adds to what
+/// is known, also where it is refused. It puts nothing into the store: the objects that the merged tree needs in addition
+/// are given back. Want of memory may come in the place of each answer.
 pub fn merge<S: Shelf>(
     alloc: Global,
     store: &mut Store<S>,

@@ -52,7 +52,7 @@ impl From<AllocError> for NameFault {
     }
 }
 
-/// A name of a file or a directory: 1 to 255 bytes of UTF-8 without `/` and NUL, other than `.` and `..`.
+/// What a file or a directory is called: UTF-8 of 1 to 255 bytes, in which there is no `/` and no NUL. It isn't `.` or `..`.
 ///
 /// Contracts see it as its bytes, and every value is a good name. Names are ordered by their bytes.
 /// Our own limits; they are those of common file systems.
