@@ -7,3 +7,5 @@
 mod folder_side_tests;
 #[cfg(test)]
 mod local_index_tests;
+#[cfg(test)]
+mod memory_folder_tests;
