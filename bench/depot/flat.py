@@ -1,16 +1,18 @@
 """Is the cost of an update flat in the size of its library, and that of a start in its kept commits?
 
 flat.py SERVER FOLDER updates FILES [ROUNDS]
-    A library of FILES files in directories of 100 entries: a greater one is deeper, and no directory is longer. One file
+    A library of FILES files in directories of WIDE entries, 100 if that is left out: a greater one is deeper, and no directory is longer. One file
     changes, by an update that goes on from the head (`forward`); then head and pushed commit change one file each, of one
     directory (`merged near`) and of two (`merged far`). Of each update alone: the server's processor time, and how far its
     memory rose above what it held before. Beside it the objects that such an update touches are read, hashed and parsed
     by Python's SHA-1 and JSON (both compiled), each from a file of its own, and given once by the server itself (pack-fs
     and the commits: read and hashed).
-flat.py SERVER FOLDER starts FILES COMMITS
+flat.py SERVER FOLDER starts FILES COMMITS [same]
     The processor time of a start over that library with so many kept commits of one changed file each, beside a start
-    over one kept commit with the last tree, and over an empty library.
-The files have 1,000 contents, or as many as CONTENTS says. With its directories a tree has at most 1,000,000 paths.
+    over one kept commit with the last tree, and over an empty library. With `same` no commit but the first changes a file.
+    Beside both all files, directories and commits of the library are read, hashed and parsed once by Python.
+The files have 1,000 contents, or as many as CONTENTS says; WIDE=10 makes directories of ten entries. With its directories a
+tree has at most 1,000,000 paths.
 
 What an update touches: the commits, and the directories above each file that changed, with that file, in each tree of
 those: head and pushed, and where it is merged, the base and what was made. FOLDER in memory (/dev/shm) spares the disk.
@@ -32,7 +34,7 @@ from pipe_client import (Connection, command, commit_object, directory_entry, di
 
 pipe_client.REPLY_SECONDS = 3600
 TOKEN = "a" * 40
-WIDE, CONTENTS, MOMENT = 100, int(os.environ.get("CONTENTS", "1000")), 1_700_000_000
+WIDE, CONTENTS, MOMENT = int(os.environ.get("WIDE", "100")), int(os.environ.get("CONTENTS", "1000")), 1_700_000_000
 
 
 def spent(connection):
@@ -69,21 +71,27 @@ class Tree:
         return other
 
     def place(self, number):
-        """The place of a file, whichever the number: places of numbers that follow one another lie far apart."""
-        digits = [(number * 37 + 11) % WIDE]
-        for _ in range(self.depth - 2):
-            digits.append((number * 53 + 7) % WIDE)
-        return (number % self.top, *digits)
+        """The place of a file, whichever the number. Places of numbers that follow one another lie in two directories of the
+        root, and those of numbers below the count of files are distinct."""
+        digits, left = [number % self.top], number // self.top
+        for _ in range(self.depth - 1):
+            digits.append((left + 37 * digits[0]) % WIDE)
+            left //= WIDE
+        return tuple(digits)
+
+    def number(self, place):
+        number = 0
+        for digit in place:
+            number = number * WIDE + digit
+        return number
 
     def content(self, place):
-        mark = 0
-        for digit in place:
-            mark = mark * WIDE + digit
-        return self.changed.get(place, b"content %d" % (mark % CONTENTS))
+        return self.changed.get(place, b"content %d" % (self.number(place) % CONTENTS))
 
     def entry(self, place):
+        """The entry of a file. No two have one time, so that no two directories are one object."""
         data = self.content(place)
-        return file_entry(f"f{place[-1]:02}", name_of(file_object([name_of(data)], len(data))), len(data), MOMENT + place[-1])
+        return file_entry(f"f{place[-1]:02}", name_of(file_object([name_of(data)], len(data))), len(data), MOMENT + self.number(place))
 
     def directory(self, place=()):
         """The name of the directory at a place, and where it was not known it is made with what is below it."""
@@ -270,13 +278,31 @@ def start(server, folder, library):
     return least
 
 
-def starts(server, folder, count, commits):
+def counted(folder, library):
+    """The files, directories and commits of a library: (how many, bytes, what reading, hashing and parsing all of them once
+    takes by Python)."""
+    paths = [os.path.join(above, name) for kind in ("fs", "commits")
+             for above, _, names in os.walk(f"{folder}/{library.library}/{kind}") for name in names]
+    began, size = time.process_time(), 0
+    for path in paths:
+        with open(path, "rb") as file:
+            text = file.read()
+        size += len(text)
+        hashlib.sha1(text).hexdigest()
+        json.loads(text)
+    return len(paths), size, time.process_time() - began
+
+
+def starts(server, folder, count, commits, is_same):
     library = Library(server, folder, 1, Tree(count))
     library.first()
     for number in range(commits - 1):
         if number % 2000 == 1999:
             library.open()
-        forward(library, number)
+        if is_same:
+            library.push(library.tree)
+        else:
+            forward(library, number)
     last = library.tree
     library.connection.end()
     whole = Tree(count)
@@ -285,16 +311,23 @@ def starts(server, folder, count, commits):
     alone = Library(server, folder, 2, whole)
     for data in whole.changed.values():
         alone.connection.put_block(data)
+    alone.open()
     alone.first()
     alone.connection.end()
     empty = Library(server, folder, 3, Tree(count))
     empty.connection.end()
+    # (objects that are younger than the state text by less than file times may be off are looked at again)
+    time.sleep(11)
     many, one, none = (start(server, folder, one.library) for one in (library, alone, empty))
-    print(f"start over {count} files: {commits} kept commits {many * 1e3:.1f} ms of CPU, the last tree alone {one * 1e3:.1f} ms, "
-          f"an empty library {none * 1e3:.1f} ms; ratio {many / one:.2f}")
+    (objects, size, long), (fewer, less, short) = (counted(folder, one) for one in (library, alone))
+    print(f"start over {count} files in directories of {WIDE}, of {CONTENTS} contents: {commits} kept commits"
+          f"{' of one tree' if is_same else ''} {many * 1e3:.1f} ms of CPU, the last tree alone {one * 1e3:.1f} ms, an empty library "
+          f"{none * 1e3:.1f} ms; ratio {many / one:.2f}. {objects} objects of {size} bytes, {fewer} of {less}: by Python {long * 1e3:.0f} "
+          f"and {short * 1e3:.0f} ms (ratio {long / short:.2f})", flush=True)
 
 
-if sys.argv[3] == "updates":
-    updates(sys.argv[1], sys.argv[2], int(sys.argv[4]), int(sys.argv[5]) if len(sys.argv) > 5 else 5)
-else:
-    starts(sys.argv[1], sys.argv[2], int(sys.argv[4]), int(sys.argv[5]))
+if __name__ == "__main__":
+    if sys.argv[3] == "updates":
+        updates(sys.argv[1], sys.argv[2], int(sys.argv[4]), int(sys.argv[5]) if len(sys.argv) > 5 else 5)
+    else:
+        starts(sys.argv[1], sys.argv[2], int(sys.argv[4]), int(sys.argv[5]), sys.argv[6:] == ["same"])
