@@ -2,6 +2,7 @@ pub mod AskedLemmas
 pub mod BlankLemmas
 pub mod CallLemmas
 pub mod EachLemmas
+pub mod HeldInputLemmas
 pub mod LookLemmas
 pub mod ReadingLemmas
 pub mod RequestLemmas

@@ -1,3 +1,4 @@
 pub mod Calls
 pub mod ServedConnection
+pub mod HeldInput
 pub mod RequestSteps

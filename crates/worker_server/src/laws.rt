@@ -1,10 +1,12 @@
 //! What holds of every served connection: theorems on the definitions, with no code.
-ghost use Rattle.std.specs.Prelude.{◌≡◌, ◌≤◌, List};
+ghost use Rattle.std.specs.Prelude.{◌≡◌, ◌≤◌, ℕ, List};
 ghost use Rattle.http_front.specs.declared.outcome.Outcome.TheVariants.{Packed};
+ghost use Rattle.http_front.specs.Link.{LinkTells};
 ghost use Rattle.http_front.specs.Rows.{FitRows};
 ghost use Rattle.http_front.specs.declared.row.Row.{Row};
 ghost use Rattle.worker_server.specs.Calls.{most_packed, packed_size, rules_at};
-ghost use Rattle.worker_server.specs.ServedConnection.{Answers, Exchange, request_limit};
+ghost use Rattle.worker_server.specs.HeldInput.{NeverHoldsMore};
+ghost use Rattle.worker_server.specs.ServedConnection.{Answers, Exchange, NeverWaits, request_limit};
 
 use crate::host::Host;
 
@@ -23,4 +25,12 @@ pub fn a_packed_reply_has_a_bound<H: Host>()
 /// So each of them is short enough for a reply to tell its length.
 pub fn what_one_reply_packs_has_a_text()
     ensures { (rows : List Row) → packed_size rows ≤ most_packed → FitRows rows }
+{}
+
+/// What a connection holds unread, beyond the requests whose replies were given by then, has fewer bytes than the longest head
+/// and the longest body each time that more is asked for, and fewer than these and one piece at any time, so also as a reply
+/// goes out.
+pub fn what_is_held_unread_has_a_bound<H: Host>()
+    ensures { (input : List ℕ) (exchanges : List (Exchange H.Operation)) (old new : LinkTells) → NeverWaits input exchanges old new
+        → NeverHoldsMore input exchanges old new }
 {}
