@@ -18,6 +18,7 @@ use Rattle.http_front.specs.declared.order.What.{What}
 use Rattle.http_front.specs.declared.order.What.TheVariants as what
 use Rattle.http_front.specs.declared.route.Route.{Route}
 use Rattle.http_front.specs.declared.route.Route.TheVariants as route
+use Rattle.http_client.specs.declared.conditions.TheConstants.{MAX_HOST}
 
 -- the call that asks which ids of a kind name nothing. Commits have none
 abbrev pub missing_route : List ℕ → Kind → Route
@@ -131,5 +132,5 @@ is_host_byte byte = is_ascii_alphanumeric byte || (byte == 46) || (byte == 45)
 -- the name of a host, as a client shows it
 pub record IsHost (host : List ℕ) : Type 0 where
   pub some : 1 ≤ length host
-  pub short : length host ≤ 255
+  pub short : length host ≤ MAX_HOST
   pub allowed : All (λ byte. IsTrue (is_host_byte byte)) host

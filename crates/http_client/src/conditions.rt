@@ -14,6 +14,9 @@ ghost use Rattle.http_client.specs.RequestText.{HasRequest, IsHost, IsWithinLimi
 use http_front::{Order, Row, What};
 use ids::{Kind, ObjId, Text};
 
+/// The most bytes of a host's name. Our own; it is the limit of domain names (RFC 1035).
+pub(crate) const MAX_HOST: usize = 255;
+
 /// Whether the order has a request. It names a library just where it doesn't ask for the version; files and directories
 /// are named by rows and lists alone; and which commits are absent is not asked.
 pub fn has_request(order: &Order) -> bool
@@ -88,7 +91,7 @@ pub fn is_host(host: &Text) -> bool
     if size == 0 {
         return false;
     }
-    if size > 255 {
+    if size > MAX_HOST {
         return false;
     }
     are_host_bytes(bytes)

@@ -7,5 +7,5 @@ returns c =
     let some = c.if-size-eq0.false in
     record {
       value = host_is c.args.host.now c.as_bytes-bytes.result.now c.are_host_bytes.result c.as_bytes-bytes.ensures.value (omega (arith, some))
-          c.if-size-gt255.false c.are_host_bytes.ensures.value;
+          c.if-size-gt-MAX_HOST.false c.are_host_bytes.ensures.value;
     }
