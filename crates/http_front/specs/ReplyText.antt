@@ -31,8 +31,9 @@ end_of_line = 13 ∷ 10 ∷ []
 unfoldable pub line : List ℕ → List ℕ → List ℕ
 line name value = name ++ value ++ end_of_line
 
-abbrev pub type_line : List ℕ → List ℕ → List ℕ
-type_line content_type body = if length body == 0 then [] else line (codes "Content-Type: ") content_type
+-- the type of a body of so many bytes
+abbrev pub type_line : List ℕ → ℕ → List ℕ
+type_line content_type size = if size == 0 then [] else line (codes "Content-Type: ") content_type
 
 abbrev pub length_line : Status → ℕ → List ℕ
 length_line NotModified size = []
@@ -45,11 +46,15 @@ tag_line (Some tag) = line (codes "ETag: ") (tag_text tag)
 abbrev pub close_line : Bool → List ℕ
 close_line closes = if closes then line (codes "Connection: ") (codes "close") else []
 
+-- what stands in front of a body of so many bytes, with the wish to close the connection after it
+unfoldable pub reply_front : Status → List ℕ → Option Tag → ℕ → Bool → List ℕ
+reply_front status content_type tag size closes =
+    line (codes "HTTP/1.1 ") (status_words status) ++ type_line content_type size ++ length_line status size ++ tag_line tag ++ close_line closes
+    ++ end_of_line
+
 -- the bytes of a reply's parts, and of the wish to close the connection after it
 unfoldable pub written : Parts → Bool → List ℕ
-written parts closes =
-    line (codes "HTTP/1.1 ") (status_words parts.status) ++ type_line parts.content_type parts.body ++ length_line parts.status (length parts.body)
-    ++ tag_line parts.tag ++ close_line closes ++ end_of_line ++ parts.body
+written parts closes = reply_front parts.status parts.content_type parts.tag (length parts.body) closes ++ parts.body
 
 abbrev pub parts_by : Status → List ℕ → Option Tag → List ℕ → Parts
 parts_by status content_type tag body = record { status = status; content_type = content_type; tag = tag; body = body }

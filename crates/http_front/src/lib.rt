@@ -2,7 +2,7 @@
 //! for, and the bytes of each reply.
 //!
 //! Shown upward: `Link`, `Sink` and their kinds in memory; `next_head`, `order_of`, `order_of_own`; `reply_bytes`,
-//! `interim_bytes`, `bad_bytes`; and laws.rt. It answers no call itself.
+//! `reply_own`, `interim_bytes`, `bad_bytes`; and laws.rt. It answers no call itself.
 #![tactic(auto)]
 
 mod buffer;
@@ -17,6 +17,7 @@ mod link;
 mod memory_link;
 mod memory_sink;
 mod method;
+mod object_reply;
 mod order;
 mod outcome;
 mod query;
@@ -42,6 +43,7 @@ pub use link::{Link, LinkFailed, Sink};
 pub use memory_link::MemoryLink;
 pub use memory_sink::MemorySink;
 pub use method::Method;
+pub use object_reply::{ReplyBytes, reply_own};
 pub use order::{Order, OrderFault, What, order_of, order_of_own};
 pub use outcome::Outcome;
 pub use refusal_text::refused_status;

@@ -1,9 +1,9 @@
 //! The bytes of replies.
-ghost use Rattle.std.specs.Prelude.{◌≡◌, ◌++◌, [], length, codes, decimal, true, Some, IfOk, OnOk, IsTrue};
+ghost use Rattle.std.specs.Prelude.{◌≡◌, ◌++◌, [], codes, decimal, true, None, Some, IfOk, OnOk, IsTrue};
 ghost use Rattle.http_front.specs.EntityTag.{tag_text};
 ghost use Rattle.http_front.specs.IdArray.{array_text};
 ghost use Rattle.http_front.specs.ReplyBody.{collected_body, head_body, version_body};
-ghost use Rattle.http_front.specs.ReplyText.{HasText, bad_body, bad_text, close_line, interim_text, is_bad_status, json_parts, length_line, line, octet_parts, parts_by, refused_parts, reply_parts, tag_line, text, type_line, written};
+ghost use Rattle.http_front.specs.ReplyText.{HasText, bad_body, bad_text, close_line, interim_text, is_bad_status, json_parts, length_line, line, octet_parts, parts_by, refused_parts, reply_front, reply_parts, tag_line, text, type_line, written};
 ghost use Rattle.http_front.specs.Rows.{FitRows, rows_text};
 
 use crate::id_array::array_bytes;
@@ -164,7 +164,8 @@ fn json_bytes(alloc: Global, status: Status, body: &[u8], closes: bool) -> Resul
     write_reply(alloc, status, b"application/json", None, body, closes)
 }
 
-fn octet_bytes(alloc: Global, body: &[u8], closes: bool) -> Result<Bytes, AllocError>
+/// The reply of an object of these bytes.
+pub(crate) fn octet_bytes(alloc: Global, body: &[u8], closes: bool) -> Result<Bytes, AllocError>
     ensures value { IfOk result (λ bytes. bytes ≡ written (octet_parts body.now) closes) }
 {
     write_reply(
@@ -191,14 +192,46 @@ fn write_reply(
         ≡ written (parts_by status content_type.now tag body.now) closes) }
 {
     let mut out = Vec::with_capacity(alloc, HEAD_ROOM.saturating_add(body.len()))?;
-    push_line(&mut out, b"HTTP/1.1 ", status_words(status))?;
-    push_type(&mut out, content_type, body)?;
-    push_length(&mut out, status, body.len())?;
-    push_tag(&mut out, tag)?;
-    push_close(&mut out, closes)?;
-    out.extend_from_slice(b"\r\n")?;
+    push_front(&mut out, status, content_type, tag, body.len(), closes)?;
     out.extend_from_slice(body)?;
     Ok(Bytes::from_vec(out))
+}
+
+/// What stands in front of an object of so many bytes.
+pub(crate) fn octet_front(alloc: Global, size: usize, closes: bool) -> Result<Bytes, AllocError>
+    ensures value { IfOk result (λ bytes. bytes ≡ reply_front Status.Success (codes "application/octet-stream") None size closes) }
+{
+    let mut out = Vec::with_capacity(alloc, HEAD_ROOM)?;
+    push_front(
+        &mut out,
+        Status::Success,
+        b"application/octet-stream",
+        None,
+        size,
+        closes,
+    )?;
+    Ok(Bytes::from_vec(out))
+}
+
+/// Appends what stands in front of a body of so many bytes.
+#[tactic(auto, unfolding(crate::specs::ReplyText::reply_front))]
+fn push_front(
+    out: &mut Vec<u8>,
+    status: Status,
+    content_type: &[u8],
+    tag: Option<Tag>,
+    size: usize,
+    closes: bool,
+) -> Result<(), AllocError>
+    ensures ok { OnOk result (out.new.items ≡ out.old.items ++ reply_front status content_type.now tag size closes) }
+{
+    push_line(out, b"HTTP/1.1 ", status_words(status))?;
+    push_type(out, content_type, size)?;
+    push_length(out, status, size)?;
+    push_tag(out, tag)?;
+    push_close(out, closes)?;
+    out.extend_from_slice(b"\r\n")?;
+    Ok(())
 }
 
 /// Appends a line. After an error some of it may stand there; so for every `push_` here.
@@ -213,10 +246,10 @@ fn push_line(out: &mut Vec<u8>, name: &[u8], value: &[u8]) -> Result<(), AllocEr
 }
 
 /// The field `Content-Type`, where there is a body.
-fn push_type(out: &mut Vec<u8>, content_type: &[u8], body: &[u8]) -> Result<(), AllocError>
-    ensures ok { OnOk result (out.new.items ≡ out.old.items ++ type_line content_type.now body.now) }
+fn push_type(out: &mut Vec<u8>, content_type: &[u8], size: usize) -> Result<(), AllocError>
+    ensures ok { OnOk result (out.new.items ≡ out.old.items ++ type_line content_type.now size) }
 {
-    if body.is_empty() {
+    if size == 0 {
         Ok(())
     } else {
         push_line(out, b"Content-Type: ", content_type)

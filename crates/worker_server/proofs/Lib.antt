@@ -3,6 +3,7 @@ pub mod BlankLemmas
 pub mod CallLemmas
 pub mod EachLemmas
 pub mod HeldInputLemmas
+pub mod GivingLemmas
 pub mod LookLemmas
 pub mod ReadingLemmas
 pub mod RequestLemmas

@@ -1,5 +1,5 @@
 //! Answering one request: its calls are asked of the host, and its reply is written.
-ghost use Rattle.std.specs.Prelude.{◌≡◌, ◌+◌, ◌≤◌, List, Some, length, drop, IfSome};
+ghost use Rattle.std.specs.Prelude.{◌≡◌, ◌+◌, ◌++◌, ◌≤◌, List, Some, length, drop, IfSome};
 ghost use Rattle.std.specs.List.{slice_range};
 ghost use Rattle.http_front.specs.Order.{IsOrder, OrdersAs};
 ghost use Rattle.http_front.specs.ReplyText.{text};
@@ -8,15 +8,15 @@ ghost use Rattle.worker_server.specs.Calls.{Serves, ServesOrder, outcome_without
 use crate::asking::{ask_one, get_each, put_each};
 use crate::host::Host;
 use http_front::{
-    Buffer, Head, Order, OrderFault, Outcome, What, order_of, order_of_own, reply_bytes,
+    Buffer, Head, Order, OrderFault, Outcome, ReplyBytes, What, order_of, order_of_own, reply_own,
 };
-use ids::{Bytes, LibId};
+use ids::LibId;
 use library_state::{Act, Refusal, Secret};
 use std::alloc::Global;
 
 /// Asks what the request with this head wants, which stands at the front of the buffer and is used, and makes the reply
-/// to it. It is None where there was no memory for the text of the outcome, nor for that of the refusal for want of
-/// memory.
+/// to it, of which a long object lies where the host gave it. It is None where there was no memory for the text of the
+/// outcome, nor for that of the refusal for want of memory.
 pub fn reply_to<H: Host>(
     alloc: Global,
     host: &H,
@@ -24,28 +24,28 @@ pub fn reply_to<H: Host>(
     head: &Head,
     buffer: &mut Buffer,
     closes: bool,
-) -> Option<Bytes>
+) -> Option<ReplyBytes>
     requires ready { H.ready host.now pass.old }
     requires fits { head.now.used + head.now.body ≤ length buffer.old }
     ensures ready { H.ready host.now pass.new }
     ensures serves { (outcome : Outcome) × (operations : List H.Operation)
         × Serves (rules_at (H.shows host.now) H.asks H.too_much) (H.view pass.old) (IsOrder head.now.method head.now.target head.now.token (slice_range buffer.old head.now.used (head.now.used + head.now.body))) outcome operations (H.view pass.new)
-        × IfSome result (λ bytes. bytes ≡ text outcome closes) }
+        × IfSome result (λ reply. reply.front ++ reply.object ≡ text outcome closes) }
     ensures left { buffer.new ≡ drop (head.now.used + head.now.body) buffer.old }
 {
     let outcome = outcome_of(alloc, host, pass, head, buffer);
-    match reply_bytes(alloc, &outcome, closes) {
-        Ok(bytes) => Some(bytes),
+    match reply_own(alloc, outcome, closes) {
+        Ok(reply) => Some(reply),
         Err(_) => refusal_for_memory(alloc, closes),
     }
 }
 
 /// The text of the refusal for want of memory, which is short.
-fn refusal_for_memory(alloc: Global, closes: bool) -> Option<Bytes>
-    ensures value { IfSome result (λ bytes. bytes ≡ text (Outcome.Refused Refusal.NoMemory) closes) }
+fn refusal_for_memory(alloc: Global, closes: bool) -> Option<ReplyBytes>
+    ensures value { IfSome result (λ reply. reply.front ++ reply.object ≡ text (Outcome.Refused Refusal.NoMemory) closes) }
 {
-    match reply_bytes(alloc, &Outcome::Refused(Refusal::NoMemory), closes) {
-        Ok(bytes) => Some(bytes),
+    match reply_own(alloc, Outcome::Refused(Refusal::NoMemory), closes) {
+        Ok(reply) => Some(reply),
         Err(_) => None,
     }
 }

@@ -8,6 +8,7 @@ ghost use Rattle.worker_server.specs.RequestSteps.{CountsServed, OneServed, Step
 ghost use Rattle.worker_server.specs.ServedConnection.{CountsEnd, EndsAsked, SessionInTime, last_request};
 
 use crate::answering::reply_to;
+use crate::giving::give_reply;
 use crate::host::Host;
 use crate::requesting::next_request;
 use crate::served::Served;
@@ -97,7 +98,7 @@ fn serve_one<H: Host, L: Link>(
         Some(reply) => reply,
         None => return Err(Served::NoMemory),
     };
-    match link.give(reply.slice()) {
+    match give_reply(link, &reply) {
         Ok(()) => {}
         Err(_) => return Err(Served::WriteFault),
     }

@@ -8,6 +8,7 @@
 mod answering;
 mod asking;
 mod connection;
+mod giving;
 mod host;
 pub mod laws;
 mod reading;

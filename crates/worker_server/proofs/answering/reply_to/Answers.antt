@@ -9,7 +9,7 @@ returns-in-Ok-clause-serves g c =
     let served = c.outcome_of-outcome.ensures.serves in
     (c.outcome_of-outcome.result, served.0, served.1, c.in-Ok.ensures.value)
 
-pub returns-clause-serves : goal.returns-clause-serves
-returns-clause-serves g c =
+pub returns-in-Err-clause-serves : goal.returns-in-Err-clause-serves
+returns-in-Err-clause-serves g c =
     let served = c.outcome_of-outcome.ensures.serves in
     (Refused NoMemory, served.0, Serves-refused_for_memory _ _ _ _ _ _ served.1, c.refusal_for_memory.ensures.value)
