@@ -1,13 +1,15 @@
 -- A put that the store refuses, or takes, and the cause of each answer. The key lemmas are put_refused, new_done, same_done,
--- put_damage, new_may, same_may and refused_may.
-use Rattle.std.proofs.Common.{◌≡◌, ◌⊎◌, inl, inr, ℕ, Bool, true, false, not, ◌||◌, if◌then◌else◌, cond, List, [], ◌∷◌, refl, sym, ap, ◌∙◌, subst, true≢false, Option, None, Some, option_map, is_some}
+-- put_damage, new_may, same_may and refused_may, and of a block block_decided and block_due.
+use Rattle.std.proofs.Common.{◌≡◌, ◌⊎◌, inl, inr, ℕ, Bool, true, false, not, ◌&&◌, ◌||◌, if◌then◌else◌, cond, List, [], ◌∷◌, ◌++◌, refl, sym, ap, ◌∙◌, subst, true≢false, Option, None, Some, option_map, is_some}
 use Rattle.std.specs.Bool.{then_some}
 use Rattle.std.specs.FinMap as map
 use Rattle.sha1.specs.Sha1.{sha1}
 use Rattle.ids.specs.Key.{Objects}
 use Rattle.ids.specs.declared.key.Key.{Key}
+use Rattle.ids.specs.declared.key.Kind.{Kind}
+use Rattle.ids.specs.declared.key.Kind.TheVariants as kinds
 use Rattle.ids.proofs.KeyOrderLemmas.{key_cmp_total}
-use Rattle.library_rules.specs.Calls.{Says, Stores, first_refusal, other_bytes}
+use Rattle.library_rules.specs.Calls.{Says, Stores, by_state, first_refusal, other_bytes, put_by_objects, put_decided, put_due, put_refusals}
 use Rattle.library_rules.proofs.CallsLemmas.{put_after, put_by, taken}
 use Rattle.library_rules.specs.LibraryState.{State, is_stored}
 use Rattle.library_state.specs.declared.call.Act.TheVariants as act
@@ -17,7 +19,7 @@ use Rattle.library_state.specs.declared.reply.Reply.{Reply}
 use Rattle.library_state.specs.declared.reply.Reply.TheVariants as reply
 use Rattle.object_graph.specs.Objects.{is_nil}
 use Rattle.object_graph.proofs.KeyLemmas.{same_key-itself}
-use Rattle.object_store.specs.Store.{IsGetFault, IsOfStored, IsPutFault, damage_at, damage_of, first_refusal as first_fault, has_other_name, is_free, is_want, put_refusal, same_bytes, stored_refusal}
+use Rattle.object_store.specs.Store.{IsGetFault, IsOfStored, IsPutFault, damage_at, damage_of, first_refusal as first_fault, has_other_name, is_free, is_named_by_bytes, is_want, put_refusal, same_bytes, stored_refusal}
 use Rattle.object_store.specs.Shelf.{Contents}
 use Rattle.object_store.specs.StoreView.{Index, StoreView, indexed, objects_of}
 use Rattle.object_store.proofs.MapLemmas.{get-retained}
@@ -33,6 +35,18 @@ use Rattle.depot.proofs.AnsweringLemmas.{damage_other}
 use Rattle.depot.proofs.RefusalsLemmas.{free_told}
 use Rattle.depot.proofs.ToldLemmas.{mapped_at}
 use Rattle.depot.proofs.WritingLemmas.{put_is_new}
+
+-- ---- a block
+
+-- what is decided of it goes by its name alone
+pub block_decided : (lib : List ℕ) (key : Key) (bytes : List ℕ) → key.kind ≡ kinds.Block → put_decided lib key bytes ≡ store_decided key bytes
+block_decided lib key bytes block =
+    ap (λ (kind : Kind). option_map reply.Refused (first_refusal (put_refusals lib kind key bytes ++ then_some (is_nil key.id) (refusal.Taken key.id) ∷ []))) block
+    ∙ sym (ap (λ (kind : Kind). option_map reply.Refused (first_refusal (then_some (is_named_by_bytes kind && not (same_bytes (sha1 bytes) key.id)) (refusal.Wrong (sha1 bytes))
+    ∷ then_some (is_nil key.id) (refusal.Taken key.id) ∷ []))) block)
+
+pub block_due : (s : State) (key : Key) (bytes : List ℕ) → key.kind ≡ kinds.Block → put_due s key bytes ≡ store_due s key bytes
+block_due s key bytes block = ap (λ (said : Option Reply). by_state said (put_by_objects s key bytes)) (block_decided s.state.lib key bytes block)
 
 -- ---- what is due of a put
 

@@ -19,6 +19,7 @@ mod listing;
 mod make;
 mod missing;
 mod object_calls;
+mod own_call;
 mod plan;
 mod refusals;
 mod start;

@@ -48,6 +48,11 @@ impl<S: Shelf> Shelf for CountedShelf<S> {
         passed_on(&mut self.faults, put)
     }
 
+    fn put_own(&mut self, slot: Slot, bytes: Bytes) -> Result<(), ShelfFailed> {
+        let put = self.shelf.put_own(slot, bytes);
+        passed_on(&mut self.faults, put)
+    }
+
     fn remove(&mut self, slot: Slot) -> Result<(), ShelfFailed> {
         let removed = self.shelf.remove(slot);
         passed_on(&mut self.faults, removed)

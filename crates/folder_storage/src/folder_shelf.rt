@@ -102,6 +102,15 @@ impl<F: FileSystem + Drop> Shelf for FolderShelf<F> {
         }
     }
 
+    fn put_own(&mut self, slot: Slot, bytes: Bytes) -> Result<(), ShelfFailed>
+        ensures listed { OnOk result (IsListed slot self.new.unsynced.keys.items) }
+        ensures stays { StaysListed slot self.old.unsynced.keys.items self.new.unsynced.keys.items }
+        ensures faults { CountsFaults self.old.faults self.new.faults result }
+        ensures texts { self.new.texts.count ≡ texts_after slot self.old.texts.count }
+    {
+        self.put(slot, bytes.slice())
+    }
+
     fn remove(&mut self, slot: Slot) -> Result<(), ShelfFailed>
         ensures listed { self.new.unsynced.keys.items ≡ self.old.unsynced.keys.items }
         ensures faults { CountsFaults self.old.faults self.new.faults result }

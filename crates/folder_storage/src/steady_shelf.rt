@@ -67,6 +67,15 @@ impl Shelf for SteadyShelf {
         self.inner.put(slot, bytes)
     }
 
+    fn put_own(&mut self, slot: Slot, bytes: Bytes) -> Result<(), ShelfFailed>
+        ensures ok { Changes (Some self.old.contents) (put_known (Some self.old.contents) slot bytes) (Some self.new.contents) result }
+        ensures faults { CountsFaults 0 0 result }
+        ensures gives { GivesAlso (Tells self.old.contents) (Tells self.new.contents) slot (Some bytes) }
+        ensures texts { self.new.texts ≡ texts_after slot self.old.texts }
+    {
+        self.inner.put_own(slot, bytes)
+    }
+
     fn remove(&mut self, slot: Slot) -> Result<(), ShelfFailed>
         ensures ok { Changes (Some self.old.contents) (removed_known (Some self.old.contents) slot) (Some self.new.contents) result }
         ensures faults { CountsFaults 0 0 result }

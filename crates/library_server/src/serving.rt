@@ -48,7 +48,7 @@ impl<S: Shelf, C: Clock> Host for Alone<'_, S, C> {
         let _ = alloc;
         let moment = self.clock.now();
         Answer {
-            reply: answer(pass, lib, &call, moment),
+            reply: answer(pass, lib, call, moment),
             opening: 0,
             place: 0,
         }
@@ -75,15 +75,16 @@ impl<S: Shelf, C: Clock> Host for Alone<'_, S, C> {
 }
 
 /// The reply to a call on a library. `NoLibrary` comes exactly where it is not the one that is served.
-fn answer<S: Shelf>(depot: &mut Depot<S>, lib: LibId, call: &Call, moment: u64) -> Reply
-    ensures here { lib ≡ depot.old.state.lib → IsAnswered S.contents S.may_give S.texts S.faults depot.old call.now moment result depot.new }
+fn answer<S: Shelf>(depot: &mut Depot<S>, lib: LibId, call: Call, moment: u64) -> Reply
+    ensures here { lib ≡ depot.old.state.lib → IsAnswered S.contents S.may_give S.texts S.faults depot.old call moment result depot.new }
     ensures elsewhere { lib ≢ depot.old.state.lib → (result ≡ Reply.Refused Refusal.NoLibrary) × (depot.new ≡ depot.old) }
     ensures steady { NeverFails S.faults → NamesIn S.contents depot.old → (is_storage_reply result ≡ false) × NamesIn S.contents depot.new }
 {
     if lib != depot.lib() {
+        drop(call);
         return Reply::Refused(Refusal::NoLibrary);
     }
-    depot.answer(call, moment)
+    depot.answer_own(call, moment)
 }
 
 /// The reply to a call for a file or directory, after which more will be asked for. `NoLibrary` comes exactly where the

@@ -43,6 +43,13 @@ pub(crate) fn name_refusal(key: &Key, bytes: &[u8]) -> Option<StoreFault>
     None
 }
 
+/// The same of bytes that are handed over.
+pub(crate) fn own_refusal(key: &Key, bytes: &Bytes) -> Option<StoreFault>
+    ensures value { result ≡ name_refusal key.now bytes.now }
+{
+    name_refusal(key, bytes.slice())
+}
+
 /// The bytes that the shelf gave for a key, unless they are damaged.
 fn judged(key: &Key, bytes: Bytes) -> Result<Bytes, StoreFault>
     ensures value { result ≡ judged key.now bytes }
@@ -93,4 +100,18 @@ pub(crate) fn put_stored<S: Shelf>(
     } else {
         Err(StoreFault::Taken(key.id))
     }
+}
+
+/// The same of bytes that are handed over.
+pub(crate) fn put_own_stored<S: Shelf>(
+    shelf: &mut S,
+    key: &Key,
+    bytes: &Bytes,
+) -> Result<Put, StoreFault>
+    ensures value { PutsStored (S.may_give shelf.new) key.now bytes.now result }
+    ensures stays { S.contents shelf.new ≡ S.contents shelf.old }
+    ensures shelf { ReadsShelf S.may_give S.texts shelf.old shelf.new }
+    ensures faults { CountsShelf (S.faults shelf.old) (S.faults shelf.new) result }
+{
+    put_stored(shelf, key, bytes.slice())
 }

@@ -116,6 +116,24 @@ impl MemoryShelf {
             }
         }
     }
+
+    /// A put of bytes that are handed over, but for the count of texts.
+    fn keep_bytes(&mut self, slot: Slot, bytes: Bytes) -> Result<(), ShelfFailed>
+        ensures faults { CountsFaults self.old.faults self.new.faults result }
+        ensures value { ShelfAnswers self.old self.new (with_put self.old.contents slot bytes) result }
+        ensures texts { self.new.texts ≡ self.old.texts }
+    {
+        if !self.begin() {
+            return Err(ShelfFailed::Shelf);
+        }
+        match slot {
+            Slot::Object(key) => put_object(&mut self.objects, key, bytes),
+            Slot::Status => {
+                self.status = Some(bytes);
+                Ok(())
+            }
+        }
+    }
 }
 
 impl Shelf for MemoryShelf {
@@ -153,6 +171,17 @@ impl Shelf for MemoryShelf {
     {
         self.texts.count_put(&slot);
         self.put_bytes(slot, bytes)
+    }
+
+    fn put_own(&mut self, slot: Slot, bytes: Bytes) -> Result<(), ShelfFailed>
+        ensures ok { Changes (Some self.old.contents) (put_known (Some self.old.contents) slot bytes) (Some self.new.contents) result }
+        ensures faults { CountsFaults self.old.faults self.new.faults result }
+        ensures gives { GivesAlso (Tells self.old.contents) (Tells self.new.contents) slot (Some bytes) }
+        ensures texts { self.new.texts ≡ texts_after slot self.old.texts }
+        ensures value { ShelfAnswers self.old self.new (with_put self.old.contents slot bytes) result }
+    {
+        self.texts.count_put(&slot);
+        self.keep_bytes(slot, bytes)
     }
 
     fn remove(&mut self, slot: Slot) -> Result<(), ShelfFailed>

@@ -65,6 +65,17 @@ pub trait Shelf {
         ensures gives { GivesAlso (may_give self.old) (may_give self.new) slot (Some bytes.now) }
         ensures texts { texts self.new ≡ texts_after slot (texts self.old) };
 
+    /// The same of bytes that are handed over: a shelf that keeps them in memory need not copy them. Where it says nothing
+    /// else, it puts a copy.
+    fn put_own(&mut self, slot: Slot, bytes: Bytes) -> Result<(), ShelfFailed>
+        ensures ok { Changes (contents self.old) (put_known (contents self.old) slot bytes) (contents self.new) result }
+        ensures faults { CountsFaults (faults self.old) (faults self.new) result }
+        ensures gives { GivesAlso (may_give self.old) (may_give self.new) slot (Some bytes) }
+        ensures texts { texts self.new ≡ texts_after slot (texts self.old) }
+    {
+        self.put(slot, bytes.slice())
+    }
+
     /// Empties a slot. After `Shelf` the slot is as it was or empty, and every other slot holds what it held; after
     /// `NoMemory` nothing is changed.
     fn remove(&mut self, slot: Slot) -> Result<(), ShelfFailed>

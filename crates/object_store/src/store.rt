@@ -9,9 +9,11 @@ ghost use Rattle.ids.specs.Outcome.{ExactlyWith, RefusesAs};
 ghost use Rattle.object_store.specs.Store.{CountsShelf, IsFoundSame, IsGetFault, IsOfStored, IsPutFault, IsWhole, damage_at, has_other_name, is_free, is_of_shelf, is_want, put_refusal, same_bytes};
 ghost use Rattle.object_store.specs.StoreView.{AddsNoStray, ChangesShelf, HasNoStray, IsStarted, Keeps, NoteChanges, PutChanges, ReadsShelf, RemovalChanges, StartReads, StartsSo, StraysBy, left_after, objects_of, status_of, with_object};
 
-use crate::changing::{put_new, remove_object};
+use crate::changing::{put_new, put_own_new, remove_object};
 use crate::error::StoreFault;
-use crate::fetching::{fault_of, fetch_whole, name_refusal, put_stored};
+use crate::fetching::{
+    fault_of, fetch_whole, name_refusal, own_refusal, put_own_stored, put_stored,
+};
 use crate::key_index::read_index;
 use crate::put::Put;
 use crate::shelf::{Shelf, Slot};
@@ -91,6 +93,38 @@ impl<S: Shelf> Store<S> {
             return put_stored(&mut self.shelf, &key, bytes);
         }
         match put_new(&mut self.shelf, &mut self.index, &key, bytes) {
+            Ok(()) => Ok(Put::New),
+            Err(fault) => Err(fault),
+        }
+    }
+
+    /// Stores an object as `put` does, of bytes that are handed over: a shelf that keeps them in memory need not copy them.
+    pub fn put_own(&mut self, key: Key, bytes: Bytes) -> Result<Put, StoreFault>
+        ensures ok { OnOk result (objects_of S.contents self.new ≡ with_object (objects_of S.contents self.old) key bytes) }
+        ensures err { OnErr result (objects_of S.contents self.new ≡ objects_of S.contents self.old) }
+        ensures told { IfOk result (λ put. put ≡ (if is_some (map.get self.old.index key) then Put.Same else Put.New)) }
+        ensures found { IfOk result (IsFoundSame (S.may_give self.new.shelf) key bytes) }
+        ensures stays { status_of S.contents self.new ≡ status_of S.contents self.old }
+        ensures changes { PutChanges S.contents self.old self.new key bytes result }
+        ensures lying { StraysBy is_of_shelf S.contents self.old self.new result }
+        ensures wrong { ExactlyWith is_want result StoreFault.Wrong (sha1 bytes) (IsTrue (has_other_name key bytes)) }
+        ensures untouched { IsTrue (has_other_name key bytes) → self.new ≡ self.old }
+        ensures taken { IsFalse (has_other_name key bytes) → IsTrue (same_bytes key.id nil) → result ≡ Err (StoreFault.Taken key.id) }
+        ensures cause { IfErr result (IsPutFault (S.may_give self.new.shelf) key bytes) }
+        ensures stored { IfErr result (IsOfStored (map.get self.old.index key) key) }
+        ensures refused { (objects : Objects) → objects_of S.contents self.old ≡ Some objects
+            → RefusesAs is_free result (put_refusal objects key bytes) }
+        ensures shelf { ChangesShelf S.may_give S.texts self.old.shelf self.new.shelf (Slot.Object key) (Some bytes) }
+        ensures faults { CountsShelf (S.faults self.old.shelf) (S.faults self.new.shelf) result }
+    {
+        if let Some(fault) = own_refusal(&key, &bytes) {
+            return Err(fault);
+        }
+        let known = self.index.has(&key);
+        if known {
+            return put_own_stored(&mut self.shelf, &key, &bytes);
+        }
+        match put_own_new(&mut self.shelf, &mut self.index, &key, bytes) {
             Ok(()) => Ok(Put::New),
             Err(fault) => Err(fault),
         }

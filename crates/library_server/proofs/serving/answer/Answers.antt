@@ -5,20 +5,13 @@ use Rattle.library_server.proofs.serving.answer.Goals as goal
 
 pub returns-clause-here : goal.returns-clause-here
 returns-clause-here g c = λ same. record {
-  serves = record {
-    told = c.answer.ensures.shown;
-    may_come = c.answer.ensures.cause;
-    damage = c.answer.ensures.damaged;
-    count = c.answer.ensures.faults;
-    left = c.answer.ensures.left;
-    fresh = c.answer.ensures.running;
-    lying = c.answer.ensures.lying;
-    slot = c.answer.ensures.text;
-  };
-  denied = c.answer.ensures.denied;
-  good = c.answer.ensures.stands;
-  gives = c.answer.ensures.gives;
+  serves = c.answer_own.ensures.serves;
+  denied = c.answer_own.ensures.denied;
+  good = c.answer_own.ensures.stands;
+  gives = c.answer_own.ensures.gives;
 }
 
 pub returns-clause-steady : goal.returns-clause-steady
-returns-clause-steady g c = answers_whole g.S.Shelf.contents g.S.Shelf.faults c.args.depot.now c.answer.new.self c.args.call.now c.args.moment c.answer.result c.answer.ensures.shown c.answer.ensures.damaged c.answer.ensures.faults
+returns-clause-steady g c =
+    let serves = c.answer_own.ensures.serves in
+    answers_whole g.S.Shelf.contents g.S.Shelf.faults c.args.depot.now c.answer_own.new.self c.args.call c.args.moment c.answer_own.result serves.told serves.damage serves.count

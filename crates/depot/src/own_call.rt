@@ -1,0 +1,108 @@
+//! Calls that are handed over: a block that is put is not copied by a shelf that keeps it in memory.
+ghost use Rattle.std.specs.Prelude.{false, ◌≡◌, ◌⊎◌, Some};
+ghost use Rattle.ids.specs.Key.{Objects};
+ghost use Rattle.ids.specs.declared.key.Kind.TheVariants as kinds;
+ghost use Rattle.library_rules.specs.Calls.{token_of};
+ghost use Rattle.library_rules.specs.LibraryState.{State};
+ghost use Rattle.library_state.specs.declared.call.Act.TheVariants as act;
+ghost use Rattle.object_store.specs.StoreView.{AddsNoStray, objects_of, status_of};
+ghost use Rattle.depot.specs.Answering.{MayAnswer, MayAsk, Serves, ServesAct, permits};
+ghost use Rattle.depot.specs.DepotView.{IsGood};
+ghost use Rattle.depot.specs.Giving.{GivesBy, IsObject, MayLay};
+ghost use Rattle.depot.specs.ObjectCalls.{Counts, DoneSo, IsToldDamage, is_counted, store_decided, store_due};
+ghost use Rattle.depot.specs.Writing.{with_stored};
+
+use crate::answering::permitted_place;
+use crate::depot::Depot;
+use crate::refusals::store_refusal;
+use ids::{Bytes, Key, Kind};
+use library_state::{Act, Call, Refusal, Reply};
+use object_store::{Put, Shelf, Store};
+
+impl<S: Shelf> Depot<S> {
+    /// Answers a call that is handed over, as `answer` does. A block that is put lies on a shelf in memory where it lay in
+    /// the call.
+    pub fn answer_own(&mut self, call: Call, moment: u64) -> Reply
+        ensures serves { Serves S.contents S.may_give S.texts S.faults self.old call moment result self.new }
+        ensures gives { GivesBy (MayLay self.old.state.lib call.act) (S.may_give self.old.store.shelf) (S.may_give self.new.store.shelf) }
+        ensures stands { IsGood S.contents S.faults self.new }
+        ensures denied { permits (token_of self.old.state.tokens call.secret) call.act ≡ false → result ≡ Reply.Refused Refusal.Denied }
+        ensures stays { self.new.state.lib ≡ self.old.state.lib }
+    {
+        match permitted_place(self.parts.state.tokens.slice(), &call.secret, &call.act) {
+            Some(place) => {
+                let reply = self.answer_own_permitted(call, place, moment);
+                // Tells the proof that the library is good.
+                let _ = &self.parts;
+                reply
+            }
+            None => {
+                drop(call);
+                Reply::Refused(Refusal::Denied)
+            }
+        }
+    }
+
+    /// Answers a call of one who may ask it, by the token at a place.
+    fn answer_own_permitted(&mut self, call: Call, place: usize, moment: u64) -> Reply
+        requires who { MayAsk self.old.state.tokens call.secret call.act place }
+        ensures value { Serves S.contents S.may_give S.texts S.faults self.old call moment result self.new }
+        ensures gives { GivesBy (MayLay self.old.state.lib call.act) (S.may_give self.old.store.shelf) (S.may_give self.new.store.shelf) }
+    {
+        let Call { secret, act } = call;
+        match act {
+            Act::Put(key, bytes) => self.put_own(&key, bytes),
+            act => {
+                let call = Call { secret, act };
+                let reply = self.answer_permitted(&call, place, moment);
+                drop(call);
+                reply
+            }
+        }
+    }
+
+    /// Stores an object.
+    fn put_own(&mut self, key: &Key, bytes: Bytes) -> Reply
+        ensures value { ServesAct S.contents S.may_give S.texts S.faults self.old (act.Put key.now bytes) result self.new }
+        ensures gives { GivesBy (IsObject key.now bytes) (S.may_give self.old.store.shelf) (S.may_give self.new.store.shelf) }
+    {
+        match key.kind {
+            Kind::Block => self.put_block(key, bytes),
+            _ => {
+                let reply = self.put(key, bytes.slice());
+                drop(bytes);
+                reply
+            }
+        }
+    }
+
+    /// Stores a block.
+    fn put_block(&mut self, key: &Key, bytes: Bytes) -> Reply
+        requires ready { key.now.kind ≡ kinds.Block }
+        ensures value { ServesAct S.contents S.may_give S.texts S.faults self.old (act.Put key.now bytes) result self.new }
+        ensures gives { GivesBy (IsObject key.now bytes) (S.may_give self.old.store.shelf) (S.may_give self.new.store.shelf) }
+    {
+        store_block(&mut self.parts.store, key, bytes)
+    }
+}
+
+/// Stores bytes of which only the name and what is stored there are still to be looked at.
+fn store_block<S: Shelf>(store: &mut Store<S>, key: &Key, bytes: Bytes) -> Reply
+    ensures value { (s : State) → objects_of S.contents store.old ≡ Some s.objects
+        → DoneSo s.objects (store_due s key.now bytes) result (objects_of S.contents store.new) }
+    ensures stays { status_of S.contents store.new ≡ status_of S.contents store.old }
+    ensures stored { (objects_of S.contents store.new ≡ objects_of S.contents store.old)
+        ⊎ (objects_of S.contents store.new ≡ with_stored (record { key = key.now; bytes = bytes }) (objects_of S.contents store.old)) }
+    ensures cause { MayAnswer store.old.index (S.may_give store.new.shelf) (act.Put key.now bytes) (store_decided key.now bytes) result }
+    ensures damaged { (objects : Objects) → objects_of S.contents store.old ≡ Some objects → IsToldDamage objects result }
+    ensures lying { is_counted result ≡ false → AddsNoStray S.contents store.old store.new }
+    ensures written { S.texts store.new.shelf ≡ S.texts store.old.shelf }
+    ensures gives { GivesBy (IsObject key.now bytes) (S.may_give store.old.shelf) (S.may_give store.new.shelf) }
+    ensures faults { Counts (S.faults store.old.shelf) (S.faults store.new.shelf) result }
+{
+    match store.put_own(*key, bytes) {
+        Ok(Put::New) => Reply::Stored(true),
+        Ok(Put::Same) => Reply::Stored(false),
+        Err(fault) => Reply::Refused(store_refusal(fault)),
+    }
+}
