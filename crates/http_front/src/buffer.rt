@@ -152,7 +152,7 @@ impl Buffer {
     }
 }
 
-/// The bytes from a place on, moved to the front of their memory.
+/// The bytes from a place on, moved to the front of their memory, of which the rest is given back where it can be.
 fn bytes_from(mut bytes: Vec<u8>, from: usize) -> Bytes
     requires within { from ≤ length bytes.items }
     ensures value { result ≡ drop from bytes.items }
@@ -160,5 +160,6 @@ fn bytes_from(mut bytes: Vec<u8>, from: usize) -> Bytes
     let rest = bytes.len() - from;
     bytes.copy_within(from.., 0);
     bytes.truncate(rest);
+    bytes.shrink_to_fit();
     Bytes::from_vec(bytes)
 }
