@@ -118,25 +118,39 @@ fn forgets_the_first<S: Shelf>(shelf: &mut S) -> bool {
     shelf.remove(Slot::Object(first)) == Ok(()) && tells(shelf, Kind::Block, None, Some((255, 2)))
 }
 
-/// Whether a shelf gives what was put, and tells its names in order.
-fn gives_and_tells<S: Shelf>(shelf: &mut S) -> bool {
-    gives_in_each_slot(shelf) && tells_names_in_order(shelf)
+/// Whether a slot gives what is handed over.
+fn takes_over<S: Shelf>(alloc: Global, shelf: &mut S, slot: &Slot) -> Result<bool, AllocError> {
+    let bytes = Bytes::copy(alloc, b"handed over")?;
+    Ok(shelf.put_own(*slot, bytes) == Ok(()) && holds(shelf, slot, b"handed over"))
+}
+
+/// The same of an object's slot and of that of the status text.
+fn takes_over_in_each_slot<S: Shelf>(alloc: Global, shelf: &mut S) -> Result<bool, AllocError> {
+    let object = takes_over(alloc, shelf, &slot_of(Kind::Block, "abc"))?;
+    let status = takes_over(alloc, shelf, &Slot::Status)?;
+    Ok(object && status)
+}
+
+/// Whether a shelf gives what was put, lent or handed over, and tells its names in order.
+fn gives_and_tells<S: Shelf>(alloc: Global, shelf: &mut S) -> Result<bool, AllocError> {
+    let gives = gives_in_each_slot(shelf) && tells_names_in_order(shelf);
+    Ok(takes_over_in_each_slot(alloc, shelf)? && gives)
 }
 
 fn memory_gives(alloc: Global) -> Result<bool, AllocError> {
-    Ok(gives_and_tells(&mut memory(alloc, &[])?))
+    gives_and_tells(alloc, &mut memory(alloc, &[])?)
 }
 
 fn odd_gives(alloc: Global) -> Result<bool, AllocError> {
-    Ok(gives_and_tells(&mut odd(alloc, &[])?))
+    gives_and_tells(alloc, &mut odd(alloc, &[])?)
 }
 
 fn fuse_gives(alloc: Global) -> Result<bool, AllocError> {
-    Ok(gives_and_tells(&mut fuse(alloc, 100)?))
+    gives_and_tells(alloc, &mut fuse(alloc, 100)?)
 }
 
 fn counted_gives(alloc: Global) -> Result<bool, AllocError> {
-    Ok(gives_and_tells(&mut counted(alloc, &[])?))
+    gives_and_tells(alloc, &mut counted(alloc, &[])?)
 }
 
 #[test]
@@ -145,13 +159,13 @@ fn every_shelf_gives_what_was_put_and_tells_names_in_order(
 ) -> Result<(), AllocError> {
     let alloc = rt.alloc();
     assert!(rt; memory_gives(alloc)? && odd_gives(alloc)? && fuse_gives(alloc)?);
-    assert!(rt; counted_gives(alloc)? && gives_and_tells(&mut SteadyShelf::new(alloc)));
+    assert!(rt; counted_gives(alloc)? && gives_and_tells(alloc, &mut SteadyShelf::new(alloc))?);
     Ok(())
 }
 
 /// Whether the shelf of a library in this folder does.
 fn folder_gives(rt: &HostRuntime, folder: &str) -> Result<bool, Fail> {
-    Ok(gives_and_tells(&mut made(rt, folder)?))
+    Ok(gives_and_tells(rt.alloc(), &mut made(rt, folder)?)?)
 }
 
 #[test]
