@@ -4,6 +4,7 @@ use Rattle.std.specs.Cmp.Lexicographic.{bytes_decides}
 use Rattle.std.specs.FinMap as map
 use Rattle.ids.specs.Key.{Objects}
 use Rattle.ids.specs.ObjectId.{nil}
+use Rattle.ids.proofs.BasicLemmas.{same_from_some}
 use Rattle.tree_model.specs.Path.{PathV, path_cmp}
 use Rattle.tree_model.specs.PathOrder.{paths_exact, paths_total}
 use Rattle.tree_model.specs.DirectorySurvival.{Sides}
@@ -17,31 +18,20 @@ use Rattle.object_graph.specs.declared.entry.Entry.{Entry}
 use Rattle.object_graph.specs.declared.entry.Entry.TheVariants.{Dir, File}
 use Rattle.tree_walk.specs.Extent.{extent_of}
 use Rattle.tree_merge.specs.DirectoryMerge.{IsBuiltBelow}
-use Rattle.tree_merge.specs.HeadDirectory.{IsRight}
+use Rattle.tree_merge.specs.HeadDirectory.{IsHeads, IsRight, ListSame}
 use Rattle.tree_merge.specs.LevelMerge.{IsBuiltFrom, ListsKnown}
 use Rattle.tree_merge.specs.Opening.{dirents_if, id_in, is_settled_at, part_at, settled_in}
 use Rattle.tree_merge.specs.Sides.{Entries}
-use Rattle.tree_merge.specs.TreeBuilding.{HasMade, IsDirectoryOf, IsNilMadeOrKept, IsNilOrMade, directory_id_in, kept_ids}
+use Rattle.tree_merge.specs.TreeBuilding.{HasMade, IsDirectoryOf, IsNilMadeOrKept, IsNilOrMade, directory_id_at, directory_id_in, kept_ids}
 use Rattle.tree_merge.specs.declared.opening.Ids.{Ids}
 use Rattle.tree_merge.specs.declared.opening.Kept.{Kept}
 use Rattle.tree_merge.proofs.HeadDirectoryLemmas.{dirents_kept}
+use Rattle.tree_merge.proofs.HeadsUsedLemmas.{heads_stored, nil_heads, nil_ids, right_from_same}
 use Rattle.tree_merge.proofs.MadeLemmas.{kept_itself, kept_then}
 use Rattle.tree_merge.proofs.OwnPartLemmas.{nil_entries}
 use Rattle.tree_merge.proofs.SideLemmas.{ids_at}
 use Rattle.tree_merge.proofs.MergingSoLemmas.{BuiltSoFar, PartBuilt, has_more, known_more}
 use Rattle.tree_merge.proofs.WholeSideLemmas.{complete_directory}
-
--- forty zeros have no directories below them
-nil_ids : (more : Objects) (q : PathV) (id : List ℕ) → directory_id_in more (dirents_at more nil) q ≡ Some id → ⊥
-nil_ids more q id is = let both : None ≡ Some id = sym (none q) ∙ ap (λ (es : List Dirent). directory_id_in more es q) (sym nil_dirents) ∙ is in cc
-  where
-    none : (q : PathV) → directory_id_in more [] q ≡ None
-    none [] = refl
-    none (n ∷ []) = refl
-    none (n ∷ m ∷ q) = refl
-
-    nil_dirents : dirents_at more nil ≡ []
-    nil_dirents = ap (λ (b : Bool). if b then [] else entries_of (fs_at more nil)) ((bytes_decides nil nil).1 refl)
 
 -- what lies below an entry lies below the directory
 below_root : (more : Objects) (root : List ℕ) (n : List ℕ) (p : List ℕ) → directory_id_in more (dirents_at more root) (n ∷ []) ≡ Some p → (m : List ℕ) (r : PathV)
@@ -135,7 +125,9 @@ module _ (objects : Objects) (path : PathV) (ids : Ids) (c : List ℕ → Sides)
   -- ---- the directory has an object that is made
 
   module _ (new : Objects) (keeps : Keeps now new) (W : Entries) (root : List ℕ) (single : (q : PathV) → IsSome (map.get kept q) → IsSingle q)
-      (b : IsBuiltFrom (record { stored = objects; made = now }) (kept_ids kept) W now new root) where
+      (b : IsBuiltFrom (record { stored = objects; made = now }) (kept_ids kept) W now new root) (nodes : Entries) (nodes_single : (q : PathV) → IsSome (map.get nodes q) → IsSingle q)
+      (here : (n : List ℕ) → map.get W (n ∷ []) ≡ map.get nodes (n ∷ [])) (none_below : (n : List ℕ) → part_of n ≡ None → (m : List ℕ) (r : PathV) → map.get W (n ∷ m ∷ r) ≡ None)
+      (not_right : (own : List ℕ) → ids.head ≡ Some own → IsRight objects own nodes kept → ⊥) where
     -- the id of what is left at an entry stands in the object
     id_there : (n : List ℕ) (part : Kept) → part_of n ≡ Some part → (more : Objects) → Keeps objects more → Keeps new more → directory_id_in more (dirents_at more root) (n ∷ []) ≡ Some part.id
     id_there n part is more there also = b.ids (n ∷ []) part.id (ap (option_map (λ (own : Kept). own.id)) is) more also
@@ -159,6 +151,46 @@ module _ (objects : Objects) (path : PathV) (ids : Ids) (c : List ℕ → Sides)
         above (inl made) = inl made
         above (inr own) = of_kept own.0 (map.get kept own.0) refl own.1
 
+    -- what the object lists of a directory is what is left below it
+    listed_at : (n id : List ℕ) (more : Objects) → Keeps objects more → Keeps new more → directory_id_in more (dirents_at more root) (n ∷ []) ≡ Some id → id ≡ id_in (part_of n)
+    listed_at n id more there also is = by (part_of n) refl
+      where
+        by : (o : Option Kept) → part_of n ≡ o → id ≡ id_in (part_of n)
+        by None none = b.empty more (there, kept_then now new more keeps also) also n (λ m. none_below n none m []) id is ∙ sym (ap id_in none)
+        by (Some part) left = same_from_some id part.id (sym is ∙ id_there n part left more there also) ∙ sym (ap id_in left)
+
+    -- below it, and at itself, the head's directories are used
+    heads_here : (more : Objects) → Keeps objects more → Keeps new more → IsHeads objects more ids.head root
+    heads_here more there also [] own id some at found same =
+        absurd (not_right own (of_root ids.head at)
+        (right_from_same objects more own root nodes kept (subst (λ (i : List ℕ). ListSame (dirents_at objects own) (dirents_at more i)) (sym (same_from_some root id found)) same)
+        (λ n. sym (here n) ∙ b.value more (there, kept_then now new more keeps also) also (n ∷ [])) nodes_single (λ n i is. listed_at n i more there also is)))
+      where
+        of_root : (o : Option (List ℕ)) → option_and_then (λ h. directory_id_at objects h []) o ≡ Some own → o ≡ Some own
+        of_root None e = e
+        of_root (Some h) e = e
+    heads_here more there also (n ∷ []) own id some at found same =
+        (parts n).heads more there (kept_then now new more keeps also) [] own id some (of_name ids.head at) (ap Some (sym (listed_at n id more there also found))) same
+      where
+        of_name : (o : Option (List ℕ)) → option_and_then (λ h. directory_id_at objects h (n ∷ [])) o ≡ Some own
+            → option_and_then (λ h. directory_id_at objects h []) (directory_in (entry_named n (dirents_if objects o))) ≡ Some own
+        of_name None e = cc e
+        of_name (Some h) e = ap (option_and_then (λ i. directory_id_at objects i [])) e
+    heads_here more there also (n ∷ m ∷ r) own id some at found same =
+        (parts n).heads more there (kept_then now new more keeps also) (m ∷ r) own id some (of_deep ids.head at) (there_deep (directory_in (entry_named n (dirents_at more root))) refl) same
+      where
+        of_deep : (o : Option (List ℕ)) → option_and_then (λ h. directory_id_at objects h (n ∷ m ∷ r)) o ≡ Some own
+            → option_and_then (λ h. directory_id_at objects h (m ∷ r)) (directory_in (entry_named n (dirents_if objects o))) ≡ Some own
+        of_deep None e = cc e
+        of_deep (Some h) e = e
+
+        leads : Option (List ℕ) → Option (List ℕ)
+        leads o = option_and_then (λ i. directory_id_in more (dirents_at more i) (m ∷ r)) o
+
+        there_deep : (o : Option (List ℕ)) → directory_in (entry_named n (dirents_at more root)) ≡ o → directory_id_in more (dirents_at more (id_in (part_of n))) (m ∷ r) ≡ Some id
+        there_deep None e = let both : None ≡ Some id = sym (ap leads e) ∙ found in cc
+        there_deep (Some i) e = ap (λ (j : List ℕ). directory_id_in more (dirents_at more j) (m ∷ r)) (sym (listed_at n i more there also e)) ∙ sym (ap leads e) ∙ found
+
     pub built_some : IsBuiltBelow objects W true ids old new root
     built_some = record {
       kept = kept_over None;
@@ -180,12 +212,13 @@ module _ (objects : Objects) (path : PathV) (ids : Ids) (c : List ℕ → Sides)
       ];
       ids_kept = ids_all None new keeps root id_there;
       same = λ open_here. all_same None;
+      heads = heads_here;
       zeros = b.zeros;
     }
 
   -- ---- the directory is the head's own
 
-  module _ (W nodes : Entries) (root : List ℕ) (complete : IsCompleteRoot objects root) (right : IsRight objects root nodes kept) (no_root : map.get W [] ≡ None)
+  module _ (W nodes : Entries) (root : List ℕ) (is_head : ids.head ≡ Some root) (complete : IsCompleteRoot objects root) (right : IsRight objects root nodes kept) (no_root : map.get W [] ≡ None)
       (here : (n : List ℕ) → map.get W (n ∷ []) ≡ map.get nodes (n ∷ [])) (under : (n m : List ℕ) (r : PathV) → map.get W (n ∷ m ∷ r) ≡ map.get (E n) (m ∷ r))
       (stands : (n : List ℕ) → is_some (part_of n) ≡ true → map.get nodes (n ∷ []) ≡ Some Dir) (some : map.len nodes ≢ 0) where
     -- what it lists under a name
@@ -279,6 +312,7 @@ module _ (objects : Objects) (path : PathV) (ids : Ids) (c : List ℕ → Sides)
       below = λ key bytes there. elim (bs.below key bytes there) [ inl first ↦ inl first | inr found ↦ inr (lists_all (Some root) found.0 now (kept_itself now) bytes found.1.1) ];
       ids_kept = ids_all (Some root) now (kept_itself now) root own_there;
       same = λ open_here. all_same (Some root);
+      heads = λ more there also. subst (λ (o : Option (List ℕ)). IsHeads objects more o root) (sym is_head) (heads_stored objects more there root complete);
       zeros = ((λ e. absurd (not_nil e)), (λ all. absurd (some (no_nodes (λ n. sym (here n) ∙ all (n ∷ []))))));
     }
 
@@ -299,6 +333,7 @@ module _ (objects : Objects) (path : PathV) (ids : Ids) (c : List ℕ → Sides)
     below = λ key bytes there. elim (bs.below key bytes there) [ inl first ↦ inl first | inr found ↦ inr (lists_all None found.0 now (kept_itself now) bytes found.1.1) ];
     ids_kept = nothing_kept;
     same = λ open_here. all_same None;
+    heads = λ more there also. nil_heads objects more ids.head;
     zeros = ((λ e. none), (λ all. refl));
   }
     where

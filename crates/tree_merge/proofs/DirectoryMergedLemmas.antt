@@ -50,7 +50,7 @@ use Rattle.tree_merge.proofs.MadeLemmas.{kept_itself, kept_then}
 use Rattle.tree_merge.proofs.PathLimitLemmas.{below_len, merged_len, paths_len, sum_of}
 use Rattle.tree_merge.proofs.SideLemmas.{side_fits}
 use Rattle.tree_merge.proofs.MergingSoLemmas.{BuiltSoFar, MergingSo, NamedSoFar, PartBuilt, copies_of, taken_more}
-use Rattle.tree_merge.proofs.WholePartLemmas.{entry_at, get_whole, left_stands, part_shown, taken_above, text_above, whole_entries, whole_files, whole_seen, whole_sound}
+use Rattle.tree_merge.proofs.WholePartLemmas.{entry_at, get_whole, gone_below, left_stands, nodes_single, part_shown, taken_above, text_above, whole_entries, whole_files, whole_seen, whole_sound}
 
 module _ (objects : Objects) (path : PathV) (ids : Ids) (room : ℕ) (whole : AreWholeSides objects room ids) (s : Sides) (are : AreSidesOf objects ids s) (level : Level) (opened : Opened) (old now : Work)
     (so : MergingSo objects path ids (below_name objects ids room whole) level opened old now) (empty : IsEmpty level) where
@@ -318,11 +318,11 @@ module _ (objects : Objects) (path : PathV) (ids : Ids) (room : ℕ) (whole : Ar
               let side : IsWholeSide objects room h = subst (IsWholeIf objects room) (asked_is ids.head now h asked) whole.1 in
               unmade (Some k) made (ap (λ (w : Work). w.made) same ∙ ml.mid_made) (ap (λ (w : Work). w.stop) same ∙ ml.mid_stop)
               (λ clear. subst (IsBuiltBelow objects W true ids old.made now.made) (sym is)
-              (built_own objects path ids c (waits level) opened.kept E old.made now.made (sf.built clear) gone W nl.named.nodes h side.complete right
+              (built_own objects path ids c (waits level) opened.kept E old.made now.made (sf.built clear) gone W nl.named.nodes h (asked_is ids.head now h asked) side.complete right
               (W_is []) (λ n. W_is (n ∷ [])) (λ n m q. W_is (n ∷ m ∷ q)) stands made.some))
 
-          making : MakesDirectory nl.named.nodes opened.kept k.paths ml.mid new k.id → Named (Some k)
-          making d = by ml.mid.stop refl
+          making : FindsOwn objects (head_if ids.head now) nl.named.nodes opened.kept None → MakesDirectory nl.named.nodes opened.kept k.paths ml.mid new k.id → Named (Some k)
+          making found d = by ml.mid.stop refl
             where
               keeps : Keeps now.made new.made
               keeps = subst (λ (m : Objects). Keeps m new.made) ml.mid_made d.kept_made
@@ -348,7 +348,10 @@ module _ (objects : Objects) (path : PathV) (ids : Ids) (room : ℕ) (whole : Ar
                   (λ there. inr (one.many there))
                   (λ clear. clear_now)
                   (λ clear. built_some objects path ids c (waits level) opened.kept E old.made now.made bs gone new.made keeps W k.id so.kept_single
-                  (subst (λ (m : Objects). IsBuiltFrom given (kept_ids opened.kept) W m new.made k.id) ml.mid_made (one.built clear given W shown)))
+                  (subst (λ (m : Objects). IsBuiltFrom given (kept_ids opened.kept) W m new.made k.id) ml.mid_made (one.built clear given W shown))
+                  nl.named.nodes (nodes_single objects ids s l c are trees parts surv is_level nl.named.nodes E told_nodes seen_E sound_E) (λ n. W_is (n ∷ []))
+                  (gone_below objects ids s l c are trees parts surv is_level nl.named.nodes E told_nodes seen_E sound_E opened.kept so.kept_single survives)
+                  (λ h is right. found h (ap (λ (b : Bool). if b then None else ids.head) (ap₂ ◌||◌ (short_none now.long short_now) (ap is_some clear_now)) ∙ is) right))
                   (counted (Some k) made)
                 where
                   given : Given
@@ -369,7 +372,7 @@ module _ (objects : Objects) (path : PathV) (ids : Ids) (room : ℕ) (whole : Ar
               by (Some x) is = stopped x is
 
           from : (o : Option (List ℕ)) → FindsOwn objects (head_if ids.head now) nl.named.nodes opened.kept o → MakesFrom o nl.named.nodes opened.kept k.paths ml.mid new k.id → Named (Some k)
-          from None found made_one = making made_one
+          from None found made_one = making found made_one
           from (Some h) found used = taking h found.0 found.1 used.0 used.1
 
       named_now : Named part

@@ -25,6 +25,7 @@ use Rattle.tree_merge.specs.declared.opening.Kept.{Kept}
 use Rattle.tree_merge.specs.declared.opening.Opened.{Opened}
 use Rattle.tree_merge.specs.declared.work.Work.{Work}
 use Rattle.tree_merge.proofs.DoneNameLemmas.{done_start, of_done, told_below, waits}
+use Rattle.tree_merge.proofs.HeadsUsedLemmas.{nil_heads}
 use Rattle.tree_merge.proofs.LevelTreeLemmas.{join_over, three_given}
 use Rattle.tree_merge.proofs.MadeLemmas.{kept_itself}
 use Rattle.tree_merge.proofs.OwnPartLemmas.{HasSide, nil_entries, no_copies, none_long, none_merged, none_sound, none_survives, settled_side}
@@ -129,6 +130,7 @@ module _ (objects : Objects) (ids : Ids) (room : ℕ) (whole : AreWholeSides obj
       value = λ more keeps also q. map.get-empty path_cmp q ∙ sym (nil_entries more q);
       ids_kept = λ dir id some there. cc there;
       same = λ open_here. absurd (true≢false (sym open_here ∙ ap not (settled_none n gone).0));
+      heads = λ more keeps also. nil_heads objects more (ids_at objects ids n).head;
       zeros = ((λ e q. map.get-empty path_cmp q), (λ all. refl));
     }
 

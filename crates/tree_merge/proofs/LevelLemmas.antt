@@ -28,7 +28,7 @@ named_last name (x ∷ es) e = by (same_name name x.name) (named_last name es e)
     by true more = refl
     by false more = more
 
-same_child : (d : PathV) (m n : List ℕ) → same_path (d ++ m ∷ []) (d ++ n ∷ []) ≡ same_name m n
+pub same_child : (d : PathV) (m n : List ℕ) → same_path (d ++ m ∷ []) (d ++ n ∷ []) ≡ same_name m n
 same_child d m n = by (same_name m n) refl
   where
     by : (b : Bool) → same_name m n ≡ b → same_path (d ++ m ∷ []) (d ++ n ∷ []) ≡ same_name m n

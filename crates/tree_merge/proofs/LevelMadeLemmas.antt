@@ -22,6 +22,7 @@ use Rattle.tree_merge.specs.declared.work.Long.{Long}
 use Rattle.tree_merge.specs.declared.work.Stop.{Stop}
 use Rattle.tree_merge.specs.declared.work.Stop.TheVariants as why
 use Rattle.tree_merge.specs.declared.work.Work.{Work}
+use Rattle.tree_merge.proofs.HeadsUsedLemmas.{empty_listed}
 use Rattle.tree_merge.proofs.MadeLemmas.{kept_itself, kept_then}
 use Rattle.tree_merge.proofs.MergingSoLemmas.{has_more, known_more}
 
@@ -130,6 +131,8 @@ module _ (nodes : Entries) (kept : map.FinMap path_cmp Kept) (paths : ℕ) (old 
             | inr made ↦ inr (λ dirents reads name e found dir. known_more K built.made new.made own e.id ((dirs given whole shown).0.below key bytes made dirents reads name e found dir))
           ];
           known = nil_or_made (dirs given whole shown).1;
+          empty = λ objects there keeps. let also = kept_then built.made new.made objects own keeps in
+              empty_listed given K whole nodes shown built.made built.root (dirs given whole shown).0 (dirs given whole shown).1 objects there also (value given whole shown objects there also);
           zeros = zeros given whole shown;
         })
           where

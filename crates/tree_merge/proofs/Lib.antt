@@ -39,6 +39,7 @@ pub mod DoneNameLemmas
 pub mod EntryStepLemmas
 pub mod FirstNameLemmas
 pub mod HeadDirectoryLemmas
+pub mod HeadsUsedLemmas
 pub mod LevelMadeLemmas
 pub mod LevelMergeLemmas
 pub mod LevelReadyLemmas

@@ -44,10 +44,9 @@ use Rattle.tree_merge.proofs.WholeSideLemmas.{complete_directory}
 
 -- ---- directories that were made, among more objects
 
-module _ (entries : Entries) (K : PathV → Option (List ℕ)) (made more : Objects) (dirs : AreDirectoriesOver K entries made) (keeps : Keeps made more)
-    (kept_whole : (d : PathV) (id : List ℕ) → K d ≡ Some id → IsCompleteRoot more id) where
+module _ (entries : Entries) (K : PathV → Option (List ℕ)) (made more : Objects) (dirs : AreDirectoriesOver K entries made) (keeps : Keeps made more) where
   -- the object under an id that was made
-  read_made : (id bytes : List ℕ) → map.get made (fs_key id) ≡ Some bytes → (text : IsDirectoryText entries bytes) → fs_at more id ≡ Ok (fs.Dir text.dirents)
+  pub read_made : (id bytes : List ℕ) → map.get made (fs_key id) ≡ Some bytes → (text : IsDirectoryText entries bytes) → fs_at more id ≡ Ok (fs.Dir text.dirents)
   read_made id bytes there text =
       ap (fs_in (fs_key id)) (keeps.kept (fs_key id) bytes there) ∙ ap (as_read (fs_key id)) text.reads
 
@@ -60,7 +59,7 @@ module _ (entries : Entries) (K : PathV → Option (List ℕ)) (made more : Obje
       by (Some bytes) there some = let text = dirs.texts (fs_key id) bytes there in inr (text.dirents, read_made id bytes there text)
 
   -- the directories that one lists were made too
-  entry_made : (id : List ℕ) → IsNilOrMade made id → (name i : List ℕ) → directory_in (entry_named name (dirents_at more id)) ≡ Some i → IsNilMadeOrKept K made i
+  pub entry_made : (id : List ℕ) → IsNilOrMade made id → (name i : List ℕ) → directory_in (entry_named name (dirents_at more id)) ≡ Some i → IsNilMadeOrKept K made i
   entry_made id known name i = by (is_nil id) refl known
     where
       of_entry : (o : Option Dirent) → ((e : Dirent) → o ≡ Some e → is_directory_mode e.mode ≡ true → IsNilMadeOrKept K made e.id) → directory_in o ≡ Some i → IsNilMadeOrKept K made i
@@ -83,21 +82,23 @@ module _ (entries : Entries) (K : PathV → Option (List ℕ)) (made more : Obje
       by false other (inl zeros_id) is = absurd (true≢false (sym ((bytes_decides id nil).1 zeros_id) ∙ other))
       by false other (inr has) is = of_made (map.get made (fs_key id)) refl has is
 
-  known_readable : (id : List ℕ) → IsNilMadeOrKept K made id → IsReadable more id
-  known_readable id (inl own) = readable id own
-  known_readable id (inr kept) = complete_directory more id (kept_whole kept.0 id kept.1)
+  -- and those that are kept
+  module _ (kept_whole : (d : PathV) (id : List ℕ) → K d ≡ Some id → IsCompleteRoot more id) where
+    known_readable : (id : List ℕ) → IsNilMadeOrKept K made id → IsReadable more id
+    known_readable id (inl own) = readable id own
+    known_readable id (inr kept) = complete_directory more id (kept_whole kept.0 id kept.1)
 
-  -- each directory below one that was made or kept can be read
-  ids_readable : (q : PathV) (id : List ℕ) → IsNilMadeOrKept K made id → (i : List ℕ) → directory_id_in more (dirents_at more id) q ≡ Some i → IsReadable more i
-  ids_readable q id (inr kept) i is = complete_directory more i (complete_at more id (kept_whole kept.0 id kept.1) q i is)
-  ids_readable [] id (inl own) i is = cc is
-  ids_readable (name ∷ []) id (inl own) i is = known_readable i (entry_made id own name i is)
-  ids_readable (name ∷ next ∷ q) id (inl own) i is = by (directory_in (entry_named name (dirents_at more id))) refl is (ids_readable (next ∷ q))
-    where
-      by : (o : Option (List ℕ)) → directory_in (entry_named name (dirents_at more id)) ≡ o → option_and_then (λ j. directory_id_in more (dirents_at more j) (next ∷ q)) o ≡ Some i
-          → ((id : List ℕ) → IsNilMadeOrKept K made id → (i : List ℕ) → directory_id_in more (dirents_at more id) (next ∷ q) ≡ Some i → IsReadable more i) → IsReadable more i
-      by None found there rest = cc there
-      by (Some below) found there rest = rest below (entry_made id own name below found) i there
+    -- each directory below one that was made or kept can be read
+    ids_readable : (q : PathV) (id : List ℕ) → IsNilMadeOrKept K made id → (i : List ℕ) → directory_id_in more (dirents_at more id) q ≡ Some i → IsReadable more i
+    ids_readable q id (inr kept) i is = complete_directory more i (complete_at more id (kept_whole kept.0 id kept.1) q i is)
+    ids_readable [] id (inl own) i is = cc is
+    ids_readable (name ∷ []) id (inl own) i is = known_readable i (entry_made id own name i is)
+    ids_readable (name ∷ next ∷ q) id (inl own) i is = by (directory_in (entry_named name (dirents_at more id))) refl is (ids_readable (next ∷ q))
+      where
+        by : (o : Option (List ℕ)) → directory_in (entry_named name (dirents_at more id)) ≡ o → option_and_then (λ j. directory_id_in more (dirents_at more j) (next ∷ q)) o ≡ Some i
+            → ((id : List ℕ) → IsNilMadeOrKept K made id → (i : List ℕ) → directory_id_in more (dirents_at more id) (next ∷ q) ≡ Some i → IsReadable more i) → IsReadable more i
+        by None found there rest = cc there
+        by (Some below) found there rest = rest below (entry_made id own name below found) i there
 
 -- ---- the directories of the tree
 

@@ -18,6 +18,7 @@ use Rattle.object_graph.proofs.FittingLemmas.{root_fits}
 use Rattle.tree_walk.specs.Reading.{IsDue}
 use Rattle.tree_merge.specs.ConflictNaming.{IsNamedTree, Places}
 use Rattle.tree_merge.specs.DirectoryMerge.{FinishesSo, IsBuiltBelow, IsMergedPart, IsNamedPart, MergesDirectory, none_yet, refusal_of}
+use Rattle.tree_merge.specs.HeadDirectory.{UsesHeads}
 use Rattle.tree_merge.specs.LevelMerge.{IsTakenBelow}
 use Rattle.tree_merge.specs.Merging.{AreComplete, AreLeft, IsBuiltOver, IsCaused, IsMerged, KeepsSettled, LeavesSo, MergesTo}
 use Rattle.tree_merge.specs.Opening.{AreWholeSides, IsWholeSide, id_in, paths_in, settled_in}
@@ -170,6 +171,9 @@ module _ (objects : Objects) (base head pushed : List ℕ) (complete : AreComple
         pub merges_all : (left : Objects) → AreLeft objects work.made left → IsMerged objects s (record { root = id_in part; made = left; conflicts = map.values work.copies })
         merges_all left are_left = is_merged objects base head pushed complete s are full full_told b.kept b.complete built over_kept left are_left n.whole
 
+        pub heads_all : (left : Objects) → AreLeft objects work.made left → UsesHeads objects head (record { root = id_in part; made = left; conflicts = map.values work.copies })
+        heads_all left are_left more keeps also = b.heads more keeps (kept_left objects work.made left are_left more keeps also)
+
         pub keeps_all : (left : Objects) → AreLeft objects work.made left → KeepsSettled objects base head pushed (record { root = id_in part; made = left; conflicts = map.values work.copies })
         keeps_all left are_left more keeps also dir id settled some =
             b.ids_kept dir id (not_root dir settled) (b.same refl dir id settled some) more keeps (kept_left objects work.made left are_left more keeps also)
@@ -202,6 +206,15 @@ settles objects base head pushed complete work part merges clear named few free 
     let h = root_fits objects head complete.head_whole in
     let p = root_fits objects pushed complete.pushed_whole in
     keeps_all objects base head pushed complete (record { base = b.0; head = h.0; pushed = p.0 }) (record { of_base = b.1; of_head = h.1; of_pushed = p.1 }) work part merges clear named few free left are_left
+
+pub uses : (objects : Objects) (base head pushed : List ℕ) → AreComplete objects base head pushed → (work : Work) (part : Option Kept) → MergesDirectory objects [] (of_roots base head pushed) none_yet work part
+    → (clear : long_told work.long ≡ None) → AreNamed work.made → paths_in part ≤ 1000000 → work.stop ≡ None → (left : Objects) → AreLeft objects work.made left
+    → UsesHeads objects head (record { root = id_in part; made = left; conflicts = map.values work.copies })
+uses objects base head pushed complete work part merges clear named few free left are_left =
+    let b = root_fits objects base complete.base_whole in
+    let h = root_fits objects head complete.head_whole in
+    let p = root_fits objects pushed complete.pushed_whole in
+    heads_all objects base head pushed complete (record { base = b.0; head = h.0; pushed = p.0 }) (record { of_base = b.1; of_head = h.1; of_pushed = p.1 }) work part merges clear named few free left are_left
 
 -- ---- no object is made any more
 

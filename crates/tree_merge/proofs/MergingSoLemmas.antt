@@ -18,6 +18,7 @@ use Rattle.object_graph.specs.Traversal.{IsCompleteRoot}
 use Rattle.object_graph.specs.Unchanged.{Keeps}
 use Rattle.tree_walk.specs.Extent.{extent_of}
 use Rattle.tree_merge.specs.Decision.{AreWholeIn}
+use Rattle.tree_merge.specs.HeadDirectory.{IsHeads}
 use Rattle.tree_merge.specs.LevelMerge.{IsTakenBelow, ListsKnown}
 use Rattle.tree_merge.specs.Opening.{dirents_if, id_in, is_settled, part_in, paths_in, settled_in}
 use Rattle.tree_merge.specs.Sides.{Entries, IsSeen}
@@ -82,6 +83,7 @@ module _ (objects : Objects) (path : PathV) (ids : Ids) (c : List ℕ → Sides)
     pub same : opens n ≡ true → (dir : PathV) (id : List ℕ)
         → settled_in objects (dirents_if objects (ids_at objects ids n).base) (dirents_if objects (ids_at objects ids n).head) (dirents_if objects (ids_at objects ids n).pushed) dir ≡ Some id
         → (extent_of objects id).paths ≢ 0 → K dir ≡ Some id
+    pub heads : (more : Objects) → Keeps objects more → Keeps made more → IsHeads objects more (ids_at objects ids n).head (id_in part)
     pub zeros : (id_in part ≡ nil) ↔ ((q : PathV) → map.get E q ≡ None)
 
   -- ---- of all names that are done
@@ -132,6 +134,7 @@ module _ (objects : Objects) (path : PathV) (ids : Ids) (c : List ℕ → Sides)
     value = λ more there also. b.value more there (kept_then one two more keeps also);
     ids_kept = λ dir id some is more there also. b.ids_kept dir id some is more there (kept_then one two more keeps also);
     same = b.same;
+    heads = λ more there also. b.heads more there (kept_then one two more keeps also);
     zeros = b.zeros;
   }
     where

@@ -53,6 +53,7 @@ use Rattle.tree_merge.specs.WorkSoFar.{copies_behind, long_told}
 use Rattle.tree_merge.specs.declared.opening.Ids.{Ids}
 use Rattle.tree_merge.specs.declared.opening.Kept.{Kept}
 use Rattle.tree_merge.specs.declared.work.Work.{Work}
+use Rattle.tree_merge.proofs.HeadsUsedLemmas.{heads_of_part, nil_heads, same_directory-true}
 use Rattle.tree_merge.proofs.ListedBelowLemmas.{distinct_paths, in_all, in_table, nothing_listed, paths_listed, some_listed}
 use Rattle.tree_merge.proofs.ListedPathLemmas.{Item, StandsBelow, lists_below}
 use Rattle.tree_merge.proofs.MadeLemmas.{kept_itself}
@@ -63,12 +64,6 @@ use Rattle.tree_merge.proofs.StoredTreeLemmas.{entry_stays, file_modes, seen_ent
 use Rattle.tree_merge.proofs.WholeSideLemmas.{complete_part_of}
 
 -- ---- three trees of which pushed is the head, or base
-
-pub same_directory-true : (left right : Option (List ℕ)) → same_directory left right ≡ true → left ≡ right
-same_directory-true None None e = refl
-same_directory-true None (Some right) e = cc
-same_directory-true (Some left) None e = cc
-same_directory-true (Some left) (Some right) e = ap Some ((bytes_decides left right).0 e)
 
 agree_all : (t u : Tree) → ((q : PathV) → map.get t q ≡ map.get u q) → AgreeBelow [] t u
 agree_all t u same = record {
@@ -239,7 +234,7 @@ nil_entries more q = ap (λ es. entry_in more es q) (ap (λ (b : Bool). if b the
 
 -- ---- what is left
 
-module _ (objects : Objects) (path : PathV) (ids : Ids) (w : Work) (s : Sides) (x : Tree) (own : IsOwn s x) where
+module _ (objects : Objects) (path : PathV) (ids : Ids) (w : Work) (s : Sides) (x : Tree) (own : IsOwn s x) (settled : is_settled ids.base ids.head ids.pushed ≡ true) where
   -- of nothing
   own_none : ((q : PathV) → map.get x q ≡ None) → ((id : List ℕ) → part_in ids ≡ Some id → (extent_of objects id).paths ≢ 0 → ⊥) → IsMergedPart objects path false ids s w w None
   own_none nothing empty = record {
@@ -268,6 +263,7 @@ module _ (objects : Objects) (path : PathV) (ids : Ids) (w : Work) (s : Sides) (
         below = λ key bytes there. inl there;
         ids_kept = λ dir id some there. cc there;
         same = λ open_here. cc open_here;
+        heads = λ more keeps also. nil_heads objects more ids.head;
         zeros = ((λ e q. map.get-empty path_cmp q), (λ all. refl));
       };
     };
@@ -353,6 +349,7 @@ module _ (objects : Objects) (path : PathV) (ids : Ids) (w : Work) (s : Sides) (
           below = λ key bytes there. inl there;
           ids_kept = kept_ids_none;
           same = λ open_here. cc open_here;
+          heads = λ more keeps also. heads_of_part objects more keeps ids id settled is_part complete;
           zeros = (
             (λ zeros. absurd (not_nil zeros)),
             (λ none. absurd (not_empty (λ n q. sym (at (n ∷ q)) ∙ none (n ∷ q)))),
@@ -391,4 +388,4 @@ own_part objects path ids w room whole settled part is s are =
     let side = settled_side objects ids s are settled (side_trees objects room ids whole s are) in
     subst (λ (p : Option Kept). IsMergedPart objects path (not (is_settled ids.base ids.head ids.pushed)) ids s w w p) (sym is)
     (subst (λ (b : Bool). IsMergedPart objects path (not b) ids s w w (kept_if objects (part_in ids))) (sym settled)
-    (own_is objects path ids w s side.tree side.own side.is (complete_part_of objects room ids whole)))
+    (own_is objects path ids w s side.tree side.own settled side.is (complete_part_of objects room ids whole)))

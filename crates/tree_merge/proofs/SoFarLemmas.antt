@@ -216,7 +216,7 @@ module _ (objects : Objects) (path : PathV) (ids : Ids) (c : List ℕ → Sides)
             by_name (λ j. waits after j ≡ false → PartBuilt objects path ids c j (map.get opened_after.kept (j ∷ [])) (entries_now j) (kept_now j) new.made) k
             (λ e. subst (λ (p : Option Kept). PartBuilt objects path ids c n p (entries_now n) (kept_now n) new.made) (sym kept_here)
             (subst₂ (λ (E : Entries) (K : PathV → Option (List ℕ)). PartBuilt objects path ids c n part E K new.made) (sym (at_name own.entries was.entries)) (sym (at_name b.kept w.kept_of))
-            (record { complete = b.complete; known = b.known; top = b.top; own = b.own; value = b.value; ids_kept = b.ids_kept; same = b.same; zeros = b.zeros })))
+            (record { complete = b.complete; known = b.known; top = b.top; own = b.own; value = b.value; ids_kept = b.ids_kept; same = b.same; heads = b.heads; zeros = b.zeros })))
             (λ other e. subst (λ (p : Option Kept). PartBuilt objects path ids c k p (entries_now k) (kept_now k) new.made) (sym (kept_other k other))
             (subst₂ (λ (E : Entries) (K : PathV → Option (List ℕ)). PartBuilt objects path ids c k (map.get opened.kept (k ∷ [])) E K new.made) (sym (at_other own.entries was.entries k other)) (sym (at_other b.kept w.kept_of k other))
             (built_more objects path ids c k (map.get opened.kept (k ∷ [])) (was.entries k) (w.kept_of k) mid.made new.made own.kept_made (w.parts k (was_done k other e)))))

@@ -129,7 +129,7 @@ module _ (objects : Objects) (ids : Ids) (s l : Sides) (c : List ℕ → Sides) 
   pub nodes_deep : (n m : List ℕ) (r : PathV) → map.get nodes (n ∷ m ∷ r) ≡ None
   nodes_deep n m r = none_from_option_map (node_of objects) (map.get nodes (n ∷ m ∷ r)) (sym (told objects (kept_itself objects) (n ∷ m ∷ r)) ∙ here.nothing n m r)
 
-  nodes_single : (q : PathV) → IsSome (map.get nodes q) → IsSingle q
+  pub nodes_single : (q : PathV) → IsSome (map.get nodes q) → IsSingle q
   nodes_single [] some = absurd (true≢false (sym some ∙ ap is_some nodes_root))
   nodes_single (n ∷ []) some = (n, refl)
   nodes_single (n ∷ m ∷ r) some = absurd (true≢false (sym some ∙ ap is_some (nodes_deep n m r)))
@@ -161,7 +161,7 @@ module _ (objects : Objects) (ids : Ids) (s l : Sides) (c : List ℕ → Sides) 
             (one.0, (one.1, (part, ap (map.get K) (sym one.1) ∙ there, same)))
 
     -- where nothing is left below an entry, nothing stands below it
-    gone_below : (n : List ℕ) → map.get K (n ∷ []) ≡ None → (m : List ℕ) (r : PathV) → map.get whole_entries (n ∷ m ∷ r) ≡ None
+    pub gone_below : (n : List ℕ) → map.get K (n ∷ []) ≡ None → (m : List ℕ) (r : PathV) → map.get whole_entries (n ∷ m ∷ r) ≡ None
     gone_below n none m r =
         get_whole (n ∷ m ∷ r)
         ∙ none_from_option_map (node_of objects) (map.get (E n) (m ∷ r)) (sym (seen n objects (kept_itself objects) (m ∷ r)) ∙ (below n).nothing (sym (is_left n) ∙ ap is_some none) (m ∷ r))

@@ -19,6 +19,7 @@ use Rattle.object_graph.specs.Unchanged.{Keeps}
 use Rattle.tree_walk.specs.Extent.{extent_of}
 use Rattle.tree_walk.specs.declared.fault.WalkFault.TheVariants.{Store}
 use Rattle.tree_merge.specs.Decision.{AreWholeIn}
+use Rattle.tree_merge.specs.HeadDirectory.{IsHeads}
 use Rattle.tree_merge.specs.LevelMerge.{IsTakenBelow, ListsKnown}
 use Rattle.tree_merge.specs.Opening.{HasEntry, dirents_if, id_in, ids_in, is_settled, part_in, paths_in, settled_in}
 use Rattle.tree_merge.specs.Sides.{Entries, IsSeen}
@@ -59,6 +60,7 @@ pub record IsBuiltBelow (objects : Objects) (entries : Entries) (is_open : Bool)
       → directory_id_in more (dirents_at more root) dir ≡ Some id
   pub same : is_open ≡ true → (dir : PathV) (id : List ℕ)
       → settled_in objects (dirents_if objects ids.base) (dirents_if objects ids.head) (dirents_if objects ids.pushed) dir ≡ Some id → (extent_of objects id).paths ≢ 0 → kept dir ≡ Some id
+  pub heads : (more : Objects) → Keeps objects more → Keeps new more → IsHeads objects more ids.head root
   pub zeros : (root ≡ nil) ↔ ((path : PathV) → map.get entries path ≡ None)
 
 -- what lies below three directories is merged, where no conflict name is too long: `entries` are the merged tree's

@@ -1,5 +1,5 @@
 -- The merge of the entries of one directory, over what is left below them. Our own. Read MergesLevel, then MakesLevel.
-use Rattle.std.specs.Prelude.{◌≡◌, ◌≢◌, ◌⊎◌, ◌↔◌, ◌<◌, ℕ, ◌+◌, min, true, false, if◌then◌else◌, List, [], ◌++◌, Option, Some, None, Ok, is_some}
+use Rattle.std.specs.Prelude.{◌≡◌, ◌≢◌, ◌⊎◌, ◌↔◌, ◌<◌, ℕ, ◌+◌, min, true, false, if◌then◌else◌, List, [], ◌∷◌, ◌++◌, Option, Some, None, Ok, is_some}
 use Rattle.std.specs.FinMap as map
 use Rattle.std.specs.List.{sum_by}
 use Rattle.std.specs.Option.{option_or}
@@ -55,6 +55,8 @@ pub record IsBuiltFrom (given : Given) (kept : PathV → Option (List ℕ)) (who
   pub ids : (dir : PathV) (id : List ℕ) → kept dir ≡ Some id → (objects : Objects) → Keeps new objects → directory_id_in objects (dirents_at objects root) dir ≡ Some id
   pub below : (key : Key) (bytes : List ℕ) → map.get new key ≡ Some bytes → (map.get old key ≡ Some bytes) ⊎ ListsKnown kept new bytes
   pub known : IsNilOrMade new root
+  pub empty : (objects : Objects) → AreThere given objects → Keeps new objects → (name : List ℕ) → ((inner : List ℕ) → map.get whole (name ∷ inner ∷ []) ≡ None)
+      → (id : List ℕ) → directory_id_in objects (dirents_at objects root) (name ∷ []) ≡ Some id → id ≡ nil
   pub zeros : (root ≡ nil) ↔ ((path : PathV) → map.get whole path ≡ None)
 
 -- a directory is made of its entries, or refuses the merge, by its paths or by its id: of any tree of which these are the entries that are shown

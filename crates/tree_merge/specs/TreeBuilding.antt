@@ -43,6 +43,11 @@ module _ (objects : Objects) where
   directory_id_in entries (name ∷ next ∷ path) =
       option_and_then (λ id. directory_id_in (dirents_at objects id) (next ∷ path)) (directory_in (entry_named name entries))
 
+  -- the same of a root, which stands at no names
+  abbrev pub directory_id_at : List ℕ → PathV → Option (List ℕ)
+  directory_id_at root [] = Some root
+  directory_id_at root (name ∷ path) = directory_id_in (dirents_at objects root) (name ∷ path)
+
   -- the id is that of a directory of the tree: of the root, or of one at a path below it
   abbrev pub IsDirectoryOf : List ℕ → List ℕ → Type 0
   IsDirectoryOf root id = (id ≡ root) ⊎ ((path : PathV) × (directory_id_in (dirents_at objects root) path ≡ Some id))

@@ -8,6 +8,7 @@ ghost use Rattle.object_store.specs.StoreView.{objects_of};
 ghost use Rattle.tree_walk.specs.KnownTrees.{Fits};
 ghost use Rattle.tree_walk.specs.Reading.{Reads};
 ghost use Rattle.tree_merge.specs.DirectoryMerge.{FinishesSo, none_yet, refusal_of};
+ghost use Rattle.tree_merge.specs.HeadDirectory.{UsesHeads};
 ghost use Rattle.tree_merge.specs.Opening.{id_in, paths_in};
 ghost use Rattle.tree_merge.specs.Merging.{AreComplete, IsCaused, KeepsSettled, MergesTo, as_read};
 ghost use Rattle.tree_merge.specs.TreeBuilding.{AreNamed, IsCollision};
@@ -67,6 +68,7 @@ pub fn merge<S: Shelf>(
     ensures value { (objects : Objects) → objects_of S.contents store.old ≡ Some objects → (s : Sides)
         → IsTreeOf objects base s.base → IsTreeOf objects head s.head → IsTreeOf objects pushed s.pushed → MergesTo objects s result }
     ensures same { (objects : Objects) → objects_of S.contents store.old ≡ Some objects → IfOk result (KeepsSettled objects base head pushed) }
+    ensures heads { (objects : Objects) → objects_of S.contents store.old ≡ Some objects → IfOk result (UsesHeads objects head) }
     ensures named { IfOk result (λ merged. AreNamed merged.made) }
     ensures cause { IfErr result IsCaused }
     ensures known { (objects : Objects) → objects_of S.contents store.old ≡ Some objects → Fits objects known.new }
