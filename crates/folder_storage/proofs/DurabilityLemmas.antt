@@ -1,17 +1,12 @@
--- What steps add to steps, and which directories are among some. The key lemmas are objects-only, directories-only, named-more and
--- made-durable.
-use Rattle.std.proofs.Common.{◌≡◌, ◌⊎◌, ℕ, suc, zero, ◌<◌, ◌+◌, List, [], ◌∷◌, ◌++◌, length, get_or, inl, inr, take, map, Option, None, Some, Result, Ok, Err, OnOk, OnErr, slice_index, subst, refl, sym, ◌∙◌, ap, arith}
+-- What steps add to steps, and which keys and directories are among some. The key lemmas are objects-only,
+-- directories-only, made-durable, readied, unready, round-steps, named-more, among-more and adds-earlier.
+use Rattle.std.proofs.Common.{◌≡◌, ◌⊎◌, ℕ, suc, zero, ◌<◌, ◌+◌, Bool, List, [], ◌∷◌, ◌++◌, length, get_or, inl, inr, take, map, Option, None, Some, Result, Ok, Err, OnOk, OnErr, slice_index, subst, refl, sym, ◌∙◌, ap, arith}
 use Rattle.std.specs.Bool.{⊤}
-use Rattle.std.proofs.lemmas.List.{append-nil, append_assoc, map-append, take_more}
+use Rattle.std.proofs.lemmas.List.{append_assoc, map-append, take_more}
 use Rattle.ids.specs.declared.key.Key.{Key}
 use Rattle.folder_storage.specs.declared.durability.Directory.{Directory}
 use Rattle.folder_storage.specs.declared.durability.Directory.TheVariants.{Objects, OfKind}
-use Rattle.folder_storage.specs.Durability.{AreNamedIn, AreSyncs, In, MakesDurable, OnlySyncs, PutObject, PutText, Step, SyncedObject, SyncedDirectory, SyncsAll, with_steps}
-
--- nothing was done more
-pub steps-none : (told : Option (List Step)) → told ≡ with_steps told []
-steps-none None = refl
-steps-none (Some steps) = ap Some (sym (append-nil steps))
+use Rattle.folder_storage.specs.Durability.{AddsEarlier, AreAmong, AreNamedIn, AreSyncs, BeganSyncs, BeginsSyncs, EndedSyncs, Gathered, Gathers, In, MakesDurable, OnlySyncs, PutObject, PutText, Step, StopsBefore, SyncedObject, SyncedDirectory, SyncsEach, round_of, with_steps}
 
 -- these steps, and then those
 pub steps-more : (told : Option (List Step)) (a b : List Step) → with_steps (with_steps told a) b ≡ with_steps told (a ++ b)
@@ -55,8 +50,11 @@ In-front x (y ∷ xs) ys (inr later) = inr (In-front x xs ys later)
 pub syncs-append : (a b : List Step) → AreSyncs a → AreSyncs b → AreSyncs (a ++ b)
 syncs-append [] b first more = more
 syncs-append (PutObject key ∷ a) b first more = absurd first
+syncs-append (Gathered keys ∷ a) b first more = absurd first
+syncs-append (BeganSyncs keys ∷ a) b first more = absurd first
 syncs-append (SyncedObject key ∷ a) b first more = syncs-append a b first more
 syncs-append (SyncedDirectory directory ∷ a) b first more = syncs-append a b first more
+syncs-append (EndedSyncs is_synced ∷ a) b first more = absurd first
 syncs-append (PutText text ∷ a) b first more = absurd first
 
 -- what was passed before a failure is syncs alone
@@ -75,10 +73,8 @@ only-after old mid new keys done only = record {
 
 -- the objects, and then the folders
 pub both-synced : (old mid new : Option (List Step)) (keys : List Key) (directories : List Directory) → AreNamedIn keys directories
-    → mid ≡ with_steps old (map SyncedObject keys) → new ≡ with_steps mid (map SyncedDirectory directories) → SyncsAll old new keys
+    → mid ≡ with_steps old (map SyncedObject keys) → new ≡ with_steps mid (map SyncedDirectory directories) → SyncsEach old new keys
 both-synced old mid new keys directories named synced placed = record {
-  synced = keys;
-  whole = λ key is. is;
   directories = directories;
   named = named;
   steps = placed ∙ ap (λ m. with_steps m (map SyncedDirectory directories)) synced ∙ steps-more old (map SyncedObject keys) (map SyncedDirectory directories);
@@ -89,6 +85,38 @@ pub made-durable : {E : Type 0} (old mid new : Option (List Step)) (keys : List 
     → OnOk result (new ≡ with_steps mid (map SyncedDirectory directories)) → OnErr result (OnlySyncs mid new) → MakesDurable old new keys result
 made-durable old mid new keys directories (Ok done) named synced placed failed = both-synced old mid new keys directories named synced placed
 made-durable old mid new keys directories (Err failure) named synced placed failed = only-after old mid new keys synced failed
+
+-- what earlier runs put is in the list, and then its syncs are begun, unless that fails
+pub readied : {E : Type 0} (old mid new : Option (List Step)) (keys gathered begun slice : List Key) (result : Result ⊤ E)
+    → AreAmong keys gathered → AreAmong gathered begun → slice ≡ begun → mid ≡ with_steps old (Gathered gathered ∷ [])
+    → OnOk result (new ≡ with_steps mid (BeganSyncs slice ∷ [])) → OnOk result (BeginsSyncs old new keys begun)
+readied old mid new keys gathered begun slice (Ok done) grown whole same first began = record {
+  gathered = gathered;
+  grown = grown;
+  whole = whole;
+  steps = began ∙ ap (λ told. with_steps told (BeganSyncs slice ∷ [])) first ∙ steps-more old (Gathered gathered ∷ []) (BeganSyncs slice ∷ [])
+      ∙ ap (λ list. with_steps old (Gathered gathered ∷ BeganSyncs list ∷ [])) same;
+}
+readied old mid new keys gathered begun slice (Err failure) grown whole same first began = _
+
+pub gathers-only : (old mid new : Option (List Step)) (keys gathered more : List Key) → AreAmong keys gathered → AreAmong gathered more
+    → mid ≡ with_steps old (Gathered gathered ∷ []) → new ≡ mid → Gathers old new keys more
+gathers-only old mid new keys gathered more grown whole first same = record { gathered = gathered; grown = grown; whole = whole; steps = same ∙ first }
+
+pub unready : {E : Type 0} (old mid new : Option (List Step)) (keys gathered more : List Key) (result : Result ⊤ E)
+    → AreAmong keys gathered → AreAmong gathered more → mid ≡ with_steps old (Gathered gathered ∷ []) → OnErr result (new ≡ mid)
+    → OnErr result (StopsBefore old new keys more)
+unready old mid new keys gathered more (Ok done) grown whole first same = _
+unready old mid new keys gathered more (Err failure) grown whole first same = inr (gathers-only old mid new keys gathered more grown whole first same)
+
+-- a whole round, by its parts
+pub round-steps : (old ready synced new : Option (List Step)) (gathered begun : List Key) (syncs : List Step) (is_synced : Bool)
+    → ready ≡ with_steps old (Gathered gathered ∷ BeganSyncs begun ∷ []) → synced ≡ with_steps ready syncs
+    → new ≡ with_steps synced (EndedSyncs is_synced ∷ []) → new ≡ with_steps old (round_of gathered begun syncs is_synced)
+round-steps old ready synced new gathered begun syncs is_synced began done ended =
+    ended ∙ ap (λ told. with_steps told (EndedSyncs is_synced ∷ [])) done ∙ steps-more ready syncs (EndedSyncs is_synced ∷ [])
+    ∙ ap (λ told. with_steps told (syncs ++ EndedSyncs is_synced ∷ [])) began
+    ∙ steps-more old (Gathered gathered ∷ BeganSyncs begun ∷ []) (syncs ++ EndedSyncs is_synced ∷ [])
 
 named-last : (key x : Key) (byte : ℕ) (p : List Directory) → byte ≡ slice_index x.id 0 → In key (x ∷ []) → In (Objects x.kind byte) p → In (OfKind x.kind) p
     → In (Objects key.kind (slice_index key.id 0)) p × In (OfKind key.kind) p
@@ -109,3 +137,25 @@ pub named-more : (keys keys' : List Key) (x : Key) (byte : ℕ) (directories p q
     → In (Objects x.kind byte) p → In (OfKind x.kind) q → AreNamedIn keys' q
 named-more keys keys' x byte directories p q all named grows more is has of_kind key among =
     named-either keys key x byte directories p q named grows more is has of_kind (In-split key keys (x ∷ []) (subst (In key) all among))
+
+among-last : (new : List Key) (key x : Key) → In x new → In key (x ∷ []) → In key new
+among-last new key x last (inl same) = subst (λ k. In k new) (sym same) last
+among-last new key x last (inr none) = absurd none
+
+-- one more of a list is among others
+pub among-more : (keys keys' old new : List Key) (x : Key) → keys' ≡ keys ++ x ∷ [] → AreAmong keys old → AreAmong old new → In x new → AreAmong keys' new
+among-more keys keys' old new x all passed grows last key is =
+    elim (In-split key keys (x ∷ []) (subst (In key) all is)) [ inl front ↦ grows key (passed key front) | inr back ↦ among-last new key x last back ]
+
+-- what was found stays found as nothing else of it changes
+pub adds-earlier : {E : Type 0} (near near' whole whole' keys : List Key) (once once' : Bool) (result : Result ⊤ E)
+    → (near' ≡ near) × (whole' ≡ whole) × (once' ≡ once) → OnOk result (AddsEarlier near' whole' once' keys) → OnOk result (AddsEarlier near whole once keys)
+adds-earlier near near' whole whole' keys once once' (Ok done) same adds = λ is.
+    let both : AreAmong near' keys × AreAmong whole' keys = adds (same.2 ∙ is) in
+    (subst (λ list. AreAmong list keys) same.0 both.0, subst (λ list. AreAmong list keys) same.1 both.1)
+adds-earlier near near' whole whole' keys once once' (Err failure) same adds = _
+
+-- after a failure a mark is as it was before two calls
+pub mark-stays : {E : Type 0} (old mid new : Bool) (result : Result ⊤ E) → mid ≡ old → OnErr result (new ≡ mid) → OnErr result (new ≡ old)
+mark-stays old mid new (Ok done) first failed = _
+mark-stays old mid new (Err failure) first failed = failed ∙ first

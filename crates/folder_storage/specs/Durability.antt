@@ -1,17 +1,22 @@
--- In which order what was put is made durable. Our own. Read Step first, then TextComesLast, then IsInOrder.
+-- In which order what was put is made durable. Our own. Read Step first, then SyncsAll and TextComesLast, then IsInOrder.
 -- A disk may tell its steps; the one over files tells None, and no other is here.
-use Rattle.std.specs.Prelude.{◌≡◌, ◌⊎◌, ◌++◌, ℕ, List, [], ◌∷◌, Option, None, Some, Result, Ok, Err, ⊤, map, option_map, slice_index}
+use Rattle.std.specs.Prelude.{◌≡◌, ◌⊎◌, ◌++◌, ℕ, Bool, false, true, List, [], ◌∷◌, Option, None, Some, Result, Ok, Err, ⊤, map, option_map, slice_index}
 use Rattle.ids.specs.declared.key.Key.{Key}
 use Rattle.object_store.specs.declared.shelf.Slot.{Slot}
 use Rattle.object_store.specs.declared.shelf.Slot.TheVariants.{Object, Status}
 use Rattle.folder_storage.specs.declared.durability.Directory.{Directory}
 use Rattle.folder_storage.specs.declared.durability.Directory.TheVariants.{Objects, OfKind}
 
--- what was done: an object was put, its file was synced, the names in a folder were, or a state text was put
+-- what was done: an object was put; what earlier runs put was added to the list of what is to be synced, which was this
+-- then; the syncs of these objects were begun; an object's file was synced, or the names in a folder were; the disk was
+-- told whether all syncs were done; or a state text was put
 pub data Step : Type 0 where
   PutObject : Key → Step
+  Gathered : List Key → Step
+  BeganSyncs : List Key → Step
   SyncedObject : Key → Step
   SyncedDirectory : Directory → Step
+  EndedSyncs : Bool → Step
   PutText : List ℕ → Step
 
 -- the steps so far and these after them, where they are told
@@ -41,13 +46,40 @@ StaysListed Status old new = ⊤
 abbrev pub AreNamedIn : List Key → List Directory → Type 0
 AreNamedIn keys directories = (key : Key) → In key keys → In (Objects key.kind (slice_index key.id 0)) directories × In (OfKind key.kind) directories
 
--- every object of the list is synced, and then every folder that names one
+-- each of these objects is synced, and then every folder that names one
+pub record SyncsEach (old new : Option (List Step)) (keys : List Key) : Type 0 where
+  pub directories : List Directory
+  pub named : AreNamedIn keys directories
+  pub steps : new ≡ with_steps old (map SyncedObject keys ++ map SyncedDirectory directories)
+
+-- what earlier runs put was added to the list, and all of that is among `more`
+pub record Gathers (old new : Option (List Step)) (keys more : List Key) : Type 0 where
+  pub gathered : List Key
+  pub grown : AreAmong keys gathered
+  pub whole : AreAmong gathered more
+  pub steps : new ≡ with_steps old (Gathered gathered ∷ [])
+
+-- the same, and then the syncs of all of that were begun
+pub record BeginsSyncs (old new : Option (List Step)) (keys begun : List Key) : Type 0 where
+  pub gathered : List Key
+  pub grown : AreAmong keys gathered
+  pub whole : AreAmong gathered begun
+  pub steps : new ≡ with_steps old (Gathered gathered ∷ BeganSyncs begun ∷ [])
+
+-- a round of syncs, from what is gathered on to what the disk is told as they end
+abbrev pub round_of : (gathered begun : List Key) → List Step → Bool → List Step
+round_of gathered begun syncs is_synced = Gathered gathered ∷ BeganSyncs begun ∷ (syncs ++ EndedSyncs is_synced ∷ [])
+
+-- what earlier runs put is in the list too; each object of it is synced, then every folder that names one, and the disk
+-- is told that all is synced
 pub record SyncsAll (old new : Option (List Step)) (keys : List Key) : Type 0 where
+  pub gathered : List Key
+  pub grown : AreAmong keys gathered
   pub synced : List Key
-  pub whole : AreAmong keys synced
+  pub whole : AreAmong gathered synced
   pub directories : List Directory
   pub named : AreNamedIn synced directories
-  pub steps : new ≡ with_steps old (map SyncedObject synced ++ map SyncedDirectory directories)
+  pub steps : new ≡ with_steps old (round_of gathered synced (map SyncedObject synced ++ map SyncedDirectory directories) true)
 
 -- that comes first, and the text after it
 pub record TextComesLast (old new : Option (List Step)) (keys : List Key) (text : List ℕ) : Type 0 where
@@ -59,8 +91,11 @@ pub record TextComesLast (old new : Option (List Step)) (keys : List Key) (text 
 abbrev pub AreSyncs : List Step → Type 0
 AreSyncs [] = ⊤
 AreSyncs (PutObject key ∷ steps) = ⊥
+AreSyncs (Gathered keys ∷ steps) = ⊥
+AreSyncs (BeganSyncs keys ∷ steps) = ⊥
 AreSyncs (SyncedObject key ∷ steps) = AreSyncs steps
 AreSyncs (SyncedDirectory directory ∷ steps) = AreSyncs steps
+AreSyncs (EndedSyncs is_synced ∷ steps) = ⊥
 AreSyncs (PutText text ∷ steps) = ⊥
 
 -- what was done more is syncs alone
@@ -71,14 +106,33 @@ pub record OnlySyncs (old new : Option (List Step)) : Type 0 where
 
 -- all is synced where the call is done; else there were syncs alone
 abbrev pub MakesDurable : {E : Type 0} → Option (List Step) → Option (List Step) → List Key → Result ⊤ E → Type 0
-MakesDurable old new keys (Ok done) = SyncsAll old new keys
+MakesDurable old new keys (Ok done) = SyncsEach old new keys
 MakesDurable old new keys (Err failure) = OnlySyncs old new
 
+-- no sync was begun, and the list has all that it had: nothing was done, or what earlier runs put is in it too
+abbrev pub StopsBefore : (old new : Option (List Step)) → (keys left : List Key) → Type 0
+StopsBefore old new keys left = ((new ≡ old) × AreAmong keys left) ⊎ Gathers old new keys left
+
+-- syncs were begun, and the last that the disk was told is that not all were done. The list has all that was gathered
+pub record StopsShort (old new : Option (List Step)) (keys left : List Key) : Type 0 where
+  pub gathered : List Key
+  pub grown : AreAmong keys gathered
+  pub whole : AreAmong gathered left
+  pub syncs : List Step
+  pub no_text : AreSyncs syncs
+  pub steps : new ≡ with_steps old (round_of gathered left syncs false)
+
 -- a text is put after all that it may name is durable, or it isn't put; it is put where the call is done. The list loses
--- none of its objects while not all of them, and the folders that name them, are durable
+-- none of its objects while not all of them, and the folders that name them, are durable; the disk is told that all are
+-- once they are, and never else
 abbrev pub PutsDurably : {E : Type 0} → (old new : Option (List Step)) → (keys left : List Key) → List ℕ → Result ⊤ E → Type 0
 PutsDurably old new keys left text (Ok done) = TextComesLast old new keys text
-PutsDurably old new keys left text (Err failure) = (OnlySyncs old new × AreAmong keys left) ⊎ (SyncsAll old new keys ⊎ TextComesLast old new keys text)
+PutsDurably old new keys left text (Err failure) =
+    (StopsBefore old new keys left ⊎ StopsShort old new keys left) ⊎ (SyncsAll old new keys ⊎ TextComesLast old new keys text)
+
+-- what was found of earlier runs is in the list, unless it was added to it before
+abbrev pub AddsEarlier : (near whole : List Key) → Bool → List Key → Type 0
+AddsEarlier near whole has_earlier keys = has_earlier ≡ false → AreAmong near keys × AreAmong whole keys
 
 -- what has to be synced before a text: the file of an object, or the names in a folder
 pub data Due : Type 0 where
@@ -94,20 +148,27 @@ IsDueOf put (Names directory) = (directory ≡ Objects put.kind (slice_index put
 abbrev pub IsDueIn : List Key → Due → Type 0
 IsDueIn keys due = (key : Key) × In key keys × IsDueOf key due
 
--- after the steps, a put made it due, and it was not synced since; `before` are those of which that held before them
+-- after the steps, a put made it due, or what was gathered did, and it was not synced since; `before` are those of which
+-- that held before them
 abbrev pub IsUnsynced : (Due → Type 0) → List Step → Due → Type 0
 IsUnsynced before [] = before
 IsUnsynced before (PutObject put ∷ steps) = IsUnsynced (λ due. IsDueOf put due ⊎ before due) steps
+IsUnsynced before (Gathered keys ∷ steps) = IsUnsynced (λ due. IsDueIn keys due ⊎ before due) steps
+IsUnsynced before (BeganSyncs keys ∷ steps) = IsUnsynced before steps
 IsUnsynced before (SyncedObject key ∷ steps) = IsUnsynced (λ due. before due × (due ≡ File key → ⊥)) steps
 IsUnsynced before (SyncedDirectory directory ∷ steps) = IsUnsynced (λ due. before due × (due ≡ Names directory → ⊥)) steps
+IsUnsynced before (EndedSyncs is_synced ∷ steps) = IsUnsynced before steps
 IsUnsynced before (PutText text ∷ steps) = IsUnsynced before steps
 
--- at each text nothing is due and not synced
+-- at each text nothing is due and not synced, and so it is wherever the disk is told that all is synced
 abbrev pub AreInOrder : (Due → Type 0) → List Step → Type 0
 AreInOrder before [] = ⊤
 AreInOrder before (PutObject put ∷ steps) = AreInOrder (λ due. IsDueOf put due ⊎ before due) steps
+AreInOrder before (Gathered keys ∷ steps) = AreInOrder (λ due. IsDueIn keys due ⊎ before due) steps
+AreInOrder before (BeganSyncs keys ∷ steps) = AreInOrder before steps
 AreInOrder before (SyncedObject key ∷ steps) = AreInOrder (λ due. before due × (due ≡ File key → ⊥)) steps
 AreInOrder before (SyncedDirectory directory ∷ steps) = AreInOrder (λ due. before due × (due ≡ Names directory → ⊥)) steps
+AreInOrder before (EndedSyncs is_synced ∷ steps) = (is_synced ≡ true → (due : Due) → before due → ⊥) × AreInOrder before steps
 AreInOrder before (PutText text ∷ steps) = ((due : Due) → before due → ⊥) × AreInOrder before steps
 
 -- the same from the first step on, and what is due and not synced is so by an object of the list

@@ -1,6 +1,6 @@
 //! How what was put is made durable: every object, and then every folder that names one.
 ghost use Rattle.std.specs.Prelude.{◌≡◌, ◌⊎◌, ℕ, List, [], ◌∷◌, IfErr, IfOk, IsTrue, OnErr, OnOk, Option, map, slice_index};
-ghost use Rattle.folder_storage.specs.Durability.{AreAmong, AreNamedIn, In, MakesDurable, OnlySyncs, PutObject, PutText, Step, SyncedObject, SyncedDirectory, with_steps};
+ghost use Rattle.folder_storage.specs.Durability.{AreAmong, AreNamedIn, BeganSyncs, EndedSyncs, Gathered, In, MakesDurable, OnlySyncs, PutObject, PutText, Step, SyncedObject, SyncedDirectory, with_steps};
 
 use ids::{Key, Kind};
 use std::alloc::{AllocError, Global};
@@ -35,11 +35,13 @@ pub(crate) trait Disk {
     /// Adds what was put before this run, and may not be durable, to the list. It fails where no text may be put.
     fn gather(&mut self, keys: &mut Vec<Key>) -> io::Result<()>
         ensures listed { AreAmong keys.old.items keys.new.items }
-        ensures stays { steps self.new ≡ steps self.old };
+        ensures ok { OnOk result (steps self.new ≡ with_steps (steps self.old) (Gathered keys.new.items ∷ [])) }
+        ensures err { OnErr result (steps self.new ≡ steps self.old) };
 
     /// Comes before the syncs of these objects.
     fn begin_syncs(&mut self, keys: &[Key]) -> io::Result<()>
-        ensures stays { steps self.new ≡ steps self.old };
+        ensures ok { OnOk result (steps self.new ≡ with_steps (steps self.old) (BeganSyncs keys.now ∷ [])) }
+        ensures err { OnErr result (steps self.new ≡ steps self.old) };
 
     /// Makes an object's file durable.
     fn sync_object(&mut self, key: &Key) -> io::Result<()>
@@ -53,7 +55,7 @@ pub(crate) trait Disk {
 
     /// Comes after the syncs, and is told whether all were done.
     fn end_syncs(&mut self, is_synced: bool)
-        ensures stays { steps self.new ≡ steps self.old };
+        ensures told { steps self.new ≡ with_steps (steps self.old) (EndedSyncs is_synced ∷ []) };
 
     /// Puts the state text, durably. After a failure it may be there.
     fn put_text(&mut self, text: &[u8]) -> io::Result<()>

@@ -1,5 +1,5 @@
 //! The folder of one library, held by this process.
-ghost use Rattle.std.specs.Prelude.{◌≡◌};
+ghost use Rattle.std.specs.Prelude.{◌≡◌, false};
 ghost use Rattle.folder_storage.specs.Listing.{IsForgotten, IsForgottenAt};
 
 use crate::durability::first_byte;
@@ -53,6 +53,7 @@ impl<F: FileSystem + Drop> LibraryFolder<F> {
     /// The folder at this path, which this process has taken, in the folder above.
     pub(crate) fn new(files: F, path: String, above: String, earlier: Earlier) -> LibraryFolder<F>
         ensures folder { result.path ≡ path }
+        ensures found { (result.earlier ≡ earlier) × (result.has_earlier ≡ false) }
     {
         let alloc = files.alloc();
         LibraryFolder {

@@ -1,5 +1,6 @@
 //! How a library's folder makes durable what was put, and the state text after it.
-ghost use Rattle.folder_storage.specs.Durability.{AreAmong};
+ghost use Rattle.std.specs.Prelude.{◌≡◌, not, OnErr, OnOk};
+ghost use Rattle.folder_storage.specs.Durability.{AddsEarlier, AreAmong};
 
 use crate::durability::{Directory, Disk, first_byte};
 use crate::file_system::FileSystem;
@@ -15,7 +16,10 @@ use std::io::ErrorKind;
 impl<F: FileSystem + Drop> LibraryFolder<F> {
     /// Takes away, durably, what earlier runs left torn: the next state text is younger, and would vouch for it. No text
     /// that stands names it. Want of memory is told as such only where no file was touched.
-    fn clear_torn(&mut self) -> io::Result<()> {
+    fn clear_torn(&mut self) -> io::Result<()>
+        ensures stays { (self.new.earlier.near.items ≡ self.old.earlier.near.items)
+            × (self.new.earlier.whole.items ≡ self.old.earlier.whole.items) × (self.new.has_earlier ≡ self.old.has_earlier) }
+    {
         let torn = self.earlier.torn.clone()?;
         let mut is_touched = false;
         for key in &torn {
@@ -31,7 +35,10 @@ impl<F: FileSystem + Drop> LibraryFolder<F> {
     }
 
     /// Takes away, durably, what was left torn under a key, and tells that a file was touched.
-    fn take_torn(&mut self, key: &Key, is_touched: &mut bool) -> io::Result<()> {
+    fn take_torn(&mut self, key: &Key, is_touched: &mut bool) -> io::Result<()>
+        ensures stays { (self.new.earlier.near.items ≡ self.old.earlier.near.items)
+            × (self.new.earlier.whole.items ≡ self.old.earlier.whole.items) × (self.new.has_earlier ≡ self.old.has_earlier) }
+    {
         let path = object_path(self.files.alloc(), self.path.as_str(), key)?;
         let folder = self.folder_of(key)?;
         *is_touched = true;
@@ -43,9 +50,14 @@ impl<F: FileSystem + Drop> LibraryFolder<F> {
         Ok(())
     }
 
-    /// Adds what earlier runs put to the objects that are to be made durable, once in this run.
+    /// Adds what earlier runs put to the objects that are to be made durable, once in this run. After a failure it is still
+    /// to be added.
     fn add_earlier(&mut self, keys: &mut Vec<Key>) -> io::Result<()>
         ensures listed { AreAmong keys.old.items keys.new.items }
+        ensures found { OnOk result (AddsEarlier self.old.earlier.near.items self.old.earlier.whole.items self.old.has_earlier keys.new.items) }
+        ensures stays { (self.new.earlier.near.items ≡ self.old.earlier.near.items)
+            × (self.new.earlier.whole.items ≡ self.old.earlier.whole.items) }
+        ensures err { OnErr result (self.new.has_earlier ≡ self.old.has_earlier) }
     {
         if self.has_earlier {
             return Ok(());
@@ -62,7 +74,10 @@ impl<F: FileSystem + Drop> LibraryFolder<F> {
 
     /// Readies the folder for a state text: what is torn is taken away. While a folder's own name is in doubt, or an object
     /// was lost, no text is put.
-    fn clear(&mut self) -> io::Result<()> {
+    fn clear(&mut self) -> io::Result<()>
+        ensures stays { (self.new.earlier.near.items ≡ self.old.earlier.near.items)
+            × (self.new.earlier.whole.items ≡ self.old.earlier.whole.items) × (self.new.has_earlier ≡ self.old.has_earlier) }
+    {
         if self.is_adrift || self.lost.is_some() {
             return Err(io::Error::from(ErrorKind::Other));
         }
@@ -226,8 +241,14 @@ impl<F: FileSystem + Drop> Disk for LibraryFolder<F> {
         self.move_in(key, bytes, way)
     }
 
-    /// Adds what earlier runs put, and takes away what they left torn.
-    fn gather(&mut self, keys: &mut Vec<Key>) -> io::Result<()> {
+    /// Adds what earlier runs put, and takes away what they left torn. After a failure it is still to be added.
+    fn gather(&mut self, keys: &mut Vec<Key>) -> io::Result<()>
+        ensures listed { AreAmong keys.old.items keys.new.items }
+        ensures found { OnOk result (AddsEarlier self.old.earlier.near.items self.old.earlier.whole.items self.old.has_earlier keys.new.items) }
+        ensures stays { (self.new.earlier.near.items ≡ self.old.earlier.near.items)
+            × (self.new.earlier.whole.items ≡ self.old.earlier.whole.items) }
+        ensures err { OnErr result (self.new.has_earlier ≡ self.old.has_earlier) }
+    {
         if let Err(failure) = self.clear() {
             return Err(failure);
         }
@@ -246,7 +267,9 @@ impl<F: FileSystem + Drop> Disk for LibraryFolder<F> {
     }
 
     /// Where a sync failed, what it was to make durable is in doubt: another sync would say that all is well.
-    fn end_syncs(&mut self, is_synced: bool) {
+    fn end_syncs(&mut self, is_synced: bool)
+        ensures ok { self.new.is_in_doubt ≡ not is_synced }
+    {
         self.is_in_doubt = !is_synced;
         if is_synced {
             self.commits.clear();
@@ -313,6 +336,7 @@ impl<F: FileSystem + Drop> Disk for LibraryFolder<F> {
 /// Adds keys to a list.
 fn add_all(keys: &mut Vec<Key>, more: &[Key]) -> Result<(), AllocError>
     ensures listed { AreAmong keys.old.items keys.new.items }
+    ensures found { OnOk result (AreAmong more.now keys.new.items) }
 {
     for key in more {
         note(keys, key)?;

@@ -1,9 +1,9 @@
 //! The objects that were put and not made durable, and the state text that waits for them. Definitions:
 //! specs/Durability.antt.
-ghost use Rattle.std.specs.Prelude.{◌≡◌, [], ◌∷◌, OnErr, OnOk};
+ghost use Rattle.std.specs.Prelude.{◌≡◌, ◌+◌, ◌≤◌, [], ◌∷◌, OnErr, OnOk, vec_capacity, vec_len};
 ghost use Rattle.std.specs.List.{Any, Contains};
 ghost use Rattle.std.specs.declared.cmp.Ordering.TheVariants.{Equal};
-ghost use Rattle.folder_storage.specs.Durability.{AreAmong, In, IsInOrder, PutObject, PutsDurably, with_steps};
+ghost use Rattle.folder_storage.specs.Durability.{AreAmong, BeginsSyncs, In, IsInOrder, PutObject, PutsDurably, StopsBefore, with_steps};
 
 use crate::durability::{Disk, make_durable};
 use ids::Key;
@@ -28,6 +28,7 @@ impl Unsynced {
 
     /// Makes room to note one object more.
     pub(crate) fn make_room(&mut self) -> Result<(), AllocError>
+        ensures ok { OnOk result (vec_len self.new.keys + 1 ≤ vec_capacity self.new.keys) }
         ensures stays { self.new.keys.items ≡ self.old.keys.items }
     {
         self.keys.reserve(1)
@@ -53,7 +54,8 @@ impl Unsynced {
     }
 
     /// Puts a state text, after every object that was put before it, by whichever run, and every folder that names one, was
-    /// made durable. Then the list is empty. Where one could not be, it has every object that it had.
+    /// made durable, and the disk was told so. Then the list is empty. Where one could not be, it has every object that it
+    /// had.
     pub(crate) fn put_text<D: Disk>(
         &mut self,
         alloc: Global,
@@ -79,7 +81,8 @@ impl Unsynced {
     /// Adds what earlier runs put, and readies the disk for the syncs.
     fn gather<D: Disk>(&mut self, disk: &mut D) -> io::Result<()>
         ensures listed { AreAmong self.old.keys.items self.new.keys.items }
-        ensures stays { D.steps disk.new ≡ D.steps disk.old }
+        ensures ok { OnOk result (BeginsSyncs (D.steps disk.old) (D.steps disk.new) self.old.keys.items self.new.keys.items) }
+        ensures err { OnErr result (StopsBefore (D.steps disk.old) (D.steps disk.new) self.old.keys.items self.new.keys.items) }
     {
         if let Err(failure) = disk.gather(&mut self.keys) {
             return Err(failure);
