@@ -27,7 +27,7 @@ Gives-after given mid now first bytes (Err failed) is gave =
 pub CountsFaults-after : (before mid now : ℕ) (result : Result ⊤ LinkFailed) → mid ≡ before → CountsFaults mid now result → CountsFaults before now result
 CountsFaults-after before mid now result same counts = subst (λ (count : ℕ). CountsFaults count now result) same counts
 
--- where there is no second part, it is given
+-- a part without bytes is given by no call
 pub nothing_given : (given : Option (List ℕ)) (bytes : List ℕ) → (length bytes == 0) ≡ true → given ≡ append_known given bytes
 nothing_given given [] none = sym (append_known-nil given)
 nothing_given given (byte ∷ bytes) none =
