@@ -1,5 +1,5 @@
 //! How a library's folder makes durable what was put, and the state text after it.
-ghost use Rattle.std.specs.Prelude.{◌≡◌, not, OnErr, OnOk};
+ghost use Rattle.std.specs.Prelude.{◌≡◌, [], is_some, not, true, IsErr, OnErr, OnOk};
 ghost use Rattle.folder_storage.specs.Durability.{AddsEarlier, AreAmong};
 
 use crate::durability::{Directory, Disk, first_byte};
@@ -17,6 +17,7 @@ impl<F: FileSystem + Drop> LibraryFolder<F> {
     /// Takes away, durably, what earlier runs left torn: the next state text is younger, and would vouch for it. No text
     /// that stands names it. Want of memory is told as such only where no file was touched.
     fn clear_torn(&mut self) -> io::Result<()>
+        ensures ok { OnOk result (self.new.earlier.torn.items ≡ []) }
         ensures stays { (self.new.earlier.near.items ≡ self.old.earlier.near.items)
             × (self.new.earlier.whole.items ≡ self.old.earlier.whole.items) × (self.new.has_earlier ≡ self.old.has_earlier) }
     {
@@ -75,6 +76,8 @@ impl<F: FileSystem + Drop> LibraryFolder<F> {
     /// Readies the folder for a state text: what is torn is taken away. While a folder's own name is in doubt, or an object
     /// was lost, no text is put.
     fn clear(&mut self) -> io::Result<()>
+        ensures ok { OnOk result (self.new.earlier.torn.items ≡ []) }
+        ensures refused { (self.old.is_adrift ≡ true → IsErr result) × (is_some self.old.lost ≡ true → IsErr result) }
         ensures stays { (self.new.earlier.near.items ≡ self.old.earlier.near.items)
             × (self.new.earlier.whole.items ≡ self.old.earlier.whole.items) × (self.new.has_earlier ≡ self.old.has_earlier) }
     {
@@ -241,8 +244,10 @@ impl<F: FileSystem + Drop> Disk for LibraryFolder<F> {
         self.move_in(key, bytes, way)
     }
 
-    /// Adds what earlier runs put, and takes away what they left torn. After a failure it is still to be added.
+    /// Adds what earlier runs put, and takes away what they left torn. After a failure it is still to be added. It fails
+    /// where an object was lost, or the name of a folder is in doubt.
     fn gather(&mut self, keys: &mut Vec<Key>) -> io::Result<()>
+        ensures refused { (self.old.is_adrift ≡ true → IsErr result) × (is_some self.old.lost ≡ true → IsErr result) }
         ensures listed { AreAmong keys.old.items keys.new.items }
         ensures found { OnOk result (AddsEarlier self.old.earlier.near.items self.old.earlier.whole.items self.old.has_earlier keys.new.items) }
         ensures stays { (self.new.earlier.near.items ≡ self.old.earlier.near.items)
