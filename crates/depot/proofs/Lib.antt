@@ -9,6 +9,7 @@ pub mod ObjectCallLemmas
 pub mod AnsweringLemmas
 pub mod RefusalsLemmas
 pub mod GrownLemmas
+pub mod HeldLemmas
 pub mod FitsLemmas
 pub mod ServingLemmas
 pub mod TextLemmas

@@ -1,12 +1,12 @@
 -- Objects that are put one after another, and what a plan leaves behind. The key lemmas are stores_then, puttable_front,
 -- puttable_back, one_stored, may_refuse_put, free_put and puts_then.
 use Rattle.std.proofs.Common.{◌≡◌, ◌⊎◌, inl, inr, ℕ, Bool, true, false, if◌then◌else◌, true≢false, List, [], ◌∷◌, ◌++◌, append_assoc, append-nil, refl, sym, ap, ◌∙◌, subst, Option, None, Some, IsTrue, Result, Ok, Err}
-use Rattle.std.specs.Prelude.{⊤}
+use Rattle.std.specs.Prelude.{⊤, IfOk}
 use Rattle.sha1.specs.Sha1.{sha1}
 use Rattle.ids.specs.Key.{Objects}
 use Rattle.ids.specs.ObjectId.{nil}
 use Rattle.ids.specs.declared.key.Key.{Key}
-use Rattle.library_rules.specs.Changes.{put_new, with_added}
+use Rattle.library_rules.specs.Changes.{keys_added, put_new, with_added}
 use Rattle.library_rules.specs.declared.entry.Stored.{Stored}
 use Rattle.library_state.specs.declared.state.LibState.{LibState}
 use Rattle.object_graph.specs.Objects.{is_nil}
@@ -17,11 +17,13 @@ use Rattle.object_store.specs.declared.error.StoreFault.{StoreFault}
 use Rattle.object_store.specs.declared.error.StoreFault.TheVariants.{Taken, Wrong, Damaged, Shelf, NoMemory}
 use Rattle.object_store.specs.declared.shelf.Slot.{Slot as ShelfSlot}
 use Rattle.depot.specs.Answering.{MayRefuseUpdate}
+use Rattle.depot.specs.Held.{KnowsAll}
 use Rattle.depot.specs.UpdateInstall.{ArePuttable, ArePuttableIn, Held, IsCarriedOut, LeftBehind, PutsSo, StoresPart, StoresSo, unsure, with_all}
 use Rattle.depot.specs.Plan.{AreNamed}
 use Rattle.depot.specs.Writing.{IsWritten, LeftBy, SettlesSo, Slot, Writes, again, leaves_open, nothing, open_next, open_present, settled, RewritesSo}
 use Rattle.depot.proofs.AnsweringLemmas.{damage_other}
 use Rattle.depot.proofs.GivingLemmas.{then_by}
+use Rattle.depot.proofs.HeldLemmas.{knows_nothing, knows_then, more_nothing, more_stops, more_then}
 use Rattle.depot.proofs.StrayLemmas.{strays_then}
 use Rattle.depot.specs.Refusals.{store_refusal}
 use Rattle.depot.proofs.WritingLemmas.{stored_as_put}
@@ -166,7 +168,13 @@ module _ {S : Type 0} {contents : S → Option Contents} {may_give : S → Shelf
     written = second.written ∙ first.written;
     gives = then_by first.gives second.gives;
     count = subst (λ n. CountsShelf {T = ⊤} n (faults new.shelf) result) first.count second.count;
+    held = more_then a b old.index mid.index new.index first.held second.held;
+    known = both result second.known;
   }
+    where
+      both : (r : Result ⊤ StoreFault) → IfOk r (λ done. KnowsAll (keys_added b) new.index) → IfOk r (λ done. KnowsAll (keys_added (a ++ b)) new.index)
+      both (Ok done) all = knows_then a b mid.index new.index first.known second.held all
+      both (Err fault) none = tt
 
   -- a failure before others were put
   pub puts_stops : {old new : StoreView S} (a b : List Stored) (fault : StoreFault) → PutsSo contents may_give texts faults a old new (Err fault)
@@ -180,6 +188,8 @@ module _ {S : Type 0} {contents : S → Option Contents} {may_give : S → Shelf
     written = puts.written;
     gives = puts.gives;
     count = puts.count;
+    held = more_stops a b old.index new.index puts.held;
+    known = tt;
   }
 
   pub puts_nothing : (old : StoreView S) → PutsSo contents may_give texts faults [] old old (Ok tt)
@@ -192,6 +202,8 @@ module _ {S : Type 0} {contents : S → Option Contents} {may_give : S → Shelf
     written = refl;
     gives = λ slot given is. inl is;
     count = refl;
+    held = more_nothing old.index;
+    known = knows_nothing old.index;
   }
 
 -- some of the objects were put, and the others can be

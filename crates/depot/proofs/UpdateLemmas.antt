@@ -31,6 +31,7 @@ use Rattle.depot.specs.UpdateInstall.{IsFront}
 use Rattle.depot.specs.Plan.{objects_in}
 use Rattle.depot.specs.UpdatePlan.{IsPlan, IsPlanFault, MergeRefuses}
 use Rattle.depot.specs.declared.plan.Plan.{Plan}
+use Rattle.depot.proofs.HeldLemmas.{keys_append}
 use Rattle.depot.proofs.AnsweringLemmas.{damage_differs, fault_answers, said_answers, says_answers}
 use Rattle.std.proofs.lemmas.Bool.{or_left}
 use Rattle.ids.proofs.BasicLemmas.{contains_more}
@@ -40,10 +41,6 @@ use Rattle.ids.proofs.BasicLemmas.{contains_more}
 front_all : {A : Type 0} (P : A → Type 0) (xs ys : List A) → AllByRecursion P (xs ++ ys) → AllByRecursion P xs
 front_all P [] ys all = tt
 front_all P (x ∷ xs) ys all = (all.0, front_all P xs ys all.1)
-
-keys_append : (xs ys : List Stored) → keys_added (xs ++ ys) ≡ keys_added xs ++ keys_added ys
-keys_append [] ys = refl
-keys_append (x ∷ xs) ys = ap (λ keys. x.key ∷ keys) (keys_append xs ys)
 
 front_distinct : (xs ys : List Key) → IsDistinct (eq_by_cmp key_cmp) (xs ++ ys) → IsDistinct (eq_by_cmp key_cmp) xs
 unfolding IsDistinct

@@ -1,4 +1,4 @@
--- What the slot holds after a write of the state text, and what is stored after a put. The key lemmas are writes_noted,
+-- What the slot holds after a write of the state text, and what is stored after a put. The key lemmas are writes_noted, noted_index,
 -- holds_after, holds_next and stored_as_put.
 use Rattle.std.proofs.Common.{◌≡◌, inl, inr, ℕ, Bool, true, false, if◌then◌else◌, List, refl, sym, ap, ◌∙◌, subst, true≢false, Option, None, Some, is_some, option_map, Result, Ok, Err}
 use Rattle.std.specs.Prelude.{◌⊎◌, ⊤}
@@ -27,6 +27,16 @@ use Rattle.depot.specs.Writing.{IsWritten, ReadsBack, Slot, Writes, written, set
 pub written_at : (state : LibState) (old new : Slot) (status : Option (List ℕ)) → new ≡ written state old → new ≡ Some status → status ≡ Some (text_of state)
 written_at state None new status is at = cc
 written_at state (Some held) new status is at = cc
+
+-- a write of the status text leaves the index
+pub noted_index : {S : Type 0} (contents : S → Option Contents) (old new : StoreView S) (text : List ℕ) (result : Result ⊤ StoreFault)
+    → NoteChanges contents old new text result → new.index ≡ old.index
+noted_index contents old new text (Ok done) made = made.index
+noted_index contents old new text (Err Shelf) may = may.index
+noted_index contents old new text (Err NoMemory) kept = kept.index
+noted_index contents old new text (Err (Taken id)) none = absurd none
+noted_index contents old new text (Err (Wrong id)) none = absurd none
+noted_index contents old new text (Err (Damaged want got)) none = absurd none
 
 -- a text that was put into the slot
 pub writes_noted : {S : Type 0} (contents : S → Option Contents) (old new : StoreView S) (state : LibState) (text : List ℕ) (result : Result ⊤ StoreFault)

@@ -1,7 +1,7 @@
 -- How an update is carried out: its objects first, the state text last. Our own. Read StoresSo and PutsSo, then CarriesSo.
-use Rattle.std.specs.Prelude.{◌≡◌, ◌++◌, ℕ, Bool, false, List, [], ◌∷◌, Option, None, Some, option_map, Result, Ok, Err, IfErr, IsTrue, ⊤}
+use Rattle.std.specs.Prelude.{◌≡◌, ◌++◌, ℕ, Bool, false, List, [], ◌∷◌, Option, None, Some, option_map, Result, Ok, Err, IfErr, IfOk, IsTrue, ⊤}
 use Rattle.ids.specs.Key.{Objects}
-use Rattle.library_rules.specs.Changes.{put_new, with_added}
+use Rattle.library_rules.specs.Changes.{keys_added, put_new, with_added}
 use Rattle.library_rules.specs.declared.entry.Stored.{Stored}
 use Rattle.library_state.specs.declared.state.LibState.{LibState}
 use Rattle.object_store.specs.Shelf.{Contents}
@@ -10,6 +10,7 @@ use Rattle.object_store.specs.StoreView.{Index, StoreView, StraysBy, objects_of,
 use Rattle.object_store.specs.declared.error.StoreFault.{StoreFault}
 use Rattle.object_store.specs.declared.shelf.Slot.{Slot as ShelfSlot}
 use Rattle.depot.specs.Answering.{MayRefuseUpdate}
+use Rattle.depot.specs.Held.{HoldsMore, KnowsAll}
 use Rattle.depot.specs.Giving.{GivesBy, IsNamedObject}
 use Rattle.depot.specs.Refusals.{store_refusal}
 use Rattle.depot.specs.Writing.{IsWritten, LeftBy, Slot, settled}
@@ -57,6 +58,9 @@ pub record PutsSo {S : Type 0} (contents : S → Option Contents) (may_give : S 
   pub written : texts new.shelf ≡ texts old.shelf
   pub gives : GivesBy IsNamedObject (may_give old.shelf) (may_give new.shelf)
   pub count : CountsShelf (faults old.shelf) (faults new.shelf) result
+  -- the index knows some of their keys more, and all of them where all were put
+  pub held : HoldsMore (keys_added all) old.index new.index
+  pub known : IfOk result (λ done. KnowsAll (keys_added all) new.index)
 
 -- the objects and the slot, where they are told, and the count of texts that were put
 pub record Held : Type 0 where

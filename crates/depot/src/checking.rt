@@ -50,6 +50,7 @@ impl<S: Shelf> Parts<S> {
         ensures text { (d : Token) → TextSo self.old.unsettled self.old.state (record self.old.state { tokens = marked place self.old.state.collection self.old.state.tokens d })
             (status_of S.contents self.old.store) self.new.unsettled (status_of S.contents self.new.store) result (S.texts self.old.store.shelf) (S.texts self.new.store.shelf) }
         ensures stays { objects_of S.contents self.new.store ≡ objects_of S.contents self.old.store }
+        ensures held { self.new.store.index ≡ self.old.store.index }
         ensures lying { AddsNoStray S.contents self.old.store self.new.store }
         ensures gives { GivesBy (IsOwnText self.old.state.lib) (S.may_give self.old.store.shelf) (S.may_give self.new.store.shelf) }
         ensures faults { CountsShelf (S.faults self.old.store.shelf) (S.faults self.new.store.shelf) result }

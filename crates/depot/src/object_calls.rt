@@ -10,6 +10,7 @@ ghost use Rattle.object_store.specs.Shelf.{GivesNoMore};
 ghost use Rattle.object_store.specs.StoreView.{AddsNoStray, Keeps, objects_of, status_of};
 ghost use Rattle.depot.specs.Answering.{MayAnswer, MayGet, ServesAct, put_decided};
 ghost use Rattle.depot.specs.Giving.{GivesBy, IsObject};
+ghost use Rattle.depot.specs.Held.{HoldsPut};
 ghost use Rattle.depot.specs.ObjectCalls.{Counts, DoneSo, IsToldDamage, SaysOr, is_counted, store_decided, store_due};
 ghost use Rattle.depot.specs.Writing.{with_stored};
 
@@ -77,6 +78,7 @@ fn put_object<S: Shelf>(
     ensures stays { status_of S.contents store.new ≡ status_of S.contents store.old }
     ensures stored { (objects_of S.contents store.new ≡ objects_of S.contents store.old)
         ⊎ (objects_of S.contents store.new ≡ with_stored (record { key = key.now; bytes = bytes.now }) (objects_of S.contents store.old)) }
+    ensures held { HoldsPut key.now result store.old.index store.new.index }
     ensures cause { MayAnswer store.old.index (S.may_give store.new.shelf) (act.Put key.now bytes.now) (put_decided lib.now key.now bytes.now) result }
     ensures damaged { (objects : Objects) → objects_of S.contents store.old ≡ Some objects → IsToldDamage objects result }
     ensures lying { is_counted result ≡ false → AddsNoStray S.contents store.old store.new }
@@ -98,6 +100,7 @@ fn store_object<S: Shelf>(store: &mut Store<S>, key: &Key, bytes: &[u8]) -> Repl
     ensures stays { status_of S.contents store.new ≡ status_of S.contents store.old }
     ensures stored { (objects_of S.contents store.new ≡ objects_of S.contents store.old)
         ⊎ (objects_of S.contents store.new ≡ with_stored (record { key = key.now; bytes = bytes.now }) (objects_of S.contents store.old)) }
+    ensures held { HoldsPut key.now result store.old.index store.new.index }
     ensures cause { MayAnswer store.old.index (S.may_give store.new.shelf) (act.Put key.now bytes.now) (store_decided key.now bytes.now) result }
     ensures damaged { (objects : Objects) → objects_of S.contents store.old ≡ Some objects → IsToldDamage objects result }
     ensures lying { is_counted result ≡ false → AddsNoStray S.contents store.old store.new }
@@ -120,6 +123,7 @@ fn put_fs<S: Shelf>(alloc: Global, store: &mut Store<S>, key: &Key, bytes: &[u8]
     ensures stays { status_of S.contents store.new ≡ status_of S.contents store.old }
     ensures stored { (objects_of S.contents store.new ≡ objects_of S.contents store.old)
         ⊎ (objects_of S.contents store.new ≡ with_stored (record { key = key.now; bytes = bytes.now }) (objects_of S.contents store.old)) }
+    ensures held { HoldsPut key.now result store.old.index store.new.index }
     ensures cause { (lib : List ℕ) → MayAnswer store.old.index (S.may_give store.new.shelf) (act.Put key.now bytes.now) (put_decided lib key.now bytes.now) result }
     ensures damaged { (objects : Objects) → objects_of S.contents store.old ≡ Some objects → IsToldDamage objects result }
     ensures lying { is_counted result ≡ false → AddsNoStray S.contents store.old store.new }
@@ -160,6 +164,7 @@ fn put_commit_text<S: Shelf>(
     ensures stays { status_of S.contents store.new ≡ status_of S.contents store.old }
     ensures stored { (objects_of S.contents store.new ≡ objects_of S.contents store.old)
         ⊎ (objects_of S.contents store.new ≡ with_stored (record { key = key.now; bytes = bytes.now }) (objects_of S.contents store.old)) }
+    ensures held { HoldsPut key.now result store.old.index store.new.index }
     ensures cause { MayAnswer store.old.index (S.may_give store.new.shelf) (act.Put key.now bytes.now) (put_decided lib.now key.now bytes.now) result }
     ensures damaged { (objects : Objects) → objects_of S.contents store.old ≡ Some objects → IsToldDamage objects result }
     ensures lying { is_counted result ≡ false → AddsNoStray S.contents store.old store.new }

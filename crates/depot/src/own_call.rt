@@ -9,6 +9,7 @@ ghost use Rattle.object_store.specs.StoreView.{AddsNoStray, objects_of, status_o
 ghost use Rattle.depot.specs.Answering.{MayAnswer, MayAsk, Serves, ServesAct, permits};
 ghost use Rattle.depot.specs.DepotView.{IsGood};
 ghost use Rattle.depot.specs.Giving.{GivesBy, IsObject, MayLay};
+ghost use Rattle.depot.specs.Held.{HoldsPut};
 ghost use Rattle.depot.specs.ObjectCalls.{Counts, DoneSo, IsToldDamage, is_counted, store_decided, store_due};
 ghost use Rattle.depot.specs.Writing.{with_stored};
 
@@ -93,6 +94,7 @@ fn store_block<S: Shelf>(store: &mut Store<S>, key: &Key, bytes: Bytes) -> Reply
     ensures stays { status_of S.contents store.new ≡ status_of S.contents store.old }
     ensures stored { (objects_of S.contents store.new ≡ objects_of S.contents store.old)
         ⊎ (objects_of S.contents store.new ≡ with_stored (record { key = key.now; bytes = bytes }) (objects_of S.contents store.old)) }
+    ensures held { HoldsPut key.now result store.old.index store.new.index }
     ensures cause { MayAnswer store.old.index (S.may_give store.new.shelf) (act.Put key.now bytes) (store_decided key.now bytes) result }
     ensures damaged { (objects : Objects) → objects_of S.contents store.old ≡ Some objects → IsToldDamage objects result }
     ensures lying { is_counted result ≡ false → AddsNoStray S.contents store.old store.new }

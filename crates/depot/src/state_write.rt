@@ -22,6 +22,7 @@ pub(crate) fn write_text<S: Shelf>(
 ) -> Result<(), StoreFault>
     ensures value { Writes state.now (status_of S.contents store.old) (status_of S.contents store.new) result }
     ensures stays { objects_of S.contents store.new ≡ objects_of S.contents store.old }
+    ensures held { store.new.index ≡ store.old.index }
     ensures lying { AddsNoStray S.contents store.old store.new }
     ensures gives { GivesAlso (S.may_give store.old.shelf) (S.may_give store.new.shelf) slots.Status (Some (text_of state.now)) }
     ensures faults { CountsShelf (S.faults store.old.shelf) (S.faults store.new.shelf) result }
@@ -40,7 +41,9 @@ impl<S: Shelf> Parts<S> {
         ensures value { SettlesSo self.old.unsettled self.old.state (status_of S.contents self.old.store) (status_of S.contents self.new.store) result }
         ensures err { OnErr result (self.new.unsettled ≡ self.old.unsettled) }
         ensures state { self.new.state ≡ self.old.state }
+        ensures written { self.old.unsettled ≡ false → S.texts self.new.store.shelf ≡ S.texts self.old.store.shelf }
         ensures stays { objects_of S.contents self.new.store ≡ objects_of S.contents self.old.store }
+        ensures held { self.new.store.index ≡ self.old.store.index }
         ensures lying { AddsNoStray S.contents self.old.store self.new.store }
         ensures gives { GivesBy (IsOwnText self.old.state.lib) (S.may_give self.old.store.shelf) (S.may_give self.new.store.shelf) }
         ensures faults { CountsShelf (S.faults self.old.store.shelf) (S.faults self.new.store.shelf) result }
@@ -64,6 +67,7 @@ impl<S: Shelf> Parts<S> {
         ensures ok { self.new.unsettled ≡ leaves_open result }
         ensures state { self.new.state ≡ self.old.state }
         ensures stays { objects_of S.contents self.new.store ≡ objects_of S.contents self.old.store }
+        ensures held { self.new.store.index ≡ self.old.store.index }
         ensures lying { AddsNoStray S.contents self.old.store self.new.store }
         ensures gives { GivesBy (IsOwnText self.old.state.lib) (S.may_give self.old.store.shelf) (S.may_give self.new.store.shelf) }
         ensures faults { CountsShelf (S.faults self.old.store.shelf) (S.faults self.new.store.shelf) result }
@@ -83,6 +87,7 @@ impl<S: Shelf> Parts<S> {
         ensures ok { self.new.unsettled ≡ leaves_open result }
         ensures state { self.new.state ≡ self.old.state }
         ensures stays { objects_of S.contents self.new.store ≡ objects_of S.contents self.old.store }
+        ensures held { self.new.store.index ≡ self.old.store.index }
         ensures lying { AddsNoStray S.contents self.old.store self.new.store }
         ensures gives { GivesAlso (S.may_give self.old.store.shelf) (S.may_give self.new.store.shelf) slots.Status (Some text.now) }
         ensures free { IfErr result (λ fault. IsTrue (is_free fault)) }

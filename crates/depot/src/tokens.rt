@@ -100,6 +100,7 @@ impl<S: Shelf> Parts<S> {
         ensures value { RewritesSo self.old.unsettled self.old.state (record self.old.state { tokens = self.old.state.tokens ++ token ∷ [] })
             (status_of S.contents self.old.store) self.new.unsettled (status_of S.contents self.new.store) result }
         ensures stays { objects_of S.contents self.new.store ≡ objects_of S.contents self.old.store }
+        ensures held { self.new.store.index ≡ self.old.store.index }
         ensures lying { AddsNoStray S.contents self.old.store self.new.store }
         ensures faults { CountsShelf (S.faults self.old.store.shelf) (S.faults self.new.store.shelf) result }
     {

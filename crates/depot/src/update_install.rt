@@ -2,12 +2,14 @@
 ghost use Rattle.std.specs.Prelude.{◌≡◌, ◌++◌, ◌∷◌, [], IfErr, IfOk, IsTrue, OnErr, OnOk, Some};
 ghost use Rattle.std.specs.FinMap as map;
 ghost use Rattle.ids.specs.Key.{Objects};
+ghost use Rattle.library_rules.specs.Changes.{keys_added};
 ghost use Rattle.library_state.specs.StateSpelling.{text_of};
 ghost use Rattle.library_state.specs.declared.history.Install.{Install};
 ghost use Rattle.library_state.specs.declared.state.LibState.{LibState};
 ghost use Rattle.object_store.specs.Store.{CountsShelf, is_free, is_of_shelf};
 ghost use Rattle.object_store.specs.StoreView.{AddsNoStray, StraysBy, objects_of, status_of};
 ghost use Rattle.depot.specs.Answering.{with_install};
+ghost use Rattle.depot.specs.Held.{HoldsMore, KnowsAll};
 ghost use Rattle.depot.specs.Giving.{GivesBy, IsOfUpdate, IsOwnText};
 ghost use Rattle.depot.specs.UpdateInstall.{ArePuttableIn, CarriesSo, IsWriteFault, PutsSo, held_in};
 ghost use Rattle.depot.specs.Plan.{AreNamed, listed, objects_in, own_object};
@@ -35,6 +37,8 @@ impl<S: Shelf> Parts<S> {
             (held_in S.contents S.texts self.old.store) self.new.unsettled (held_in S.contents S.texts self.new.store) result }
         ensures free { (objects : Objects) → objects_of S.contents self.old.store ≡ Some objects → IfErr result (λ fault. IsTrue (is_free fault)) }
         ensures cause { IfErr result (IsWriteFault (S.may_give self.new.store.shelf)) }
+        ensures held { HoldsMore (keys_added (objects_in plan.now)) self.old.store.index self.new.store.index }
+        ensures known { IfOk result (λ done. KnowsAll (keys_added (objects_in plan.now)) self.new.store.index) }
         ensures lying { StraysBy is_of_shelf S.contents self.old.store self.new.store result }
         ensures gives { GivesBy (IsOfUpdate self.old.state.lib) (S.may_give self.old.store.shelf) (S.may_give self.new.store.shelf) }
         ensures faults { CountsShelf (S.faults self.old.store.shelf) (S.faults self.new.store.shelf) result }
@@ -65,6 +69,7 @@ impl<S: Shelf> Parts<S> {
             → RewritesSo self.old.unsettled self.old.state next (status_of S.contents self.old.store) self.new.unsettled (status_of S.contents self.new.store) result }
         ensures state { self.new.state ≡ self.old.state }
         ensures stays { objects_of S.contents self.new.store ≡ objects_of S.contents self.old.store }
+        ensures held { self.new.store.index ≡ self.old.store.index }
         ensures lying { AddsNoStray S.contents self.old.store self.new.store }
         ensures gives { (next : LibState) → text.now ≡ text_of next → next.lib ≡ self.old.state.lib
             → GivesBy (IsOwnText self.old.state.lib) (S.may_give self.old.store.shelf) (S.may_give self.new.store.shelf) }

@@ -1,6 +1,6 @@
 -- Bytes that are refused leave nothing.
 use Rattle.depot.proofs.object_calls.put_fs.Goals as goal
-use Rattle.std.proofs.Common.{inl}
+use Rattle.std.proofs.Common.{inl, refl}
 use Rattle.depot.proofs.object_calls.put_fs.Goals.{in-Ok, in-Err-Bad, in-Err-NoMemory}
 
 pub returns-clause-lying : goal.returns-clause-lying
@@ -17,4 +17,12 @@ returns-clause-gives g c =
       | in-Ok w ↦ rw w.store-is w.store_object.ensures.gives
       | in-Err-Bad w ↦ rw w.store-is (λ slot given is. inl is)
       | in-Err-NoMemory w ↦ rw w.store-is (λ slot given is. inl is)
+    ]
+
+pub returns-clause-held : goal.returns-clause-held
+returns-clause-held g c =
+    elim c.match-read.branch [
+      | in-Ok w ↦ rw (w.result-is, w.store-is) w.store_object.ensures.held
+      | in-Err-Bad w ↦ rw (w.result-is, w.store-is) refl
+      | in-Err-NoMemory w ↦ rw (w.result-is, w.store-is) refl
     ]

@@ -1,10 +1,11 @@
 -- What the store takes or refuses is due, or a fault.
-use Rattle.std.proofs.Common.{◌∙◌, inr, is_some, sym, subst, Ok}
+use Rattle.std.proofs.Common.{◌∙◌, inr, is_some, refl, sym, subst, Ok, Err}
 use Rattle.std.specs.FinMap as map
 use Rattle.library_state.specs.declared.refusal.Refusal.{Refusal}
 use Rattle.library_state.specs.declared.reply.Reply.TheVariants as reply
 use Rattle.object_store.specs.StoreView.{Keeps, PutChanges, objects_of, with_object}
 use Rattle.object_store.specs.declared.put.Put.{Put}
+use Rattle.object_store.specs.declared.put.Put.TheVariants.{New, Same}
 use Rattle.depot.proofs.WritingLemmas.{stored_as_put}
 use Rattle.depot.specs.ObjectCalls.{DoneSo, IsToldDamage, store_due}
 use Rattle.depot.proofs.ObjectCallLemmas.{new_done, new_unknown, put_damage, put_refused, same_done, same_stored, unknown_absent}
@@ -14,6 +15,8 @@ use Rattle.depot.proofs.RefusalsLemmas.{counted_same}
 use Rattle.object_store.specs.Shelf.{GivesNoMore}
 use Rattle.object_store.specs.StoreView.{StoreView}
 use Rattle.depot.proofs.GivingLemmas.{object_by}
+use Rattle.depot.proofs.HeldLemmas.{holds_put, ok_same}
+use Rattle.depot.proofs.ToldLemmas.{ok_not_err}
 use Rattle.depot.proofs.object_calls.store_object.Goals as goal
 
 pub returns-in-Err-clause-value : goal.returns-in-Err-clause-value
@@ -69,3 +72,19 @@ returns-in-Err-clause-gives g c =
     object_by c.args.key.now c.args.bytes.now
     (λ other. subst (λ (now : StoreView g.row.S.Denot). GivesNoMore (g.S.Shelf.may_give c.args.store.now.shelf) (g.S.Shelf.may_give now.shelf)) (sym (c.in-Err.ensures.untouched other)) (λ slot given is. is))
     c.in-Err.ensures.shelf.gives
+
+pub returns-in-Ok-New-clause-held : goal.returns-in-Ok-New-clause-held
+returns-in-Ok-New-clause-held g c =
+    holds_put g.S.Shelf.contents c.args.store.now c.put.new.self c.args.key.now c.args.bytes.now (Ok New)
+    (subst (λ (put : Put). PutChanges g.S.Shelf.contents c.args.store.now c.put.new.self c.args.key.now c.args.bytes.now (Ok put)) c.in-Ok-New.field-0-is c.in-Ok-New.ensures.changes)
+    (λ put same. sym (ok_same (Ok New) New put refl same) ∙ sym c.in-Ok-New.field-0-is ∙ c.in-Ok-New.ensures.told)
+
+pub returns-in-Ok-Same-clause-held : goal.returns-in-Ok-Same-clause-held
+returns-in-Ok-Same-clause-held g c =
+    holds_put g.S.Shelf.contents c.args.store.now c.put.new.self c.args.key.now c.args.bytes.now (Ok Same)
+    (subst (λ (put : Put). PutChanges g.S.Shelf.contents c.args.store.now c.put.new.self c.args.key.now c.args.bytes.now (Ok put)) c.in-Ok-Same.field-0-is c.in-Ok-Same.ensures.changes)
+    (λ put same. sym (ok_same (Ok Same) Same put refl same) ∙ sym c.in-Ok-Same.field-0-is ∙ c.in-Ok-Same.ensures.told)
+
+pub returns-in-Err-clause-held : goal.returns-in-Err-clause-held
+returns-in-Err-clause-held g c =
+    holds_put g.S.Shelf.contents c.args.store.now c.put.new.self c.args.key.now c.args.bytes.now (Err c.in-Err.fault) c.in-Err.ensures.changes (λ put same. absurd (ok_not_err (Err c.in-Err.fault) put c.in-Err.fault same refl))

@@ -2,11 +2,13 @@
 use Rattle.std.proofs.Common.{◌≡◌, ◌∙◌, ◌++◌, ◌∷◌, [], Err, ap, inl, inr, refl, subst, sym}
 use Rattle.std.specs.Prelude.{⊤}
 use Rattle.object_store.specs.Store.{CountsShelf}
+use Rattle.library_rules.specs.Changes.{keys_added}
 use Rattle.library_state.specs.StateSpelling.{text_of}
 use Rattle.library_state.specs.declared.state.LibState.{LibState}
 use Rattle.object_store.specs.StoreView.{status_of}
 use Rattle.depot.specs.Answering.{with_install}
 use Rattle.depot.specs.UpdateInstall.{held_in, stopped}
+use Rattle.depot.specs.Held.{HoldsMore, KnowsAll}
 use Rattle.depot.specs.Plan.{objects_in}
 use Rattle.depot.specs.Writing.{ReadsBack}
 use Rattle.depot.proofs.UpdateInstallLemmas.{carried_out, left_unsure}
@@ -94,3 +96,16 @@ returns-in-Err-write_installed-clause-faults g c =
 
 pub returns-clause-faults : goal.returns-clause-faults
 returns-clause-faults g c = c.in-Ok-write_installed.ensures.faults ∙ c.in-Ok-put_plan.ensures.value.count
+
+pub returns-in-Err-put_plan-clause-held : goal.returns-in-Err-put_plan-clause-held
+returns-in-Err-put_plan-clause-held g c = c.in-Err-put_plan.ensures.value.held
+
+pub returns-in-Err-write_installed-clause-held : goal.returns-in-Err-write_installed-clause-held
+returns-in-Err-write_installed-clause-held g c =
+    subst (HoldsMore (keys_added (objects_in c.args.plan.now)) c.args.self.now.store.index) (sym c.in-Err-write_installed.ensures.held) c.in-Ok-put_plan.ensures.value.held
+
+pub returns-clause-held : goal.returns-clause-held
+returns-clause-held g c = subst (HoldsMore (keys_added (objects_in c.args.plan.now)) c.args.self.now.store.index) (sym c.in-Ok-write_installed.ensures.held) c.in-Ok-put_plan.ensures.value.held
+
+pub returns-clause-known : goal.returns-clause-known
+returns-clause-known g c = subst (KnowsAll (keys_added (objects_in c.args.plan.now))) (sym c.in-Ok-write_installed.ensures.held) c.in-Ok-put_plan.ensures.value.known
