@@ -13,3 +13,4 @@ pub mod LocalityLemmas
 pub mod SameBelowLemmas
 pub mod StoredLemmas
 pub mod ReachingLemmas
+pub mod ReadableLemmas

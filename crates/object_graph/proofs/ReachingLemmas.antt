@@ -1,5 +1,5 @@
--- What a traversal visits and what objects name. The key lemmas are object_stays, commit_within, commit_closes and
--- reached_within.
+-- What a traversal visits and what objects name. The key lemmas are object_stays, commit_within, commit_closes,
+-- reached_within, root_within, root_closes and root_has.
 use Rattle.std.proofs.Common.{◌≡◌, ◌||◌, ◌==◌, ◌⊎◌, ℕ, zero, suc, Bool, true, false, if◌then◌else◌, is_some, List, [], ◌∷◌, ◌++◌, length, refl, sym, ap, ◌∙◌, subst, Option, None, Some, Result, Ok, Err, inl, inr}
 use Rattle.std.specs.FinMap as map
 use Rattle.ids.specs.Key.{Objects}
@@ -15,7 +15,7 @@ use Rattle.fs_objects.specs.declared.fs_object.FsObject.TheVariants as fs
 use Rattle.commit_objects.specs.declared.commit.Commit.{Commit}
 use Rattle.object_graph.specs.Objects.{block_key, commit_at, commit_key, fs_at, fs_key, in_name_order, is_nil, joined}
 use Rattle.object_graph.specs.Reached.{ReachedFrom, pends, names, block_keys, entry_keys, named, named_by_commit, named_by_fs, named_in, own_keys}
-use Rattle.object_graph.specs.Traversal.{Below, IsComplete, Walk, counted, failed, is_in, next_by, sized, start, then_read, then_walk, visited, walk_below, walk_block, walk_blocks, walk_commit, walk_entries, walk_found, walk_object, walk_root}
+use Rattle.object_graph.specs.Traversal.{Below, IsComplete, IsCompleteRoot, Walk, counted, failed, is_in, next_by, sized, start, then_read, then_walk, visited, walk_below, walk_block, walk_blocks, walk_commit, walk_entries, walk_found, walk_object, walk_root}
 use Rattle.object_graph.specs.declared.fault.TreeFault.{TreeFault}
 use Rattle.object_graph.specs.declared.fault.TreeFault.TheVariants.{Incomplete, WrongSize}
 use Rattle.object_graph.proofs.KeyLemmas.{Within, in_append, in_pushed, same_key-itself, within_front, within_itself, within_then}
@@ -132,6 +132,9 @@ module _ (A : Objects) (P : Key → Type 0) (closed : (above key : Key) → P ab
 
   pub commit_within : (id : List ℕ) → P (commit_key id) → Every (walk_commit A id).visits
   commit_within id has = commit_stays Every every_push id has (λ key is. cc is)
+
+  pub root_within : (id : List ℕ) → Every (own_keys id) → Every (walk_root true A id start).visits
+  root_within id own = object_stays Every every_push MAX_NAMES true [] id own start (λ key is. cc is)
 
 -- ---- what a traversal without a fault visits names nothing else
 
@@ -261,6 +264,16 @@ module _ (A : Objects) where
   pub commit_closes : (id : List ℕ) → IsComplete A id → (above key : Key) → is_in (walk_commit A id).visits above ≡ true → is_in (named A above) key ≡ true
       → is_in (walk_commit A id).visits key ≡ true
   commit_closes id complete above key is named_is = elim ((commit_ran id complete).closes above is) [ inl none ↦ cc none | inr all ↦ all.there key named_is ]
+
+  root_ran : (id : List ℕ) → IsCompleteRoot A id → Ran (own_keys id) [] (walk_root true A id start).visits
+  root_ran id complete = ends_object (walk_below true A MAX_NAMES) (ends_below MAX_NAMES) true [] id start complete
+
+  pub root_closes : (id : List ℕ) → IsCompleteRoot A id → (above key : Key) → is_in (walk_root true A id start).visits above ≡ true → is_in (named A above) key ≡ true
+      → is_in (walk_root true A id start).visits key ≡ true
+  root_closes id complete above key is named_is = elim ((root_ran id complete).closes above is) [ inl none ↦ cc none | inr all ↦ all.there key named_is ]
+
+  pub root_has : (id : List ℕ) → IsCompleteRoot A id → (key : Key) → is_in (own_keys id) key ≡ true → is_in (walk_root true A id start).visits key ≡ true
+  root_has id complete key own = (root_ran id complete).has.there key own
 
   pub reached_within : (id : List ℕ) → IsComplete A id → (key : Key) → ReachedFrom A [] (commit_key id ∷ []) key → is_in (walk_commit A id).visits key ≡ true
   reached_within id complete _ (pends key is) = (commit_ran id complete).has.there key is

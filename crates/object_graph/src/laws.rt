@@ -6,7 +6,8 @@ ghost use Rattle.ids.specs.declared.key.Key.{Key};
 ghost use Rattle.tree_model.specs.Path.{PathV};
 ghost use Rattle.tree_model.specs.Tree.{Tree, Fits};
 ghost use Rattle.commit_objects.specs.declared.commit.Commit.{Commit};
-ghost use Rattle.object_graph.specs.Objects.{commit_at, commit_key, node_below, IsTreeOf};
+ghost use Rattle.fs_objects.specs.declared.fs_object.FsObject.{FsObject};
+ghost use Rattle.object_graph.specs.Objects.{commit_at, commit_key, fs_at, fs_key, node_below, IsTreeOf};
 ghost use Rattle.object_graph.specs.Reached.{ReachedFrom, named};
 ghost use Rattle.object_graph.specs.Traversal.{start, is_in, walk_root, walk_object, walk_below, walk_commit, needs, IsComplete, IsCompleteRoot};
 ghost use Rattle.object_graph.specs.Unchanged.{AgreeOn, Keeps};
@@ -39,6 +40,14 @@ pub fn a_complete_commit_stays_complete_as_what_it_does_not_need_leaves()
 pub fn what_a_complete_commit_needs_is_stored()
     ensures { (objects : Objects) → (id : List ℕ) → IsComplete objects id → (key : Key)
         → is_in (needs objects id) key ≡ true → IsSome (map.get objects key) }
+{}
+
+/// What a complete commit needs can be read, and is no other commit.
+pub fn what_a_complete_commit_needs_can_be_read()
+    ensures files { (objects : Objects) → (id : List ℕ) → IsComplete objects id → (key : List ℕ)
+        → is_in (needs objects id) (fs_key key) ≡ true → (object : FsObject) × (fs_at objects key ≡ Ok object) }
+    ensures commit { (objects : Objects) → (id : List ℕ) → IsComplete objects id → (other : List ℕ)
+        → is_in (needs objects id) (commit_key other) ≡ true → other ≡ id }
 {}
 
 /// What a commit needs is reached from it by what objects name, whether it is complete or not.

@@ -28,5 +28,6 @@ pub use crate::file::file_at;
 pub use crate::fs_list::fs_ids;
 pub use crate::known_trees::Known;
 pub use crate::listing::tree;
+pub use crate::name_order::in_name_order;
 pub use crate::reaching::needs;
-pub use crate::reading::{commit_at, fs_at};
+pub use crate::reading::{bytes_at, commit_at, fs_at};
