@@ -24,3 +24,7 @@ pub mod ProperTextLemmas
 pub mod UnmovedLemmas
 pub mod ChangedLemmas
 pub mod JoinedLemmas
+pub mod StepLawLemmas
+pub mod BesideLemmas
+pub mod BesideStepLemmas
+pub mod AddedLemmas

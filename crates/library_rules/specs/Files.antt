@@ -20,3 +20,7 @@ pub record KeepsFiles (old new : Objects) (commit : List ℕ) : Type 0 where
   pub same : AgreeOn (needs old commit) old new
   pub same_needs : needs new commit ≡ needs old commit
   pub trees : (tree : Tree) → IsTreeAt old commit tree → IsTreeAt new commit tree
+
+-- each commit that was kept keeps its files
+abbrev pub KeepsKept : State → State → Type 0
+KeepsKept s t = (commit : List ℕ) → is_kept s.state.kept commit ≡ true → KeepsFiles s.objects t.objects commit

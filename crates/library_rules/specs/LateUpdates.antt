@@ -3,8 +3,12 @@
 use Rattle.std.specs.Prelude.{◌≡◌, ◌≢◌, ℕ, ◌≤◌, ◌<◌, true, false, List, Option, Some, ⊤}
 use Rattle.std.specs.List.{AllByRecursion}
 use Rattle.ids.specs.declared.key.Key.{Key}
+use Rattle.library_state.specs.declared.call.Act.TheVariants as act
+use Rattle.library_state.specs.declared.call.Call.{Call}
 use Rattle.library_state.specs.declared.refusal.Refusal.{Refusal}
 use Rattle.library_state.specs.declared.refusal.Refusal.TheVariants as refusal
+use Rattle.library_state.specs.declared.reply.Reply.{Reply}
+use Rattle.library_state.specs.declared.reply.Reply.TheVariants as reply
 use Rattle.library_state.specs.declared.token.Token.{Token}
 use Rattle.object_graph.specs.Objects.{commit_key}
 use Rattle.object_graph.specs.Traversal.{walk_commit}
@@ -13,7 +17,7 @@ use Rattle.library_rules.specs.History.{after}
 use Rattle.library_rules.specs.LibraryState.{State, is_stored}
 use Rattle.library_rules.specs.MergeBase.{chain_of}
 use Rattle.library_rules.specs.Retried.{entry_at}
-use Rattle.library_rules.specs.Uploads.{is_safe}
+use Rattle.library_rules.specs.Uploads.{IsUploaded, is_safe}
 use Rattle.library_rules.specs.declared.entry.Entry.{Entry}
 use Rattle.library_rules.specs.declared.entry.Step.TheVariants as step
 
@@ -50,3 +54,8 @@ pub record WasSafe (start : State) (es : List Entry) (from to : ℕ) (key : Key)
 pub record WasUploaded (start : State) (es : List Entry) (from to : ℕ) (pushed : List ℕ) : Type 0 where
   pub visited : AllByRecursion (WasSafe start es from to) (walk_commit (after start es to).objects pushed).visits
   pub chain : AllByRecursion (λ id. WasSafe start es from to (commit_key id)) (chain_of (after start es to) pushed)
+
+-- an update whose upload is complete, of one whose token saw the last collection begin, isn't answered as late
+abbrev pub TakesUploaded : State → Call → Reply → Type 0
+TakesUploaded s call r = (token : Token) (pushed : List ℕ) → call.act ≡ act.Update pushed → token_of s.state.tokens call.secret ≡ Some token
+    → token.last ≡ s.state.collection → IsUploaded s pushed → (why : Refusal) → IsLate why → r ≢ reply.Refused why
