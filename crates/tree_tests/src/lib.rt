@@ -4,6 +4,8 @@
 #![tactic(auto)]
 
 #[cfg(test)]
+mod collector_tests;
+#[cfg(test)]
 mod object_store_tests;
 #[cfg(test)]
 mod tree_merge_tests;

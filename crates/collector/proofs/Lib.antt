@@ -1,0 +1,14 @@
+pub mod CollectingLemmas
+pub mod ComparedLemmas
+pub mod ComparingLemmas
+pub mod CountedLemmas
+pub mod GoesOnLemmas
+pub mod LeadingLemmas
+pub mod MadeLemmas
+pub mod MarkingLemmas
+pub mod NamingLemmas
+pub mod NeedLemmas
+pub mod OpeningLemmas
+pub mod StoredLemmas
+pub mod SweepLemmas
+pub mod WorklistLemmas

@@ -1,0 +1,13 @@
+use Rattle.collector.proofs.NamingLemmas.{names_by_bytes, names_unread, reads_bytes}
+use Rattle.tree_walk.proofs.ReadsLemmas.{read_ok}
+use Rattle.collector.proofs.naming.names_read.Goals as goal
+
+pub returns-in-Err-clause-value : goal.returns-in-Err-clause-value
+returns-in-Err-clause-value g c = λ objects told. names_unread objects c.args.key.now c.in-Err.fault (c.in-Err.ensures.value objects told)
+
+pub returns-clause-value : goal.returns-clause-value
+returns-clause-value g c = λ objects told.
+    names_by_bytes objects c.args.key.now c.in-Ok.bytes c.names_of.result (read_ok objects _ _ (c.in-Ok.ensures.value objects told)) (c.names_of.ensures.value objects)
+
+pub returns-clause-stays : goal.returns-clause-stays
+returns-clause-stays g c = reads_bytes c.in-Ok.bytes c.names_of.result c.in-Ok.ensures.stays c.names_of.ensures.free

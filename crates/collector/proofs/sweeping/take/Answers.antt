@@ -1,0 +1,25 @@
+-- The candidate leaves with its object, and is told last; refused, what is told goes by the fault.
+use Rattle.std.proofs.Common.{refl, rules}
+use Rattle.collector.proofs.SweepLemmas.{took_refused}
+use Rattle.collector.proofs.sweeping.take.Goals as goal
+
+pub returns-in-Err-clause-value : goal.returns-in-Err-clause-value
+returns-in-Err-clause-value g c = record {
+  candidates = refl;
+  removed = c.in-Err.ensures.items;
+  kept = record { index = refl; shelf = refl; objects = refl };
+}
+
+pub returns-in-Ok-give_up-clause-value : goal.returns-in-Ok-give_up-clause-value
+returns-in-Ok-give_up-clause-value g c = record {
+  candidates = c.remove.ensures.stays;
+  removed = search rules;
+  index = c.in-Ok-give_up.ensures.changes.index;
+  objects = c.in-Ok-give_up.ensures.ok;
+}
+
+pub returns-in-Err-give_up-clause-value : goal.returns-in-Err-give_up-clause-value
+returns-in-Err-give_up-clause-value g c =
+    took_refused g.S.Shelf.contents c.args.store.now c.give_up.new.self c.args.candidates.now c.tell_rest.new.candidates c.args.removed.now.items c.push.new.self.items
+    c.tell_rest.new.removed.items c.args.key.now c.len-told.result c.in-Err-give_up.fault c.in-Err-give_up.ensures.changes c.in-Err-give_up.ensures.ok
+    (search rules) (search rules) c.tell_rest.ensures.value

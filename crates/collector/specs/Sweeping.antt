@@ -1,0 +1,90 @@
+-- What a sweep takes, and what it leaves. Our own. Read Took.
+use Rattle.std.specs.Prelude.{◌≡◌, ◌≢◌, ◌⊎◌, ◌+◌, ◌&&◌, not, ℕ, Bool, true, false, if◌then◌else◌, is_some, List, [], ◌∷◌, ◌++◌, length, take, Option, None, Some, option_map, Result, Ok, Err, ⊤}
+use Rattle.std.specs.FinMap as map
+use Rattle.std.specs.List.{IsDistinct}
+use Rattle.std.specs.Ordering.{eq_by_cmp}
+use Rattle.ids.specs.Key.{key_cmp}
+use Rattle.ids.specs.declared.key.Key.{Key}
+use Rattle.library_rules.specs.Changes.{without}
+use Rattle.object_graph.specs.Traversal.{is_in}
+use Rattle.object_store.specs.Shelf.{Contents}
+use Rattle.object_store.specs.Store.{CountsShelf, is_of_shelf}
+use Rattle.object_store.specs.StoreView.{AddsNoStray, Keeps, StoreView, objects_of, without_object}
+use Rattle.object_store.specs.declared.error.StoreFault.{StoreFault}
+use Rattle.object_store.specs.declared.error.StoreFault.TheVariants.{Taken, Wrong, Damaged, Shelf, NoMemory}
+use Rattle.object_store.specs.declared.shelf.Slot.{Slot}
+use Rattle.object_store.specs.declared.shelf.Slot.TheVariants.{Object}
+use Rattle.collector.specs.Marks.{Candidates}
+
+-- whether a key is among candidates
+abbrev pub is_listed : Candidates → Key → Bool
+is_listed candidates key = is_some (map.get candidates key)
+
+-- these candidates left the store, each once, and with them their objects; nothing else is changed
+pub record Took {S : Type 0} (contents : S → Option Contents) (old new : StoreView S) (before after : Candidates) (removed : List Key)
+    : Type 0 where
+  pub each : (key : Key) → is_in removed key ≡ true → is_listed before key ≡ true
+  pub once : IsDistinct (eq_by_cmp key_cmp) removed
+  pub candidates : (key : Key) → is_listed after key ≡ (is_listed before key && not (is_in removed key))
+  pub size : map.len after + length removed ≡ map.len before
+  pub index : (key : Key) → map.get new.index key ≡ (if is_in removed key then None else map.get old.index key)
+  pub held : map.len new.index + length removed ≡ map.len old.index
+  pub objects : objects_of contents new ≡ option_map (λ objects. without objects removed) (objects_of contents old)
+
+-- a sweep that the shelf ended told the key at which it failed
+abbrev pub EndsAtFault : List Key → Option StoreFault → Type 0
+EndsAtFault removed None = ⊤
+EndsAtFault removed (Some fault) = is_of_shelf fault ≡ true → removed ≢ []
+
+-- the shelf's count rose where the sweep ended with its failure, and stays else
+abbrev pub CountsSwept : ℕ → ℕ → Option StoreFault → Type 0
+CountsSwept before now None = now ≡ before
+CountsSwept before now (Some fault) = CountsShelf {T = ⊤} before now (Err fault)
+
+-- nothing comes to lie beside the store's objects, unless the shelf failed
+abbrev pub AddsNoStrayBy : {S : Type 0} → (S → Option Contents) → StoreView S → StoreView S → Option StoreFault → Type 0
+AddsNoStrayBy contents old new None = AddsNoStray contents old new
+AddsNoStrayBy contents old new (Some fault) = is_of_shelf fault ≡ false → AddsNoStray contents old new
+
+-- the shelf may give what it might give before, or that nothing lies in an object's slot
+abbrev pub GivesOrNothing : (Slot → Option (List ℕ) → Type 0) → (Slot → Option (List ℕ) → Type 0) → Type 0
+GivesOrNothing before now = (slot : Slot) (given : Option (List ℕ)) → now slot given
+    → before slot given ⊎ ((key : Key) × (slot ≡ Object key) × (given ≡ None))
+
+-- ---- for private clauses
+
+abbrev pub EndsSo : List Key → Result ⊤ StoreFault → Type 0
+EndsSo removed (Ok done) = ⊤
+EndsSo removed (Err fault) = is_of_shelf fault ≡ true → removed ≢ []
+
+-- one key left, and is told last
+pub record TakesKey {S : Type 0} (contents : S → Option Contents) (old new : StoreView S) (before after : Candidates)
+    (told_before told : List Key) (key : Key) : Type 0 where
+  pub candidates : after ≡ map.remove before key
+  pub removed : told ≡ told_before ++ key ∷ []
+  pub index : new.index ≡ map.remove old.index key
+  pub objects : objects_of contents new ≡ without_object (objects_of contents old) key
+
+-- nothing left
+pub record TakesNone {S : Type 0} (contents : S → Option Contents) (old new : StoreView S) (before after : Candidates)
+    (told_before told : List Key) : Type 0 where
+  pub candidates : after ≡ before
+  pub removed : told ≡ told_before
+  pub kept : Keeps contents old new
+
+-- what is told where a candidate was refused, of which so many were told before
+abbrev pub TellsRest : StoreFault → Candidates → Candidates → List Key → List Key → Key → ℕ → Type 0
+TellsRest Shelf before after listed told key count = (after ≡ map.remove before key) × (told ≡ listed)
+TellsRest NoMemory before after listed told key count = (after ≡ before) × (told ≡ take count listed)
+TellsRest (Taken id) before after listed told key count = ⊤
+TellsRest (Wrong id) before after listed told key count = ⊤
+TellsRest (Damaged want got) before after listed told key count = ⊤
+
+abbrev pub TookOne : {S : Type 0} → (S → Option Contents) → StoreView S → StoreView S → Candidates → Candidates → List Key → List Key → Key
+    → Result ⊤ StoreFault → Type 0
+TookOne contents old new before after told_before told key (Ok done) = TakesKey contents old new before after told_before told key
+TookOne contents old new before after told_before told key (Err Shelf) = TakesKey contents old new before after told_before told key
+TookOne contents old new before after told_before told key (Err NoMemory) = TakesNone contents old new before after told_before told
+TookOne contents old new before after told_before told key (Err (Taken id)) = ⊥
+TookOne contents old new before after told_before told key (Err (Wrong id)) = ⊥
+TookOne contents old new before after told_before told key (Err (Damaged want got)) = ⊥

@@ -1,0 +1,236 @@
+//! A collection of a small store, turn by turn, and what one tree needs beside another.
+use collector::{Marks, Phase, unshared};
+use ids::{Bytes, IdList, Items, Key, KeyList, KeyTable, Kind, ObjId};
+use object_store::{MemoryShelf, Store, StoreFault};
+use std::alloc::{AllocError, Global};
+use std::test::Fail;
+use tree_walk::WalkFault;
+
+type Shelved = Store<MemoryShelf>;
+
+/// The text of a commit named by forty `c`, around the id of its root.
+const COMMIT_HEAD: &str =
+    "{\"commit_id\":\"cccccccccccccccccccccccccccccccccccccccc\",\"ctime\":0,\"repo_id\":\"11111111-1111-1111-1111-111111111111\",\"root_id\":\"";
+
+const COMMIT_TAIL: &str = "\"}";
+
+/// The file of the block `abc`.
+const FILE: &str =
+    "{\"block_ids\":[\"a9993e364706816aba3e25717850c26c9cd0d89d\"],\"size\":3,\"type\":1,\"version\":1}";
+
+/// A directory around the id of its one entry, the file `a`.
+const DIRECTORY_HEAD: &str = "{\"dirents\":[{\"id\":\"";
+
+const DIRECTORY_TAIL: &str =
+    "\",\"mode\":33188,\"modifier\":\"me\",\"mtime\":7,\"name\":\"a\",\"size\":3}],\"type\":3,\"version\":1}";
+
+/// What stands behind the id of the directory `d`, before that of the directory `e`, and behind it.
+const PAIR_MIDDLE: &str =
+    "\",\"mode\":16384,\"modifier\":\"\",\"mtime\":7,\"name\":\"d\",\"size\":0},{\"id\":\"";
+
+const PAIR_TAIL: &str =
+    "\",\"mode\":16384,\"modifier\":\"\",\"mtime\":7,\"name\":\"e\",\"size\":0}],\"type\":3,\"version\":1}";
+
+/// An empty store, whose shelf fails at the calls of these numbers.
+fn store_that_fails(alloc: Global, fails: Items<u64>) -> Result<Shelved, Fail> {
+    match Store::start(alloc, MemoryShelf::new(alloc, fails)) {
+        Ok(store) => Ok(store),
+        Err(_) => Err(Fail::from("start")),
+    }
+}
+
+/// Puts an object of this text, and gives its name.
+fn put(store: &mut Shelved, kind: Kind, text: &str) -> Result<ObjId, Fail> {
+    let id = ObjId::of(text.as_bytes());
+    let id = &id;
+    match store.put(Key { kind, id: *id }, text.as_bytes()) {
+        Ok(_) => Ok(*id),
+        Err(_) => Err(Fail::from("put")),
+    }
+}
+
+fn push_id(text: &mut String, id: &ObjId) -> Result<(), AllocError> {
+    for digit in id.digits() {
+        text.push(digit as char)?;
+    }
+    Ok(())
+}
+
+/// The text around an id.
+fn around(alloc: Global, head: &str, id: &ObjId, tail: &str) -> Result<String, AllocError> {
+    let mut text = String::from_str(alloc, head)?;
+    push_id(&mut text, id)?;
+    text.push_str(tail)?;
+    Ok(text)
+}
+
+/// Puts the commit of a root, and gives its name.
+fn put_commit(alloc: Global, store: &mut Shelved, root: &ObjId) -> Result<ObjId, Fail> {
+    let text = around(alloc, COMMIT_HEAD, root, COMMIT_TAIL)?;
+    let id = ObjId::from_bytes([0xcc; 20]);
+    let id = &id;
+    let key = Key {
+        kind: Kind::Commit,
+        id: *id,
+    };
+    match store.put(key, text.as_bytes()) {
+        Ok(_) => Ok(*id),
+        Err(_) => Err(Fail::from("commit")),
+    }
+}
+
+/// Puts the directory of one file, whose id is told.
+fn put_directory(alloc: Global, store: &mut Shelved, file: &ObjId) -> Result<ObjId, Fail> {
+    let text = around(alloc, DIRECTORY_HEAD, file, DIRECTORY_TAIL)?;
+    put(store, Kind::Fs, text.as_str())
+}
+
+/// A store with a commit of one file of the block `abc`, of which this is put or not, and the blocks `ab` and `c` beside it.
+fn small(alloc: Global, with_block: bool, fails: Items<u64>) -> Result<Shelved, Fail> {
+    let mut store = store_that_fails(alloc, fails)?;
+    for text in ["ab", "c"] {
+        let _ = put(&mut store, Kind::Block, text)?;
+    }
+    if with_block {
+        let _ = put(&mut store, Kind::Block, "abc")?;
+    }
+    let file = put(&mut store, Kind::Fs, FILE)?;
+    let root = put_directory(alloc, &mut store, &file)?;
+    let _ = put_commit(alloc, &mut store, &root)?;
+    Ok(store)
+}
+
+/// The marks of a collection of it that begins.
+fn begun(alloc: Global, store: &Shelved) -> Result<Marks, AllocError> {
+    let mut kept = IdList::new(alloc);
+    kept.push(ObjId::from_bytes([0xcc; 20]))?;
+    Marks::begin(alloc, store, &kept)
+}
+
+/// How many turns of one object a marking takes; none where it is refused.
+fn marked(store: &mut Shelved, marks: &mut Marks) -> Option<u64> {
+    let mut turns = 0;
+    while marks.phase() == Phase::Marking && turns < 100 {
+        match marks.mark(store, 1) {
+            Ok(1) => {}
+            Ok(_) => return None,
+            Err(_) => return None,
+        }
+        turns += 1;
+    }
+    Some(turns)
+}
+
+/// How many turns of one object a sweep takes, and none where it isn't over then.
+fn swept(store: &mut Shelved, marks: &mut Marks) -> Option<u64> {
+    let mut turns = 0;
+    while marks.phase() == Phase::Sweeping && turns < 100 {
+        let took = marks.sweep(store, 1);
+        if took.removed.len() != 1 || took.fault.is_some() {
+            return None;
+        }
+        turns += 1;
+    }
+    if marks.phase() == Phase::Over {
+        Some(turns)
+    } else {
+        None
+    }
+}
+
+#[test]
+fn a_collection_marks_what_is_needed_and_takes_the_rest(rt: HostRuntime) -> Result<(), Fail> {
+    let mut store = small(rt.alloc(), true, Items::new(rt.alloc()))?;
+    let mut marks = begun(rt.alloc(), &store)?;
+    assert!(rt; marked(&mut store, &mut marks) == Some(4));
+    assert!(rt; swept(&mut store, &mut marks) == Some(2));
+    assert!(rt; store.count() == 4);
+    Ok(())
+}
+
+/// The key of the block of this text.
+fn block(text: &str) -> Key {
+    Key {
+        kind: Kind::Block,
+        id: ObjId::of(text.as_bytes()),
+    }
+}
+
+/// How much of the store is left of a collection in which the key was shielded before it was marked.
+fn left_with(alloc: Global, text: &str) -> Result<u64, Fail> {
+    let mut store = small(alloc, true, Items::new(alloc))?;
+    let mut marks = begun(alloc, &store)?;
+    let mut keys = KeyList::new(alloc);
+    keys.push(block(text))?;
+    marks.shield(&keys);
+    let _ = marked(&mut store, &mut marks);
+    let _ = swept(&mut store, &mut marks);
+    Ok(store.count())
+}
+
+#[test]
+fn what_is_shielded_stays(rt: HostRuntime) -> Result<(), Fail> {
+    assert!(rt; left_with(rt.alloc(), "ab")? == 5);
+    assert!(rt; left_with(rt.alloc(), "abc")? == 4);
+    Ok(())
+}
+
+/// Whether the marking of a file without its block ends with that, and goes on marking.
+fn lacks_its_block(alloc: Global) -> Result<bool, Fail> {
+    let mut store = small(alloc, false, Items::new(alloc))?;
+    let mut marks = begun(alloc, &store)?;
+    match marks.mark(&mut store, 1000) {
+        Ok(_) => Ok(false),
+        Err(fault) => Ok(
+            fault == WalkFault::Incomplete(block("abc")) && marks.phase() == Phase::Marking,
+        ),
+    }
+}
+
+#[test]
+fn a_missing_block_ends_the_marking(rt: HostRuntime) -> Result<(), Fail> {
+    assert!(rt; lacks_its_block(rt.alloc())?);
+    Ok(())
+}
+
+// A start asks the shelf three times, six objects are put, and three of four are read; the fourteenth call is the second
+// removal.
+#[test]
+fn a_removal_that_fails_is_told_and_ends_the_sweep(rt: HostRuntime) -> Result<(), Fail> {
+    let mut store = small(rt.alloc(), true, Items::copy(rt.alloc(), &[13])?)?;
+    let mut marks = begun(rt.alloc(), &store)?;
+    assert!(rt; marked(&mut store, &mut marks) == Some(4));
+    let took = marks.sweep(&mut store, 1000);
+    assert!(rt; took.removed.len() == 2);
+    assert!(rt; took.fault == Some(StoreFault::Shelf));
+    assert!(rt; marks.phase() == Phase::Over);
+    Ok(())
+}
+
+/// Puts a directory of the directories `d` and `e`.
+fn put_pair(alloc: Global, store: &mut Shelved, d: &ObjId, e: &ObjId) -> Result<ObjId, Fail> {
+    let head = around(alloc, DIRECTORY_HEAD, d, PAIR_MIDDLE)?;
+    let text = around(alloc, head.as_str(), e, PAIR_TAIL)?;
+    put(store, Kind::Fs, text.as_str())
+}
+
+/// How many keys a tree needs beside one that differs from it in one file of two directories.
+fn beside(alloc: Global) -> Result<usize, Fail> {
+    let mut store = small(alloc, true, Items::new(alloc))?;
+    let file = put(&mut store, Kind::Fs, FILE)?;
+    let one = put_directory(alloc, &mut store, &file)?;
+    let other = put_directory(alloc, &mut store, &ObjId::NIL)?;
+    let old = put_pair(alloc, &mut store, &one, &other)?;
+    let new = put_pair(alloc, &mut store, &one, &one)?;
+    let made: KeyTable<Bytes> = KeyTable::new(alloc);
+    match unshared(alloc, &mut store, &made, old, new) {
+        Ok(keys) => Ok(keys.len()),
+        Err(_) => Err(Fail::from("unshared")),
+    }
+}
+
+#[test]
+fn a_tree_beside_another_needs_what_differs(rt: HostRuntime) -> Result<(), Fail> {
+    assert!(rt; beside(rt.alloc())? == 1);
+    Ok(())
+}
