@@ -1,9 +1,11 @@
 pub mod Buffer
 pub mod CallQuery
+pub mod Dial
 pub mod EntityTag
 pub mod Fields
 pub mod IdArray
 pub mod Link
+pub mod MemoryDial
 pub mod MemoryLink
 pub mod Limits
 pub mod NextHead

@@ -1,11 +1,12 @@
 //! HTTP/1.1 as this server speaks it: links, the buffer, request heads, the stream of requests, what a request asks
 //! for, and the bytes of each reply.
 //!
-//! Shown upward: `Link`, `Sink` and their kinds in memory; `next_head`, `order_of`, `order_of_own`; `reply_bytes`,
-//! `reply_own`, `interim_bytes`, `bad_bytes`; and laws.rt. It answers no call itself.
+//! Shown upward: `Link`, `Sink`, `Dial` and their kinds in memory; `next_head`, `order_of`, `order_of_own`;
+//! `reply_bytes`, `reply_own`, `interim_bytes`, `bad_bytes`; and laws.rt. It answers no call itself.
 #![tactic(auto)]
 
 mod buffer;
+mod dial;
 mod entity_tag;
 mod expectation;
 mod fields;
@@ -14,6 +15,7 @@ mod id_array;
 mod judgement;
 pub mod laws;
 mod link;
+mod memory_dial;
 mod memory_link;
 mod memory_sink;
 mod method;
@@ -33,6 +35,7 @@ mod target_front;
 mod token;
 
 pub use buffer::{Buffer, FillFault};
+pub use dial::Dial;
 pub use entity_tag::read_tag_text;
 pub use expectation::wants_close;
 pub use fields::{Seen, look_for};
@@ -40,6 +43,7 @@ pub use head::{HEAD_LIMIT, Head, Next, next_head};
 pub use id_array::{array_bytes, read_ids};
 pub use judgement::number_in;
 pub use link::{Link, LinkFailed, Sink};
+pub use memory_dial::MemoryDial;
 pub use memory_link::MemoryLink;
 pub use memory_sink::MemorySink;
 pub use method::Method;

@@ -92,6 +92,13 @@ impl MemoryLink {
     {
         self.out.as_slice()
     }
+
+    /// How many of its calls failed.
+    pub(crate) fn faults(&self) -> u64
+        ensures value { result ≡ self.now.faults }
+    {
+        self.faults
+    }
 }
 
 impl Link for MemoryLink {
