@@ -5,6 +5,7 @@ pub mod FrontLemmas
 pub mod HeadSizeLemmas
 pub mod HostLemmas
 pub mod MemberLemmas
+pub mod MoreBytesLemmas
 pub mod OutcomeBodyLemmas
 pub mod OutcomeLemmas
 pub mod RefusalBodyLemmas

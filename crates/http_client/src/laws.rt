@@ -12,7 +12,7 @@ ghost use Rattle.http_client.specs.OutcomeReading.{IsOutcome, TellsThings, as_re
 ghost use Rattle.http_client.specs.ReadOrder.{IsTyped, SpellsOrder};
 ghost use Rattle.http_client.specs.ReplyHead.{status_number};
 ghost use Rattle.http_client.specs.RequestText.{HasRequest, IsHost, IsWithinLimit, request_text};
-ghost use Rattle.http_client.specs.Response.{IsWhole};
+ghost use Rattle.http_client.specs.Response.{IsBad, IsWhole};
 
 /// A whole reply tells an outcome that the order can have.
 pub fn a_whole_reply_tells_an_outcome_that_the_order_can_have()
@@ -36,4 +36,17 @@ pub fn the_body_that_is_written_for_an_outcome_is_read_as_the_outcome()
 /// The number by which a client knows a status is the one that the words of a server for it begin with.
 pub fn the_number_of_a_status_is_the_one_that_its_words_begin_with()
     ensures { (status : Status) → number_in (take 3 (status_words status)) ≡ Some (status_number status) }
+{}
+
+/// A whole reply stays one whatever follows it, and is one by its own bytes alone.
+pub fn a_whole_reply_is_one_whatever_follows_it()
+    ensures whole { (order : What) (buffer more : List ℕ) (outcome : Outcome) (used : ℕ) (ends : Bool)
+        → IsWhole order buffer outcome used ends → IsWhole order (buffer ++ more) outcome used ends }
+    ensures part { (order : What) (buffer : List ℕ) (outcome : Outcome) (used : ℕ) (ends : Bool)
+        → IsWhole order buffer outcome used ends → IsWhole order (take used buffer) outcome used ends }
+{}
+
+/// Bytes that are no reply to an order are none whatever follows them, and from the same place on.
+pub fn bytes_that_are_no_reply_become_none()
+    ensures { (order : What) (buffer more : List ℕ) (at : ℕ) → IsBad order buffer at → IsBad order (buffer ++ more) at }
 {}

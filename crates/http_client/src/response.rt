@@ -24,8 +24,9 @@ pub enum Response {
         /// Whether the connection ends after it.
         closes: bool,
     },
-    /// No reply to the order. In bytes from the front of the buffer, at most 16,384: the first place at which no head goes on, 16,384 where a head has not ended by then, or the
-    /// length of a head that isn't right or whose body tells no outcome of the order.
+    /// No reply to the order. In bytes from the front of the buffer, at most 16,384: the first place at which no head goes on,
+    /// 16,384 where a head has not ended by then, or the length of a head that isn't right or whose body tells no outcome of
+    /// the order.
     Bad(u64),
 }
 
