@@ -1,6 +1,7 @@
 pub mod AskedIdsLemmas
 pub mod BodySizeLemmas
 pub mod CanHaveLemmas
+pub mod EndingReplyLemmas
 pub mod FrontLemmas
 pub mod HeadSizeLemmas
 pub mod HostLemmas
@@ -10,9 +11,12 @@ pub mod OutcomeBodyLemmas
 pub mod OutcomeLemmas
 pub mod RefusalBodyLemmas
 pub mod RefusalLemmas
+pub mod ReplyReadLemmas
+pub mod ReplySizeLemmas
 pub mod RequestLemmas
 pub mod ResponseLemmas
 pub mod SeenHeadLemmas
 pub mod StatusLemmas
 pub mod TargetTextLemmas
 pub mod WrittenHeadLemmas
+pub mod WrittenReplyLemmas

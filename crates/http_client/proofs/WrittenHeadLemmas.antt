@@ -77,7 +77,7 @@ length_printed method.Put size = append-nil _
 length_printed method.Post size = append-nil _
 length_printed method.Other size = refl
 
-close_printed : (ends : Bool) → flat_map print_field (close_fields ends) ≡ close_line ends
+pub close_printed : (ends : Bool) → flat_map print_field (close_fields ends) ≡ close_line ends
 unfolding line
 close_printed true = refl
 close_printed false = refl
@@ -124,7 +124,7 @@ skips_none : (v : List ℕ) → list_all is_visible v ≡ true → skip_ows v �
 skips_none [] are = refl
 skips_none (b ∷ v) are = rw (visible_no_blank b (and_parts (is_visible b) (list_all is_visible v) are).0) refl
 
-trimmed : (v : List ℕ) → list_all is_visible v ≡ true → trim_ows (32 ∷ v) ≡ v
+pub trimmed : (v : List ℕ) → list_all is_visible v ≡ true → trim_ows (32 ∷ v) ≡ v
 trimmed v are =
     trim_ows_space v (skips_none v are)
     (skips_none (reverse v) (list_all-from_AllPass is_visible (reverse v) (AllPass-reverse is_visible v (AllPass-from_list_all is_visible v are))))
@@ -132,12 +132,12 @@ trimmed v are =
 digit_visible : (b : ℕ) → is_ascii_digit b ≡ true → is_visible b ≡ true
 digit_visible b is = grind (arith, nat_tests)
 
-size_visible : (n : ℕ) → n < 2 ^ 64 → list_all is_visible (decimal n) ≡ true
+pub size_visible : (n : ℕ) → n < 2 ^ 64 → list_all is_visible (decimal n) ≡ true
 size_visible n fits = weaker is_ascii_digit is_visible digit_visible (decimal n) (decimal_digits n fits)
 
 -- ---- each field is one
 
-visible_field : (name value : List ℕ) → list_all is_token_byte name ≡ true → 0 < length name → list_all is_visible value ≡ true → IsField (field_of name value)
+pub visible_field : (name value : List ℕ) → list_all is_token_byte name ≡ true → 0 < length name → list_all is_visible value ≡ true → IsField (field_of name value)
 visible_field name value token some visible = record {
   name = (some, AllPass-from_list_all is_token_byte name token);
   raw = AllPass-from_list_all is_value_byte (32 ∷ value) (weaker is_visible is_value_byte visible_value value visible);
@@ -258,7 +258,7 @@ secret_so m host secret size ends word is visible =
 
 -- ---- the length is read as it was written
 
-number_so : (n : ℕ) → n < 10 ^ 19 → n < 2 ^ 64 → number_in (decimal n) ≡ Some n
+pub number_so : (n : ℕ) → n < 10 ^ 19 → n < 2 ^ 64 → number_in (decimal n) ≡ Some n
 number_so n small fits =
     let some : nat_lt 0 (length (decimal n)) ≡ true = lt_told (decimal_nonempty n fits) in
     let few : nat_le (length (decimal n)) 19 ≡ true = le-leb _ _ (length-decimal-le 19 n (lit< tt) small fits) in

@@ -1,6 +1,6 @@
 //! Theorems about what a client writes and reads.
-ghost use Rattle.std.specs.Prelude.{◌≡◌, ◌++◌, ℕ, Bool, Some, List, take};
-ghost use Rattle.http_front.specs.ReplyText.{parts_of};
+ghost use Rattle.std.specs.Prelude.{◌≡◌, ◌++◌, ◌+◌, ◌<◌, ◌^◌, ℕ, Bool, Some, List, length, take};
+ghost use Rattle.http_front.specs.ReplyText.{bad_parts, bad_text, parts_of, text};
 ghost use Rattle.http_front.specs.RequestHead.{number_in};
 ghost use Rattle.http_front.specs.Status.{status_words};
 ghost use Rattle.http_front.specs.declared.order.Order.{Order};
@@ -49,4 +49,19 @@ pub fn a_whole_reply_is_one_whatever_follows_it()
 /// Bytes that are no reply to an order are none whatever follows them, and from the same place on.
 pub fn bytes_that_are_no_reply_become_none()
     ensures { (order : What) (buffer more : List ℕ) (at : ℕ) → IsBad order buffer at → IsBad order (buffer ++ more) at }
+{}
+
+/// The reply that a server writes for an outcome is read as that outcome, whatever follows it, by whoever gave an order that can
+/// have it; and the connection ends after it just where that was written. What a text doesn't show is read as fixed (`as_read`).
+pub fn what_is_written_for_an_outcome_is_read_as_the_outcome()
+    ensures { (order : What) (outcome : Outcome) (ends : Bool) (rest : List ℕ) → CanHave order outcome → TellsThings outcome
+        → length (parts_of outcome).body < 10 ^ 19
+        → IsWhole order (text outcome ends ++ rest) (as_read outcome) (length (text outcome ends)) ends }
+{}
+
+/// The reply by which a server ends a connection, because what it read is no request, is no reply to any order, whatever
+/// follows it. The place that is told is the end of its head.
+pub fn a_reply_that_ends_a_connection_is_none_to_an_order()
+    ensures { (order : What) (status : ℕ) (rest : List ℕ)
+        → (at : ℕ) × (at + length (bad_parts status).body ≡ length (bad_text status)) × IsBad order (bad_text status ++ rest) at }
 {}

@@ -38,8 +38,8 @@ pub enum Response {
 /// length. Then the body has to be there (`Need`), and to tell an outcome that the order can have (`Bad`, with the
 /// length of the head). A refusal has to come with its own status. An object is copied once. The buffer stays as it is, and
 /// nothing is kept from one call to the next, so that after `Need` the same bytes are read again, with more behind them. The
-/// only error is want of memory. That what a server writes as status and body is read as the outcome says the law
-/// `the_body_that_is_written_for_an_outcome_is_read_as_the_outcome`; of the head's text there is no such law yet.
+/// only error is want of memory. That what a server writes for an outcome is read as the outcome says the law
+/// `what_is_written_for_an_outcome_is_read_as_the_outcome`.
 ///
 /// One freedom is left. Bytes that only heads of more than 64 fields continue may count as such that go on as none.
 pub fn next_response(alloc: Global, order: &Order, buffer: &[u8]) -> Result<Response, AllocError>
