@@ -7,8 +7,10 @@ pub mod HeadSizeLemmas
 pub mod HostLemmas
 pub mod MemberLemmas
 pub mod MoreBytesLemmas
+pub mod OneReplyLemmas
 pub mod OutcomeBodyLemmas
 pub mod OutcomeLemmas
+pub mod OutcomeOnceLemmas
 pub mod RefusalBodyLemmas
 pub mod RefusalLemmas
 pub mod ReplyReadLemmas

@@ -190,7 +190,7 @@ module _ (order : What) (status : Status) (body : List ℕ) where
   due why is = ap (λ b. if b then Some (Refused why) else None) is
 
   -- what tells a refusal that is due is answered
-  answered_by : (why : Refusal) → TellsWhy order status body why → option_and_then (if_due order status) (told_in refusal_in body) ≡ Some (Refused why)
+  pub answered_by : (why : Refusal) → TellsWhy order status body why → option_and_then (if_due order status) (told_in refusal_in body) ≡ Some (Refused why)
   answered_by why is =
       ap (λ o. option_and_then (if_due order status) (option_and_then refusal_in o)) is.is_text
       ∙ ap (option_and_then (if_due order status)) (refusal-found is.value order why is.can is.tells)

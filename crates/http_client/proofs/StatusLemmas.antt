@@ -62,7 +62,7 @@ status_of-is code =
 
 module _ (order : What) (code : ℕ) (fields : FieldList) where
   -- a right head's number is that of its status
-  of_right : (s : Status) (n : ℕ) → IsRightBy order code fields s n → status_of code ≡ Some s
+  pub of_right : (s : Status) (n : ℕ) → IsRightBy order code fields s n → status_of code ≡ Some s
   of_right s n right = ap status_of (sym right.status_is) ∙ status_of-number s
 
   pub wrong_number : status_of code ≡ None → IsWrongBy order code fields

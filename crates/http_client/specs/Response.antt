@@ -64,3 +64,10 @@ abbrev pub IsResponse : What → List ℕ → Response → Type 0
 IsResponse order buffer Need = IsCut order buffer
 IsResponse order buffer (Whole outcome used ends) = IsWhole order buffer outcome used ends
 IsResponse order buffer (Bad at) = IsBad order buffer at
+
+-- some beginning of the front goes on as a head, but with more than 64 fields alone. Whether such bytes are told as a beginning
+-- or as none, and from which place on, is free
+pub record NeedsManyFields (buffer : List ℕ) : Type 0 where
+  pub size : ℕ
+  pub may : MayBecomeHead (take size (front_of buffer))
+  pub never : NeverHasHead (take size (front_of buffer))

@@ -1,5 +1,5 @@
 //! Theorems about what a client writes and reads.
-ghost use Rattle.std.specs.Prelude.{◌≡◌, ◌++◌, ◌+◌, ◌<◌, ◌^◌, ℕ, Bool, Some, List, length, take};
+ghost use Rattle.std.specs.Prelude.{◌≡◌, ◌⊎◌, ◌++◌, ◌+◌, ◌<◌, ◌^◌, ℕ, Bool, Some, List, length, take};
 ghost use Rattle.http_front.specs.ReplyText.{bad_parts, bad_text, parts_of, text};
 ghost use Rattle.http_front.specs.RequestHead.{number_in};
 ghost use Rattle.http_front.specs.Status.{status_words};
@@ -12,7 +12,8 @@ ghost use Rattle.http_client.specs.OutcomeReading.{IsOutcome, TellsThings, as_re
 ghost use Rattle.http_client.specs.ReadOrder.{IsTyped, SpellsOrder};
 ghost use Rattle.http_client.specs.ReplyHead.{status_number};
 ghost use Rattle.http_client.specs.RequestText.{HasRequest, IsHost, IsWithinLimit, request_text};
-ghost use Rattle.http_client.specs.Response.{IsBad, IsWhole};
+ghost use Rattle.http_client.specs.Response.{IsBad, IsResponse, IsWhole, NeedsManyFields};
+ghost use Rattle.http_client.specs.declared.response.Response.{Response};
 
 /// A whole reply tells an outcome that the order can have.
 pub fn a_whole_reply_tells_an_outcome_that_the_order_can_have()
@@ -49,6 +50,11 @@ pub fn a_whole_reply_is_one_whatever_follows_it()
 /// Bytes that are no reply to an order are none whatever follows them, and from the same place on.
 pub fn bytes_that_are_no_reply_become_none()
     ensures { (order : What) (buffer more : List ℕ) (at : ℕ) → IsBad order buffer at → IsBad order (buffer ++ more) at }
+{}
+
+/// Bytes tell one thing to one who gave an order, but where some of them go on as heads of more than 64 fields alone.
+pub fn some_bytes_tell_one_reply()
+    ensures { (order : What) (buffer : List ℕ) (r s : Response) → IsResponse order buffer r → IsResponse order buffer s → (r ≡ s) ⊎ NeedsManyFields buffer }
 {}
 
 /// The reply that a server writes for an outcome is read as that outcome, whatever follows it, by whoever gave an order that can
