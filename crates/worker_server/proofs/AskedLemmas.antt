@@ -13,11 +13,11 @@ use Rattle.worker_server.specs.declared.served.Served.TheVariants as served
 
 -- ---- what is told now was told before
 
-told_before : (old : Option (List ℕ)) (piece now : List ℕ) → append_known old piece ≡ Some now → (before : List ℕ) × (old ≡ Some before) × (now ≡ before ++ piece)
+pub told_before : (old : Option (List ℕ)) (piece now : List ℕ) → append_known old piece ≡ Some now → (before : List ℕ) × (old ≡ Some before) × (now ≡ before ++ piece)
 told_before None piece now e = absurd (cc)
 told_before (Some before) piece now e = let same : now ≡ before ++ piece = cc in (before, refl, same)
 
-asked_more : (asked : Option (List Asked)) (taken given : Option (List ℕ)) (before : List Asked) (t g : List ℕ) → asked ≡ Some before → taken ≡ Some t → given ≡ Some g
+pub asked_more : (asked : Option (List Asked)) (taken given : Option (List ℕ)) (before : List Asked) (t g : List ℕ) → asked ≡ Some before → taken ≡ Some t → given ≡ Some g
     → asked_once_more asked taken given ≡ Some (before ++ (length t, length g) ∷ [])
 asked_more asked taken given before t g ea et eg = λ i. asked_once_more (ea i) (et i) (eg i)
 

@@ -66,7 +66,7 @@ fn outcome_of<H: Host>(
     ensures left { buffer.new ≡ drop (head.now.used + head.now.body) buffer.old }
 {
     match next_order(alloc, head, buffer) {
-        Ok(order) => outcome_in(alloc, host, pass, order),
+        Ok(order) => answer_order(alloc, host, pass, order),
         Err(fault) => Outcome::Refused(refusal_of(fault)),
     }
 }
@@ -119,8 +119,9 @@ fn refusal_of(fault: OrderFault) -> Refusal
     }
 }
 
-/// Asks the host what an order wants.
-fn outcome_in<H: Host>(alloc: Global, host: &H, pass: &mut H::Pass, order: Order) -> Outcome
+/// Asks the host what an order wants, and makes its outcome of the answers. An order that names no library and doesn't ask for
+/// the version is refused without a call. The objects of an order are handed on, and not copied.
+pub fn answer_order<H: Host>(alloc: Global, host: &H, pass: &mut H::Pass, order: Order) -> Outcome
     requires ready { H.ready host.now pass.old }
     ensures ready { H.ready host.now pass.new }
     ensures serves { (operations : List H.Operation) × ServesOrder (rules_at (H.shows host.now) H.asks H.too_much) (H.view pass.old) order result operations (H.view pass.new) }
