@@ -1,4 +1,7 @@
 //! A collection of a small store, turn by turn, and what one tree needs beside another.
+ghost use Rattle.std.specs.Prelude.{IfOk};
+ghost use Rattle.tree_tests.specs.StoredCandidates.{AreStored};
+
 use collector::{Marks, Phase, unshared};
 use ids::{Bytes, IdList, Items, Key, KeyList, KeyTable, Kind, ObjId};
 use object_store::{MemoryShelf, Store, StoreFault};
@@ -101,41 +104,48 @@ fn small(alloc: Global, with_block: bool, fails: Items<u64>) -> Result<Shelved, 
 }
 
 /// The marks of a collection of it that begins.
-fn begun(alloc: Global, store: &Shelved) -> Result<Marks, AllocError> {
+fn begun(alloc: Global, store: &Shelved) -> Result<Marks, AllocError>
+    ensures stored { IfOk result (AreStored store.now.index) }
+{
     let mut kept = IdList::new(alloc);
     kept.push(ObjId::from_bytes([0xcc; 20]))?;
     Marks::begin(alloc, store, &kept)
 }
 
-/// How many turns of one object a marking takes; none where it is refused.
-fn marked(store: &mut Shelved, marks: &mut Marks) -> Option<u64> {
-    let mut turns = 0;
-    while marks.phase() == Phase::Marking && turns < 100 {
+/// How many turns of one object a marking takes; none where it is refused, or isn't over after a hundred.
+#[tactic(auto, using(crate::proofs::StoredCandidatesLemmas::marked_stays))]
+fn marked(store: &mut Shelved, marks: &mut Marks) -> Option<u64>
+    requires stored { AreStored store.old.index marks.old }
+    ensures stored { AreStored store.new.index marks.new }
+{
+    for turns in 0..100 {
+        if marks.phase() != Phase::Marking {
+            return Some(turns);
+        }
         match marks.mark(store, 1) {
             Ok(1) => {}
             Ok(_) => return None,
             Err(_) => return None,
         }
-        turns += 1;
     }
-    Some(turns)
+    None
 }
 
 /// How many turns of one object a sweep takes, and none where it isn't over then.
-fn swept(store: &mut Shelved, marks: &mut Marks) -> Option<u64> {
-    let mut turns = 0;
-    while marks.phase() == Phase::Sweeping && turns < 100 {
+#[tactic(auto, using(crate::proofs::StoredCandidatesLemmas::swept_stays))]
+fn swept(store: &mut Shelved, marks: &mut Marks) -> Option<u64>
+    requires stored { AreStored store.old.index marks.old }
+{
+    for turns in 0..100 {
+        if marks.phase() == Phase::Over {
+            return Some(turns);
+        }
         let took = marks.sweep(store, 1);
         if took.removed.len() != 1 || took.fault.is_some() {
             return None;
         }
-        turns += 1;
     }
-    if marks.phase() == Phase::Over {
-        Some(turns)
-    } else {
-        None
-    }
+    None
 }
 
 #[test]
