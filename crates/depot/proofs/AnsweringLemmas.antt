@@ -132,7 +132,7 @@ damage_differs objects key want got is same = by (map.get objects key) is
     by None e = cc
     by (Some stored) e = at stored (has_other_name key stored) refl e
 
-fault_of : (s : State) (e : Entry) (why : Refusal) → IsToldRefusal s.objects why → Counts s.faults e.faults (reply.Refused why) → IsFaultOf s e why
+pub fault_of : (s : State) (e : Entry) (why : Refusal) → IsToldRefusal s.objects why → Counts s.faults e.faults (reply.Refused why) → IsFaultOf s e why
 fault_of s e refusal.NoMemory is counts = counts
 fault_of s e (refusal.Damaged want got) is counts = (counts, damage_differs s.objects is.0 want got is.1)
 fault_of s e refusal.Store is counts = counts.1

@@ -1,5 +1,5 @@
 -- A put that the store refuses, or takes, and the cause of each answer. The key lemmas are put_refused, new_done, same_done,
--- put_damage, new_may, same_may and refused_may, and of a block block_decided and block_due.
+-- put_damage, new_may, same_may and refused_may, and of a block block_decided, block_due and block_done.
 use Rattle.std.proofs.Common.{◌≡◌, ◌⊎◌, inl, inr, ℕ, Bool, true, false, not, ◌&&◌, ◌||◌, if◌then◌else◌, cond, List, [], ◌∷◌, ◌++◌, refl, sym, ap, ◌∙◌, subst, true≢false, Option, None, Some, option_map, is_some}
 use Rattle.std.specs.Bool.{then_some}
 use Rattle.std.specs.FinMap as map
@@ -9,7 +9,7 @@ use Rattle.ids.specs.declared.key.Key.{Key}
 use Rattle.ids.specs.declared.key.Kind.{Kind}
 use Rattle.ids.specs.declared.key.Kind.TheVariants as kinds
 use Rattle.ids.proofs.KeyOrderLemmas.{key_cmp_total}
-use Rattle.library_rules.specs.Calls.{Says, Stores, by_state, first_refusal, other_bytes, put_by_objects, put_decided, put_due, put_refusals}
+use Rattle.library_rules.specs.Calls.{Due, Says, Stores, by_state, first_refusal, other_bytes, put_by_objects, put_decided, put_due, put_refusals}
 use Rattle.library_rules.proofs.CallsLemmas.{put_after, put_by, taken}
 use Rattle.library_rules.specs.LibraryState.{State, is_stored}
 use Rattle.library_state.specs.declared.call.Act.TheVariants as act
@@ -48,10 +48,14 @@ block_decided lib key bytes block =
 pub block_due : (s : State) (key : Key) (bytes : List ℕ) → key.kind ≡ kinds.Block → put_due s key bytes ≡ store_due s key bytes
 block_due s key bytes block = ap (λ (said : Option Reply). by_state said (put_by_objects s key bytes)) (block_decided s.state.lib key bytes block)
 
+pub block_done : (key : Key) (bytes : List ℕ) → key.kind ≡ kinds.Block → (s : State) (r : Reply) (after : Option Objects)
+    → DoneSo s.objects (store_due s key bytes) r after → DoneSo s.objects (put_due s key bytes) r after
+block_done key bytes block s r after done = subst (λ (d : Due). DoneSo s.objects d r after) (sym (block_due s key bytes block)) done
+
 -- ---- what is due of a put
 
 module _ (s : State) (key : Key) (bytes : List ℕ) where
-  fault_by : (o : Option Refusal) (r : Reply) (after : Option Objects) → IsFault s.objects r → after ≡ Some s.objects → DoneSo s.objects (put_by s key bytes o) r after
+  pub fault_by : (o : Option Refusal) (r : Reply) (after : Option Objects) → IsFault s.objects r → after ≡ Some s.objects → DoneSo s.objects (put_by s key bytes o) r after
   fault_by (Some why) r after fault is = (inr fault, is)
   fault_by None r after fault is = by (is_stored s.objects key)
     where

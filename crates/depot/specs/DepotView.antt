@@ -1,6 +1,6 @@
 -- What a depot is: a store, the library that its state text tells, whether the last write of that text failed, and the
 -- collection that runs. Our own. Read DepotView and state_of first, then IsGood and IsKept.
-use Rattle.std.specs.Prelude.{◌≡◌, ◌≢◌, ◌⊎◌, ℕ, Bool, true, false, List, [], Option, None, Some, is_some, option_map, Ok, refl}
+use Rattle.std.specs.Prelude.{◌≡◌, ◌≢◌, ◌⊎◌, ℕ, Bool, true, false, List, [], Option, None, Some, is_some, option_map, Ok, ⊤, refl}
 use Rattle.std.specs.Coded.{Coded, code_by, coded×, coded_bool, coded_option, coded_ℕ}
 use Rattle.std.specs.FinMap as map
 use Rattle.std.specs.FinSet as set
@@ -13,13 +13,15 @@ use Rattle.library_state.specs.StateText.{state_of as read_state}
 use Rattle.library_state.specs.contracts.state.LibState as state_contracts
 use Rattle.library_state.specs.declared.state.LibState.{LibState}
 use Rattle.object_store.specs.Shelf.{Contents}
-use Rattle.object_store.specs.StoreView.{StoreView, store_code, objects_of, status_of}
+use Rattle.object_store.specs.StoreView.{Index, StoreView, store_code, objects_of, status_of}
+use Rattle.collector.specs.Collecting.{Collects}
+use Rattle.collector.specs.Marks.{MarksView, is_candidate, marks_code}
 use Rattle.tree_walk.specs.KnownTrees.{Fits, KnownView}
 use Rattle.depot.specs.NextState.{Follows}
 use Rattle.depot.specs.Writing.{ReadsBack}
 
 -- a depot as contracts see it. It is unsettled after a write of the state text that failed: then the slot may hold the
--- text of a state that some call makes of this one. No depot of today runs a collection
+-- text of a state that some call makes of this one
 pub record DepotView (S : Type 0) : Type 0 where
   pub store : StoreView S
   pub state : LibState
@@ -94,8 +96,44 @@ pub record IsGood {S : Type 0} (contents : S → Option Contents) (faults : S �
 abbrev pub FitsIn : {S : Type 0} → (S → Option Contents) → StoreView S → KnownView → Type 0
 FitsIn contents store known = (objects : Objects) → objects_of contents store ≡ Some objects → Fits objects known
 
--- a depot is good, and what it knows is so over its store as it stands. Objects that come leave that right; before one of
+-- a collection that runs: its marks, and what it is for the library
+pub record CollectionView : Type 0 where
+  pub marks : MarksView
+  pub running : Running
+
+-- the keys of a table, as a set
+abbrev pub fresh_in : map.FinMap key_cmp ⊤ → set.FinSet key_cmp
+fresh_in table = set.from_list (map.keys table)
+
+-- it is stored as the pair of its fields
+abbrev pub collection_code : Coded CollectionView
+collection_code = code_by (MarksView × Running) (coded× marks_code running_code) (λ collection. (collection.marks, collection.running))
+    (λ pair. record { marks = pair.0; running = pair.1 }) (λ _. refl)
+
+abbrev pub running_of : Option CollectionView → Option Running
+running_of collection = option_map (λ c. c.running) collection
+
+-- the marks are those of the collection that runs in the library
+abbrev pub CollectsIn : State → Option CollectionView → Type 0
+CollectsIn s None = ⊤
+CollectsIn s (Some collection) = Collects s collection.running collection.marks
+
+-- what a collection may still remove is known, over any shelf
+abbrev pub KnowsCandidates : Index → Option CollectionView → Type 0
+KnowsCandidates index None = ⊤
+KnowsCandidates index (Some collection) = (key : Key) → is_candidate collection.marks key ≡ true → is_some (map.get index key) ≡ true
+
+-- nor is it fresh, over any shelf
+abbrev pub AreApart : Option CollectionView → Type 0
+AreApart None = ⊤
+AreApart (Some collection) = (key : Key) → is_candidate collection.marks key ≡ true → set.contains collection.running.fresh key ≡ false
+
+-- a depot is good, what it knows is so over its store as it stands, and its marks are those of the collection that runs. Objects that come leave that right; before one of
 -- them leaves it has to be forgotten
-pub record IsKept {S : Type 0} (contents : S → Option Contents) (faults : S → ℕ) (depot : DepotView S) (known : KnownView) : Type 0 where
+pub record IsKept {S : Type 0} (contents : S → Option Contents) (faults : S → ℕ) (depot : DepotView S) (known : KnownView) (collection : Option CollectionView)
+    : Type 0 where
   pub good : IsGood contents faults depot
   pub fits : FitsIn contents depot.store known
+  pub collects : (s : State) → state_of contents faults depot ≡ Some s → CollectsIn s collection
+  pub candidates : KnowsCandidates depot.store.index collection
+  pub apart : AreApart collection

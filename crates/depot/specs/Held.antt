@@ -1,5 +1,5 @@
 -- For private clauses: which keys the index knows after a call. Read HoldsPut, then HoldsMore.
-use Rattle.std.specs.Prelude.{◌≡◌, ◌||◌, true, false, is_some, List, [], ◌∷◌}
+use Rattle.std.specs.Prelude.{◌≡◌, ◌||◌, not, true, false, filter, is_some, List, [], ◌∷◌}
 use Rattle.std.specs.FinMap as map
 use Rattle.ids.specs.declared.key.Key.{Key}
 use Rattle.library_state.specs.declared.reply.Reply.{Reply}
@@ -21,3 +21,7 @@ pub record HoldsMore (keys : List Key) (old new : Index) : Type 0 where
 -- all of these
 pub record KnowsAll (keys : List Key) (index : Index) : Type 0 where
   pub each : (key : Key) → is_in keys key ≡ true → is_some (map.get index key) ≡ true
+
+-- those of the keys that the index lacks
+abbrev pub lacking : Index → List Key → List Key
+lacking index keys = filter (λ key. not (is_some (map.get index key))) keys

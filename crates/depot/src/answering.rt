@@ -2,7 +2,10 @@
 ghost use Rattle.std.specs.Prelude.{◌≡◌, IfNone, IfSome, None, Some, false, nat_le};
 ghost use Rattle.ids.specs.Key.{Objects};
 ghost use Rattle.library_rules.specs.Calls.{token_of};
+ghost use Rattle.library_rules.specs.Files.{KeepsKept};
+ghost use Rattle.library_rules.specs.LateUpdates.{TakesUploaded};
 ghost use Rattle.library_rules.specs.LibraryState.{State};
+ghost use Rattle.library_rules.specs.Uploads.{KeepsSafe, TellsSafe};
 ghost use Rattle.library_state.specs.Rights.{right_number};
 ghost use Rattle.object_store.specs.StoreView.{AddsNoStray, objects_of, status_of};
 ghost use Rattle.depot.specs.Answering.{AnswersBySome, MayAnswer, MayAsk, Serves, SlotSo, Would, decided, permits, state_after};
@@ -27,6 +30,12 @@ impl<S: Shelf> Depot<S> {
         ensures shown { (s : State) → state_of S.contents S.faults self.old ≡ Some s
             → AnswersBySome s call.now moment result (state_of S.contents S.faults self.new) }
         ensures stands { IsGood S.contents S.faults self.new }
+
+        // Each kept commit keeps its files; what was safe from a collection stays so, and what is told to be stored is; and an
+        // update is not late whose upload is complete.
+        ensures files { (s : State) → (t : State) → state_of S.contents S.faults self.old ≡ Some s → state_of S.contents S.faults self.new ≡ Some t → KeepsKept s t }
+        ensures safe { (s : State) → (t : State) → state_of S.contents S.faults self.old ≡ Some s → state_of S.contents S.faults self.new ≡ Some t
+            → KeepsSafe s t × TellsSafe call.now.act result t × TakesUploaded s call.now result }
 
         // Of every shelf: what the state decides, and the cause of each fault.
         ensures denied { permits (token_of self.old.state.tokens call.now.secret) call.now.act ≡ false → result ≡ Reply.Refused Refusal.Denied }

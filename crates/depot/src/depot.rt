@@ -2,6 +2,7 @@
 ghost use Rattle.std.specs.Prelude.{◌≡◌, ◌<◌};
 ghost use Rattle.library_rules.specs.LibraryState.{head_of};
 
+use crate::collection::Collection;
 use crate::history::head_of;
 use ids::{LibId, ObjId};
 use library_state::LibState;
@@ -25,6 +26,8 @@ pub struct Depot<S: Shelf> {
     pub(crate) parts: Parts<S>,
     /// What was found whole. It is to be forgotten before an object leaves the store.
     pub(crate) known: Known,
+    /// The collection that runs, if one does. It lives as long as the process.
+    pub(crate) running: Option<Collection>,
 }
 
 /// What a depot holds. Its methods are the steps that write.
@@ -38,16 +41,15 @@ pub(crate) struct Parts<S: Shelf> {
 }
 
 impl<S: Shelf> Model for Depot<S> {
-    ghost use Rattle.std.specs.Prelude.{None};
-    ghost use Rattle.depot.specs.DepotView.{DepotView, IsKept, depot_code};
+    ghost use Rattle.depot.specs.DepotView.{DepotView, IsKept, depot_code, running_of};
 
     ghost Value = { DepotView S };
 
     ghost coded = { depot_code S.code };
 
-    ghost view = { λ a. record { store = a.parts.store; state = a.parts.state; unsettled = a.parts.unsettled; running = None } };
+    ghost view = { λ a. record { store = a.parts.store; state = a.parts.state; unsettled = a.parts.unsettled; running = running_of a.running } };
 
-    ghost invariant = { λ a. IsKept S.contents S.faults (record { store = a.parts.store; state = a.parts.state; unsettled = a.parts.unsettled; running = None }) a.known };
+    ghost invariant = { λ a. IsKept S.contents S.faults (record { store = a.parts.store; state = a.parts.state; unsettled = a.parts.unsettled; running = running_of a.running }) a.known a.running };
 }
 
 impl<S: Shelf> Depot<S> {

@@ -7,6 +7,7 @@
 
 mod answering;
 mod checking;
+mod collection;
 mod commit_put;
 mod complete;
 mod depot;
@@ -22,9 +23,12 @@ mod object_calls;
 mod own_call;
 mod plan;
 mod refusals;
+mod shields;
 mod start;
 mod state_write;
 mod tokens;
+mod turn;
+mod unstored;
 mod update;
 mod update_base;
 mod update_install;
@@ -35,3 +39,4 @@ mod update_plan;
 pub use crate::depot::Depot;
 pub use crate::error::{MakeFault, StartFault, TokenFault};
 pub use crate::start::read_state;
+pub use crate::turn::Turn;

@@ -71,6 +71,7 @@ impl<S: Shelf> Depot<S> {
                     unsettled: false,
                 },
                 known: Known::new(alloc),
+                running: None,
             }),
             Err(fault) => Err((store, fault)),
         }

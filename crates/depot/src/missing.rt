@@ -1,18 +1,24 @@
 //! Which ids name nothing that is stored.
-ghost use Rattle.std.specs.Prelude.{◌≡◌, ◌++◌, ◌∷◌, [], ℕ, IfOk, OnOk, Some};
+ghost use Rattle.std.specs.Prelude.{◌≡◌, ◌++◌, ◌∷◌, [], ℕ, IfOk, OnOk, Some, OnErr, filter};
 ghost use Rattle.std.specs.FinMap as map;
+ghost use Rattle.std.specs.FinSet as set;
 ghost use Rattle.ids.specs.Key.{Objects};
-ghost use Rattle.library_rules.specs.Calls.{absent};
+ghost use Rattle.library_rules.specs.Calls.{absent, keys_of};
+ghost use Rattle.library_rules.specs.Changes.{stored_keys};
 ghost use Rattle.library_rules.specs.LibraryState.{State, is_stored};
 ghost use Rattle.object_store.specs.Shelf.{GivesNoMore};
 ghost use Rattle.object_store.specs.StoreView.{objects_of};
 ghost use Rattle.library_state.specs.declared.call.Act.TheVariants as act;
 ghost use Rattle.depot.specs.Answering.{MayTell, ServesAct};
+ghost use Rattle.depot.specs.Fresh.{MayHaveFresh, MayKeep, is_told, stored_told};
+ghost use Rattle.depot.specs.FreshKeys.{told_there};
 ghost use Rattle.depot.specs.Missing.{absent_from, is_absent, is_known};
 ghost use Rattle.depot.specs.ObjectCalls.{Counts, IsToldDamage, SaysOr};
 
+use crate::collection::Collection;
 use crate::depot::Depot;
-use ids::{IdList, Key, KeyTable, Kind, ObjId};
+use crate::shields::{freshen, shield};
+use ids::{IdList, Key, KeyList, KeyTable, Kind, ObjId};
 use library_state::{Refusal, Reply};
 use object_store::{Shelf, Store};
 use std::alloc::{AllocError, Global};
@@ -23,8 +29,91 @@ impl<S: Shelf> Depot<S> {
         ensures value { ServesAct S.contents S.may_give S.texts S.faults self.old (act.Missing kind ids.now) result self.new }
         ensures gives { GivesNoMore (S.may_give self.old.store.shelf) (S.may_give self.new.store.shelf) }
     {
-        missing_objects(self.parts.alloc, &self.parts.store, kind, ids)
+        let reply = missing_objects(self.parts.alloc, &self.parts.store, kind, ids);
+        let kept = keep_told(
+            self.parts.alloc,
+            &self.parts.store,
+            &mut self.running,
+            kind,
+            ids,
+            &reply,
+        );
+        match kept {
+            Ok(()) => reply,
+            Err(_) => Reply::Refused(Refusal::NoMemory),
+        }
     }
+}
+
+/// Keeps from the collection that runs, if one does, what the answer tells to be stored. After an error nothing is changed.
+fn keep_told<S: Shelf>(
+    alloc: Global,
+    store: &Store<S>,
+    running: &mut Option<Collection>,
+    kind: Kind,
+    ids: &[ObjId],
+    reply: &Reply,
+) -> Result<(), AllocError>
+    ensures shown { (objects : Objects) → objects_of S.contents store.now ≡ Some objects → OnOk result (MayKeep (stored_told objects kind ids.now reply.now) running.old running.new) }
+    ensures ok { OnOk result (MayKeep (told_there store.now.index (act.Missing kind ids.now) reply.now) running.old running.new) }
+    ensures err { OnErr result (MayHaveFresh (λ fresh key. set.contains fresh key) running.old running.new) }
+{
+    if running.is_none() {
+        return Ok(());
+    }
+    if !is_told(reply) {
+        return Ok(());
+    }
+    keep_present(alloc, store, running, kind, ids)
+}
+
+/// Takes those of the ids as fresh that name what is stored, and keeps them from the collection. After an error nothing is
+/// changed.
+fn keep_present<S: Shelf>(
+    alloc: Global,
+    store: &Store<S>,
+    running: &mut Option<Collection>,
+    kind: Kind,
+    ids: &[ObjId],
+) -> Result<(), AllocError>
+    ensures shown { (objects : Objects) → objects_of S.contents store.now ≡ Some objects → OnOk result (MayKeep (stored_keys objects (keys_of kind ids.now)) running.old running.new) }
+    ensures ok { OnOk result (MayKeep (filter (is_known store.now.index) (keys_of kind ids.now)) running.old running.new) }
+    ensures err { OnErr result (MayHaveFresh (λ fresh key. set.contains fresh key) running.old running.new) }
+{
+    let keys = present_keys(alloc, store, kind, ids)?;
+    freshen(alloc, running, keys.slice())?;
+    shield(running, &keys);
+    Ok(())
+}
+
+/// Whether an answer tells ids.
+fn is_told(reply: &Reply) -> bool
+    ensures value { result ≡ is_told reply.now }
+{
+    match reply {
+        Reply::Absent(_) => true,
+        _ => false,
+    }
+}
+
+/// The keys of the ids that name what is stored.
+fn present_keys<S: Shelf>(
+    alloc: Global,
+    store: &Store<S>,
+    kind: Kind,
+    ids: &[ObjId],
+) -> Result<KeyList, AllocError>
+    ensures shown { (objects : Objects) → objects_of S.contents store.now ≡ Some objects → IfOk result (λ keys. keys ≡ stored_keys objects (keys_of kind ids.now)) }
+    ensures value { IfOk result (λ keys. keys ≡ filter (is_known store.now.index) (keys_of kind ids.now)) }
+{
+    let mut keys = KeyList::new(alloc);
+    for id in ids {
+        let key = Key { kind, id: *id };
+        if !id.is_nil() && store.has(key).is_some() {
+            keys.push(key)?;
+        }
+    }
+    Ok(keys)
 }
 
 /// Tells which ids name nothing that is stored as this kind, in the order asked, each once. Forty zeros are never told.

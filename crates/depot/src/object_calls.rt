@@ -9,16 +9,19 @@ ghost use Rattle.library_state.specs.declared.call.Act.TheVariants as act;
 ghost use Rattle.object_store.specs.Shelf.{GivesNoMore};
 ghost use Rattle.object_store.specs.StoreView.{AddsNoStray, Keeps, objects_of, status_of};
 ghost use Rattle.depot.specs.Answering.{MayAnswer, MayGet, ServesAct, put_decided};
-ghost use Rattle.depot.specs.Giving.{GivesBy, IsObject};
+ghost use Rattle.depot.specs.Fresh.{EndsPut, is_stored_reply};
 ghost use Rattle.depot.specs.Held.{HoldsPut};
+ghost use Rattle.depot.specs.Giving.{GivesBy, IsObject};
 ghost use Rattle.depot.specs.ObjectCalls.{Counts, DoneSo, IsToldDamage, SaysOr, is_counted, store_decided, store_due};
 ghost use Rattle.depot.specs.Writing.{with_stored};
 
+use crate::collection::Collection;
 use crate::depot::Depot;
 use crate::refusals::store_refusal;
+use crate::shields::{freshen, shield, stale};
 use commit_objects::Commit;
 use fs_objects::{BadFs, FsObject};
-use ids::{Key, Kind, LibId, ObjId};
+use ids::{Key, KeyList, Kind, LibId, ObjId};
 use json_words::ReadFault;
 use library_state::{Refusal, Reply};
 use object_store::{Put, Shelf, Store, StoreFault};
@@ -38,13 +41,40 @@ impl<S: Shelf> Depot<S> {
         ensures value { ServesAct S.contents S.may_give S.texts S.faults self.old (act.Put key.now bytes.now) result self.new }
         ensures gives { GivesBy (IsObject key.now bytes.now) (S.may_give self.old.store.shelf) (S.may_give self.new.store.shelf) }
     {
-        put_object(
+        let new = match freshen(self.parts.alloc, &mut self.running, &[*key]) {
+            Ok(new) => new,
+            Err(_) => return Reply::Refused(Refusal::NoMemory),
+        };
+        let reply = put_object(
             self.parts.alloc,
             &mut self.parts.store,
             &self.parts.state.lib,
             key,
             bytes,
-        )
+        );
+        end_put(&mut self.running, &reply, &new);
+        reply
+    }
+}
+
+/// Keeps from the collection what became fresh for a put that stored its object, and takes it back else.
+pub(crate) fn end_put(running: &mut Option<Collection>, reply: &Reply, new: &KeyList)
+    ensures value { EndsPut new.now reply.now running.old running.new }
+{
+    if is_stored(reply) {
+        shield(running, new);
+    } else {
+        stale(running, new.slice());
+    }
+}
+
+/// Whether an answer tells that an object is stored.
+fn is_stored(reply: &Reply) -> bool
+    ensures value { result ≡ is_stored_reply reply.now }
+{
+    match reply {
+        Reply::Stored(_) => true,
+        _ => false,
     }
 }
 

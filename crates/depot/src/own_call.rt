@@ -3,11 +3,14 @@ ghost use Rattle.std.specs.Prelude.{false, ◌≡◌, ◌⊎◌, Some};
 ghost use Rattle.ids.specs.Key.{Objects};
 ghost use Rattle.ids.specs.declared.key.Kind.TheVariants as kinds;
 ghost use Rattle.library_rules.specs.Calls.{token_of};
+ghost use Rattle.library_rules.specs.Files.{KeepsKept};
+ghost use Rattle.library_rules.specs.LateUpdates.{TakesUploaded};
 ghost use Rattle.library_rules.specs.LibraryState.{State};
+ghost use Rattle.library_rules.specs.Uploads.{KeepsSafe, TellsSafe};
 ghost use Rattle.library_state.specs.declared.call.Act.TheVariants as act;
 ghost use Rattle.object_store.specs.StoreView.{AddsNoStray, objects_of, status_of};
 ghost use Rattle.depot.specs.Answering.{MayAnswer, MayAsk, Serves, ServesAct, permits};
-ghost use Rattle.depot.specs.DepotView.{IsGood};
+ghost use Rattle.depot.specs.DepotView.{IsGood, state_of};
 ghost use Rattle.depot.specs.Giving.{GivesBy, IsObject, MayLay};
 ghost use Rattle.depot.specs.Held.{HoldsPut};
 ghost use Rattle.depot.specs.ObjectCalls.{Counts, DoneSo, IsToldDamage, is_counted, store_decided, store_due};
@@ -15,7 +18,9 @@ ghost use Rattle.depot.specs.Writing.{with_stored};
 
 use crate::answering::permitted_place;
 use crate::depot::Depot;
+use crate::object_calls::end_put;
 use crate::refusals::store_refusal;
+use crate::shields::freshen;
 use ids::{Bytes, Key, Kind};
 use library_state::{Act, Call, Refusal, Reply};
 use object_store::{Put, Shelf, Store};
@@ -27,6 +32,9 @@ impl<S: Shelf> Depot<S> {
         ensures serves { Serves S.contents S.may_give S.texts S.faults self.old call moment result self.new }
         ensures gives { GivesBy (MayLay self.old.state.lib call.act) (S.may_give self.old.store.shelf) (S.may_give self.new.store.shelf) }
         ensures stands { IsGood S.contents S.faults self.new }
+        ensures files { (s : State) → (t : State) → state_of S.contents S.faults self.old ≡ Some s → state_of S.contents S.faults self.new ≡ Some t → KeepsKept s t }
+        ensures safe { (s : State) → (t : State) → state_of S.contents S.faults self.old ≡ Some s → state_of S.contents S.faults self.new ≡ Some t
+            → KeepsSafe s t × TellsSafe call.act result t × TakesUploaded s call result }
         ensures denied { permits (token_of self.old.state.tokens call.secret) call.act ≡ false → result ≡ Reply.Refused Refusal.Denied }
         ensures stays { self.new.state.lib ≡ self.old.state.lib }
     {
@@ -83,7 +91,16 @@ impl<S: Shelf> Depot<S> {
         ensures value { ServesAct S.contents S.may_give S.texts S.faults self.old (act.Put key.now bytes) result self.new }
         ensures gives { GivesBy (IsObject key.now bytes) (S.may_give self.old.store.shelf) (S.may_give self.new.store.shelf) }
     {
-        store_block(&mut self.parts.store, key, bytes)
+        let new = match freshen(self.parts.alloc, &mut self.running, &[*key]) {
+            Ok(new) => new,
+            Err(_) => {
+                drop(bytes);
+                return Reply::Refused(Refusal::NoMemory);
+            }
+        };
+        let reply = store_block(&mut self.parts.store, key, bytes);
+        end_put(&mut self.running, &reply, &new);
+        reply
     }
 }
 

@@ -57,6 +57,7 @@ impl<S: Shelf> Depot<S> {
                     unsettled: false,
                 },
                 known,
+                running: None,
             }),
             Err(fault) => Err((store, fault)),
         }

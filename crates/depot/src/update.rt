@@ -1,13 +1,15 @@
 //! An update: a pushed commit is taken in, and the library stands at it, or at its merge with what it stood at.
-ghost use Rattle.std.specs.Prelude.{ℕ, List, None, Option};
+ghost use Rattle.std.specs.Prelude.{ℕ, List, Option};
 ghost use Rattle.library_state.specs.declared.call.Act.TheVariants as act;
 ghost use Rattle.depot.specs.Answering.{MayAsk, ServesAt};
-ghost use Rattle.depot.specs.DepotView.{FitsIn, IsGood};
+ghost use Rattle.depot.specs.DepotView.{IsKept, running_of};
 ghost use Rattle.depot.specs.Giving.{GivesBy, IsOfUpdate};
 
+use crate::collection::Collection;
 use crate::depot::{Depot, Parts};
 use crate::history::head_of;
 use crate::refusals::store_refusal;
+use crate::shields::{prepare, shield, stale_unless_stored};
 use crate::update_plan::plan_of;
 use ids::ObjId;
 use library_state::{Install, Reply};
@@ -26,7 +28,7 @@ impl<S: Shelf> Depot<S> {
         ensures gives { GivesBy (IsOfUpdate self.old.state.lib) (S.may_give self.old.store.shelf) (S.may_give self.new.store.shelf) }
     {
         self.parts
-            .update_library(&mut self.known, place, pushed, moment)
+            .update_library(&mut self.known, &mut self.running, place, pushed, moment)
     }
 }
 
@@ -35,18 +37,17 @@ impl<S: Shelf> Parts<S> {
     fn update_library(
         &mut self,
         known: &mut Known,
+        running: &mut Option<Collection>,
         place: usize,
         pushed: ObjId,
         moment: u64,
     ) -> Reply
-        requires known { FitsIn S.contents self.old.store known.old }
         requires who { (secret : Option (List ℕ)) × MayAsk self.old.state.tokens secret (act.Update pushed) place }
-        requires good { IsGood S.contents S.faults (record { store = self.old.store; state = self.old.state; unsettled = self.old.unsettled; running = None }) }
-        ensures value { ServesAt S.contents S.may_give S.texts S.faults (record { store = self.old.store; state = self.old.state; unsettled = self.old.unsettled; running = None })
-            place (act.Update pushed) moment result (record { store = self.new.store; state = self.new.state; unsettled = self.new.unsettled; running = None }) }
-        ensures known { FitsIn S.contents self.new.store known.new }
+        requires good { IsKept S.contents S.faults (record { store = self.old.store; state = self.old.state; unsettled = self.old.unsettled; running = running_of running.old }) known.old running.old }
+        ensures value { ServesAt S.contents S.may_give S.texts S.faults (record { store = self.old.store; state = self.old.state; unsettled = self.old.unsettled; running = running_of running.old })
+            place (act.Update pushed) moment result (record { store = self.new.store; state = self.new.state; unsettled = self.new.unsettled; running = running_of running.new }) }
         ensures gives { GivesBy (IsOfUpdate self.old.state.lib) (S.may_give self.old.store.shelf) (S.may_give self.new.store.shelf) }
-        ensures stands { IsGood S.contents S.faults (record { store = self.new.store; state = self.new.state; unsettled = self.new.unsettled; running = None }) }
+        ensures stands { IsKept S.contents S.faults (record { store = self.new.store; state = self.new.state; unsettled = self.new.unsettled; running = running_of running.new }) known.new running.new }
     {
         let plan = match plan_of(
             self.alloc,
@@ -64,14 +65,25 @@ impl<S: Shelf> Parts<S> {
             Some(plan) => plan,
             None => return Reply::Updated(head_of(self.state.kept.slice())),
         };
+        let before = head_of(self.state.kept.slice());
+        let shields = match prepare(self.alloc, &mut self.store, running, before, &plan, pushed) {
+            Ok(shields) => shields,
+            Err(why) => return Reply::Refused(why),
+        };
         let install = Install {
             head: plan.head,
             pushed,
             at: moment,
         };
         match self.carry_out(&plan, install) {
-            Ok(()) => Reply::Updated(plan.head),
-            Err(fault) => Reply::Refused(store_refusal(fault)),
+            Ok(()) => {
+                shield(running, &shields.needed);
+                Reply::Updated(plan.head)
+            }
+            Err(fault) => {
+                stale_unless_stored(&self.store, running, shields.made.slice());
+                Reply::Refused(store_refusal(fault))
+            }
         }
     }
 }

@@ -64,7 +64,7 @@ impl<S: Shelf> Parts<S> {
     }
 
     /// Writes a text in the place of the present state's, which is written before where it is open whether it stands.
-    fn write_installed(&mut self, text: &[u8]) -> Result<(), StoreFault>
+    pub(crate) fn write_installed(&mut self, text: &[u8]) -> Result<(), StoreFault>
         ensures value { (next : LibState) → text.now ≡ text_of next → ReadsBack next
             → RewritesSo self.old.unsettled self.old.state next (status_of S.contents self.old.store) self.new.unsettled (status_of S.contents self.new.store) result }
         ensures state { self.new.state ≡ self.old.state }
@@ -94,7 +94,7 @@ fn with_install(alloc: Global, kept: &[Install], install: Install) -> Result<His
 }
 
 /// The same head updates.
-fn copied(alloc: Global, kept: &[Install]) -> Result<History, AllocError>
+pub(crate) fn copied(alloc: Global, kept: &[Install]) -> Result<History, AllocError>
     ensures value { IfOk result (λ history. history ≡ kept.now) }
 {
     let mut history = History::new(alloc);
@@ -105,7 +105,11 @@ fn copied(alloc: Global, kept: &[Install]) -> Result<History, AllocError>
 }
 
 /// The text of the state with other head updates. The state is as it was, and so are the others.
-fn text_with(alloc: Global, state: &mut LibState, kept: &mut History) -> Result<Bytes, AllocError>
+pub(crate) fn text_with(
+    alloc: Global,
+    state: &mut LibState,
+    kept: &mut History,
+) -> Result<Bytes, AllocError>
     ensures state { state.new ≡ state.old }
     ensures stays { kept.new ≡ kept.old }
     ensures value { IfOk result (λ text. text ≡ text_of (record state.old { kept = kept.old })) }

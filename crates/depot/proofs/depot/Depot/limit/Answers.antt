@@ -1,13 +1,17 @@
 -- The days are set, or the answer is that they can't be.
-use Rattle.std.proofs.Common.{None, ℤ, inl, sym, ◌∙◌, subst, to_z-of_z}
+use Rattle.std.proofs.Common.{ℤ, ap, inl, refl, sym, ◌∙◌, subst, to_z-of_z}
+use Rattle.library_rules.proofs.BesideStepLemmas.{told_keys}
 use Rattle.library_state.specs.declared.call.Act.TheVariants as act
 use Rattle.library_state.specs.declared.refusal.Refusal.TheVariants as refusal
 use Rattle.library_state.specs.declared.reply.Reply.TheVariants as reply
 use Rattle.depot.specs.Answering.{Serves, ServesAct}
-use Rattle.depot.specs.DepotView.{DepotView}
+use Rattle.depot.specs.DepotView.{DepotView, running_of}
+use Rattle.depot.specs.FreshKeys.{told_there}
 use Rattle.depot.specs.Giving.{GivesBy, IsOwnText}
 use Rattle.depot.proofs.ActLemmas.{days_serve, limit_good, limit_serves}
+use Rattle.depot.proofs.BesideLemmas.{good_rest}
 use Rattle.depot.proofs.FitsLemmas.{fits_same}
+use Rattle.depot.proofs.KeptLemmas.{good_same, kept_by, kept_same, serves_same}
 use Rattle.depot.proofs.depot.Depot.limit.Goals as goal
 
 pub returns-then-not-is_day_count : goal.returns-then-not-is_day_count
@@ -21,25 +25,32 @@ returns-then-not-is_day_count g c = record {
 }
 
 pub invariant_of-self : goal.invariant_of-self
-invariant_of-self g c = record {
-  good =
-      limit_good g.S.Shelf.contents g.S.Shelf.texts g.S.Shelf.faults (record { store = c.self.inside.parts.store; state = c.self.inside.parts.state; unsettled = c.self.inside.parts.unsettled; running = None }) c.self.invariant.good c.args.days
-      (sym (simp (to_z-of_z, c.ranges.days) at c.is_day_count.ensures.value) ∙ c.if-not-is_day_count.false)
-      c.set_days-set.new.self.store c.set_days-set.new.self.state c.set_days-set.new.self.unsettled c.set_days-set.result
-      (simp (to_z-of_z, c.ranges.days) at c.set_days-set.ensures.ok) c.set_days-set.ensures.err (simp (to_z-of_z, c.ranges.days) at c.set_days-set.ensures.text) c.set_days-set.ensures.stays;
-  fits = fits_same g.S.Shelf.contents c.self.inside.parts.store c.set_days-set.new.self.store c.self.inside.known c.set_days-set.ensures.stays c.self.invariant.fits;
-}
+invariant_of-self g c =
+    let old : DepotView g.row.S.Denot = record { store = c.self.inside.parts.store; state = c.self.inside.parts.state; unsettled = c.self.inside.parts.unsettled; running = running_of c.self.inside.running } in
+    let new : DepotView g.row.S.Denot = record { store = c.set_days-set.new.self.store; state = c.set_days-set.new.self.state; unsettled = c.set_days-set.new.self.unsettled; running = running_of c.self.inside.running } in
+    kept_same g.S.Shelf.contents g.S.Shelf.faults old new c.set_days-set.ensures.held c.set_days-set.ensures.stays c.self.inside.known c.self.inside.known c.self.inside.running c.self.invariant
+    (good_same g.S.Shelf.contents g.S.Shelf.faults old new c.set_days-set.ensures.held c.set_days-set.ensures.stays c.self.invariant.good refl
+    (limit_good g.S.Shelf.contents g.S.Shelf.texts g.S.Shelf.faults old (good_rest g.S.Shelf.contents g.S.Shelf.faults old c.self.invariant.good) c.args.days
+    (sym (simp (to_z-of_z, c.ranges.days) at c.is_day_count.ensures.value) ∙ c.if-not-is_day_count.false)
+    c.set_days-set.new.self.store c.set_days-set.new.self.state c.set_days-set.new.self.unsettled c.set_days-set.result
+    (simp (to_z-of_z, c.ranges.days) at c.set_days-set.ensures.ok) c.set_days-set.ensures.err (simp (to_z-of_z, c.ranges.days) at c.set_days-set.ensures.text) c.set_days-set.ensures.stays))
+    (fits_same g.S.Shelf.contents c.self.inside.parts.store c.set_days-set.new.self.store c.self.inside.known c.set_days-set.ensures.stays c.self.invariant.fits)
+    (kept_by c.set_days-set.result c.self.inside.parts.state (record c.self.inside.parts.state { days = c.args.days }) c.set_days-set.new.self.state refl
+    (simp (to_z-of_z, c.ranges.days) at c.set_days-set.ensures.ok) c.set_days-set.ensures.err) refl
 
 pub returns : goal.returns
-returns g c = record {
-  value = subst (λ (old : DepotView g.row.S.Denot). ServesAct g.S.Shelf.contents g.S.Shelf.may_give g.S.Shelf.texts g.S.Shelf.faults old (act.Limit c.args.days) c.answer_of.result
-      (record { store = c.set_days-set.new.self.store; state = c.set_days-set.new.self.state; unsettled = c.set_days-set.new.self.unsettled; running = None }))
-      c.self.view_is
-      (λ call moment right asks. subst (λ r. Serves g.S.Shelf.contents g.S.Shelf.may_give g.S.Shelf.texts g.S.Shelf.faults (record { store = c.self.inside.parts.store; state = c.self.inside.parts.state; unsettled = c.self.inside.parts.unsettled; running = None }) call moment r
-      (record { store = c.set_days-set.new.self.store; state = c.set_days-set.new.self.state; unsettled = c.set_days-set.new.self.unsettled; running = None })) (sym c.answer_of.ensures.value)
-      (limit_serves g.S.Shelf.contents g.S.Shelf.may_give g.S.Shelf.texts g.S.Shelf.faults (record { store = c.self.inside.parts.store; state = c.self.inside.parts.state; unsettled = c.self.inside.parts.unsettled; running = None }) call moment right c.args.days asks
-      (sym (simp (to_z-of_z, c.ranges.days) at c.is_day_count.ensures.value) ∙ c.if-not-is_day_count.false)
-      c.set_days-set.new.self.store c.set_days-set.new.self.state c.set_days-set.new.self.unsettled c.set_days-set.ensures.stays c.set_days-set.ensures.lying c.set_days-set.result
-      (simp (to_z-of_z, c.ranges.days) at c.set_days-set.ensures.ok) c.set_days-set.ensures.err (simp (to_z-of_z, c.ranges.days) at c.set_days-set.ensures.text) c.set_days-set.ensures.faults));
-  gives = subst (λ (old : DepotView g.row.S.Denot). GivesBy (IsOwnText old.state.lib) (g.S.Shelf.may_give old.store.shelf) (g.S.Shelf.may_give c.set_days-set.new.self.store.shelf)) c.self.view_is c.set_days-set.ensures.gives;
-}
+returns g c =
+    let old : DepotView g.row.S.Denot = record { store = c.self.inside.parts.store; state = c.self.inside.parts.state; unsettled = c.self.inside.parts.unsettled; running = running_of c.self.inside.running } in
+    let new : DepotView g.row.S.Denot = record { store = c.set_days-set.new.self.store; state = c.set_days-set.new.self.state; unsettled = c.set_days-set.new.self.unsettled; running = running_of c.self.inside.running } in
+    record {
+      value = subst (λ (before : DepotView g.row.S.Denot). ServesAct g.S.Shelf.contents g.S.Shelf.may_give g.S.Shelf.texts g.S.Shelf.faults before (act.Limit c.args.days) c.answer_of.result new)
+          c.self.view_is
+          (λ call moment right asks. subst (λ r. Serves g.S.Shelf.contents g.S.Shelf.may_give g.S.Shelf.texts g.S.Shelf.faults old call moment r new) (sym c.answer_of.ensures.value)
+          (serves_same g.S.Shelf.contents g.S.Shelf.faults old new c.set_days-set.ensures.held c.set_days-set.ensures.stays g.S.Shelf.may_give g.S.Shelf.texts call moment _ refl
+          (ap (λ a. told_there old.store.index a _) asks) (λ now. ap (λ a. told_keys now a _) asks)
+          (limit_serves g.S.Shelf.contents g.S.Shelf.may_give g.S.Shelf.texts g.S.Shelf.faults old call moment right c.args.days asks
+          (sym (simp (to_z-of_z, c.ranges.days) at c.is_day_count.ensures.value) ∙ c.if-not-is_day_count.false)
+          c.set_days-set.new.self.store c.set_days-set.new.self.state c.set_days-set.new.self.unsettled c.set_days-set.ensures.stays c.set_days-set.ensures.lying c.set_days-set.result
+          (simp (to_z-of_z, c.ranges.days) at c.set_days-set.ensures.ok) c.set_days-set.ensures.err (simp (to_z-of_z, c.ranges.days) at c.set_days-set.ensures.text) c.set_days-set.ensures.faults)));
+      gives = subst (λ (before : DepotView g.row.S.Denot). GivesBy (IsOwnText before.state.lib) (g.S.Shelf.may_give before.store.shelf) (g.S.Shelf.may_give c.set_days-set.new.self.store.shelf)) c.self.view_is c.set_days-set.ensures.gives;
+    }

@@ -1,39 +1,90 @@
--- An object more, or none.
-use Rattle.std.proofs.Common.{None, Option, subst, sym}
-use Rattle.library_rules.specs.Calls.{Due}
+-- An object more, or none; and its key is fresh where it is stored. Where memory for the key is wanting nothing is changed.
+use Rattle.std.proofs.Common.{◌≡◌, Option, ap, inl, refl, subst, sym, Some}
+use Rattle.ids.specs.Key.{Objects}
 use Rattle.library_state.specs.declared.call.Act.TheVariants as act
+use Rattle.library_state.specs.declared.refusal.Refusal.TheVariants as refusal
 use Rattle.library_state.specs.declared.reply.Reply.{Reply}
+use Rattle.library_state.specs.declared.reply.Reply.TheVariants as reply
 use Rattle.object_store.specs.StoreView.{objects_of}
 use Rattle.depot.specs.Answering.{MayAnswer, ServesAct}
-use Rattle.depot.specs.DepotView.{DepotView, library}
+use Rattle.depot.specs.DepotView.{DepotView, library, running_of}
+use Rattle.depot.specs.FreshKeys.{RunsOn, told_there}
 use Rattle.depot.specs.Giving.{GivesBy, IsObject}
-use Rattle.depot.specs.ObjectCalls.{DoneSo}
 use Rattle.depot.proofs.ActLemmas.{put_serves}
-use Rattle.depot.proofs.ObjectCallLemmas.{block_decided, block_due}
-use Rattle.depot.proofs.GrownLemmas.{good_put}
+use Rattle.depot.proofs.BesideLemmas.{FreshTold, good_beside, good_rest, serves_beside}
+use Rattle.depot.proofs.CallFreshLemmas.{PutTold, put_by_answer, put_fresh, put_runs, put_runs_as, put_told}
 use Rattle.depot.proofs.FitsLemmas.{fits_put}
+use Rattle.depot.proofs.FreshLemmas.{RunsAs}
+use Rattle.depot.proofs.GrownLemmas.{good_put}
+use Rattle.depot.proofs.ObjectCallLemmas.{block_decided, block_done}
+use Rattle.depot.proofs.PutBesideLemmas.{apart_put, collects_put, known_put, put_known, sound_fresh_keys}
+use Rattle.depot.proofs.StopsLemmas.{kept_still, put_stopped, still_running}
 use Rattle.depot.proofs.depot.Depot.put_block.Goals as goal
 
 pub invariant_of-self : goal.invariant_of-self
-invariant_of-self g c = record {
-  good =
-      good_put g.S.Shelf.contents g.S.Shelf.faults (record { store = c.self.inside.parts.store; state = c.self.inside.parts.state; unsettled = c.self.inside.parts.unsettled; running = None }) c.self.invariant.good c.store_block.new.store c.store_block.ensures.stays
-      (record { key = c.args.key.now; bytes = c.args.bytes }) c.store_block.ensures.stored;
-  fits = fits_put g.S.Shelf.contents c.self.inside.parts.store c.store_block.new.store c.self.inside.known (record { key = c.args.key.now; bytes = c.args.bytes }) c.store_block.ensures.stored c.self.invariant.fits;
-}
+invariant_of-self g c =
+    let old : DepotView g.row.S.Denot = record { store = c.self.inside.parts.store; state = c.self.inside.parts.state; unsettled = c.self.inside.parts.unsettled; running = running_of c.self.inside.running } in
+    kept_still g.S.Shelf.contents g.S.Shelf.faults old c.self.inside.known c.self.inside.running c.freshen.new.running c.in-Err.ensures.err c.self.invariant
+
+pub returns-in-Err : goal.returns-in-Err
+returns-in-Err g c =
+    let old : DepotView g.row.S.Denot = record { store = c.self.inside.parts.store; state = c.self.inside.parts.state; unsettled = c.self.inside.parts.unsettled; running = running_of c.self.inside.running } in
+    let new : DepotView g.row.S.Denot = record old { running = running_of c.freshen.new.running } in
+    record {
+      value = subst (λ (before : DepotView g.row.S.Denot). ServesAct g.S.Shelf.contents g.S.Shelf.may_give g.S.Shelf.texts g.S.Shelf.faults before (act.Put c.args.key.now c.args.bytes) (reply.Refused refusal.NoMemory) new)
+          c.self.view_is
+          (put_stopped g.S.Shelf.contents g.S.Shelf.faults g.S.Shelf.may_give g.S.Shelf.texts old new.running c.args.key.now c.args.bytes (ap running_of (still_running c.self.inside.running c.freshen.new.running c.in-Err.ensures.err)));
+      gives = subst (λ (before : DepotView g.row.S.Denot). GivesBy (IsObject c.args.key.now c.args.bytes) (g.S.Shelf.may_give before.store.shelf) (g.S.Shelf.may_give old.store.shelf)) c.self.view_is (λ slot given is. inl is);
+    }
+
+pub invariant_of-self-2 : goal.invariant_of-self-2
+invariant_of-self-2 g c =
+    let old : DepotView g.row.S.Denot = record { store = c.self.inside.parts.store; state = c.self.inside.parts.state; unsettled = c.self.inside.parts.unsettled; running = running_of c.self.inside.running } in
+    let new : DepotView g.row.S.Denot = record old { store = c.store_block.new.store; running = running_of c.end_put.new.running } in
+    let runs : RunsAs (put_by_answer c.args.key.now c.store_block.result) old.running new.running
+    = put_runs_as c.args.key.now c.store_block.result c.in-Ok.new c.self.inside.running c.freshen.new.running c.end_put.new.running c.in-Ok.ensures.ok c.in-Ok.ensures.new c.end_put.ensures.value in
+    let told : (was : Objects) → objects_of g.S.Shelf.contents old.store ≡ Some was → PutTold was c.args.key.now c.args.bytes c.store_block.result (objects_of g.S.Shelf.contents new.store)
+    = λ was is. put_told (library old.state (g.S.Shelf.faults old.store.shelf) was) c.args.key.now c.args.bytes c.store_block.result (objects_of g.S.Shelf.contents new.store)
+    (block_done c.args.key.now c.args.bytes c.requires.ready (library old.state (g.S.Shelf.faults old.store.shelf) was) c.store_block.result (objects_of g.S.Shelf.contents new.store)
+    (c.store_block.ensures.value (library old.state (g.S.Shelf.faults old.store.shelf) was) is)) in
+    let good = good_beside g.S.Shelf.contents g.S.Shelf.faults new
+    (good_put g.S.Shelf.contents g.S.Shelf.faults old (good_rest g.S.Shelf.contents g.S.Shelf.faults old c.self.invariant.good) c.store_block.new.store c.store_block.ensures.stays
+    (record { key = c.args.key.now; bytes = c.args.bytes }) c.store_block.ensures.stored)
+    (put_known c.args.key.now c.store_block.result old.store.index new.store.index old.running new.running runs c.store_block.ensures.held c.self.invariant.good.fresh)
+    (sound_fresh_keys g.S.Shelf.contents g.S.Shelf.faults old new c.args.key.now c.args.bytes c.store_block.result told runs c.self.invariant.good c.store_block.ensures.stored) in
+    record {
+      good = good;
+      fits = fits_put g.S.Shelf.contents c.self.inside.parts.store c.store_block.new.store c.self.inside.known (record { key = c.args.key.now; bytes = c.args.bytes }) c.store_block.ensures.stored c.self.invariant.fits;
+      collects = collects_put g.S.Shelf.contents g.S.Shelf.faults old new c.args.key.now c.args.bytes c.store_block.result told runs c.in-Ok.new c.self.inside.running c.freshen.new.running c.end_put.new.running
+          refl refl refl c.in-Ok.ensures.ok c.in-Ok.ensures.new c.end_put.ensures.value c.self.invariant.good good c.store_block.ensures.stored c.self.invariant.collects;
+      candidates = known_put g.S.Shelf.contents g.S.Shelf.faults old new c.args.key.now c.args.bytes c.store_block.result told runs c.in-Ok.new c.self.inside.running c.freshen.new.running c.end_put.new.running
+          refl refl refl c.in-Ok.ensures.ok c.in-Ok.ensures.new c.end_put.ensures.value c.store_block.ensures.held c.self.invariant.candidates;
+      apart = apart_put g.S.Shelf.contents g.S.Shelf.faults old new c.args.key.now c.args.bytes c.store_block.result told runs c.in-Ok.new c.self.inside.running c.freshen.new.running c.end_put.new.running
+          refl refl refl c.in-Ok.ensures.ok c.in-Ok.ensures.new c.end_put.ensures.value c.self.invariant.apart;
+    }
 
 pub returns : goal.returns
-returns g c = record {
-  value = subst (λ (old : DepotView g.row.S.Denot). ServesAct g.S.Shelf.contents g.S.Shelf.may_give g.S.Shelf.texts g.S.Shelf.faults old (act.Put c.args.key.now c.args.bytes) c.store_block.result
-      (record { store = c.store_block.new.store; state = c.self.inside.parts.state; unsettled = c.self.inside.parts.unsettled; running = None }))
-      c.self.view_is
-      (λ call moment right asks. put_serves g.S.Shelf.contents g.S.Shelf.may_give g.S.Shelf.texts g.S.Shelf.faults (record { store = c.self.inside.parts.store; state = c.self.inside.parts.state; unsettled = c.self.inside.parts.unsettled; running = None }) call moment right c.args.key.now c.args.bytes asks
-      c.store_block.new.store c.store_block.result c.store_block.ensures.stays c.store_block.ensures.written
-      (λ objects told.
-      let s = library c.self.inside.parts.state (g.S.Shelf.faults c.self.inside.parts.store.shelf) objects in
-      subst (λ (d : Due). DoneSo objects d c.store_block.result (objects_of g.S.Shelf.contents c.store_block.new.store)) (sym (block_due s c.args.key.now c.args.bytes c.requires.ready))
-      (c.store_block.ensures.value s told))
-      (subst (λ (said : Option Reply). MayAnswer c.self.inside.parts.store.index (g.S.Shelf.may_give c.store_block.new.store.shelf) (act.Put c.args.key.now c.args.bytes) said c.store_block.result)
-      (sym (block_decided c.self.inside.parts.state.lib c.args.key.now c.args.bytes c.requires.ready)) c.store_block.ensures.cause) c.store_block.ensures.damaged c.store_block.ensures.faults c.store_block.ensures.lying);
-  gives = subst (λ (old : DepotView g.row.S.Denot). GivesBy (IsObject c.args.key.now c.args.bytes) (g.S.Shelf.may_give old.store.shelf) (g.S.Shelf.may_give c.store_block.new.store.shelf)) c.self.view_is c.store_block.ensures.gives;
-}
+returns g c =
+    let old : DepotView g.row.S.Denot = record { store = c.self.inside.parts.store; state = c.self.inside.parts.state; unsettled = c.self.inside.parts.unsettled; running = running_of c.self.inside.running } in
+    let new : DepotView g.row.S.Denot = record old { store = c.store_block.new.store; running = running_of c.end_put.new.running } in
+    let runs : RunsAs (put_by_answer c.args.key.now c.store_block.result) old.running new.running
+    = put_runs_as c.args.key.now c.store_block.result c.in-Ok.new c.self.inside.running c.freshen.new.running c.end_put.new.running c.in-Ok.ensures.ok c.in-Ok.ensures.new c.end_put.ensures.value in
+    let goes = put_runs c.args.key.now c.args.bytes c.store_block.result old.store.index new.store.index old.running new.running c.store_block.ensures.held runs in
+    let fresh = put_fresh g.S.Shelf.contents old new c.args.key.now c.args.bytes c.store_block.result
+    (λ was is. put_told (library old.state (g.S.Shelf.faults old.store.shelf) was) c.args.key.now c.args.bytes c.store_block.result (objects_of g.S.Shelf.contents new.store)
+    (block_done c.args.key.now c.args.bytes c.requires.ready (library old.state (g.S.Shelf.faults old.store.shelf) was) c.store_block.result (objects_of g.S.Shelf.contents new.store)
+    (c.store_block.ensures.value (library old.state (g.S.Shelf.faults old.store.shelf) was) is))) runs in
+    record {
+      value = subst (λ (before : DepotView g.row.S.Denot). ServesAct g.S.Shelf.contents g.S.Shelf.may_give g.S.Shelf.texts g.S.Shelf.faults before (act.Put c.args.key.now c.args.bytes) c.store_block.result new)
+          c.self.view_is
+          (λ call moment right asks. serves_beside g.S.Shelf.contents g.S.Shelf.faults old new call moment c.store_block.result
+          (subst (λ a. RunsOn old.store.index new.store.index (told_there old.store.index a c.store_block.result) old.running new.running) (sym asks) goes)
+          (subst (λ a. FreshTold g.S.Shelf.contents old new a c.store_block.result) (sym asks) fresh) g.S.Shelf.may_give g.S.Shelf.texts
+          (put_serves g.S.Shelf.contents g.S.Shelf.may_give g.S.Shelf.texts g.S.Shelf.faults old call moment right c.args.key.now c.args.bytes asks
+          c.store_block.new.store c.store_block.result c.store_block.ensures.stays c.store_block.ensures.written
+          (λ objects told. block_done c.args.key.now c.args.bytes c.requires.ready (library c.self.inside.parts.state (g.S.Shelf.faults c.self.inside.parts.store.shelf) objects) c.store_block.result (objects_of g.S.Shelf.contents c.store_block.new.store)
+          (c.store_block.ensures.value (library c.self.inside.parts.state (g.S.Shelf.faults c.self.inside.parts.store.shelf) objects) told))
+          (subst (λ (said : Option Reply). MayAnswer c.self.inside.parts.store.index (g.S.Shelf.may_give c.store_block.new.store.shelf) (act.Put c.args.key.now c.args.bytes) said c.store_block.result)
+          (sym (block_decided c.self.inside.parts.state.lib c.args.key.now c.args.bytes c.requires.ready)) c.store_block.ensures.cause) c.store_block.ensures.damaged c.store_block.ensures.faults c.store_block.ensures.lying));
+      gives = subst (λ (before : DepotView g.row.S.Denot). GivesBy (IsObject c.args.key.now c.args.bytes) (g.S.Shelf.may_give before.store.shelf) (g.S.Shelf.may_give c.store_block.new.store.shelf)) c.self.view_is c.store_block.ensures.gives;
+    }

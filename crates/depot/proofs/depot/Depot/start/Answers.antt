@@ -10,6 +10,9 @@ pub invariant_of-result : goal.invariant_of-result
 invariant_of-result g c = record {
   good = good_opened g.S.Shelf.contents g.S.Shelf.faults c.args.store c.start_in.new.store c.in-Ok.state c.in-Ok.ensures.value c.in-Ok.ensures.some_kept c.in-Ok.ensures.sound;
   fits = fits_same g.S.Shelf.contents c.args.store c.start_in.new.store c.start_in.new.known c.in-Ok.ensures.stays c.in-Ok.ensures.known;
+  collects = λ s is. tt;
+  candidates = tt;
+  apart = tt;
 }
 
 pub returns-in-Ok-clause-stands : goal.returns-in-Ok-clause-stands
