@@ -55,6 +55,16 @@ abbrev pub is_update : What → Bool
 is_update (what.Update commit) = true
 is_update _ = false
 
+-- the days of history are to be set
+abbrev pub is_limit : What → Bool
+is_limit (what.Limit days) = true
+is_limit _ = false
+
+-- a collection is asked for
+abbrev pub asks_collection : What → Bool
+asks_collection what.Collect = true
+asks_collection _ = false
+
 -- what one commit needs and another does not is asked for
 abbrev pub asks_list : What → Bool
 asks_list (what.Ids server client) = true
@@ -87,7 +97,7 @@ can_refuse order (refusal.WrongSize id) = walks order
 can_refuse order (refusal.TooDeep path) = walks order
 can_refuse order (refusal.TooMany count) = walks order
 can_refuse order (refusal.TooLong path size) = is_update order
-can_refuse order (refusal.BadDays days) = false
+can_refuse order (refusal.BadDays days) = is_limit order
 can_refuse order (refusal.Damaged want got) = asks_library order
 can_refuse order refusal.Store = asks_library order
 can_refuse order refusal.Spent = asks_library order
@@ -142,7 +152,7 @@ CanAnswer order (reply.Got bytes) = asks_object order ≡ true
 CanAnswer order (reply.Stored is_new) = stores order ≡ true
 CanAnswer order (reply.Absent ids) = CanMiss order ids
 CanAnswer order (reply.Updated id) = is_update order ≡ true
-CanAnswer order reply.Limited = ⊥
+CanAnswer order reply.Limited = is_limit order ≡ true
 CanAnswer order (reply.Listed ids) = asks_list order ≡ true
 CanAnswer order (reply.Refused why) = can_refuse order why ≡ true
 
@@ -152,5 +162,5 @@ CanHave order Version = asks_version order ≡ true
 CanHave order (Same tag) = ⊥
 CanHave order (Plain told tag) = CanAnswer order told
 CanHave order (Packed rows) = CanPack order rows
-CanHave order (Collected number removed) = ⊥
+CanHave order (Collected number removed) = asks_collection order ≡ true
 CanHave order (Refused why) = can_refuse order why ≡ true

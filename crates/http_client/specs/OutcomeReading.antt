@@ -46,6 +46,10 @@ if_empty body told = if length body == 0 then Some (answered told) else None
 abbrev pub version_in : Data → Option Outcome
 version_in d = option_and_then (λ version. if version == 2 then Some Version else None) (number_at (codes "version") d)
 
+-- the number of a collection, and how many objects it removed
+abbrev pub collected_in : Data → Option Outcome
+collected_in d = option_and_then (λ number. option_map (λ removed. Collected number removed) (number_at (codes "removed") d)) (number_at (codes "collection") d)
+
 -- a number or a truth value
 abbrev pub is_flag : Data → Bool
 is_flag (boolean b) = true
@@ -85,6 +89,8 @@ IsSuccess (what.Missing kind ids) body told = told ≡ absent_of ids (ids_in bod
 IsSuccess (what.PutFs rows) body told = told ≡ if_empty body (reply.Stored true)
 IsSuccess (what.GetFs ids) body told = IsPacked ids body told
 IsSuccess (what.Ids server client) body told = told ≡ option_map (λ ids. answered (reply.Listed ids)) (ids_in body)
+IsSuccess (what.Limit days) body told = told ≡ if_empty body reply.Limited
+IsSuccess what.Collect body told = told ≡ told_in collected_in body
 
 -- the body tells that refusal, which the order can have and which comes with this status
 pub record TellsWhy (order : What) (status : Status) (body : List ℕ) (why : Refusal) : Type 0 where

@@ -6,7 +6,7 @@ use Rattle.std.specs.Char.{is_ascii_alphanumeric}
 use Rattle.hex.specs.Hex.{encode_lower}
 use Rattle.ids.specs.declared.key.Kind.{Kind}
 use Rattle.ids.specs.declared.key.Kind.TheVariants.{Commit, Fs, Block}
-use Rattle.http_front.specs.CallQuery.{check_query, ids_query, update_query}
+use Rattle.http_front.specs.CallQuery.{check_query, days_query, ids_query, update_query}
 use Rattle.http_front.specs.IdArray.{array_text}
 use Rattle.http_front.specs.ReplyText.{close_line, end_of_line, line}
 use Rattle.http_front.specs.Route.{IsPathKind, method_in, path_in, route_limit}
@@ -38,6 +38,8 @@ library_route lib (what.Missing kind ids) = missing_route lib kind
 library_route lib (what.PutFs rows) = route.PutFs lib
 library_route lib (what.GetFs ids) = route.GetFs lib
 library_route lib (what.Ids server client) = route.Ids lib
+library_route lib (what.Limit days) = route.Limit lib
+library_route lib what.Collect = route.Collect lib
 
 -- the call that asks for it. Of no library the version alone is asked
 abbrev pub route_in : Option (List ℕ) → What → Route
@@ -49,6 +51,7 @@ abbrev pub query_text : What → List ℕ
 query_text (what.Check op) = 63 ∷ check_query op
 query_text (what.Update commit) = 63 ∷ update_query commit
 query_text (what.Ids server client) = 63 ∷ ids_query server client
+query_text (what.Limit days) = 63 ∷ days_query days
 query_text _ = []
 
 abbrev pub target_text : Option (List ℕ) → What → List ℕ

@@ -7,7 +7,7 @@ ghost use Rattle.http_front.specs.IdArray.{array_text};
 ghost use Rattle.http_front.specs.Limits.{body_limit};
 ghost use Rattle.http_front.specs.Rows.{rows_text};
 ghost use Rattle.http_front.specs.Route.{object_limit, route_limit};
-ghost use Rattle.http_client.specs.Conditions.{is_asked, is_listed_kind, is_path_kind, names_library};
+ghost use Rattle.http_client.specs.Conditions.{is_asked, is_listed_kind, is_path_kind, is_short, names_library};
 ghost use Rattle.http_client.specs.OrderOutcome.{asks_version};
 ghost use Rattle.http_client.specs.RequestText.{HasRequest, IsHost, IsWithinLimit, body_in, is_host_byte, library_route, limit_in, missing_route};
 
@@ -58,8 +58,17 @@ fn is_asked(what: &What) -> bool
         | What::Update(_)
         | What::PutFs(_)
         | What::GetFs(_)
-        | What::Ids(_, _) => true,
+        | What::Ids(_, _)
+        | What::Collect => true,
+        What::Limit(days) => is_short(*days),
     }
+}
+
+/// Whether a number has at most 18 digits.
+fn is_short(days: i64) -> bool
+    ensures value { result ≡ is_short days }
+{
+    -999_999_999_999_999_999 <= days && days <= 999_999_999_999_999_999
 }
 
 /// Whether a path can name an object of the kind.
@@ -147,7 +156,9 @@ fn library_limit(what: &What) -> u64
         | What::Update(_)
         | What::Get(_)
         | What::GetFs(_)
-        | What::Ids(_, _) => 33_554_432,
+        | What::Ids(_, _)
+        | What::Limit(_)
+        | What::Collect => 33_554_432,
     }
 }
 
@@ -185,7 +196,9 @@ pub fn body_size(order: &Order) -> u64
         | What::Head
         | What::Update(_)
         | What::Get(_)
-        | What::Ids(_, _) => 0,
+        | What::Ids(_, _)
+        | What::Limit(_)
+        | What::Collect => 0,
     }
 }
 

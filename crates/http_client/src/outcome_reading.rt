@@ -3,7 +3,7 @@ ghost use Rattle.std.specs.Prelude.{◌≡◌, ◌==◌, ◌↔◌, map, option_
 ghost use Rattle.serde_json.specs.View.{view};
 ghost use Rattle.http_front.specs.Rows.{IsRowsOf};
 ghost use Rattle.http_client.specs.OrderOutcome.{are_among, row_id};
-ghost use Rattle.http_client.specs.OutcomeReading.{IsOutcome, IsPacked, IsSuccess, absent_of, answered, has_flag, head_in, ids_in, if_empty, no_tag, told_in, version_in};
+ghost use Rattle.http_client.specs.OutcomeReading.{IsOutcome, IsPacked, IsSuccess, absent_of, answered, collected_in, has_flag, head_in, ids_in, if_empty, no_tag, told_in, version_in};
 ghost use Rattle.library_state.specs.declared.reply.Reply.{Reply};
 
 use crate::asked_ids::are_among;
@@ -47,6 +47,8 @@ fn success_of(alloc: Global, order: &What, body: &[u8]) -> Result<Option<Outcome
         What::PutFs(_) => Ok(if_empty(body, Reply::Stored(true))),
         What::GetFs(ids) => packed_of(alloc, ids.slice(), body),
         What::Ids(_, _) => listed_of(alloc, body),
+        What::Limit(_) => Ok(if_empty(body, Reply::Limited)),
+        What::Collect => collected_of(alloc, body),
     }
 }
 
@@ -92,6 +94,24 @@ fn version_in(value: &Value) -> Option<Outcome>
     } else {
         None
     }
+}
+
+/// The number of a collection that is over, and how many objects it removed.
+fn collected_of(alloc: Global, body: &[u8]) -> Result<Option<Outcome>, AllocError>
+    ensures value { IfOk result (λ told. told ≡ told_in collected_in body.now) }
+{
+    match parse(alloc, body)? {
+        Some(value) => Ok(collected_in(&value)),
+        None => Ok(None),
+    }
+}
+
+fn collected_in(value: &Value) -> Option<Outcome>
+    ensures value { result ≡ collected_in (view value.now) }
+{
+    let number = number_at(value, "collection")?;
+    let removed = number_at(value, "removed")?;
+    Some(Outcome::Collected { number, removed })
 }
 
 fn head_is(alloc: Global, body: &[u8]) -> Result<Option<Outcome>, AllocError>

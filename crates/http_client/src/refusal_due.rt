@@ -2,7 +2,7 @@
 ghost use Rattle.std.specs.Prelude.{◌≡◌, ◌==◌, ◌&&◌, ◌||◌, IfOk};
 ghost use Rattle.serde_json.specs.View.{view};
 ghost use Rattle.http_front.specs.RefusalText.{refused_status};
-ghost use Rattle.http_client.specs.OrderOutcome.{asks_library, asks_list, can_refuse, is_commit, is_update, seeks, stores, stores_commit, stores_fs, walks};
+ghost use Rattle.http_client.specs.OrderOutcome.{asks_library, asks_list, can_refuse, is_commit, is_limit, is_update, seeks, stores, stores_commit, stores_fs, walks};
 ghost use Rattle.http_client.specs.OutcomeReading.{IsRefusal, told_in};
 ghost use Rattle.http_client.specs.RefusalWords.{if_due, refusal_in as refusal_told};
 ghost use Rattle.http_client.specs.ReplyHead.{status_number};
@@ -74,7 +74,7 @@ fn can_refuse(order: &What, refusal: &Refusal) -> bool
         Refusal::Stale { .. } | Refusal::Unrelated(_) | Refusal::TooLong(_, _) => is_update(order),
         Refusal::Incomplete(_) | Refusal::Unreadable(_) | Refusal::WrongKind(_) => walks(order),
         Refusal::WrongSize(_) | Refusal::TooDeep(_) | Refusal::TooMany(_) => walks(order),
-        Refusal::BadDays(_) => false,
+        Refusal::BadDays(_) => is_limit(order),
     }
 }
 
@@ -143,6 +143,16 @@ fn is_update(order: &What) -> bool
 {
     match order {
         What::Update(_) => true,
+        _ => false,
+    }
+}
+
+/// Whether the days of history are to be set.
+fn is_limit(order: &What) -> bool
+    ensures value { result ≡ is_limit order.now }
+{
+    match order {
+        What::Limit(_) => true,
         _ => false,
     }
 }

@@ -4,7 +4,7 @@ ghost use Rattle.std.specs.List.{join_with_byte};
 ghost use Rattle.hex.specs.Hex.{encode_lower};
 ghost use Rattle.ids.specs.Kind.{kind_word};
 ghost use Rattle.uuid.specs.Text.{hyphenated_text, lower};
-ghost use Rattle.http_front.specs.CallQuery.{check_query, ids_query, op_word, update_query};
+ghost use Rattle.http_front.specs.CallQuery.{check_query, days_query, ids_query, op_word, update_query};
 ghost use Rattle.http_front.specs.IdArray.{array_text};
 ghost use Rattle.http_front.specs.ReplyText.{close_line, line};
 ghost use Rattle.http_front.specs.Route.{method_in, path_in, under};
@@ -49,7 +49,9 @@ pub fn request_bytes(
         | What::Head
         | What::Update(_)
         | What::Get(_)
-        | What::Ids(_, _) => write_request(alloc, order, name, closes, &[]),
+        | What::Ids(_, _)
+        | What::Limit(_)
+        | What::Collect => write_request(alloc, order, name, closes, &[]),
     }
 }
 
@@ -120,9 +122,9 @@ fn library_method(what: &What) -> Method
 {
     match what {
         What::Version | What::Check(_) | What::Head | What::Get(_) | What::Ids(_, _) => Method::Get,
-        What::Update(_) | What::Put(_, _) => Method::Put,
+        What::Update(_) | What::Put(_, _) | What::Limit(_) => Method::Put,
         What::Missing(kind, _) => method_of_missing(*kind),
-        What::PutFs(_) | What::GetFs(_) => Method::Post,
+        What::PutFs(_) | What::GetFs(_) | What::Collect => Method::Post,
     }
 }
 
@@ -182,6 +184,8 @@ fn push_library_path(out: &mut Vec<u8>, lib: &LibId, what: &What) -> Result<(), 
         What::PutFs(_) => push_word(out, lib, b"recv-fs"),
         What::GetFs(_) => push_word(out, lib, b"pack-fs"),
         What::Ids(_, _) => push_word(out, lib, b"fs-id-list"),
+        What::Limit(_) => push_word(out, lib, b"history-limit"),
+        What::Collect => push_word(out, lib, b"collect"),
     }
 }
 
@@ -243,14 +247,24 @@ fn push_query(out: &mut Vec<u8>, what: &What) -> Result<(), AllocError>
         What::Check(op) => push_part(out, b"?op=", op_word(*op)),
         What::Update(commit) => push_part(out, b"?head=", &commit.digits()),
         What::Ids(server, client) => push_difference(out, server, client),
+        What::Limit(days) => push_days(out, *days),
         What::Version
         | What::Head
         | What::Get(_)
         | What::Put(_, _)
         | What::Missing(_, _)
         | What::PutFs(_)
-        | What::GetFs(_) => Ok(()),
+        | What::GetFs(_)
+        | What::Collect => Ok(()),
     }
+}
+
+/// Appends the query for how many days history is to be kept.
+fn push_days(out: &mut Vec<u8>, days: i64) -> Result<(), AllocError>
+    ensures ok { OnOk result (out.new.items ≡ out.old.items ++ 63 ∷ days_query days) }
+{
+    let mut buffer = Buffer::new();
+    push_part(out, b"?days=", buffer.format(days).as_bytes())
 }
 
 fn op_word(op: Op) -> &'static [u8]

@@ -1,6 +1,6 @@
 -- What a request asks for, by its method, target, secret and body. Our own. Read IsOrder first, then Route, Query, Rows,
 -- IdArray.
-use Rattle.std.specs.Prelude.{◌≡◌, ⊤, ℕ, Option, None, Some, Result, Ok, Err, List, codes}
+use Rattle.std.specs.Prelude.{◌≡◌, ⊤, ℕ, ℤ, Option, None, Some, Result, Ok, Err, List, codes}
 use Rattle.ids.specs.declared.key.Kind.{Kind}
 use Rattle.ids.specs.declared.key.Kind.TheVariants.{Fs, Block}
 use Rattle.json_words.specs.declared.answer.ReadFault.{ReadFault}
@@ -9,7 +9,7 @@ use Rattle.library_state.specs.declared.call.Op.{Op}
 use Rattle.library_state.specs.declared.refusal.Refusal.{Refusal}
 use Rattle.library_state.specs.declared.refusal.Refusal.TheVariants.{NoCall, BadMethod, BadQuery, BadBody}
 use Rattle.http_front.specs.IdArray.{ids_of}
-use Rattle.http_front.specs.Query.{client_asked, id_asked, op_asked, query_of}
+use Rattle.http_front.specs.Query.{client_asked, days_asked, id_asked, op_asked, query_of}
 use Rattle.http_front.specs.Route.{route_of}
 use Rattle.http_front.specs.Rows.{IsRowsOf}
 use Rattle.http_front.specs.declared.method.Method.{Method}
@@ -38,6 +38,11 @@ asks_to lib secret (Some op) = Ok (asked_of lib secret (what.Check op))
 abbrev pub updates : List ℕ → Option (List ℕ) → Option (List ℕ) → Result Order Refusal
 updates lib secret None = Err BadQuery
 updates lib secret (Some commit) = Ok (asked_of lib secret (what.Update commit))
+
+-- history is to be kept for so many days
+abbrev pub limits : List ℕ → Option (List ℕ) → Option ℤ → Result Order Refusal
+limits lib secret None = Err BadQuery
+limits lib secret (Some days) = Ok (asked_of lib secret (what.Limit days))
 
 -- what the first commit needs and the second, if there is one, does not is asked for
 abbrev pub asks_what_differs : List ℕ → Option (List ℕ) → Option (List ℕ) → Option (Option (List ℕ)) → Result Order Refusal
@@ -86,6 +91,8 @@ IsOrderAt (Some (route.PutFs lib)) m secret query body due = PutsRows lib secret
 IsOrderAt (Some (route.GetFs lib)) m secret query body due = due ≡ asks_objects lib secret (ids_of body)
 IsOrderAt (Some (route.Ids lib)) m secret query body due =
     due ≡ asks_what_differs lib secret (id_asked (codes "server-head") query) (client_asked query)
+IsOrderAt (Some (route.Limit lib)) m secret query body due = due ≡ limits lib secret (days_asked query)
+IsOrderAt (Some (route.Collect lib)) m secret query body due = due ≡ Ok (asked_of lib secret what.Collect)
 
 -- what a request asks for, or why it is refused before any library is asked
 abbrev pub IsOrder : Method → List ℕ → Option (List ℕ) → List ℕ → Result Order Refusal → Type 0

@@ -1,8 +1,8 @@
 -- The query of a target, which is what follows its first `?` (RFC 9112, section 3.2.1). Our own form, after that of web
 -- forms, but nothing is percent-decoded: a query is cut at each `&`; a part with a `=` in it is a name, which stands in
 -- front of the first `=`, and a value, which follows it. Every other part is passed over.
--- Read values_of first, then op_asked, id_asked and client_asked, at the end.
-use Rattle.std.specs.Prelude.{ℕ, ◌==◌, if◌then◌else◌, Option, None, Some, List, [], ◌∷◌, length, codes, option_map}
+-- Read values_of first, then op_asked, id_asked, days_asked and client_asked, at the end.
+use Rattle.std.specs.Prelude.{ℕ, zero, suc, ℤ, pos, negsuc, nat_le, ◌==◌, if◌then◌else◌, Option, None, Some, List, [], ◌∷◌, length, codes, option_map}
 use Rattle.std.specs.List.{slice_split, before_first, after_first, position_or_len}
 use Rattle.std.specs.Option.{option_and_then}
 use Rattle.std.specs.Str.{bytes_eq}
@@ -10,6 +10,7 @@ use Rattle.std.specs.Borrow.{Bor}
 use Rattle.library_state.specs.declared.call.Op.{Op}
 use Rattle.library_state.specs.declared.call.Op.TheVariants.{Upload, Download}
 use Rattle.json_words.specs.IdText.{object_id_of}
+use Rattle.http_front.specs.RequestHead.{number_in}
 
 -- what follows the first `?`, or nothing where there is none
 abbrev pub query_of : List ℕ → List ℕ
@@ -60,6 +61,24 @@ op_asked query = option_and_then op_of (only (values_of (codes "op") query))
 -- the id that the one value of this name is
 unfoldable pub id_asked : List ℕ → List ℕ → Option (List ℕ)
 id_asked name query = option_and_then object_id_of (only (values_of name query))
+
+-- a number of 1 to 18 decimal digits
+abbrev pub day_count : List ℕ → Option ℕ
+day_count text = if nat_le (length text) 18 then number_in text else None
+
+-- a number below zero, and zero for zero
+abbrev pub minus : ℕ → ℤ
+minus zero = pos 0
+minus (suc n) = negsuc n
+
+-- so many days, with or without a minus
+abbrev pub days_of : List ℕ → Option ℤ
+days_of [] = None
+days_of (c ∷ text) = if c == 45 then option_map minus (day_count text) else option_map pos (day_count (c ∷ text))
+
+-- the days that the one value of `days` is
+unfoldable pub days_asked : List ℕ → Option ℤ
+days_asked query = option_and_then days_of (only (values_of (codes "days") query))
 
 -- an id that may be left out: there is none where the query has no value of its name
 abbrev pub if_there : List (List ℕ) → Option (List ℕ) → Option (Option (List ℕ))

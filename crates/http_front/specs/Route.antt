@@ -11,6 +11,8 @@
 --     POST      /repo/LIB/recv-fs           files and directories are to be stored
 --     POST      /repo/LIB/pack-fs           files and directories are asked for
 --     GET       /repo/LIB/fs-id-list        the files and directories are asked for that a commit needs
+--     PUT       /repo/LIB/history-limit     it is to be set for how many days history is kept (ours alone)
+--     POST      /repo/LIB/collect           what no kept commit needs is to be removed (ours alone)
 --
 -- LIB is the text of a library id and ID that of an object id. One slash at the end of a path and the query are dropped;
 -- what a call needs of the query stands in Query.
@@ -31,7 +33,7 @@ use Rattle.http_front.specs.Target.{parts_of}
 use Rattle.http_front.specs.declared.method.Method.{Method}
 use Rattle.http_front.specs.declared.method.Method.TheVariants as method
 use Rattle.http_front.specs.declared.route.Route.{Route}
-use Rattle.http_front.specs.declared.route.Route.TheVariants.{Version, Check, Head, Update, Get, Put, CheckFs, CheckBlocks, PutFs, GetFs, Ids}
+use Rattle.http_front.specs.declared.route.Route.TheVariants.{Version, Check, Head, Update, Get, Put, CheckFs, CheckBlocks, PutFs, GetFs, Ids, Limit, Collect}
 
 -- the kind, where a path can name objects of it
 abbrev pub path_kind : Kind → Option Kind
@@ -76,13 +78,14 @@ word_route method.Get lib word =
     if bytes_eq word (codes "permission-check") then Some (Check lib)
     else if bytes_eq word (codes "fs-id-list") then Some (Ids lib)
     else None
-word_route method.Put lib word = None
+word_route method.Put lib word = if bytes_eq word (codes "history-limit") then Some (Limit lib) else None
 word_route method.Other lib word = None
 word_route method.Post lib word =
     if bytes_eq word (codes "check-fs") then Some (CheckFs lib)
     else if bytes_eq word (codes "check-blocks") then Some (CheckBlocks lib)
     else if bytes_eq word (codes "recv-fs") then Some (PutFs lib)
     else if bytes_eq word (codes "pack-fs") then Some (GetFs lib)
+    else if bytes_eq word (codes "collect") then Some (Collect lib)
     else None
 
 -- what follows `/repo/LIB/`: a word or two
@@ -144,6 +147,8 @@ route_limit (CheckBlocks lib) = usual_limit
 route_limit (PutFs lib) = body_limit
 route_limit (GetFs lib) = usual_limit
 route_limit (Ids lib) = usual_limit
+route_limit (Limit lib) = usual_limit
+route_limit (Collect lib) = usual_limit
 
 -- the same where no call is named
 abbrev pub limit_at : Option Route → ℕ
@@ -168,6 +173,8 @@ method_in (CheckBlocks lib) = method.Post
 method_in (PutFs lib) = method.Post
 method_in (GetFs lib) = method.Post
 method_in (Ids lib) = method.Get
+method_in (Limit lib) = method.Put
+method_in (Collect lib) = method.Post
 
 -- what follows `/repo/LIB/`
 abbrev pub under : List ℕ → List (List ℕ) → List (List ℕ)
@@ -186,6 +193,8 @@ parts_in (CheckBlocks lib) = under lib (codes "check-blocks" ∷ [])
 parts_in (PutFs lib) = under lib (codes "recv-fs" ∷ [])
 parts_in (GetFs lib) = under lib (codes "pack-fs" ∷ [])
 parts_in (Ids lib) = under lib (codes "fs-id-list" ∷ [])
+parts_in (Limit lib) = under lib (codes "history-limit" ∷ [])
+parts_in (Collect lib) = under lib (codes "collect" ∷ [])
 
 -- the path of a call: its parts with a slash between each two
 abbrev pub path_in : Route → List ℕ
@@ -221,3 +230,5 @@ IsCall (CheckBlocks lib) = IsLibrary lib
 IsCall (PutFs lib) = IsLibrary lib
 IsCall (GetFs lib) = IsLibrary lib
 IsCall (Ids lib) = IsLibrary lib
+IsCall (Limit lib) = IsLibrary lib
+IsCall (Collect lib) = IsLibrary lib

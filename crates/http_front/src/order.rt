@@ -1,13 +1,13 @@
 //! What a request asks for.
 ghost use Rattle.std.specs.Prelude.{◌≡◌, Some, codes};
 ghost use Rattle.http_front.specs.IdArray.{ids_of};
-ghost use Rattle.http_front.specs.Order.{IsOrder, IsOrderAt, OrdersAs, PutsRows, asked_of, asks_objects, asks_to, asks_what_differs, asks_what_is_absent, body_fault, refusal_without_call, updates};
-ghost use Rattle.http_front.specs.Query.{client_asked, id_asked, op_asked};
+ghost use Rattle.http_front.specs.Order.{IsOrder, IsOrderAt, OrdersAs, PutsRows, asked_of, asks_objects, asks_to, asks_what_differs, asks_what_is_absent, body_fault, limits, refusal_without_call, updates};
+ghost use Rattle.http_front.specs.Query.{client_asked, days_asked, id_asked, op_asked};
 
 use crate::head::Head;
 use crate::id_array::read_ids;
 use crate::method::Method;
-use crate::query::{client_asked, id_asked, op_asked, query_of};
+use crate::query::{client_asked, days_asked, id_asked, op_asked, query_of};
 use crate::route::{Route, route_of};
 use crate::row::{Row, read_rows};
 use ids::{Bytes, IdList, Items, Key, Kind, LibId, ObjId};
@@ -48,6 +48,10 @@ pub enum What {
     GetFs(IdList),
     /// The files and directories that the first commit needs and the second, if there is one, does not.
     Ids(ObjId, Option<ObjId>),
+    /// That history be kept for so many days.
+    Limit(i64),
+    /// That what no kept commit needs be removed.
+    Collect,
 }
 
 /// Why a request has no order.
@@ -164,6 +168,8 @@ fn order_at(
         Route::PutFs(lib) => order_of_rows(alloc, lib, secret, body),
         Route::GetFs(lib) => order_of_ids(alloc, lib, secret, body),
         Route::Ids(lib) => order_of_difference(lib, secret, query),
+        Route::Limit(lib) => order_of_limit(lib, secret, query),
+        Route::Collect(lib) => Ok(asked_of(lib, secret, What::Collect)),
     }
 }
 
@@ -194,6 +200,16 @@ fn order_of_update(lib: LibId, secret: Option<Secret>, query: &str) -> Result<Or
 {
     match id_asked("head", query) {
         Some(commit) => Ok(asked_of(lib, secret, What::Update(commit))),
+        None => Err(OrderFault::Refused(Refusal::BadQuery)),
+    }
+}
+
+/// The order that history be kept for the days that the query names.
+fn order_of_limit(lib: LibId, secret: Option<Secret>, query: &str) -> Result<Order, OrderFault>
+    ensures { OrdersAs result (λ due. due ≡ limits lib secret (days_asked query.now)) }
+{
+    match days_asked(query) {
+        Some(days) => Ok(asked_of(lib, secret, What::Limit(days))),
         None => Err(OrderFault::Refused(Refusal::BadQuery)),
     }
 }

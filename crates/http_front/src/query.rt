@@ -1,7 +1,8 @@
 //! The query of a target, read by the names of its parts.
-ghost use Rattle.std.specs.Prelude.{◌≡◌, codes, option_copied};
-ghost use Rattle.http_front.specs.Query.{client_asked, id_asked, only, op_asked, op_of, query_of, value_in, values_from, values_of};
+ghost use Rattle.std.specs.Prelude.{◌≡◌, ◌≤ℤ◌, IfSome, codes, option_copied, option_map, pos};
+ghost use Rattle.http_front.specs.Query.{client_asked, day_count, days_asked, days_of, id_asked, only, op_asked, op_of, query_of, value_in, values_from, values_of};
 
+use crate::judgement::number_in;
 use ids::ObjId;
 use json_words::object_id;
 use library_state::Op;
@@ -61,6 +62,48 @@ pub(crate) fn client_asked(query: &str) -> Option<Option<ObjId>>
             None => None,
         },
         None => Some(None),
+    }
+}
+
+/// The days that a query has: None where it has not one value of `days`, or one that is not an optional `-` and 1 to 18 digits.
+#[tactic(auto, unfolding(crate::specs::Query::days_asked))]
+pub(crate) fn days_asked(query: &str) -> Option<i64>
+    ensures { result ≡ days_asked query.now }
+{
+    match only_value("days", query) {
+        Some(text) => days_of(text.as_bytes()),
+        None => None,
+    }
+}
+
+/// The days of a text.
+fn days_of(text: &[u8]) -> Option<i64>
+    ensures { result ≡ days_of text.now }
+{
+    match text.split_first() {
+        Some((first, digits)) => if *first == b'-' {
+            match day_count(digits) {
+                Some(days) => Some(-days),
+                None => None,
+            }
+        } else {
+            day_count(text)
+        },
+        None => None,
+    }
+}
+
+/// The number of 1 to 18 decimal digits.
+fn day_count(digits: &[u8]) -> Option<i64>
+    ensures value { result ≡ option_map pos (day_count digits.now) }
+    ensures bound { IfSome result (λ days. (pos 0 ≤ℤ days) × (days ≤ℤ pos 999999999999999999)) }
+{
+    if digits.len() > 18 {
+        return None;
+    }
+    match number_in(digits) {
+        Some(number) => Some(number as i64),
+        None => None,
     }
 }
 

@@ -34,6 +34,10 @@ pub enum Route {
     /// The files and directories of a library are asked for that the first commit of the query needs, and the second,
     /// if there is one, does not.
     Ids(LibId),
+    /// It is to be set for how many days a library's history is kept. The query says it.
+    Limit(LibId),
+    /// What no kept commit of a library needs is to be removed.
+    Collect(LibId),
 }
 
 /// The call that a method and a target name, if they name one. A query changes nothing here.
@@ -73,7 +77,9 @@ fn route_limit(route: &Route) -> u64
         | Route::CheckFs(_)
         | Route::CheckBlocks(_)
         | Route::GetFs(_)
-        | Route::Ids(_) => USUAL_LIMIT,
+        | Route::Ids(_)
+        | Route::Limit(_)
+        | Route::Collect(_) => USUAL_LIMIT,
     }
 }
 
@@ -166,7 +172,8 @@ fn word_route(method: Method, lib: LibId, word: &str) -> Option<Route>
     match method {
         Method::Get => get_route(lib, word),
         Method::Post => post_route(lib, word),
-        Method::Put | Method::Other => None,
+        Method::Put => put_route(lib, word),
+        Method::Other => None,
     }
 }
 
@@ -178,6 +185,15 @@ fn get_route(lib: LibId, word: &str) -> Option<Route>
     }
     if word == "fs-id-list" {
         return Some(Route::Ids(lib));
+    }
+    None
+}
+
+fn put_route(lib: LibId, word: &str) -> Option<Route>
+    ensures { result ≡ word_route Method.Put lib word.now }
+{
+    if word == "history-limit" {
+        return Some(Route::Limit(lib));
     }
     None
 }
@@ -196,6 +212,9 @@ fn post_route(lib: LibId, word: &str) -> Option<Route>
     }
     if word == "pack-fs" {
         return Some(Route::GetFs(lib));
+    }
+    if word == "collect" {
+        return Some(Route::Collect(lib));
     }
     None
 }
