@@ -1,4 +1,4 @@
--- The cause of damage that is told in a connection. The key lemmas are calls_caused, opening_harmless, started_gives and
+-- The cause of damage that is told in a connection. The key lemmas are call_caused, opening_harmless, started_gives and
 -- made_gives.
 use Rattle.std.proofs.Common.{◌≡◌, ◌≢◌, ◌⊎◌, inl, inr, ℕ, Bool, true, false, true≢false, if◌then◌else◌, List, [], ◌∷◌, ◌++◌, nat_lt, not, Option, None, Some, option_map, Result, Ok, Err, refl, sym, ap, subst, ◌∙◌}
 use Rattle.std.specs.Prelude.{IfOk, IsTrue, ⊤}
@@ -41,10 +41,11 @@ use Rattle.object_store.specs.StoreView.{Index}
 use Rattle.object_store.specs.declared.error.StoreFault.TheVariants as store
 use Rattle.object_store.specs.declared.shelf.Slot.{Slot}
 use Rattle.object_store.specs.declared.shelf.Slot.TheVariants.{Object, Status}
-use Rattle.worker_server.specs.Calls.{AtAMoment, Told, Ran}
+use Rattle.worker_server.specs.Calls.{AtAMoment}
+use Rattle.worker_server.specs.declared.host.Answer.{Answer}
 use Rattle.server_words.specs.declared.command.Location.{Location}
 use Rattle.server_words.specs.declared.command.Location.TheVariants.{Memory}
-use Rattle.library_server.specs.Answering.{AnswersOn, AreCaused, IsCaused, IsCausedReply}
+use Rattle.library_server.specs.Answering.{AnswersOn, IsCaused, IsCausedReply}
 use Rattle.library_server.specs.Starting.{IsOfOpening, laid_commit, laid_text, memory_library}
 use Rattle.library_server.specs.Making.{first_of, new_commit}
 use Rattle.library_server.specs.declared.not_done.NotBrought.{NotBrought}
@@ -154,7 +155,7 @@ module _ (give : Slot → Option (List ℕ) → Type 0) where
   free_caused (reply.Refused other) free = tt
   free_caused other free = tt
 
-  refused_caused : (index : Index) (a : Act) (why : Refusal) → MayDo index give a (reply.Refused why) → IsCaused give why
+  pub refused_caused : (index : Index) (a : Act) (why : Refusal) → MayDo index give a (reply.Refused why) → IsCaused give why
   refused_caused index (act.Check o) why is = absurd is
   refused_caused index act.Head why is = absurd is
   refused_caused index (act.Get key) (refusal.Damaged want got) is = (is.0, key, is.2)
@@ -187,7 +188,7 @@ Harmless before now = (key : Key) (given : Option (List ℕ)) → now (Object ke
 same_key : (a b : Key) → Object a ≡ Object b → a ≡ b
 same_key a b e = cc
 
-no_text : (key : Key) → Object key ≡ Status → ⊥
+pub no_text : (key : Key) → Object key ≡ Status → ⊥
 no_text key e = cc
 
 own_named : (key : Key) (bytes : List ℕ) → name_refusal key bytes ≡ None → has_other_name key bytes ≡ false
@@ -231,7 +232,7 @@ module _ (before now : Slot → Option (List ℕ) → Type 0) (harmless : Harmle
       by (inl gives) = gives
       by (inr own) = absurd (true≢false (sym (subst (λ o. IsOther key o got) own.1 is.other).0 ∙ own.2))
 
-  reply_back : (r : Reply) → IsCausedReply now r → IsCausedReply before r
+  pub reply_back : (r : Reply) → IsCausedReply now r → IsCausedReply before r
   reply_back (reply.Refused (refusal.Damaged want got)) is = (is.0, is.1, damage_back is.1 want got is.2)
   reply_back (reply.Refused other) is = tt
   reply_back other is = tt
@@ -288,28 +289,21 @@ made_gives lib shows state moment shown same gives =
 module _ {S : Type 0} (contents : S → Option Contents) (may_give : S → Slot → Option (List ℕ) → Type 0) (texts faults : S → ℕ) (shows : ℕ → Type 0)
     (gives : Slot → Option (List ℕ) → Type 0) where
   -- a call on the library, or on another, which isn't there
-  call_caused : (u : DepotView S) (t : Told ⊤) (v : DepotView S) → Harmless gives (may_give u.store.shelf)
-      → AtAMoment shows (AnswersOn contents may_give texts faults) u t.lib t.call t.answer t.operations v
-      → IsCausedReply gives t.answer.reply × Harmless gives (may_give v.store.shelf)
-  call_caused u t v harmless (moment, shown, answers) = by (bytes_eq t.lib u.state.lib) refl
+  pub call_caused : (u : DepotView S) (lib : List ℕ) (call : Call) (answer : Answer) (operations : List ⊤) (v : DepotView S) → Harmless gives (may_give u.store.shelf)
+      → AtAMoment shows (AnswersOn contents may_give texts faults) u lib call answer operations v
+      → IsCausedReply gives answer.reply × Harmless gives (may_give v.store.shelf)
+  call_caused u lib call answer operations v harmless (moment, shown, answers) = by (bytes_eq lib u.state.lib) refl
     where
-      by : (b : Bool) → bytes_eq t.lib u.state.lib ≡ b → IsCausedReply gives t.answer.reply × Harmless gives (may_give v.store.shelf)
+      by : (b : Bool) → bytes_eq lib u.state.lib ≡ b → IsCausedReply gives answer.reply × Harmless gives (may_give v.store.shelf)
       by true same =
-          let answered = answers.here ((bytes_eq-Decides t.lib u.state.lib).0 same) in
-          let later = harmless_then gives (may_give u.store.shelf) (may_give v.store.shelf) u.state.lib t.call.act harmless answered.gives in (
-            reply_back gives (may_give v.store.shelf) later t.answer.reply
-                (answer_caused (may_give v.store.shelf) u.store.index t.call.act (decided u.state t.call) t.answer.reply (decided_undamaged u.state t.call) answered.serves.may_come),
+          let answered = answers.here ((bytes_eq-Decides lib u.state.lib).0 same) in
+          let later = harmless_then gives (may_give u.store.shelf) (may_give v.store.shelf) u.state.lib call.act harmless answered.gives in (
+            reply_back gives (may_give v.store.shelf) later answer.reply
+                (answer_caused (may_give v.store.shelf) u.store.index call.act (decided u.state call) answer.reply (decided_undamaged u.state call) answered.serves.may_come),
             later,
           )
       by false other =
-          let none = answers.elsewhere (λ same. true≢false (sym ((bytes_eq-Decides t.lib u.state.lib).1 same) ∙ other)) in (
+          let none = answers.elsewhere (λ same. true≢false (sym ((bytes_eq-Decides lib u.state.lib).1 same) ∙ other)) in (
             subst (IsCausedReply gives) (sym none.0) tt,
             subst (λ (w : DepotView S). Harmless gives (may_give w.store.shelf)) (sym none.1) harmless,
           )
-
-  pub calls_caused : (u : DepotView S) (calls : List (Told ⊤)) (v : DepotView S) → Harmless gives (may_give u.store.shelf)
-      → Ran (AtAMoment shows (AnswersOn contents may_give texts faults)) u calls v → AreCaused gives calls
-  calls_caused u [] v harmless ran = tt
-  calls_caused u (t ∷ ts) v harmless (mid, asked, more) =
-      let first = call_caused u t mid harmless asked in
-      (first.0, calls_caused mid ts v first.1 more)

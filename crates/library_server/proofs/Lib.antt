@@ -5,5 +5,8 @@ pub mod StartingLemmas
 pub mod NamesLemmas
 pub mod TokenLemmas
 pub mod CauseLemmas
+pub mod CollectionCauseLemmas
+pub mod CollectingLemmas
 pub mod WholeLemmas
+pub mod CollectingWholeLemmas
 pub mod RunLemmas

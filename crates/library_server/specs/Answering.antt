@@ -1,12 +1,11 @@
 -- What the library that is served alone answers to a call. Our own. Read AnswersOn first, and AsksTooMuch at the end.
-use Rattle.std.specs.Prelude.{◌≡◌, ◌≢◌, ◌<◌, ℕ, Bool, true, false, List, [], ◌∷◌, Option, Some, ⊤}
-use Rattle.std.specs.List.{AllByRecursion}
+use Rattle.std.specs.Prelude.{◌≡◌, ◌≢◌, ◌⊎◌, ◌<◌, ℕ, Bool, true, false, List, [], ◌∷◌, Option, Some, ⊤}
 use Rattle.ids.specs.Key.{Objects}
 use Rattle.ids.specs.declared.key.Key.{Key}
 use Rattle.depot.specs.Answering.{Serves, permits}
 use Rattle.depot.specs.DepotView.{DepotView, IsGood}
 use Rattle.depot.specs.FirstGet.{fs_get, sizes_of}
-use Rattle.depot.specs.Giving.{GivesBy, MayLay}
+use Rattle.depot.specs.Giving.{GivesBy, IsNothing, MayLay}
 use Rattle.library_rules.specs.Calls.{token_of}
 use Rattle.library_state.specs.declared.call.Call.{Call}
 use Rattle.library_state.specs.declared.refusal.Refusal.{Refusal}
@@ -17,8 +16,10 @@ use Rattle.object_store.specs.Shelf.{Contents}
 use Rattle.object_store.specs.Store.{HasNames, IsDamage}
 use Rattle.object_store.specs.StoreView.{objects_of}
 use Rattle.object_store.specs.declared.shelf.Slot.{Slot}
-use Rattle.worker_server.specs.Calls.{Told}
+use Rattle.worker_server.specs.Calls.{Told, call_asked, collection_asked}
 use Rattle.worker_server.specs.declared.host.Answer.{Answer}
+use Rattle.worker_server.specs.declared.host.Collected.{Collected}
+use Rattle.worker_server.specs.declared.host.Collected.TheVariants as collected
 
 -- the library answered: by the rules where its shelf tells what it holds, and over every shelf with its cause; one who may
 -- not ask is denied whatever the shelf does; what is left stands for a library, where its shelf tells what it holds; and the
@@ -41,9 +42,19 @@ abbrev pub IsCausedReply : (Slot → Option (List ℕ) → Type 0) → Reply →
 IsCausedReply gives (reply.Refused why) = IsCaused gives why
 IsCausedReply gives other = ⊤
 
--- the same of the reply to each of some calls
+abbrev pub IsCausedEnd : (Slot → Option (List ℕ) → Type 0) → Collected → Type 0
+IsCausedEnd gives (collected.Refused why) = IsCaused gives why
+IsCausedEnd gives (collected.Done number removed) = ⊤
+
+-- this may be given, or nothing for some key
+abbrev pub OrNothing : (Slot → Option (List ℕ) → Type 0) → Slot → Option (List ℕ) → Type 0
+OrNothing gives slot given = gives slot given ⊎ IsNothing slot given
+
+-- the same of the reply to each of some calls; since a collection was asked for, whose objects left, nothing may be given for any key
 abbrev pub AreCaused : (Slot → Option (List ℕ) → Type 0) → List (Told ⊤) → Type 0
-AreCaused gives calls = AllByRecursion (λ t. IsCausedReply gives t.answer.reply) calls
+AreCaused gives [] = ⊤
+AreCaused gives (call_asked lib call answer operations ∷ calls) = IsCausedReply gives answer.reply × AreCaused gives calls
+AreCaused gives (collection_asked lib secret ends operations ∷ calls) = IsCausedEnd (OrNothing gives) ends × AreCaused (OrNothing gives) calls
 
 -- ---- storage that never fails
 

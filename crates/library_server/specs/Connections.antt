@@ -11,11 +11,12 @@ use Rattle.object_store.specs.declared.shelf.Slot.{Slot}
 use Rattle.server_words.specs.Lines.{fault_status}
 use Rattle.server_words.specs.Spelling.{location_text}
 use Rattle.server_words.specs.declared.command.Location.{Location}
-use Rattle.worker_server.specs.Calls.{AtAMoment, Told, Ran, rules_at}
+use Rattle.worker_server.specs.Calls.{Told, Ran, rules_at}
 use Rattle.worker_server.specs.ServedConnection.{CountsEnd, EndsAsked, SessionInTime}
 use Rattle.worker_server.specs.declared.served.Served.{Served}
 use Rattle.worker_server.specs.declared.served.Served.TheVariants.{Ended, Limit, Cut, Refused, ReadFault, WriteFault, NoMemory}
 use Rattle.library_server.specs.Answering.{AnswersOn, AreCaused, AsksTooMuch}
+use Rattle.library_server.specs.Collecting.{CollectsOn}
 use Rattle.library_server.specs.Starting.{IsNotBrought, IsOfOpening, IsOpenedState, OpensTo, RefusesOpening, is_unbrought_counted}
 use Rattle.library_server.specs.Lines.{fault_of_not_brought}
 use Rattle.library_server.specs.Making.{RoseWhere}
@@ -43,8 +44,8 @@ pub record ServesOpened {S : Type 0} (contents : S → Option Contents) (may_giv
     (shows : ℕ → Type 0) (depot after : DepotView S) (before now : LinkView) (status : ℕ) : Type 0 where
   pub how : Served
   pub session : (input : List ℕ) → before.left ≡ Some input
-      → SessionInTime (rules_at shows (AnswersOn contents may_give texts faults) AsksTooMuch) input before.tells now.tells depot after how
-  pub ran : (calls : List (Told ⊤)) × Ran (AtAMoment shows (AnswersOn contents may_give texts faults)) depot calls after × AreCaused (may_give depot.store.shelf) calls
+      → SessionInTime (rules_at shows (AnswersOn contents may_give texts faults) AsksTooMuch (CollectsOn contents may_give texts faults)) input before.tells now.tells depot after how
+  pub ran : (calls : List (Told ⊤)) × Ran (rules_at shows (AnswersOn contents may_give texts faults) AsksTooMuch (CollectsOn contents may_give texts faults)) depot calls after × AreCaused (may_give depot.store.shelf) calls
   pub count : CountsEnd before.faults now.faults how
   pub last : EndsAsked how before.tells now.tells now.left
   pub status_is : status ≡ status_of how

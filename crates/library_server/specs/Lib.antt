@@ -1,6 +1,7 @@
 pub mod Lines
 pub mod Standing
 pub mod Answering
+pub mod Collecting
 pub mod Whole
 pub mod Making
 pub mod Starting

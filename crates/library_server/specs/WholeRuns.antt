@@ -8,8 +8,9 @@ use Rattle.server_words.specs.declared.command.Command.{Command}
 use Rattle.server_words.specs.declared.command.Location.{Location}
 use Rattle.server_words.specs.declared.line.Line.{Line}
 use Rattle.server_words.specs.declared.line.Line.TheVariants as line
-use Rattle.worker_server.specs.Calls.{Told}
+use Rattle.worker_server.specs.Calls.{Told, call_asked, collection_asked}
 use Rattle.library_server.specs.Answering.{is_storage_reply}
+use Rattle.library_server.specs.Collecting.{is_storage_end}
 use Rattle.library_server.specs.Connections.{LinkView, ServesLocation, opened, unbrought}
 use Rattle.library_server.specs.Lines.{fault_of_not_brought, is_storage_fault}
 use Rattle.library_server.specs.Runs.{RunsSo, SinkView, added_line, adds, created_line, creates, prints, serves, unread}
@@ -20,9 +21,14 @@ abbrev pub is_storage_line : Line → Bool
 is_storage_line (line.Fault why) = is_storage_fault why
 is_storage_line other = false
 
+-- the reply to a call, or the end of a collection, is a refusal by the storage
+abbrev pub tells_storage : Told ⊤ → Bool
+tells_storage (call_asked lib call answer lines) = is_storage_reply answer.reply
+tells_storage (collection_asked lib secret ends lines) = is_storage_end ends
+
 -- the replies of some calls are no refusals by the storage
 abbrev pub NoneOfStorage : List (Told ⊤) → Type 0
-NoneOfStorage calls = AllByRecursion (λ t. is_storage_reply t.answer.reply ≡ false) calls
+NoneOfStorage calls = AllByRecursion (λ t. tells_storage t ≡ false) calls
 
 -- of one connection: no reply was a refusal by the storage; or no library was opened, for another cause
 abbrev pub ServesWhole : {S : Type 0} {contents : S → Option Contents} {may_give : S → Slot → Option (List ℕ) → Type 0} {texts faults : S → ℕ} {gives : MayGive}

@@ -6,6 +6,7 @@
 #![tactic(auto)]
 
 mod adding;
+mod collecting;
 mod creating;
 mod inetd;
 mod making;

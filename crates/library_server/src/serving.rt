@@ -2,11 +2,13 @@
 ghost use Rattle.std.specs.Prelude.{◌≡◌, ◌≢◌, ◌∷◌, ℕ, List, Some, ⊤, false};
 ghost use Rattle.depot.specs.FirstGet.{fs_call};
 ghost use Rattle.ids.specs.FaultCount.{Rose};
-ghost use Rattle.worker_server.specs.Calls.{AtAMoment, Told, Ran, rules_at};
+ghost use Rattle.worker_server.specs.Calls.{Told, Ran, rules_at};
 ghost use Rattle.http_front.specs.Link.{told_by};
 ghost use Rattle.worker_server.specs.ServedConnection.{CountsEnd, EndsAsked, SessionInTime};
 ghost use Rattle.library_server.specs.Answering.{AnswersOn, AreCaused, AsksTooMuch, IsAnswered, NamesIn, NeverFails, is_storage_reply};
+ghost use Rattle.library_server.specs.Collecting.{CollectsOn};
 
+use crate::collecting::collect;
 use depot::Depot;
 use http_front::Link;
 use ids::{LibId, ObjId};
@@ -14,7 +16,7 @@ use library_state::{Call, Clock, Refusal, Reply, Secret};
 use object_store::Shelf;
 use std::alloc::Global;
 use std::marker::PhantomData;
-use worker_server::{Answer, Host, Served, serve_session};
+use worker_server::{Answer, Collected, Host, Served, serve_session};
 
 /// The host of a library that nobody else asks, with a clock. It keeps no record of operations.
 #[derive(Drop)]
@@ -27,6 +29,7 @@ impl<S: Shelf, C: Clock> Host for Alone<'_, S, C> {
     ghost use Rattle.std.specs.Prelude.{⊤};
     ghost use Rattle.depot.specs.DepotView.{DepotView};
     ghost use Rattle.library_server.specs.Answering.{AnswersOn, AsksTooMuch};
+    ghost use Rattle.library_server.specs.Collecting.{CollectsOn};
 
     type Pass = Depot<S>;
 
@@ -43,6 +46,8 @@ impl<S: Shelf, C: Clock> Host for Alone<'_, S, C> {
     ghost asks = { AnswersOn S.contents S.may_give S.texts S.faults };
 
     ghost too_much = { AsksTooMuch };
+
+    ghost collects = { CollectsOn S.contents S.may_give S.texts S.faults };
 
     fn ask(&self, alloc: Global, pass: &mut Depot<S>, lib: LibId, call: Call) -> Answer {
         let _ = alloc;
@@ -71,6 +76,17 @@ impl<S: Shelf, C: Clock> Host for Alone<'_, S, C> {
             opening: 0,
             place: 0,
         }
+    }
+
+    fn collect(
+        &self,
+        alloc: Global,
+        pass: &mut Depot<S>,
+        lib: LibId,
+        secret: Option<Secret>,
+    ) -> Collected {
+        let _ = alloc;
+        collect(pass, lib, &secret, self.clock)
     }
 }
 
@@ -125,12 +141,12 @@ pub fn serve_link<S: Shelf, L: Link, C: Clock>(
     // Where the link tells what it has left: the bytes given are the texts of the library's replies to the requests
     // that those bytes spell. Where it tells what it was asked besides: no reply waited for more input.
     ensures session { (input : List ℕ) → L.left link.old ≡ Some input
-        → SessionInTime (rules_at (C.shows clock.now) (AnswersOn S.contents S.may_give S.texts S.faults) AsksTooMuch) input
+        → SessionInTime (rules_at (C.shows clock.now) (AnswersOn S.contents S.may_give S.texts S.faults) AsksTooMuch (CollectsOn S.contents S.may_give S.texts S.faults)) input
         (told_by L.taken L.given L.asked link.old) (told_by L.taken L.given L.asked link.new) depot.old depot.new result }
 
-    // Of every link and every shelf: the calls that were asked. Damage that a reply tells has its cause in what the shelf may
+    // Of every link and every shelf: the calls and collections that were asked. Damage that a reply tells has its cause in what the shelf may
     // give as it is handed in.
-    ensures ran { (calls : List (Told ⊤)) × Ran (AtAMoment (C.shows clock.now) (AnswersOn S.contents S.may_give S.texts S.faults)) depot.old calls depot.new
+    ensures ran { (calls : List (Told ⊤)) × Ran (rules_at (C.shows clock.now) (AnswersOn S.contents S.may_give S.texts S.faults) AsksTooMuch (CollectsOn S.contents S.may_give S.texts S.faults)) depot.old calls depot.new
         × AreCaused (S.may_give depot.old.store.shelf) calls }
 
     // The link's count of faults rose in the first two cases, and stayed in every other.

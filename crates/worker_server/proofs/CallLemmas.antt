@@ -13,7 +13,9 @@ use Rattle.http_front.specs.declared.outcome.Outcome.{Outcome}
 use Rattle.http_front.specs.declared.outcome.Outcome.TheVariants.{Packed, Refused}
 use Rattle.http_front.specs.declared.row.Row.{Row}
 use Rattle.http_front.specs.Rows.{row_with}
-use Rattle.worker_server.specs.Calls.{FitReply, HostRules, Told, Ran, ServedAt, ServedBy, ServedSo, ServesOrder, AskedSo, PutsEach, GetsEach, NotAsked, Serves, SparesReading, told, unwritten, unready, call_of, get_of, outcome_without_library, put_of, refusal_of}
+use Rattle.worker_server.specs.declared.host.Collected.{Collected}
+use Rattle.worker_server.specs.declared.host.Collected.TheVariants as collected
+use Rattle.worker_server.specs.Calls.{FitReply, HostRules, Told, Ran, call_asked, collected_outcome, collection_asked, ServedAt, ServedBy, ServedSo, ServesOrder, AskedSo, PutsEach, GetsEach, NotAsked, Serves, SparesReading, told, unwritten, unready, call_of, get_of, outcome_without_library, put_of, refusal_of}
 use Rattle.worker_server.proofs.EachLemmas.{GetsEach-fits}
 
 module _ {V Operation : Type 0} (rules : HostRules V Operation) where
@@ -35,24 +37,24 @@ module _ {V Operation : Type 0} (rules : HostRules V Operation) where
   Serves-from_fault u IsDue (fault.Refused refusal) due = told (Err refusal) due (refl, refl, refl)
   Serves-from_fault u IsDue fault.NoMemory due = unready (refl, refl, refl)
 
-  AskedSo-ran : (u : V) (lib : List ℕ) (call : Call) (o : Outcome) (operations : List Operation) (v : V) → AskedSo rules.asks u lib call o operations v → (calls : List (Told Operation)) × Ran rules.asks u calls v
-  AskedSo-ran u lib call o operations v h = (record { lib = lib; call = call; answer = h.0; operations = operations } ∷ [], (v, h.1, refl))
+  AskedSo-ran : (u : V) (lib : List ℕ) (call : Call) (o : Outcome) (operations : List Operation) (v : V) → AskedSo rules.asks u lib call o operations v → (calls : List (Told Operation)) × Ran rules u calls v
+  AskedSo-ran u lib call o operations v h = (call_asked lib call h.0 operations ∷ [], (v, h.1, refl))
 
   PutsEach-ran : (lib : List ℕ) (secret : Option (List ℕ)) (u : V) (rows : List Row) (o : Outcome) (operations : List Operation) (v : V)
-      → PutsEach rules.asks lib secret u rows o operations v → (calls : List (Told Operation)) × Ran rules.asks u calls v
+      → PutsEach rules.asks lib secret u rows o operations v → (calls : List (Told Operation)) × Ran rules u calls v
   PutsEach-ran lib secret u [] o operations v h = ([], h.2)
   PutsEach-ran lib secret u (row ∷ rows) o operations v h =
-      let one : Told Operation = record { lib = lib; call = call_of secret (put_of row); answer = h.0; operations = h.2 } in
+      let one : Told Operation = call_asked lib (call_of secret (put_of row)) h.0 h.2 in
       elim h.6 [
         | inl on ↦ let rest = PutsEach-ran lib secret h.1 rows o h.3 v on.1 in (one ∷ rest.0, (h.1, h.4, rest.1))
         | inr end ↦ (one ∷ [], (h.1, h.4, end.3))
       ]
 
   GetsEach-ran : (lib : List ℕ) (secret : Option (List ℕ)) (u : V) (ids : List (List ℕ)) (given : List Row) (o : Outcome) (operations : List Operation) (v : V)
-      → GetsEach rules.asks lib secret u ids given o operations v → (calls : List (Told Operation)) × Ran rules.asks u calls v
+      → GetsEach rules.asks lib secret u ids given o operations v → (calls : List (Told Operation)) × Ran rules u calls v
   GetsEach-ran lib secret u [] given o operations v h = ([], h.2)
   GetsEach-ran lib secret u (id ∷ ids) given o operations v h =
-      let one : Told Operation = record { lib = lib; call = call_of secret (get_of id); answer = h.0; operations = h.2 } in
+      let one : Told Operation = call_asked lib (call_of secret (get_of id)) h.0 h.2 in
       elim h.6 [
         | inl on ↦ let rest = GetsEach-ran lib secret h.1 ids (given ++ row_with id on.0 ∷ []) o h.3 v on.3 in (one ∷ rest.0, (h.1, h.4, rest.1))
         | inr end ↦ elim end [
@@ -62,7 +64,7 @@ module _ {V Operation : Type 0} (rules : HostRules V Operation) where
       ]
 
   ServedBy-ran : (lib : List ℕ) (secret : Option (List ℕ)) (w : What) (u : V) (o : Outcome) (operations : List Operation) (v : V)
-      → ServedBy rules lib secret w u o operations v → (calls : List (Told Operation)) × Ran rules.asks u calls v
+      → ServedBy rules lib secret w u o operations v → (calls : List (Told Operation)) × Ran rules u calls v
   ServedBy-ran lib secret what.Version u o operations v h = ([], h.2)
   ServedBy-ran lib secret (what.Check op) u o operations v h = AskedSo-ran u lib _ o operations v h
   ServedBy-ran lib secret what.Head u o operations v h = AskedSo-ran u lib _ o operations v h
@@ -72,29 +74,31 @@ module _ {V Operation : Type 0} (rules : HostRules V Operation) where
   ServedBy-ran lib secret (what.Missing kind ids) u o operations v h = AskedSo-ran u lib _ o operations v h
   ServedBy-ran lib secret (what.PutFs rows) u o operations v h = PutsEach-ran lib secret u rows o operations v h
   ServedBy-ran lib secret (what.Ids server client) u o operations v h = AskedSo-ran u lib _ o operations v h
+  ServedBy-ran lib secret (what.Limit days) u o operations v h = AskedSo-ran u lib _ o operations v h
+  ServedBy-ran lib secret what.Collect u o operations v h = (collection_asked lib secret h.0 operations ∷ [], (v, h.1, refl))
   ServedBy-ran lib secret (what.GetFs ids) u o operations v h = GetsEach-ran lib secret u ids [] o operations v h.0
 
   ServedAt-ran : (lib secret : Option (List ℕ)) (w : What) (u : V) (o : Outcome) (operations : List Operation) (v : V)
-      → ServedAt rules lib secret w u o operations v → (calls : List (Told Operation)) × Ran rules.asks u calls v
+      → ServedAt rules lib secret w u o operations v → (calls : List (Told Operation)) × Ran rules u calls v
   ServedAt-ran None secret w u o operations v h = ([], h.2)
   ServedAt-ran (Some lib) secret w u o operations v h = ServedBy-ran lib secret w u o operations v h
 
   ServedSo-ran : (u : V) (order : Result Order Refusal) (o : Outcome) (operations : List Operation) (v : V)
-      → ServedSo rules u order o operations v → (calls : List (Told Operation)) × Ran rules.asks u calls v
+      → ServedSo rules u order o operations v → (calls : List (Told Operation)) × Ran rules u calls v
   ServedSo-ran u (Err refusal) o operations v h = ([], h.2)
   ServedSo-ran u (Ok order) o operations v h = ServedAt-ran order.lib order.secret order.what u o operations v h
 
   -- the calls of a request
   pub Serves-ran : (u : V) (IsDue : Result Order Refusal → Type 0) (o : Outcome) (operations : List Operation) (v : V)
-      → Serves rules u IsDue o operations v → (calls : List (Told Operation)) × Ran rules.asks u calls v
+      → Serves rules u IsDue o operations v → (calls : List (Told Operation)) × Ran rules u calls v
   Serves-ran u IsDue o operations v (told order due served) = ServedSo-ran u order o operations v served
   Serves-ran u IsDue o operations v (unwritten order other due served is) = ServedSo-ran u order other operations v served
   Serves-ran u IsDue o operations v (unready none) = ([], none.2)
 
   -- some calls, and then more
-  pub Ran-append : (u w v : V) (calls more : List (Told Operation)) → Ran rules.asks u calls w → Ran rules.asks w more v
-      → (all : List (Told Operation)) × Ran rules.asks u all v
-  Ran-append u w v [] more e r = (more, subst (λ (z : V). Ran rules.asks z more v) e r)
+  pub Ran-append : (u w v : V) (calls more : List (Told Operation)) → Ran rules u calls w → Ran rules w more v
+      → (all : List (Told Operation)) × Ran rules u all v
+  Ran-append u w v [] more e r = (more, subst (λ (z : V). Ran rules z more v) e r)
   Ran-append u w v (t ∷ ts) more h r = let rest = Ran-append h.0 w v ts more h.2 r in (t ∷ rest.0, (h.0, h.1, rest.1))
 
   -- ---- what a reply packs
@@ -119,6 +123,12 @@ module _ {V Operation : Type 0} (rules : HostRules V Operation) where
             | inr end ↦ cc end.1
           ]
   ServedBy-fits lib secret (what.Ids server client) u rows operations v h = absurd (cc h.2)
+  ServedBy-fits lib secret (what.Limit days) u rows operations v h = absurd (cc h.2)
+  ServedBy-fits lib secret what.Collect u rows operations v h = absurd (not_collected h.0 h.2)
+    where
+      not_collected : (ends : Collected) → Packed rows ≡ collected_outcome ends → ⊥
+      not_collected (collected.Done number removed) e = cc e
+      not_collected (collected.Refused why) e = cc e
   ServedBy-fits lib secret (what.GetFs ids) u rows operations v h = GetsEach-fits rules.asks lib secret u v ids [] rows operations none_fits h.0
     where
       none_fits : FitReply []
@@ -140,6 +150,8 @@ module _ {V Operation : Type 0} (rules : HostRules V Operation) where
       version_or_none (what.PutFs puts) e = cc e
       version_or_none (what.GetFs ids) e = cc e
       version_or_none (what.Ids server client) e = cc e
+      version_or_none (what.Limit days) e = cc e
+      version_or_none what.Collect e = cc e
 
       by_library : (lib : Option (List ℕ)) → ServedAt rules lib order.secret order.what u (Packed rows) operations v → FitReply rows
       by_library None h = absurd (version_or_none order.what h.0)

@@ -1,7 +1,8 @@
 -- What an order asks of a library, and how its outcome is made of the answers. Read Serves last: it is what stands
 -- between a request and its reply. `asks` is a host's relation: from what it shows before, a library and a call to
 -- an answer, the operations that the call left and what it shows after. Of a host with a clock it is AtAMoment. `too_much` says
--- of what a host shows which files and directories it knows to have together more than so many bytes. Both are its rules.
+-- of what a host shows which files and directories it knows to have together more than so many bytes, and `collects` what it
+-- tells of a collection. All three are its rules.
 use Rattle.std.specs.Prelude.{ℕ, ◌≡◌, ◌<◌, ◌≤◌, ◌⊎◌, Bool, true, false, List, [], ◌∷◌, ◌++◌, length, sum_by, ⊤, Option, None, Some, Result, Ok, Err}
 use Rattle.ids.specs.declared.key.Kind.TheVariants.{Fs}
 use Rattle.library_state.specs.declared.call.Act.{Act}
@@ -19,9 +20,12 @@ use Rattle.http_front.specs.declared.order.OrderFault.TheVariants as fault
 use Rattle.http_front.specs.declared.order.What.{What}
 use Rattle.http_front.specs.declared.order.What.TheVariants as what
 use Rattle.http_front.specs.declared.outcome.Outcome.{Outcome}
+use Rattle.http_front.specs.declared.outcome.Outcome.TheVariants as outcome
 use Rattle.http_front.specs.declared.outcome.Outcome.TheVariants.{Version, Plain, Packed, Refused}
 use Rattle.http_front.specs.declared.row.Row.{Row}
 use Rattle.worker_server.specs.declared.host.Answer.{Answer}
+use Rattle.worker_server.specs.declared.host.Collected.{Collected}
+use Rattle.worker_server.specs.declared.host.Collected.TheVariants as collected
 
 -- a call with the secret that the request showed
 abbrev pub call_of : Option (List ℕ) → Act → Call
@@ -66,12 +70,15 @@ packed_size rows = sum_by (λ row. length row.bytes) rows
 abbrev pub FitReply : List Row → Type 0
 FitReply rows = packed_size rows ≤ most_packed
 
--- a call that was asked, its answer, and the operations that it left
-pub record Told (Operation : Type 0) : Type 0 where
-  pub lib : List ℕ
-  pub call : Call
-  pub answer : Answer
-  pub operations : List Operation
+-- what is replied to a request for a collection
+abbrev pub collected_outcome : Collected → Outcome
+collected_outcome (collected.Done number removed) = outcome.Collected number removed
+collected_outcome (collected.Refused why) = Refused why
+
+-- a call that was asked and its answer, or a collection and what was told of it; with the operations that it left
+pub data Told (Operation : Type 0) : Type 0 where
+  call_asked : (lib : List ℕ) (call : Call) (answer : Answer) (operations : List Operation) → Told Operation
+  collection_asked : (lib : List ℕ) (secret : Option (List ℕ)) (ends : Collected) (operations : List Operation) → Told Operation
 
 -- what is replied where no library is named: no order but that for the version is without one
 abbrev pub outcome_without_library : What → Outcome
@@ -92,11 +99,13 @@ AtAMoment shows asks u lib call answer operations v = (moment : ℕ) × shows mo
 pub record HostRules (V Operation : Type 0) : Type 1 where
   pub asks : V → List ℕ → Call → Answer → List Operation → V → Type 0
   pub too_much : V → List ℕ → Option (List ℕ) → List (List ℕ) → ℕ → Type 0
+  pub collects : V → List ℕ → Option (List ℕ) → Collected → List Operation → V → Type 0
 
 -- the same of a host with a clock
 abbrev pub rules_at : {V Operation : Type 0} → (ℕ → Type 0) → (V → List ℕ → Call → ℕ → Answer → List Operation → V → Type 0)
-    → (V → List ℕ → Option (List ℕ) → List (List ℕ) → ℕ → Type 0) → HostRules V Operation
-rules_at shows asks too_much = record { asks = AtAMoment shows asks; too_much = too_much }
+    → (V → List ℕ → Option (List ℕ) → List (List ℕ) → ℕ → Type 0)
+    → ((ℕ → Type 0) → V → List ℕ → Option (List ℕ) → Collected → List Operation → V → Type 0) → HostRules V Operation
+rules_at shows asks too_much collects = record { asks = AtAMoment shows asks; too_much = too_much; collects = collects shows }
 
 -- the outcome is want of memory
 abbrev pub IsWant : Outcome → Type 0
@@ -116,11 +125,6 @@ abbrev pub NotAsked : {V Operation : Type 0} → V → Outcome → Outcome → L
 NotAsked u due o operations v = (o ≡ due) × (operations ≡ []) × (v ≡ u)
 
 module _ {V Operation : Type 0} (asks : V → List ℕ → Call → Answer → List Operation → V → Type 0) where
-  -- these calls were asked, one after another
-  abbrev pub Ran : V → List (Told Operation) → V → Type 0
-  Ran u [] v = v ≡ u
-  Ran u (t ∷ ts) v = (mid : V) × asks u t.lib t.call t.answer t.operations mid × Ran mid ts v
-
   -- the call was asked of that library, and the outcome is the answer
   abbrev pub AskedSo : V → List ℕ → Call → Outcome → List Operation → V → Type 0
   AskedSo u lib call o operations v = (answer : Answer) × asks u lib call answer operations v × (o ≡ told_of answer)
@@ -150,6 +154,20 @@ module _ {V Operation : Type 0} (asks : V → List ℕ → Call → Answer → L
       ⊎ ((is_got answer.reply ≡ false) × (o ≡ told_of answer) × (more ≡ []) × (v ≡ mid))))
 
 module _ {V Operation : Type 0} (rules : HostRules V Operation) where
+  -- a call or a collection was answered so
+  abbrev pub AnsweredSo : V → Told Operation → V → Type 0
+  AnsweredSo u (call_asked lib call answer operations) v = rules.asks u lib call answer operations v
+  AnsweredSo u (collection_asked lib secret ends operations) v = rules.collects u lib secret ends operations v
+
+  -- these calls and collections were asked, one after another
+  abbrev pub Ran : V → List (Told Operation) → V → Type 0
+  Ran u [] v = v ≡ u
+  Ran u (t ∷ ts) v = (mid : V) × AnsweredSo u t mid × Ran mid ts v
+
+  -- a collection was asked of that library, and the outcome is what was told of it
+  abbrev pub CollectedSo : V → List ℕ → Option (List ℕ) → Outcome → List Operation → V → Type 0
+  CollectedSo u lib secret o operations v = (ends : Collected) × rules.collects u lib secret ends operations v × (o ≡ collected_outcome ends)
+
   -- what was asked of a library has this outcome
   abbrev pub ServedBy : List ℕ → Option (List ℕ) → What → V → Outcome → List Operation → V → Type 0
   ServedBy lib secret what.Version u o operations v = NotAsked u Version o operations v
@@ -163,6 +181,8 @@ module _ {V Operation : Type 0} (rules : HostRules V Operation) where
   ServedBy lib secret (what.GetFs ids) u o operations v =
       GetsEach rules.asks lib secret u ids [] o operations v × SparesReading rules.too_much u lib secret ids o v
   ServedBy lib secret (what.Ids server client) u o operations v = AskedSo rules.asks u lib (call_of secret (act.Ids server client)) o operations v
+  ServedBy lib secret (what.Limit days) u o operations v = AskedSo rules.asks u lib (call_of secret (act.Limit days)) o operations v
+  ServedBy lib secret what.Collect u o operations v = CollectedSo u lib secret o operations v
 
   abbrev pub ServedAt : Option (List ℕ) → Option (List ℕ) → What → V → Outcome → List Operation → V → Type 0
   ServedAt None secret w u o operations v = NotAsked u (outcome_without_library w) o operations v

@@ -3,10 +3,10 @@ ghost use Rattle.std.specs.Prelude.{◌≡◌, ◌+◌, ◌++◌, ◌≤◌, Lis
 ghost use Rattle.std.specs.List.{slice_range};
 ghost use Rattle.http_front.specs.Order.{IsOrder, OrdersAs};
 ghost use Rattle.http_front.specs.ReplyText.{text};
-ghost use Rattle.worker_server.specs.Calls.{Serves, ServesOrder, outcome_without_library, refusal_of, rules_at};
+ghost use Rattle.worker_server.specs.Calls.{Serves, ServesOrder, collected_outcome, outcome_without_library, refusal_of, rules_at};
 
 use crate::asking::{ask_one, get_each, put_each};
-use crate::host::Host;
+use crate::host::{Collected, Host};
 use http_front::{
     Buffer, Head, Order, OrderFault, Outcome, ReplyBytes, What, order_of, order_of_own, reply_own,
 };
@@ -29,7 +29,7 @@ pub fn reply_to<H: Host>(
     requires fits { head.now.used + head.now.body ≤ length buffer.old }
     ensures ready { H.ready host.now pass.new }
     ensures serves { (outcome : Outcome) × (operations : List H.Operation)
-        × Serves (rules_at (H.shows host.now) H.asks H.too_much) (H.view pass.old) (IsOrder head.now.method head.now.target head.now.token (slice_range buffer.old head.now.used (head.now.used + head.now.body))) outcome operations (H.view pass.new)
+        × Serves (rules_at (H.shows host.now) H.asks H.too_much H.collects) (H.view pass.old) (IsOrder head.now.method head.now.target head.now.token (slice_range buffer.old head.now.used (head.now.used + head.now.body))) outcome operations (H.view pass.new)
         × IfSome result (λ reply. reply.front ++ reply.object ≡ text outcome closes) }
     ensures left { buffer.new ≡ drop (head.now.used + head.now.body) buffer.old }
 {
@@ -62,7 +62,7 @@ fn outcome_of<H: Host>(
     requires fits { head.now.used + head.now.body ≤ length buffer.old }
     ensures ready { H.ready host.now pass.new }
     ensures serves { (operations : List H.Operation)
-        × Serves (rules_at (H.shows host.now) H.asks H.too_much) (H.view pass.old) (IsOrder head.now.method head.now.target head.now.token (slice_range buffer.old head.now.used (head.now.used + head.now.body))) result operations (H.view pass.new) }
+        × Serves (rules_at (H.shows host.now) H.asks H.too_much H.collects) (H.view pass.old) (IsOrder head.now.method head.now.target head.now.token (slice_range buffer.old head.now.used (head.now.used + head.now.body))) result operations (H.view pass.new) }
     ensures left { buffer.new ≡ drop (head.now.used + head.now.body) buffer.old }
 {
     match next_order(alloc, head, buffer) {
@@ -124,7 +124,7 @@ fn refusal_of(fault: OrderFault) -> Refusal
 pub fn answer_order<H: Host>(alloc: Global, host: &H, pass: &mut H::Pass, order: Order) -> Outcome
     requires ready { H.ready host.now pass.old }
     ensures ready { H.ready host.now pass.new }
-    ensures serves { (operations : List H.Operation) × ServesOrder (rules_at (H.shows host.now) H.asks H.too_much) (H.view pass.old) order result operations (H.view pass.new) }
+    ensures serves { (operations : List H.Operation) × ServesOrder (rules_at (H.shows host.now) H.asks H.too_much H.collects) (H.view pass.old) order result operations (H.view pass.new) }
 {
     let Order { lib, secret, what } = order;
     match lib {
@@ -155,7 +155,7 @@ fn outcome_by<H: Host>(
     requires ready { H.ready host.now pass.old }
     ensures ready { H.ready host.now pass.new }
     ensures serves { (operations : List H.Operation)
-        × ServesOrder (rules_at (H.shows host.now) H.asks H.too_much) (H.view pass.old) (record { lib = Some lib; secret = secret; what = what }) result operations (H.view pass.new) }
+        × ServesOrder (rules_at (H.shows host.now) H.asks H.too_much H.collects) (H.view pass.old) (record { lib = Some lib; secret = secret; what = what }) result operations (H.view pass.new) }
 {
     match what {
         What::Version => Outcome::Version,
@@ -172,5 +172,17 @@ fn outcome_by<H: Host>(
         What::Ids(server, client) => {
             ask_one(alloc, host, pass, lib, secret, Act::Ids(server, client))
         }
+        What::Limit(days) => ask_one(alloc, host, pass, lib, secret, Act::Limit(days)),
+        What::Collect => collected_outcome(host.collect(alloc, pass, lib, secret)),
+    }
+}
+
+/// What is replied to a request for a collection.
+fn collected_outcome(told: Collected) -> Outcome
+    ensures { result ≡ collected_outcome told }
+{
+    match told {
+        Collected::Done { number, removed } => Outcome::Collected { number, removed },
+        Collected::Refused(why) => Outcome::Refused(why),
     }
 }

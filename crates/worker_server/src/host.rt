@@ -1,6 +1,6 @@
 //! What calls are asked of: one library, or a participant in the history of many.
 use ids::{LibId, ObjId};
-use library_state::{Call, Reply, Secret};
+use library_state::{Call, Refusal, Reply, Secret};
 use std::alloc::Global;
 
 /// A library's answer to a call.
@@ -12,6 +12,15 @@ pub struct Answer {
     pub reply: Reply,
     pub opening: u64,
     pub place: u64,
+}
+
+/// What a host tells of a collection.
+#[derive(Debug, Drop)]
+pub enum Collected {
+    /// The collection of this number ended, and this call's turns removed so many objects.
+    Done { number: u64, removed: u64 },
+    /// Why not. What its turns changed stands.
+    Refused(Refusal),
 }
 
 /// What calls are asked of.
@@ -28,6 +37,7 @@ pub trait Host {
     ghost use Rattle.library_state.specs.declared.reply.Reply.TheVariants as reply;
     ghost use Rattle.library_state.specs.declared.call.Call.{Call};
     ghost use Rattle.worker_server.specs.declared.host.Answer.{Answer};
+    ghost use Rattle.worker_server.specs.declared.host.Collected.{Collected};
 
     type Pass;
 
@@ -51,6 +61,9 @@ pub trait Host {
     // As the host knows, these files and directories of a library, asked for with this secret, have together more than
     // so many bytes.
     ghost too_much: { View → List ℕ → Option (List ℕ) → List (List ℕ) → ℕ → Type 0 };
+
+    // A library, asked by the one of this secret, may be collected so, in turns at moments of this kind.
+    ghost collects: { (ℕ → Type 0) → View → List ℕ → Option (List ℕ) → Collected → List Operation → View → Type 0 };
 
     /// Asks a call of a library, at a moment that the clock shows.
     fn ask(&self, alloc: Global, pass: &mut Self::Pass, lib: LibId, call: Call) -> Answer
@@ -79,4 +92,17 @@ pub trait Host {
             × AtAMoment (shows self.now) asks (view pass.old) lib (call_of secret (get_of id)) result operations (view pass.new) }
         ensures bound { too_much (view pass.old) lib secret (id ∷ more.now) most
             → (result.reply ≡ reply.Refused NoMemory) × (view pass.new ≡ view pass.old) };
+
+    /// Collects a library, in turns at moments that the clock shows, until its collection ended or a turn is refused.
+    fn collect(
+        &self,
+        alloc: Global,
+        pass: &mut Self::Pass,
+        lib: LibId,
+        secret: Option<Secret>,
+    ) -> Collected
+        requires ready { ready self.now pass.old }
+        ensures ready { ready self.now pass.new }
+        ensures asks { (operations : List Operation)
+            × collects (shows self.now) (view pass.old) lib secret result operations (view pass.new) };
 }

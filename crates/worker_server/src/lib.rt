@@ -17,5 +17,5 @@ mod served;
 
 pub use answering::answer_order;
 pub use connection::serve_session;
-pub use host::{Answer, Host};
+pub use host::{Answer, Collected, Host};
 pub use served::Served;

@@ -3,7 +3,8 @@ use Rattle.std.proofs.Common.{◌∙◌, ap, refl}
 use Rattle.server_words.specs.Lines.{fault_status}
 use Rattle.server_words.specs.Spelling.{location_text}
 use Rattle.library_server.specs.Connections.{opened, unbrought}
-use Rattle.library_server.proofs.CauseLemmas.{calls_caused, opening_harmless}
+use Rattle.library_server.proofs.CauseLemmas.{opening_harmless}
+use Rattle.library_server.proofs.CollectionCauseLemmas.{calls_caused}
 use Rattle.library_server.proofs.StandingLemmas.{comes_back, others_back}
 use Rattle.library_server.proofs.WholeLemmas.{calls_whole}
 use Rattle.library_server.proofs.inetd.inetd.Goals as goal

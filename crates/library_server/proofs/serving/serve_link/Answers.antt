@@ -1,6 +1,6 @@
 -- The calls are those of the session, and what they lay is no damage.
 use Rattle.std.proofs.Common.{inl}
-use Rattle.library_server.proofs.CauseLemmas.{calls_caused}
+use Rattle.library_server.proofs.CollectionCauseLemmas.{calls_caused}
 use Rattle.library_server.proofs.serving.serve_link.Goals as goal
 
 pub returns-clause-ran : goal.returns-clause-ran

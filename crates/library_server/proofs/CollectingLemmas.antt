@@ -1,0 +1,121 @@
+-- Turns that are taken one after another, and what is told of them. The key lemmas are turns_push, none_taken, one_more, ends_there
+-- and ends_never.
+use Rattle.std.proofs.Common.{◌≡◌, ℕ, ◌+◌, true, List, [], ◌∷◌, ◌++◌, length, min, refl, sym, ap, ◌∙◌, subst, Option, None, Some, option_map, arith}
+use Rattle.std.specs.List.{AllByRecursion}
+use Rattle.std.proofs.lemmas.List.{length-append}
+use Rattle.depot.specs.CollectionTurns.{IsRunning, TakesTurn, removed_in}
+use Rattle.depot.specs.DepotView.{DepotView, IsGood}
+use Rattle.depot.specs.declared.turn.Turn.{Turn}
+use Rattle.depot.specs.declared.turn.Turn.TheVariants.{Ended, Over, Refused}
+use Rattle.library_rules.specs.LibraryState.{Running}
+use Rattle.library_state.specs.declared.refusal.Refusal.TheVariants as refusal
+use Rattle.object_store.specs.Shelf.{Contents}
+use Rattle.object_store.specs.declared.shelf.Slot.{Slot}
+use Rattle.worker_server.specs.declared.host.Collected.{Collected}
+use Rattle.worker_server.specs.declared.host.Collected.TheVariants as collected
+use Rattle.library_server.specs.Collecting.{EndsAs, StepsSo, TakesTurns, TellsTurns, TurnsOn, ended, endless, goes_on, most_in_turn, number_running, removed_by, told_removed}
+use Rattle.library_server.specs.declared.collecting.Step.TheVariants as step
+
+-- ---- one turn more
+
+all_push : (P : Turn → Type 0) (turns : List Turn) (turn : Turn) → AllByRecursion P turns → P turn → AllByRecursion P (turns ++ turn ∷ [])
+all_push P [] turn all one = (one, tt)
+all_push P (t ∷ turns) turn all one = (all.0, all_push P turns turn all.1 one)
+
+removed_push : (turns : List Turn) (turn : Turn) → removed_by (turns ++ turn ∷ []) ≡ removed_by turns + length (removed_in turn)
+removed_push [] turn = omega arith
+removed_push (t ∷ turns) turn = let rest = removed_push turns turn in omega (arith, rest)
+
+-- the goal after some turns: that of the call, or the collection that the last of them left
+abbrev pub goal_then : {S : Type 0} → Option ℕ → List Turn → DepotView S → Option ℕ
+goal_then goal [] depot = goal
+goal_then goal (turn ∷ turns) depot = number_running depot
+
+module _ {S : Type 0} (contents : S → Option Contents) (may_give : S → Slot → Option (List ℕ) → Type 0) (texts faults : S → ℕ) (shows : ℕ → Type 0) where
+  pub turns_push : (u : DepotView S) (goal : Option ℕ) (turns : List Turn) (mid v : DepotView S) (moment : ℕ) (turn : Turn) → TurnsOn contents may_give texts faults shows u goal turns mid → shows moment
+      → TakesTurn contents may_give texts faults mid (goal_then goal turns mid) moment most_in_turn turn v → IsGood contents faults v → TurnsOn contents may_give texts faults shows u goal (turns ++ turn ∷ []) v
+  turns_push u goal [] mid v moment turn same shown takes good =
+      (moment, v, shown, subst (λ (w : DepotView S). TakesTurn contents may_give texts faults w goal moment most_in_turn turn v) same takes, good, refl)
+  turns_push u goal (t ∷ turns) mid v moment turn (first_moment, first, first_shown, first_takes, first_good, rest) shown takes good =
+      (first_moment, first, first_shown, first_takes, first_good, turns_push first (number_running first) turns mid v moment turn rest shown (by turns rest takes) good)
+    where
+      by : (ts : List Turn) → TurnsOn contents may_give texts faults shows first (number_running first) ts mid → TakesTurn contents may_give texts faults mid (number_running mid) moment most_in_turn turn v
+          → TakesTurn contents may_give texts faults mid (goal_then (number_running first) ts mid) moment most_in_turn turn v
+      by [] same taken = subst (λ (w : DepotView S). TakesTurn contents may_give texts faults mid (number_running w) moment most_in_turn turn v) same taken
+      by (x ∷ ts) more taken = taken
+
+  -- ---- the turns so far
+
+  -- so many turns were taken, each of which went on, and so many objects were removed
+  pub record IsCollecting (old : DepotView S) (goal : Option ℕ) (removed taken : ℕ) (now : DepotView S) : Type 0 where
+    pub turns : List Turn
+    pub on : TurnsOn contents may_give texts faults shows old None turns now
+    pub goes : AllByRecursion (λ turn. goes_on turn ≡ true) turns
+    pub goal_is : goal ≡ goal_then None turns now
+    pub sum : removed ≡ told_removed turns
+    pub count : length turns ≡ taken
+
+  pub none_taken : (old : DepotView S) → IsCollecting old None 0 0 old
+  none_taken old = record { turns = []; on = refl; goes = tt; goal_is = refl; sum = refl; count = refl }
+
+  module _ (old mid v : DepotView S) (goal : Option ℕ) (removed taken moment : ℕ) (turn : Turn) (so_far : IsCollecting old goal removed taken mid) (shown : shows moment)
+      (takes : TakesTurn contents may_give texts faults mid goal moment most_in_turn turn v) (good : IsGood contents faults v) where
+    on_then : TurnsOn contents may_give texts faults shows old None (so_far.turns ++ turn ∷ []) v
+    on_then = turns_push old None so_far.turns mid v moment turn so_far.on shown
+        (subst (λ (g : Option ℕ). TakesTurn contents may_give texts faults mid g moment most_in_turn turn v) so_far.goal_is takes) good
+
+    told_push : min 18446744073709551615 (removed + length (removed_in turn)) ≡ told_removed (so_far.turns ++ turn ∷ [])
+    told_push = let sum = so_far.sum in let more = removed_push so_far.turns turn in omega (arith, sum, more)
+
+    -- another follows
+    pub one_more : (next : Option ℕ) (sum : ℕ) → next ≡ number_running v → StepsSo turn removed (step.Goes sum) → IsCollecting old next sum (taken + 1) v
+    one_more next sum is (goes, told) = record {
+      turns = so_far.turns ++ turn ∷ [];
+      on = on_then;
+      goes = all_push (λ t. goes_on t ≡ true) so_far.turns turn so_far.goes goes;
+      goal_is = is ∙ goal_after so_far.turns;
+      sum = told ∙ told_push;
+      count = length-append so_far.turns (turn ∷ []) ∙ ap (λ n. n + 1) so_far.count;
+    }
+      where
+        goal_after : (ts : List Turn) → number_running v ≡ goal_then None (ts ++ turn ∷ []) v
+        goal_after [] = refl
+        goal_after (t ∷ ts) = refl
+
+    -- none follows: it ended the collection or was refused, and it can't be over
+    pub ends_there : (ends : Collected) → StepsSo turn removed (step.Ends ends) → TakesTurns contents may_give texts faults shows old ends v
+    ends_there ends steps = (so_far.turns ++ turn ∷ [], on_then, ended so_far.turns turn refl so_far.goes (by turn refl steps))
+      where
+        -- with the collection that runs as its goal no turn is over
+        never_over : (number : ℕ) → turn ≡ Over number → ⊥
+        never_over number over =
+            let taken_over = subst (λ (t : Turn). TakesTurn contents may_give texts faults mid goal moment most_in_turn t v) over takes in
+            let may = taken_over.may_come.may in
+            runs_then so_far.turns number (sym so_far.goal_is ∙ may.0) may.1
+          where
+            same_number : {a b : ℕ} → Some a ≡ Some b → a ≡ b
+            same_number e = cc
+
+            runs_at : (o : Option Running) (n : ℕ) → option_map (λ running. mid.state.collection) o ≡ Some n → (IsRunning o mid.state.collection n → ⊥) → ⊥
+            runs_at None n e apart = cc e
+            runs_at (Some r) n e apart = apart (sym (same_number e))
+
+            runs_then : (ts : List Turn) (n : ℕ) → goal_then None ts mid ≡ Some n → (IsRunning mid.running mid.state.collection n → ⊥) → ⊥
+            runs_then [] n e apart = cc e
+            runs_then (t ∷ ts) n e apart = runs_at mid.running n e apart
+
+        removed_at : length (removed_in turn) ≡ 0 → removed ≡ told_removed (so_far.turns ++ turn ∷ [])
+        removed_at none = let sum = so_far.sum in let more = removed_push so_far.turns turn in omega (arith, sum, more, none)
+
+        by : (t : Turn) → turn ≡ t → StepsSo t removed (step.Ends ends) → EndsAs turn (told_removed (so_far.turns ++ turn ∷ [])) ends
+        by (Ended number) is told =
+            subst (λ (t : Turn). EndsAs t (told_removed (so_far.turns ++ turn ∷ [])) ends) (sym is)
+            (told ∙ ap (collected.Done number) (removed_at (ap (λ (t : Turn). length (removed_in t)) is)))
+        by (Over number) is told = absurd (never_over number is)
+        by (Refused why keys) is told = subst (λ (t : Turn). EndsAs t (told_removed (so_far.turns ++ turn ∷ [])) ends) (sym is) told
+        by other is none = absurd none
+
+  -- as many turns as no memory holds marks for
+  pub ends_never : (old : DepotView S) (goal : Option ℕ) (removed taken : ℕ) (now : DepotView S) (ends : Collected) → IsCollecting old goal removed taken now → taken ≡ 18446744073709551615
+      → ends ≡ collected.Refused refusal.NoMemory → TakesTurns contents may_give texts faults shows old ends now
+  ends_never old goal removed taken now ends so_far all is = (so_far.turns, so_far.on, endless so_far.goes (so_far.count ∙ all) is)

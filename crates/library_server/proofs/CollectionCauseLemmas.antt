@@ -1,0 +1,134 @@
+-- The cause of damage that is told in a connection in which collections are asked for. The key lemmas are collection_caused and
+-- calls_caused.
+use Rattle.std.proofs.Common.{◌≡◌, ◌⊎◌, inl, inr, ℕ, Bool, true, false, true≢false, List, [], ◌∷◌, refl, sym, ◌∙◌, subst, Option, None, Some, IsTrue}
+use Rattle.std.specs.Prelude.{⊤}
+use Rattle.std.specs.List.{AllByRecursion}
+use Rattle.std.specs.Str.{bytes_eq}
+use Rattle.std.proofs.lemmas.Slice.Eq.{bytes_eq-Decides}
+use Rattle.ids.specs.declared.key.Key.{Key}
+use Rattle.ids.proofs.BasicLemmas.{AllByRecursion-middle}
+use Rattle.depot.specs.Answering.{is_free_refusal}
+use Rattle.depot.specs.CollectionTurns.{MayLayIn, MayTurn, permits_collection}
+use Rattle.depot.specs.DepotView.{DepotView}
+use Rattle.depot.specs.Giving.{GivesBy, IsNothing}
+use Rattle.depot.specs.declared.turn.Turn.{Turn}
+use Rattle.depot.specs.declared.turn.Turn.TheVariants.{Began, Marked, Swept, Ended, Over, Refused}
+use Rattle.library_rules.specs.Calls.{token_of}
+use Rattle.library_rules.specs.LibraryState.{Running}
+use Rattle.library_state.specs.declared.call.Act.TheVariants as act
+use Rattle.library_state.specs.declared.refusal.Refusal.{Refusal}
+use Rattle.library_state.specs.declared.refusal.Refusal.TheVariants as refusal
+use Rattle.library_state.specs.declared.reply.Reply.TheVariants as reply
+use Rattle.object_store.specs.Shelf.{Contents}
+use Rattle.object_store.specs.Store.{has_other_name}
+use Rattle.object_store.specs.StoreView.{Index}
+use Rattle.object_store.specs.declared.shelf.Slot.{Slot}
+use Rattle.object_store.specs.declared.shelf.Slot.TheVariants.{Object}
+use Rattle.worker_server.specs.Calls.{Told, Ran, call_asked, collection_asked, rules_at}
+use Rattle.worker_server.specs.declared.host.Collected.{Collected}
+use Rattle.worker_server.specs.declared.host.Collected.TheVariants as collected
+use Rattle.library_server.specs.Answering.{AnswersOn, AreCaused, AsksTooMuch, IsCaused, IsCausedEnd, OrNothing}
+use Rattle.library_server.specs.Collecting.{CollectsOn, EndsAs, TellsTurns, TurnsOn, ended, endless, number_running, told_removed}
+use Rattle.library_server.proofs.CauseLemmas.{Harmless, call_caused, no_text, refused_caused, reply_back}
+
+-- since objects left, nothing may be given too
+nothing_more : {before now : Slot → Option (List ℕ) → Type 0} → Harmless before now → Harmless (OrNothing before) now
+nothing_more {before} harmless key given is = by (harmless key given is)
+  where
+    by : before (Object key) given ⊎ ((bytes : List ℕ) × (given ≡ Some bytes) × (has_other_name key bytes ≡ false)) → OrNothing before (Object key) given ⊎ ((bytes : List ℕ) × (given ≡ Some bytes) × (has_other_name key bytes ≡ false))
+    by (inl was) = inl (inl was)
+    by (inr own) = inr own
+
+-- what a turn lays under a key is nothing
+turn_laid : (lib : List ℕ) (turn : Turn) (key : Key) (given : Option (List ℕ)) → MayLayIn lib turn (Object key) given → IsNothing (Object key) given
+turn_laid lib (Began number) key given laid = absurd (no_text key laid.at)
+turn_laid lib (Marked count) key given laid = absurd laid
+turn_laid lib (Swept keys) key given (inl text) = absurd (no_text key text.at)
+turn_laid lib (Swept keys) key given (inr nothing) = nothing
+turn_laid lib (Ended number) key given laid = absurd laid
+turn_laid lib (Over number) key given laid = absurd laid
+turn_laid lib (Refused why keys) key given (inl text) = absurd (no_text key text.at)
+turn_laid lib (Refused why keys) key given (inr nothing) = nothing
+
+turn_harmless : (gives mid now : Slot → Option (List ℕ) → Type 0) (lib : List ℕ) (turn : Turn) → Harmless (OrNothing gives) mid → GivesBy (MayLayIn lib turn) mid now → Harmless (OrNothing gives) now
+turn_harmless gives mid now lib turn harmless more key given is = by (more (Object key) given is)
+  where
+    by : mid (Object key) given ⊎ MayLayIn lib turn (Object key) given → OrNothing gives (Object key) given ⊎ ((bytes : List ℕ) × (given ≡ Some bytes) × (has_other_name key bytes ≡ false))
+    by (inl was) = harmless key given was
+    by (inr laid) = inl (inr (turn_laid lib turn key given laid))
+
+-- why a turn is refused
+abbrev IsCausedTurn : (Slot → Option (List ℕ) → Type 0) → Turn → Type 0
+IsCausedTurn gives (Refused why keys) = IsCaused gives why
+IsCausedTurn gives other = ⊤
+
+free_refusal : (gives : Slot → Option (List ℕ) → Type 0) (why : Refusal) → IsTrue (is_free_refusal why) → IsCaused gives why
+free_refusal gives (refusal.Damaged want got) free = absurd (true≢false (sym free))
+free_refusal gives other free = tt
+
+turn_caused : (gives now : Slot → Option (List ℕ) → Type 0) → Harmless gives now → (index : Index) (running : Option Running) (collection : ℕ) (goal : Option ℕ) (turn : Turn)
+    → MayTurn index now running collection goal turn → IsCausedTurn gives turn
+turn_caused gives now harmless index None collection goal (Refused refusal.Spent keys) may = tt
+turn_caused gives now harmless index None collection goal (Refused why keys) may = free_refusal gives why may
+turn_caused gives now harmless index (Some running) collection goal (Refused why keys) may =
+    reply_back gives now harmless (reply.Refused why) (refused_caused now index (act.Ids [] None) why may)
+turn_caused gives now harmless index running collection goal other may = tt
+
+module _ {S : Type 0} (contents : S → Option Contents) (may_give : S → Slot → Option (List ℕ) → Type 0) (texts faults : S → ℕ) (shows : ℕ → Type 0) where
+  turns_caused : (gives : Slot → Option (List ℕ) → Type 0) (u : DepotView S) (goal : Option ℕ) (turns : List Turn) (v : DepotView S) → Harmless (OrNothing gives) (may_give u.store.shelf)
+      → TurnsOn contents may_give texts faults shows u goal turns v → AllByRecursion (IsCausedTurn (OrNothing gives)) turns × Harmless (OrNothing gives) (may_give v.store.shelf)
+  turns_caused gives u goal [] v harmless same = (tt, subst (λ (w : DepotView S). Harmless (OrNothing gives) (may_give w.store.shelf)) (sym same) harmless)
+  turns_caused gives u goal (turn ∷ turns) v harmless (moment, mid, shown, takes, good, more) =
+      let later = turn_harmless gives (may_give u.store.shelf) (may_give mid.store.shelf) u.state.lib turn harmless takes.gives in
+      let rest = turns_caused gives mid (number_running mid) turns v later more in (
+        (turn_caused (OrNothing gives) (may_give mid.store.shelf) later u.store.index u.running u.state.collection goal turn takes.may_come.may, rest.0),
+        rest.1,
+      )
+
+  -- the end of some turns is that of the last one
+  end_caused : (gives : Slot → Option (List ℕ) → Type 0) (turns : List Turn) (ends : Collected) → TellsTurns turns ends → AllByRecursion (IsCausedTurn gives) turns → IsCausedEnd gives ends
+  end_caused gives turns ends (endless goes long is) all = subst (IsCausedEnd gives) (sym is) tt
+  end_caused gives turns ends (ended before last is goes tells) all =
+      by last (AllByRecursion-middle (IsCausedTurn gives) before last [] (subst (AllByRecursion (IsCausedTurn gives)) is all)) tells
+    where
+      by : (turn : Turn) → IsCausedTurn gives turn → EndsAs turn (told_removed turns) ends → IsCausedEnd gives ends
+      by (Began number) caused tells = absurd tells
+      by (Marked count) caused tells = absurd tells
+      by (Swept keys) caused tells = absurd tells
+      by (Ended number) caused tells = subst (IsCausedEnd gives) (sym tells) tt
+      by (Over number) caused tells = absurd tells
+      by (Refused why keys) caused tells = subst (IsCausedEnd gives) (sym tells) caused
+
+  collection_caused : (gives : Slot → Option (List ℕ) → Type 0) (u : DepotView S) (lib : List ℕ) (secret : Option (List ℕ)) (ends : Collected) (lines : List ⊤) (v : DepotView S)
+      → Harmless gives (may_give u.store.shelf) → CollectsOn contents may_give texts faults shows u lib secret ends lines v
+      → IsCausedEnd (OrNothing gives) ends × Harmless (OrNothing gives) (may_give v.store.shelf)
+  collection_caused gives u lib secret ends lines v harmless collects = by (bytes_eq lib u.state.lib) (permits_collection (token_of u.state.tokens secret)) refl refl
+    where
+      later : Harmless (OrNothing gives) (may_give u.store.shelf)
+      later = nothing_more harmless
+
+      refused : (why : Refusal) → IsCaused (OrNothing gives) why → (ends ≡ collected.Refused why) × (v ≡ u) → IsCausedEnd (OrNothing gives) ends × Harmless (OrNothing gives) (may_give v.store.shelf)
+      refused why caused (is, same) = (
+        subst (IsCausedEnd (OrNothing gives)) (sym is) caused,
+        subst (λ (w : DepotView S). Harmless (OrNothing gives) (may_give w.store.shelf)) (sym same) later,
+      )
+
+      by : (here may : Bool) → bytes_eq lib u.state.lib ≡ here → permits_collection (token_of u.state.tokens secret) ≡ may → IsCausedEnd (OrNothing gives) ends × Harmless (OrNothing gives) (may_give v.store.shelf)
+      by true true same is =
+          let takes = collects.here ((bytes_eq-Decides lib u.state.lib).0 same) is in
+          let each = turns_caused gives u None takes.0 v later takes.1 in
+          (end_caused (OrNothing gives) takes.0 ends takes.2 each.0, each.1)
+      by true false same is = refused refusal.Denied tt (collects.denied ((bytes_eq-Decides lib u.state.lib).0 same) is)
+      by false may other is = refused refusal.NoLibrary tt (collects.elsewhere (λ same. true≢false (sym ((bytes_eq-Decides lib u.state.lib).1 same) ∙ other)))
+
+  -- ---- all of a connection
+
+  pub calls_caused : (gives : Slot → Option (List ℕ) → Type 0) (u : DepotView S) (calls : List (Told ⊤)) (v : DepotView S) → Harmless gives (may_give u.store.shelf)
+      → Ran (rules_at shows (AnswersOn contents may_give texts faults) AsksTooMuch (CollectsOn contents may_give texts faults)) u calls v → AreCaused gives calls
+  calls_caused gives u [] v harmless ran = tt
+  calls_caused gives u (call_asked lib call answer operations ∷ ts) v harmless (mid, asked, more) =
+      let first = call_caused contents may_give texts faults shows gives u lib call answer operations mid harmless asked in
+      (first.0, calls_caused gives mid ts v first.1 more)
+  calls_caused gives u (collection_asked lib secret ends operations ∷ ts) v harmless (mid, collects, more) =
+      let first = collection_caused gives u lib secret ends operations mid harmless collects in
+      (first.0, calls_caused (OrNothing gives) mid ts v first.1 more)

@@ -1,0 +1,65 @@
+//! A collection that is asked for.
+ghost use Rattle.std.specs.Prelude.{[]};
+ghost use Rattle.library_server.specs.Collecting.{CollectsOn, StepsSo};
+
+use depot::{Depot, Turn};
+use ids::LibId;
+use library_state::{Clock, Refusal, Secret};
+use object_store::Shelf;
+use worker_server::Collected;
+
+/// The most objects of one turn.
+const MOST: u64 = 1_000;
+
+/// What follows a turn.
+pub(crate) enum Step {
+    /// Another turn; so many objects were removed till now.
+    Goes(u64),
+    /// Nothing.
+    Ends(Collected),
+}
+
+/// Collects a library, turn after turn, until its collection ended or a turn is refused. `NoLibrary` comes exactly where it is
+/// not the one that is served, and then `Denied` where the secret is not an owner's.
+///
+/// A collection that runs already is gone on with, and then ended.
+pub(crate) fn collect<S: Shelf, C: Clock>(
+    depot: &mut Depot<S>,
+    lib: LibId,
+    secret: &Option<Secret>,
+    clock: &C,
+) -> Collected
+    ensures value { CollectsOn S.contents S.may_give S.texts S.faults (C.shows clock.now) depot.old lib secret.now result [] depot.new }
+{
+    if lib != depot.lib() {
+        return Collected::Refused(Refusal::NoLibrary);
+    }
+    if !depot.may_collect(secret) {
+        return Collected::Refused(Refusal::Denied);
+    }
+    let mut goal = None;
+    let mut removed = 0;
+    for _taken in 0..u64::MAX {
+        match step_of(depot.turn_of_collection(goal, clock.now(), MOST), removed) {
+            Step::Goes(sum) => removed = sum,
+            Step::Ends(told) => return told,
+        }
+        goal = depot.running();
+    }
+    // No memory holds the marks of so many turns.
+    Collected::Refused(Refusal::NoMemory)
+}
+
+/// What follows a turn, where so many objects were removed before it.
+fn step_of(turn: Turn, removed: u64) -> Step
+    ensures value { StepsSo turn removed result }
+{
+    match turn {
+        Turn::Began(_) => Step::Goes(removed),
+        Turn::Marked(_) => Step::Goes(removed),
+        Turn::Swept(keys) => Step::Goes(removed.saturating_add(keys.len() as u64)),
+        Turn::Ended(number) => Step::Ends(Collected::Done { number, removed }),
+        Turn::Over(number) => Step::Ends(Collected::Done { number, removed }),
+        Turn::Refused(why, _) => Step::Ends(Collected::Refused(why)),
+    }
+}
