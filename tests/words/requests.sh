@@ -185,3 +185,15 @@ ends_with() {
 goes_on() {
     printf 'HTTP/1.1 100 Continue\r\n\r\n' >> "wanted.$piece"
 }
+
+# How long history is kept, a collection, and their replies.
+
+# limit DAYS
+limit() { ask PUT "history-limit?days=$1"; }
+collect() { ask POST collect; }
+
+# collected NUMBER REMOVED
+collected() { told 200 "{\"collection\":$1,\"removed\":$2}"; }
+
+# bad_days DAYS
+bad_days() { told 400 "{\"days\":$1,\"reason\":\"bad-days\"}"; }

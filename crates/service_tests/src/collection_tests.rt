@@ -1,0 +1,272 @@
+//! A collection of a library in turns, and calls between them: what no request of one connection shows.
+use crate::library::{LIB, library_on};
+use depot::{Depot, Turn};
+use ids::{Bytes, IdList, Key, Kind, ObjId};
+use library_state::{Act, Call, Op, Reply, Secret};
+use object_store::MemoryShelf;
+use std::alloc::{AllocError, Global};
+use std::test::Fail;
+
+/// When the library is made.
+const MOMENT: u64 = 7;
+
+type Kept = Depot<MemoryShelf>;
+
+/// What its owner is answered.
+fn asked(depot: &mut Kept, act: Act) -> Reply {
+    let call = Call {
+        secret: Some(Secret::from_bytes([0xaa; 20])),
+        act,
+    };
+    depot.answer(&call, 9)
+}
+
+/// An id as text.
+fn push_id(text: &mut String, id: &ObjId) -> Result<(), AllocError> {
+    for digit in id.digits() {
+        text.push(digit as char)?;
+    }
+    Ok(())
+}
+
+/// Puts an object of this text under its own name.
+fn put(alloc: Global, depot: &mut Kept, kind: Kind, text: &str) -> Result<ObjId, Fail> {
+    let id = ObjId::of(text.as_bytes());
+    let id = &id;
+    let bytes = Bytes::copy(alloc, text.as_bytes())?;
+    match asked(depot, Act::Put(Key { kind, id: *id }, bytes)) {
+        Reply::Stored(_) => Ok(*id),
+        _ => Err(Fail::from("put")),
+    }
+}
+
+/// Puts a file of one block of this letter.
+fn put_file(alloc: Global, depot: &mut Kept, letter: &str) -> Result<ObjId, Fail> {
+    let block = put(alloc, depot, Kind::Block, letter)?;
+    let mut text = String::from_str(alloc, "{\"block_ids\":[\"")?;
+    push_id(&mut text, &block)?;
+    text.push_str("\"],\"size\":1,\"type\":1,\"version\":1}")?;
+    put(alloc, depot, Kind::Fs, text.as_str())
+}
+
+/// Puts a directory with this file as `a`.
+fn put_root(alloc: Global, depot: &mut Kept, file: &ObjId) -> Result<ObjId, Fail> {
+    let mut text = String::from_str(alloc, "{\"dirents\":[{\"id\":\"")?;
+    push_id(&mut text, file)?;
+    text.push_str(
+        "\",\"mode\":33188,\"modifier\":\"me\",\"mtime\":7,\"name\":\"a\",\"size\":1}],\"type\":3,\"version\":1}",
+    )?;
+    put(alloc, depot, Kind::Fs, text.as_str())
+}
+
+/// The text of a commit of this name, parent and root.
+fn commit_text(
+    alloc: Global,
+    id: &ObjId,
+    parent: &ObjId,
+    root: &ObjId,
+) -> Result<String, AllocError> {
+    let mut text = String::from_str(alloc, "{\"commit_id\":\"")?;
+    push_id(&mut text, id)?;
+    text.push_str("\",\"ctime\":1,\"parent_id\":\"")?;
+    push_id(&mut text, parent)?;
+    text.push_str("\",\"repo_id\":\"")?;
+    text.push_str(LIB)?;
+    text.push_str("\",\"root_id\":\"")?;
+    push_id(&mut text, root)?;
+    text.push_str("\"}")?;
+    Ok(text)
+}
+
+/// Puts a commit of forty digits of this byte, with a file of one letter, on a parent.
+fn put_commit(
+    alloc: Global,
+    depot: &mut Kept,
+    byte: u8,
+    parent: &ObjId,
+    letter: &str,
+) -> Result<ObjId, Fail> {
+    let file = put_file(alloc, depot, letter)?;
+    let root = put_root(alloc, depot, &file)?;
+    let id = ObjId::from_bytes([byte; 20]);
+    let id = &id;
+    let text = commit_text(alloc, id, parent, &root)?;
+    let bytes = Bytes::copy(alloc, text.as_bytes())?;
+    let key = Key {
+        kind: Kind::Commit,
+        id: *id,
+    };
+    match asked(depot, Act::Put(key, bytes)) {
+        Reply::Stored(_) => Ok(*id),
+        _ => Err(Fail::from("commit")),
+    }
+}
+
+/// Whether an update of the commit makes this the head.
+fn is_updated(depot: &mut Kept, commit: &ObjId) -> bool {
+    match asked(depot, Act::Update(*commit)) {
+        Reply::Updated(head) => head == *commit,
+        _ => false,
+    }
+}
+
+/// The library after three updates, each of which replaced one file; no days of history are kept.
+pub(crate) fn updated_thrice(alloc: Global) -> Result<Kept, Fail> {
+    let mut depot = library_on(alloc, &[], MOMENT)?;
+    let mut parent = depot.head();
+    for (byte, letter) in [(0x11, "1"), (0x22, "2"), (0x33, "3")] {
+        let commit = put_commit(alloc, &mut depot, byte, &parent, letter)?;
+        if !is_updated(&mut depot, &commit) {
+            return Err(Fail::from("update"));
+        }
+        parent = commit;
+    }
+    let _ = asked(&mut depot, Act::Limit(0));
+    Ok(depot)
+}
+
+/// One turn of one object, as a letter; `?` where it is none of these, or takes another number of objects.
+fn letter_of(turn: &Turn) -> char {
+    match turn {
+        Turn::Began(number) => if *number == 1 { 'b' } else { '?' },
+        Turn::Marked(count) => if *count == 1 { 'm' } else { '?' },
+        Turn::Swept(keys) => if keys.len() == 1 { 's' } else { '?' },
+        Turn::Ended(number) => if *number == 1 { 'e' } else { '?' },
+        Turn::Over(number) => if *number == 1 { 'o' } else { '?' },
+        Turn::Refused(_, _) => 'r',
+    }
+}
+
+/// So many turns of one object, the first without a goal, as letters.
+fn turns(alloc: Global, depot: &mut Kept, count: u64) -> Result<String, AllocError> {
+    let mut letters = String::new(alloc);
+    let mut goal = None;
+    for _ in 0..count {
+        let turn = depot.turn_of_collection(goal, MOMENT, 1);
+        letters.push(letter_of(&turn))?;
+        goal = Some(1);
+    }
+    Ok(letters)
+}
+
+#[test]
+fn a_collection_takes_one_step_a_turn(rt: HostRuntime) -> Result<(), Fail> {
+    let mut depot = updated_thrice(rt.alloc())?;
+    let letters = turns(rt.alloc(), &mut depot, 16)?;
+    assert_eq!(rt; letters.as_str(), "bmmmmssssssssseo");
+    assert!(rt; depot.running().is_none());
+    assert!(rt; depot.close().count() == 4);
+    Ok(())
+}
+
+/// Runs the collection that runs to its end, or begins one and does; and tells how many keys it removed, unless a turn is
+/// refused.
+fn collected(depot: &mut Kept) -> Option<u64> {
+    let mut removed = 0;
+    for _ in 0..100 {
+        match depot.turn_of_collection(None, MOMENT, 1000) {
+            Turn::Swept(keys) => removed += keys.len() as u64,
+            Turn::Ended(_) => return Some(removed),
+            Turn::Began(_) => {}
+            Turn::Marked(_) => {}
+            Turn::Over(_) => return None,
+            Turn::Refused(_, _) => return None,
+        }
+    }
+    None
+}
+
+/// Whether the block of this letter is given.
+fn has_block(depot: &mut Kept, letter: &str) -> bool {
+    let key = Key {
+        kind: Kind::Block,
+        id: ObjId::of(letter.as_bytes()),
+    };
+    match asked(depot, Act::Get(key)) {
+        Reply::Got(bytes) => bytes.slice() == letter.as_bytes(),
+        _ => false,
+    }
+}
+
+/// Whether none of the blocks of these letters is missing.
+fn is_present(alloc: Global, depot: &mut Kept, letter: &str) -> Result<bool, AllocError> {
+    let mut ids = IdList::new(alloc);
+    ids.push(ObjId::of(letter.as_bytes()))?;
+    match asked(depot, Act::Missing(Kind::Block, ids)) {
+        Reply::Absent(ids) => Ok(ids.is_empty()),
+        _ => Ok(false),
+    }
+}
+
+#[test]
+fn what_was_told_present_stays_through_a_collection(rt: HostRuntime) -> Result<(), Fail> {
+    let mut depot = library_on(rt.alloc(), &[], MOMENT)?;
+    let _ = put(rt.alloc(), &mut depot, Kind::Block, "a")?;
+    let _ = put(rt.alloc(), &mut depot, Kind::Block, "b")?;
+    assert!(rt; matches!(depot.turn_of_collection(None, MOMENT, 1000), Turn::Began(1)));
+    assert!(rt; matches!(asked(&mut depot, Act::Check(Op::Upload)), Reply::Checked));
+    assert!(rt; is_present(rt.alloc(), &mut depot, "a")?);
+    assert!(rt; collected(&mut depot) == Some(1));
+    assert!(rt; has_block(&mut depot, "a") && !has_block(&mut depot, "b"));
+    let head = depot.head();
+    let commit = put_commit(rt.alloc(), &mut depot, 0x44, &head, "a")?;
+    assert!(rt; is_updated(&mut depot, &commit));
+    Ok(())
+}
+
+/// Whether an update beside a collection keeps what it needs, when it comes after so many turns of one object: its objects lay
+/// there unneeded before the collection began, and nobody asked for them since.
+fn keeps_what_it_needs(alloc: Global, before: u64) -> Result<bool, Fail> {
+    let mut depot = library_on(alloc, &[], MOMENT)?;
+    let head = depot.head();
+    let commit = put_commit(alloc, &mut depot, 0x44, &head, "d")?;
+    let _ = put(alloc, &mut depot, Kind::Block, "x")?;
+    for _ in 0..before {
+        let _ = depot.turn_of_collection(None, MOMENT, 1);
+    }
+    let _ = asked(&mut depot, Act::Check(Op::Upload));
+    if !is_updated(&mut depot, &commit) {
+        return Ok(false);
+    }
+    Ok(collected(&mut depot) == Some(1) && has_block(&mut depot, "d") && depot.close().count() == 5)
+}
+
+#[test]
+fn an_update_keeps_what_it_needs_from_the_collection_that_runs(
+    rt: HostRuntime,
+) -> Result<(), Fail> {
+    for before in 1..3 {
+        assert!(rt; keeps_what_it_needs(rt.alloc(), before)?, "{before}");
+    }
+    Ok(())
+}
+
+/// Whether a merged update beside a collection leaves a whole library.
+fn merges_beside(alloc: Global) -> Result<bool, Fail> {
+    let mut depot = library_on(alloc, &[], MOMENT)?;
+    let base = depot.head();
+    let one = put_commit(alloc, &mut depot, 0x11, &base, "1")?;
+    let two = put_commit(alloc, &mut depot, 0x22, &base, "2")?;
+    let _ = depot.turn_of_collection(None, MOMENT, 1);
+    let _ = asked(&mut depot, Act::Check(Op::Upload));
+    if !is_updated(&mut depot, &one) {
+        return Ok(false);
+    }
+    match asked(&mut depot, Act::Update(two)) {
+        Reply::Updated(_) => {}
+        _ => return Ok(false),
+    }
+    if collected(&mut depot) != Some(0) {
+        return Ok(false);
+    }
+    let both = has_block(&mut depot, "1") && has_block(&mut depot, "2");
+    Ok(both && Depot::start(alloc, depot.close()).is_ok())
+}
+
+#[test]
+fn a_merged_update_keeps_what_it_needs_from_the_collection_that_runs(
+    rt: HostRuntime,
+) -> Result<(), Fail> {
+    assert!(rt; merges_beside(rt.alloc())?);
+    Ok(())
+}
