@@ -1,4 +1,6 @@
 //! A collection that runs.
+ghost use Rattle.std.specs.Prelude.{ℕ};
+
 use collector::{Marks, Phase};
 use ids::{Key, KeyList, KeyTable};
 use std::alloc::{AllocError, Global};
