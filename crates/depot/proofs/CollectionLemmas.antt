@@ -1,7 +1,7 @@
 -- A collection whose keys become fresh, or are taken back, one after another. The key lemmas are fresh_has, begins_as, turn_counts,
 -- freshens_again, freshens_put, freshens_failed, so_far_next, so_far_stops, stales_one and back_next.
-use Rattle.std.proofs.Common.{◌≡◌, ◌+◌, ◌<◌, ◌&&◌, ◌||◌, ℕ, Bool, true, false, cond, not, is_some, List, [], ◌∷◌, ◌++◌, length, take, get_or, Option, None, Some, refl, sym, ap, ap₂, ◌∙◌, subst, true≢false, ◌⊎◌, inl, inr, arith}
-use Rattle.std.specs.Prelude.{⊤, map as map_list}
+use Rattle.std.proofs.Common.{◌≡◌, ◌+◌, ◌<◌, ◌&&◌, ◌||◌, ℕ, Bool, true, false, cond, not, is_some, List, [], ◌∷◌, ◌++◌, length, take, get_or, Option, None, Some, Result, Ok, Err, refl, sym, ap, ap₂, ◌∙◌, subst, true≢false, ◌⊎◌, inl, inr, arith}
+use Rattle.std.specs.Prelude.{⊤, OnErr, OnOk, map as map_list}
 use Rattle.std.specs.FinMap as map
 use Rattle.std.specs.FinSet as set
 use Rattle.std.proofs.lemmas.List.{take_more}
@@ -52,6 +52,15 @@ pub turn_counts : (marks : MarksView) (table : map.FinMap key_cmp ⊤) (stored t
 turn_counts marks table stored turned now old more is = ap (λ (n : ℕ). collection_of marks table stored n) more ∙ ap counted_turn is
 
 -- ---- one key
+
+-- what a result promises brings what is wanted of it
+pub ok_then : {T E P Q : Type 0} (r : Result T E) → (P → Q) → OnOk r P → OnOk r Q
+ok_then (Ok value) brings is = brings is
+ok_then (Err fault) brings is = tt
+
+pub error_then : {T E P Q : Type 0} (r : Result T E) → (P → Q) → OnErr r P → OnErr r Q
+error_then (Ok value) brings is = tt
+error_then (Err fault) brings is = brings is
 
 same_fresh : (marks : MarksView) (table after : map.FinMap key_cmp ⊤) (stored turned : ℕ) → after ≡ table
     → HasFresh (λ k. set.contains (fresh_in table) k) (collection_of marks table stored turned) (collection_of marks after stored turned)

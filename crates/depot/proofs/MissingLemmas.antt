@@ -1,7 +1,10 @@
--- Ids that name nothing, gone over with the keys that were met. The key lemma is absent_are.
-use Rattle.std.proofs.Common.{◌≡◌, ℕ, Bool, true, false, not, ◌&&◌, ◌||◌, cond, if◌then◌else◌, is_some, List, [], ◌∷◌, refl, sym, ap, ◌∙◌, true≢false, Option, Some}
+-- Ids that name nothing, gone over with the keys that were met. The key lemmas are absent_are, present_one,
+-- present_none and present_next.
+use Rattle.std.proofs.Common.{◌≡◌, ℕ, ◌+◌, ◌<◌, Bool, true, false, not, ◌&&◌, ◌||◌, cond, if◌then◌else◌, is_some, List, [], ◌∷◌, ◌++◌, append-nil, length, take, get_or, refl, sym, ap, ◌∙◌, true≢false, Option, Some}
 use Rattle.std.specs.Prelude.{⊤, filter}
 use Rattle.std.specs.FinMap as map
+use Rattle.std.proofs.lemmas.List.{take_more}
+use Rattle.std.proofs.lemmas.List.Elements.{filter-append}
 use Rattle.ids.specs.Key.{key_cmp}
 use Rattle.ids.specs.declared.key.Key.{Key}
 use Rattle.ids.specs.declared.key.Kind.{Kind}
@@ -14,6 +17,18 @@ use Rattle.object_graph.proofs.KeyLemmas.{same_key}
 use Rattle.object_store.specs.StoreView.{Index}
 use Rattle.depot.specs.Answering.{unknown}
 use Rattle.depot.specs.Missing.{Met, absent_from, is_known}
+
+keys_append : (k : Kind) (front ids : List (List ℕ)) → keys_of k (front ++ ids) ≡ keys_of k front ++ keys_of k ids
+keys_append k [] ids = refl
+keys_append k (id ∷ front) ids = by (is_nil id)
+  where
+    rest : keys_of k (front ++ ids) ≡ keys_of k front ++ keys_of k ids
+    rest = keys_append k front ids
+
+    by : (nil : Bool) → (if nil then keys_of k (front ++ ids) else record { kind = k; id = id } ∷ keys_of k (front ++ ids))
+        ≡ (if nil then keys_of k front else record { kind = k; id = id } ∷ keys_of k front) ++ keys_of k ids
+    by true = rest
+    by false = ap (λ (keys : List Key). record { kind = k; id = id } ∷ keys) rest
 
 -- the table knows exactly these keys
 abbrev pub Knows : List Key → Met → Type 0
@@ -73,3 +88,40 @@ absent_all s k ids met none = absent_are (is_stored s.objects) k ids [] met (λ 
 -- over an index
 pub unknown_all : (index : Index) (k : Kind) (ids : List (List ℕ)) → absent_from (is_known index) k map.empty ids ≡ unknown index k ids
 unknown_all index k ids = absent_are (is_known index) k ids [] map.empty (λ key. ap is_some (map.get-empty key_cmp key))
+
+-- ---- ids that name what is stored
+
+module _ (stored : Key → Bool) where
+  -- of one id, which is listed or isn't
+  pub present_one : (key : Key) (keys more : List Key) → (not (is_nil key.id) && stored key) ≡ true → more ≡ keys ++ key ∷ [] → more ≡ keys ++ filter stored (keys_of key.kind (key.id ∷ []))
+  present_one key keys more is pushed = pushed ∙ ap (λ (found : List Key). keys ++ found) (sym (first (is_nil key.id) is))
+    where
+      second : (there : Bool) → there ≡ true → cond there (key ∷ []) [] ≡ key ∷ []
+      second true e = refl
+      second false e = absurd (true≢false (sym e))
+
+      first : (nil : Bool) → (not nil && stored key) ≡ true → filter stored (if nil then [] else key ∷ []) ≡ key ∷ []
+      first true e = absurd (true≢false (sym e))
+      first false e = second (stored key) e
+
+  pub present_none : (key : Key) (keys : List Key) → (not (is_nil key.id) && stored key) ≡ false → keys ≡ keys ++ filter stored (keys_of key.kind (key.id ∷ []))
+  present_none key keys is = sym (append-nil keys) ∙ ap (λ (found : List Key). keys ++ found) (sym (first (is_nil key.id) is))
+    where
+      second : (there : Bool) → there ≡ false → cond there (key ∷ []) [] ≡ []
+      second true e = absurd (true≢false e)
+      second false e = refl
+
+      first : (nil : Bool) → (not nil && stored key) ≡ false → filter stored (if nil then [] else key ∷ []) ≡ []
+      first true e = refl
+      first false e = second (stored key) e
+
+  module _ (k : Kind) where
+    present_more : (front ids : List (List ℕ)) → filter stored (keys_of k (front ++ ids)) ≡ filter stored (keys_of k front) ++ filter stored (keys_of k ids)
+    present_more front ids = ap (λ (keys : List Key). filter stored keys) (keys_append k front ids) ∙ filter-append stored (keys_of k front) (keys_of k ids)
+
+    -- the first ids, and one more
+    pub present_next : (ids : List (List ℕ)) (i : ℕ) (id : List ℕ) (keys more : List Key) → i < length ids → id ≡ get_or ids i id → keys ≡ filter stored (keys_of k (take i ids))
+        → more ≡ keys ++ filter stored (keys_of k (id ∷ [])) → more ≡ filter stored (keys_of k (take (i + 1) ids))
+    present_next ids i id keys more in_range at so_far pushed =
+        pushed ∙ ap (λ (listed : List Key). listed ++ filter stored (keys_of k (id ∷ []))) so_far ∙ sym (present_more (take i ids) (id ∷ []))
+        ∙ ap (λ (front : List (List ℕ)). filter stored (keys_of k front)) (sym (take_more ids i id in_range ∙ ap (λ (x : List ℕ). take i ids ++ x ∷ []) (sym at)))

@@ -123,10 +123,7 @@ impl Collection {
             return Ok(());
         }
         listed.push(*key)?;
-        match self.fresh.put(*key, ()) {
-            Ok(()) => Ok(()),
-            Err(failed) => Err(failed),
-        }
+        self.fresh.put(*key, ())
     }
 
     /// Takes keys back that are not to be fresh. It takes no memory.

@@ -1,11 +1,12 @@
 //! Which ids name nothing that is stored.
-ghost use Rattle.std.specs.Prelude.{◌≡◌, ◌++◌, ◌∷◌, [], ℕ, IfOk, OnOk, Some, OnErr, filter};
+ghost use Rattle.std.specs.Prelude.{◌≡◌, ◌&&◌, ◌++◌, ◌∷◌, [], ℕ, IfOk, OnOk, Some, OnErr, filter, not};
 ghost use Rattle.std.specs.FinMap as map;
 ghost use Rattle.std.specs.FinSet as set;
 ghost use Rattle.ids.specs.Key.{Objects};
 ghost use Rattle.library_rules.specs.Calls.{absent, keys_of};
 ghost use Rattle.library_rules.specs.Changes.{stored_keys};
 ghost use Rattle.library_rules.specs.LibraryState.{State, is_stored};
+ghost use Rattle.object_graph.specs.Objects.{is_nil};
 ghost use Rattle.object_store.specs.Shelf.{GivesNoMore};
 ghost use Rattle.object_store.specs.StoreView.{objects_of};
 ghost use Rattle.library_state.specs.declared.call.Act.TheVariants as act;
@@ -108,12 +109,34 @@ fn present_keys<S: Shelf>(
 {
     let mut keys = KeyList::new(alloc);
     for id in ids {
-        let key = Key { kind, id: *id };
-        if !id.is_nil() && store.has(key).is_some() {
-            keys.push(key)?;
-        }
+        list_present(store, &mut keys, &Key { kind, id: *id })?;
     }
     Ok(keys)
+}
+
+/// Lists a key, if it names what is stored.
+fn list_present<S: Shelf>(
+    store: &Store<S>,
+    keys: &mut KeyList,
+    key: &Key,
+) -> Result<(), AllocError>
+    ensures shown { (objects : Objects) → objects_of S.contents store.now ≡ Some objects
+        → OnOk result (keys.new ≡ keys.old ++ stored_keys objects (keys_of key.now.kind (key.now.id ∷ []))) }
+    ensures value { OnOk result (keys.new ≡ keys.old ++ filter (is_known store.now.index) (keys_of key.now.kind (key.now.id ∷ []))) }
+{
+    if !is_present(store, key) {
+        return Ok(());
+    }
+    keys.push(*key)?;
+    Ok(())
+}
+
+/// Whether a key names what is stored.
+fn is_present<S: Shelf>(store: &Store<S>, key: &Key) -> bool
+    ensures shown { (objects : Objects) → objects_of S.contents store.now ≡ Some objects → result ≡ (not (is_nil key.now.id) && is_stored objects key.now) }
+    ensures value { result ≡ (not (is_nil key.now.id) && is_known store.now.index key.now) }
+{
+    !key.id.is_nil() && store.has(*key).is_some()
 }
 
 /// Tells which ids name nothing that is stored as this kind, in the order asked, each once. Forty zeros are never told.

@@ -7,14 +7,14 @@ use Rattle.depot.proofs.shields.freshen.Goals as goal
 
 pub returns-in-Some-clause-ok : goal.returns-in-Some-clause-ok
 returns-in-Some-clause-ok c =
-    fresh_is c.args.running.now _ c.in-Some.collection.now c.freshen.new.self c.in-Some.is refl (λ fresh key. set.contains fresh key || is_in c.args.keys.now key) c.freshen.result c.freshen.ensures.ok
+    fresh_is c.args.running.now _ c.in-Some.collection c.freshen.new.self c.in-Some.is refl (λ fresh key. set.contains fresh key || is_in c.args.keys.now key) c.freshen.result c.freshen.ensures.ok
 
 pub returns-in-Some-clause-new : goal.returns-in-Some-clause-new
-returns-in-Some-clause-new c = new_is c.args.running.now c.in-Some.collection.now c.in-Some.is c.args.keys.now c.freshen.result c.freshen.ensures.new
+returns-in-Some-clause-new c = new_is c.args.running.now c.in-Some.collection c.in-Some.is c.args.keys.now c.freshen.result c.freshen.ensures.new
 
 pub returns-in-Some-clause-err : goal.returns-in-Some-clause-err
 returns-in-Some-clause-err c =
-    fresh_is_after c.args.running.now _ c.in-Some.collection.now c.freshen.new.self c.in-Some.is refl (λ fresh key. set.contains fresh key) c.freshen.result c.freshen.ensures.err
+    fresh_is_after c.args.running.now _ c.in-Some.collection c.freshen.new.self c.in-Some.is refl (λ fresh key. set.contains fresh key) c.freshen.result c.freshen.ensures.err
 
 pub returns-in-None-clause-ok : goal.returns-in-None-clause-ok
 returns-in-None-clause-ok c = none_fresh (λ fresh key. set.contains fresh key || is_in c.args.keys.now key) c.args.running.now _ c.in-None.is c.in-None.is

@@ -6,7 +6,7 @@ use Rattle.depot.proofs.shields.stale.Goals as goal
 
 pub returns-in-Some : goal.returns-in-Some
 returns-in-Some c = record {
-  value = may_fresh c.args.running.now _ c.in-Some.collection.now c.stale.new.self c.in-Some.is refl (λ fresh key. set.contains fresh key && not (is_in c.args.keys.now key)) c.stale.ensures.value;
+  value = may_fresh c.args.running.now _ c.in-Some.collection c.stale.new.self c.in-Some.is refl (λ fresh key. set.contains fresh key && not (is_in c.args.keys.now key)) c.stale.ensures.value;
 }
 
 pub returns-in-None : goal.returns-in-None

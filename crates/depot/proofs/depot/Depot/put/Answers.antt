@@ -38,47 +38,47 @@ returns-in-Err g c =
 pub invariant_of-self-2 : goal.invariant_of-self-2
 invariant_of-self-2 g c =
     let old : DepotView g.row.S.Denot = record { store = c.self.inside.parts.store; state = c.self.inside.parts.state; unsettled = c.self.inside.parts.unsettled; running = running_of c.self.inside.running } in
-    let new : DepotView g.row.S.Denot = record old { store = c.put_object.new.store; running = running_of c.end_put.new.running } in
-    let runs : RunsAs (put_by_answer c.args.key.now c.put_object.result) old.running new.running
-    = put_runs_as c.args.key.now c.put_object.result c.in-Ok.new c.self.inside.running c.freshen.new.running c.end_put.new.running c.in-Ok.ensures.ok c.in-Ok.ensures.new c.end_put.ensures.value in
-    let told : (was : Objects) → objects_of g.S.Shelf.contents old.store ≡ Some was → PutTold was c.args.key.now c.args.bytes.now c.put_object.result (objects_of g.S.Shelf.contents new.store)
-    = λ was is. put_told (library old.state (g.S.Shelf.faults old.store.shelf) was) c.args.key.now c.args.bytes.now c.put_object.result (objects_of g.S.Shelf.contents new.store)
-    (c.put_object.ensures.value (library old.state (g.S.Shelf.faults old.store.shelf) was) is refl) in
+    let new : DepotView g.row.S.Denot = record old { store = c.put_object-reply.new.store; running = running_of c.end_put.new.running } in
+    let runs : RunsAs (put_by_answer c.args.key.now c.put_object-reply.result) old.running new.running
+    = put_runs_as c.args.key.now c.put_object-reply.result c.in-Ok.new c.self.inside.running c.freshen.new.running c.end_put.new.running c.in-Ok.ensures.ok c.in-Ok.ensures.new c.end_put.ensures.value in
+    let told : (was : Objects) → objects_of g.S.Shelf.contents old.store ≡ Some was → PutTold was c.args.key.now c.args.bytes.now c.put_object-reply.result (objects_of g.S.Shelf.contents new.store)
+    = λ was is. put_told (library old.state (g.S.Shelf.faults old.store.shelf) was) c.args.key.now c.args.bytes.now c.put_object-reply.result (objects_of g.S.Shelf.contents new.store)
+    (c.put_object-reply.ensures.value (library old.state (g.S.Shelf.faults old.store.shelf) was) is refl) in
     let good = good_beside g.S.Shelf.contents g.S.Shelf.faults new
-    (good_put g.S.Shelf.contents g.S.Shelf.faults old (good_rest g.S.Shelf.contents g.S.Shelf.faults old c.self.invariant.good) c.put_object.new.store c.put_object.ensures.stays
-    (record { key = c.args.key.now; bytes = c.args.bytes.now }) c.put_object.ensures.stored)
-    (put_known c.args.key.now c.put_object.result old.store.index new.store.index old.running new.running runs c.put_object.ensures.held c.self.invariant.good.fresh)
-    (sound_fresh_keys g.S.Shelf.contents g.S.Shelf.faults old new c.args.key.now c.args.bytes.now c.put_object.result told runs c.self.invariant.good c.put_object.ensures.stored) in
+    (good_put g.S.Shelf.contents g.S.Shelf.faults old (good_rest g.S.Shelf.contents g.S.Shelf.faults old c.self.invariant.good) c.put_object-reply.new.store c.put_object-reply.ensures.stays
+    (record { key = c.args.key.now; bytes = c.args.bytes.now }) c.put_object-reply.ensures.stored)
+    (put_known c.args.key.now c.put_object-reply.result old.store.index new.store.index old.running new.running runs c.put_object-reply.ensures.held c.self.invariant.good.fresh)
+    (sound_fresh_keys g.S.Shelf.contents g.S.Shelf.faults old new c.args.key.now c.args.bytes.now c.put_object-reply.result told runs c.self.invariant.good c.put_object-reply.ensures.stored) in
     record {
       good = good;
-      fits = fits_put g.S.Shelf.contents c.self.inside.parts.store c.put_object.new.store c.self.inside.known (record { key = c.args.key.now; bytes = c.args.bytes.now }) c.put_object.ensures.stored c.self.invariant.fits;
-      collects = collects_put g.S.Shelf.contents g.S.Shelf.faults old new c.args.key.now c.args.bytes.now c.put_object.result told runs c.in-Ok.new c.self.inside.running c.freshen.new.running c.end_put.new.running
-          refl refl refl c.in-Ok.ensures.ok c.in-Ok.ensures.new c.end_put.ensures.value c.self.invariant.good good c.put_object.ensures.stored c.self.invariant.collects;
-      candidates = known_put g.S.Shelf.contents g.S.Shelf.faults old new c.args.key.now c.args.bytes.now c.put_object.result told runs c.in-Ok.new c.self.inside.running c.freshen.new.running c.end_put.new.running
-          refl refl refl c.in-Ok.ensures.ok c.in-Ok.ensures.new c.end_put.ensures.value c.put_object.ensures.held c.self.invariant.candidates;
-      apart = apart_put g.S.Shelf.contents g.S.Shelf.faults old new c.args.key.now c.args.bytes.now c.put_object.result told runs c.in-Ok.new c.self.inside.running c.freshen.new.running c.end_put.new.running
+      fits = fits_put g.S.Shelf.contents c.self.inside.parts.store c.put_object-reply.new.store c.self.inside.known (record { key = c.args.key.now; bytes = c.args.bytes.now }) c.put_object-reply.ensures.stored c.self.invariant.fits;
+      collects = collects_put g.S.Shelf.contents g.S.Shelf.faults old new c.args.key.now c.args.bytes.now c.put_object-reply.result told runs c.in-Ok.new c.self.inside.running c.freshen.new.running c.end_put.new.running
+          refl refl refl c.in-Ok.ensures.ok c.in-Ok.ensures.new c.end_put.ensures.value c.self.invariant.good good c.put_object-reply.ensures.stored c.self.invariant.collects;
+      candidates = known_put g.S.Shelf.contents g.S.Shelf.faults old new c.args.key.now c.args.bytes.now c.put_object-reply.result told runs c.in-Ok.new c.self.inside.running c.freshen.new.running c.end_put.new.running
+          refl refl refl c.in-Ok.ensures.ok c.in-Ok.ensures.new c.end_put.ensures.value c.put_object-reply.ensures.held c.self.invariant.candidates;
+      apart = apart_put g.S.Shelf.contents g.S.Shelf.faults old new c.args.key.now c.args.bytes.now c.put_object-reply.result told runs c.in-Ok.new c.self.inside.running c.freshen.new.running c.end_put.new.running
           refl refl refl c.in-Ok.ensures.ok c.in-Ok.ensures.new c.end_put.ensures.value c.self.invariant.apart;
     }
 
 pub returns : goal.returns
 returns g c =
     let old : DepotView g.row.S.Denot = record { store = c.self.inside.parts.store; state = c.self.inside.parts.state; unsettled = c.self.inside.parts.unsettled; running = running_of c.self.inside.running } in
-    let new : DepotView g.row.S.Denot = record old { store = c.put_object.new.store; running = running_of c.end_put.new.running } in
-    let runs : RunsAs (put_by_answer c.args.key.now c.put_object.result) old.running new.running
-    = put_runs_as c.args.key.now c.put_object.result c.in-Ok.new c.self.inside.running c.freshen.new.running c.end_put.new.running c.in-Ok.ensures.ok c.in-Ok.ensures.new c.end_put.ensures.value in
-    let goes = put_runs c.args.key.now c.args.bytes.now c.put_object.result old.store.index new.store.index old.running new.running c.put_object.ensures.held runs in
-    let fresh = put_fresh g.S.Shelf.contents old new c.args.key.now c.args.bytes.now c.put_object.result
-    (λ was is. put_told (library old.state (g.S.Shelf.faults old.store.shelf) was) c.args.key.now c.args.bytes.now c.put_object.result (objects_of g.S.Shelf.contents new.store)
-    (c.put_object.ensures.value (library old.state (g.S.Shelf.faults old.store.shelf) was) is refl)) runs in
+    let new : DepotView g.row.S.Denot = record old { store = c.put_object-reply.new.store; running = running_of c.end_put.new.running } in
+    let runs : RunsAs (put_by_answer c.args.key.now c.put_object-reply.result) old.running new.running
+    = put_runs_as c.args.key.now c.put_object-reply.result c.in-Ok.new c.self.inside.running c.freshen.new.running c.end_put.new.running c.in-Ok.ensures.ok c.in-Ok.ensures.new c.end_put.ensures.value in
+    let goes = put_runs c.args.key.now c.args.bytes.now c.put_object-reply.result old.store.index new.store.index old.running new.running c.put_object-reply.ensures.held runs in
+    let fresh = put_fresh g.S.Shelf.contents old new c.args.key.now c.args.bytes.now c.put_object-reply.result
+    (λ was is. put_told (library old.state (g.S.Shelf.faults old.store.shelf) was) c.args.key.now c.args.bytes.now c.put_object-reply.result (objects_of g.S.Shelf.contents new.store)
+    (c.put_object-reply.ensures.value (library old.state (g.S.Shelf.faults old.store.shelf) was) is refl)) runs in
     record {
-      value = subst (λ (before : DepotView g.row.S.Denot). ServesAct g.S.Shelf.contents g.S.Shelf.may_give g.S.Shelf.texts g.S.Shelf.faults before (act.Put c.args.key.now c.args.bytes.now) c.put_object.result new)
+      value = subst (λ (before : DepotView g.row.S.Denot). ServesAct g.S.Shelf.contents g.S.Shelf.may_give g.S.Shelf.texts g.S.Shelf.faults before (act.Put c.args.key.now c.args.bytes.now) c.put_object-reply.result new)
           c.self.view_is
-          (λ call moment right asks. serves_beside g.S.Shelf.contents g.S.Shelf.faults old new call moment c.put_object.result
-          (subst (λ a. RunsOn old.store.index new.store.index (told_there old.store.index a c.put_object.result) old.running new.running) (sym asks) goes)
-          (subst (λ a. FreshTold g.S.Shelf.contents old new a c.put_object.result) (sym asks) fresh) g.S.Shelf.may_give g.S.Shelf.texts
+          (λ call moment right asks. serves_beside g.S.Shelf.contents g.S.Shelf.faults old new call moment c.put_object-reply.result
+          (subst (λ a. RunsOn old.store.index new.store.index (told_there old.store.index a c.put_object-reply.result) old.running new.running) (sym asks) goes)
+          (subst (λ a. FreshTold g.S.Shelf.contents old new a c.put_object-reply.result) (sym asks) fresh) g.S.Shelf.may_give g.S.Shelf.texts
           (put_serves g.S.Shelf.contents g.S.Shelf.may_give g.S.Shelf.texts g.S.Shelf.faults old call moment right c.args.key.now c.args.bytes.now asks
-          c.put_object.new.store c.put_object.result c.put_object.ensures.stays c.put_object.ensures.written
-          (λ objects told. c.put_object.ensures.value (library c.self.inside.parts.state (g.S.Shelf.faults c.self.inside.parts.store.shelf) objects) told refl)
-          c.put_object.ensures.cause c.put_object.ensures.damaged c.put_object.ensures.faults c.put_object.ensures.lying));
-      gives = subst (λ (before : DepotView g.row.S.Denot). GivesBy (IsObject c.args.key.now c.args.bytes.now) (g.S.Shelf.may_give before.store.shelf) (g.S.Shelf.may_give c.put_object.new.store.shelf)) c.self.view_is c.put_object.ensures.gives;
+          c.put_object-reply.new.store c.put_object-reply.result c.put_object-reply.ensures.stays c.put_object-reply.ensures.written
+          (λ objects told. c.put_object-reply.ensures.value (library c.self.inside.parts.state (g.S.Shelf.faults c.self.inside.parts.store.shelf) objects) told refl)
+          c.put_object-reply.ensures.cause c.put_object-reply.ensures.damaged c.put_object-reply.ensures.faults c.put_object-reply.ensures.lying));
+      gives = subst (λ (before : DepotView g.row.S.Denot). GivesBy (IsObject c.args.key.now c.args.bytes.now) (g.S.Shelf.may_give before.store.shelf) (g.S.Shelf.may_give c.put_object-reply.new.store.shelf)) c.self.view_is c.put_object-reply.ensures.gives;
     }

@@ -40,51 +40,51 @@ returns-in-Err g c =
 pub invariant_of-self-2 : goal.invariant_of-self-2
 invariant_of-self-2 g c =
     let old : DepotView g.row.S.Denot = record { store = c.self.inside.parts.store; state = c.self.inside.parts.state; unsettled = c.self.inside.parts.unsettled; running = running_of c.self.inside.running } in
-    let new : DepotView g.row.S.Denot = record old { store = c.store_block.new.store; running = running_of c.end_put.new.running } in
-    let runs : RunsAs (put_by_answer c.args.key.now c.store_block.result) old.running new.running
-    = put_runs_as c.args.key.now c.store_block.result c.in-Ok.new c.self.inside.running c.freshen.new.running c.end_put.new.running c.in-Ok.ensures.ok c.in-Ok.ensures.new c.end_put.ensures.value in
-    let told : (was : Objects) → objects_of g.S.Shelf.contents old.store ≡ Some was → PutTold was c.args.key.now c.args.bytes c.store_block.result (objects_of g.S.Shelf.contents new.store)
-    = λ was is. put_told (library old.state (g.S.Shelf.faults old.store.shelf) was) c.args.key.now c.args.bytes c.store_block.result (objects_of g.S.Shelf.contents new.store)
-    (block_done c.args.key.now c.args.bytes c.requires.ready (library old.state (g.S.Shelf.faults old.store.shelf) was) c.store_block.result (objects_of g.S.Shelf.contents new.store)
-    (c.store_block.ensures.value (library old.state (g.S.Shelf.faults old.store.shelf) was) is)) in
+    let new : DepotView g.row.S.Denot = record old { store = c.store_block-reply.new.store; running = running_of c.end_put.new.running } in
+    let runs : RunsAs (put_by_answer c.args.key.now c.store_block-reply.result) old.running new.running
+    = put_runs_as c.args.key.now c.store_block-reply.result c.in-Ok.new c.self.inside.running c.freshen.new.running c.end_put.new.running c.in-Ok.ensures.ok c.in-Ok.ensures.new c.end_put.ensures.value in
+    let told : (was : Objects) → objects_of g.S.Shelf.contents old.store ≡ Some was → PutTold was c.args.key.now c.args.bytes c.store_block-reply.result (objects_of g.S.Shelf.contents new.store)
+    = λ was is. put_told (library old.state (g.S.Shelf.faults old.store.shelf) was) c.args.key.now c.args.bytes c.store_block-reply.result (objects_of g.S.Shelf.contents new.store)
+    (block_done c.args.key.now c.args.bytes c.requires.ready (library old.state (g.S.Shelf.faults old.store.shelf) was) c.store_block-reply.result (objects_of g.S.Shelf.contents new.store)
+    (c.store_block-reply.ensures.value (library old.state (g.S.Shelf.faults old.store.shelf) was) is)) in
     let good = good_beside g.S.Shelf.contents g.S.Shelf.faults new
-    (good_put g.S.Shelf.contents g.S.Shelf.faults old (good_rest g.S.Shelf.contents g.S.Shelf.faults old c.self.invariant.good) c.store_block.new.store c.store_block.ensures.stays
-    (record { key = c.args.key.now; bytes = c.args.bytes }) c.store_block.ensures.stored)
-    (put_known c.args.key.now c.store_block.result old.store.index new.store.index old.running new.running runs c.store_block.ensures.held c.self.invariant.good.fresh)
-    (sound_fresh_keys g.S.Shelf.contents g.S.Shelf.faults old new c.args.key.now c.args.bytes c.store_block.result told runs c.self.invariant.good c.store_block.ensures.stored) in
+    (good_put g.S.Shelf.contents g.S.Shelf.faults old (good_rest g.S.Shelf.contents g.S.Shelf.faults old c.self.invariant.good) c.store_block-reply.new.store c.store_block-reply.ensures.stays
+    (record { key = c.args.key.now; bytes = c.args.bytes }) c.store_block-reply.ensures.stored)
+    (put_known c.args.key.now c.store_block-reply.result old.store.index new.store.index old.running new.running runs c.store_block-reply.ensures.held c.self.invariant.good.fresh)
+    (sound_fresh_keys g.S.Shelf.contents g.S.Shelf.faults old new c.args.key.now c.args.bytes c.store_block-reply.result told runs c.self.invariant.good c.store_block-reply.ensures.stored) in
     record {
       good = good;
-      fits = fits_put g.S.Shelf.contents c.self.inside.parts.store c.store_block.new.store c.self.inside.known (record { key = c.args.key.now; bytes = c.args.bytes }) c.store_block.ensures.stored c.self.invariant.fits;
-      collects = collects_put g.S.Shelf.contents g.S.Shelf.faults old new c.args.key.now c.args.bytes c.store_block.result told runs c.in-Ok.new c.self.inside.running c.freshen.new.running c.end_put.new.running
-          refl refl refl c.in-Ok.ensures.ok c.in-Ok.ensures.new c.end_put.ensures.value c.self.invariant.good good c.store_block.ensures.stored c.self.invariant.collects;
-      candidates = known_put g.S.Shelf.contents g.S.Shelf.faults old new c.args.key.now c.args.bytes c.store_block.result told runs c.in-Ok.new c.self.inside.running c.freshen.new.running c.end_put.new.running
-          refl refl refl c.in-Ok.ensures.ok c.in-Ok.ensures.new c.end_put.ensures.value c.store_block.ensures.held c.self.invariant.candidates;
-      apart = apart_put g.S.Shelf.contents g.S.Shelf.faults old new c.args.key.now c.args.bytes c.store_block.result told runs c.in-Ok.new c.self.inside.running c.freshen.new.running c.end_put.new.running
+      fits = fits_put g.S.Shelf.contents c.self.inside.parts.store c.store_block-reply.new.store c.self.inside.known (record { key = c.args.key.now; bytes = c.args.bytes }) c.store_block-reply.ensures.stored c.self.invariant.fits;
+      collects = collects_put g.S.Shelf.contents g.S.Shelf.faults old new c.args.key.now c.args.bytes c.store_block-reply.result told runs c.in-Ok.new c.self.inside.running c.freshen.new.running c.end_put.new.running
+          refl refl refl c.in-Ok.ensures.ok c.in-Ok.ensures.new c.end_put.ensures.value c.self.invariant.good good c.store_block-reply.ensures.stored c.self.invariant.collects;
+      candidates = known_put g.S.Shelf.contents g.S.Shelf.faults old new c.args.key.now c.args.bytes c.store_block-reply.result told runs c.in-Ok.new c.self.inside.running c.freshen.new.running c.end_put.new.running
+          refl refl refl c.in-Ok.ensures.ok c.in-Ok.ensures.new c.end_put.ensures.value c.store_block-reply.ensures.held c.self.invariant.candidates;
+      apart = apart_put g.S.Shelf.contents g.S.Shelf.faults old new c.args.key.now c.args.bytes c.store_block-reply.result told runs c.in-Ok.new c.self.inside.running c.freshen.new.running c.end_put.new.running
           refl refl refl c.in-Ok.ensures.ok c.in-Ok.ensures.new c.end_put.ensures.value c.self.invariant.apart;
     }
 
 pub returns : goal.returns
 returns g c =
     let old : DepotView g.row.S.Denot = record { store = c.self.inside.parts.store; state = c.self.inside.parts.state; unsettled = c.self.inside.parts.unsettled; running = running_of c.self.inside.running } in
-    let new : DepotView g.row.S.Denot = record old { store = c.store_block.new.store; running = running_of c.end_put.new.running } in
-    let runs : RunsAs (put_by_answer c.args.key.now c.store_block.result) old.running new.running
-    = put_runs_as c.args.key.now c.store_block.result c.in-Ok.new c.self.inside.running c.freshen.new.running c.end_put.new.running c.in-Ok.ensures.ok c.in-Ok.ensures.new c.end_put.ensures.value in
-    let goes = put_runs c.args.key.now c.args.bytes c.store_block.result old.store.index new.store.index old.running new.running c.store_block.ensures.held runs in
-    let fresh = put_fresh g.S.Shelf.contents old new c.args.key.now c.args.bytes c.store_block.result
-    (λ was is. put_told (library old.state (g.S.Shelf.faults old.store.shelf) was) c.args.key.now c.args.bytes c.store_block.result (objects_of g.S.Shelf.contents new.store)
-    (block_done c.args.key.now c.args.bytes c.requires.ready (library old.state (g.S.Shelf.faults old.store.shelf) was) c.store_block.result (objects_of g.S.Shelf.contents new.store)
-    (c.store_block.ensures.value (library old.state (g.S.Shelf.faults old.store.shelf) was) is))) runs in
+    let new : DepotView g.row.S.Denot = record old { store = c.store_block-reply.new.store; running = running_of c.end_put.new.running } in
+    let runs : RunsAs (put_by_answer c.args.key.now c.store_block-reply.result) old.running new.running
+    = put_runs_as c.args.key.now c.store_block-reply.result c.in-Ok.new c.self.inside.running c.freshen.new.running c.end_put.new.running c.in-Ok.ensures.ok c.in-Ok.ensures.new c.end_put.ensures.value in
+    let goes = put_runs c.args.key.now c.args.bytes c.store_block-reply.result old.store.index new.store.index old.running new.running c.store_block-reply.ensures.held runs in
+    let fresh = put_fresh g.S.Shelf.contents old new c.args.key.now c.args.bytes c.store_block-reply.result
+    (λ was is. put_told (library old.state (g.S.Shelf.faults old.store.shelf) was) c.args.key.now c.args.bytes c.store_block-reply.result (objects_of g.S.Shelf.contents new.store)
+    (block_done c.args.key.now c.args.bytes c.requires.ready (library old.state (g.S.Shelf.faults old.store.shelf) was) c.store_block-reply.result (objects_of g.S.Shelf.contents new.store)
+    (c.store_block-reply.ensures.value (library old.state (g.S.Shelf.faults old.store.shelf) was) is))) runs in
     record {
-      value = subst (λ (before : DepotView g.row.S.Denot). ServesAct g.S.Shelf.contents g.S.Shelf.may_give g.S.Shelf.texts g.S.Shelf.faults before (act.Put c.args.key.now c.args.bytes) c.store_block.result new)
+      value = subst (λ (before : DepotView g.row.S.Denot). ServesAct g.S.Shelf.contents g.S.Shelf.may_give g.S.Shelf.texts g.S.Shelf.faults before (act.Put c.args.key.now c.args.bytes) c.store_block-reply.result new)
           c.self.view_is
-          (λ call moment right asks. serves_beside g.S.Shelf.contents g.S.Shelf.faults old new call moment c.store_block.result
-          (subst (λ a. RunsOn old.store.index new.store.index (told_there old.store.index a c.store_block.result) old.running new.running) (sym asks) goes)
-          (subst (λ a. FreshTold g.S.Shelf.contents old new a c.store_block.result) (sym asks) fresh) g.S.Shelf.may_give g.S.Shelf.texts
+          (λ call moment right asks. serves_beside g.S.Shelf.contents g.S.Shelf.faults old new call moment c.store_block-reply.result
+          (subst (λ a. RunsOn old.store.index new.store.index (told_there old.store.index a c.store_block-reply.result) old.running new.running) (sym asks) goes)
+          (subst (λ a. FreshTold g.S.Shelf.contents old new a c.store_block-reply.result) (sym asks) fresh) g.S.Shelf.may_give g.S.Shelf.texts
           (put_serves g.S.Shelf.contents g.S.Shelf.may_give g.S.Shelf.texts g.S.Shelf.faults old call moment right c.args.key.now c.args.bytes asks
-          c.store_block.new.store c.store_block.result c.store_block.ensures.stays c.store_block.ensures.written
-          (λ objects told. block_done c.args.key.now c.args.bytes c.requires.ready (library c.self.inside.parts.state (g.S.Shelf.faults c.self.inside.parts.store.shelf) objects) c.store_block.result (objects_of g.S.Shelf.contents c.store_block.new.store)
-          (c.store_block.ensures.value (library c.self.inside.parts.state (g.S.Shelf.faults c.self.inside.parts.store.shelf) objects) told))
-          (subst (λ (said : Option Reply). MayAnswer c.self.inside.parts.store.index (g.S.Shelf.may_give c.store_block.new.store.shelf) (act.Put c.args.key.now c.args.bytes) said c.store_block.result)
-          (sym (block_decided c.self.inside.parts.state.lib c.args.key.now c.args.bytes c.requires.ready)) c.store_block.ensures.cause) c.store_block.ensures.damaged c.store_block.ensures.faults c.store_block.ensures.lying));
-      gives = subst (λ (before : DepotView g.row.S.Denot). GivesBy (IsObject c.args.key.now c.args.bytes) (g.S.Shelf.may_give before.store.shelf) (g.S.Shelf.may_give c.store_block.new.store.shelf)) c.self.view_is c.store_block.ensures.gives;
+          c.store_block-reply.new.store c.store_block-reply.result c.store_block-reply.ensures.stays c.store_block-reply.ensures.written
+          (λ objects told. block_done c.args.key.now c.args.bytes c.requires.ready (library c.self.inside.parts.state (g.S.Shelf.faults c.self.inside.parts.store.shelf) objects) c.store_block-reply.result (objects_of g.S.Shelf.contents c.store_block-reply.new.store)
+          (c.store_block-reply.ensures.value (library c.self.inside.parts.state (g.S.Shelf.faults c.self.inside.parts.store.shelf) objects) told))
+          (subst (λ (said : Option Reply). MayAnswer c.self.inside.parts.store.index (g.S.Shelf.may_give c.store_block-reply.new.store.shelf) (act.Put c.args.key.now c.args.bytes) said c.store_block-reply.result)
+          (sym (block_decided c.self.inside.parts.state.lib c.args.key.now c.args.bytes c.requires.ready)) c.store_block-reply.ensures.cause) c.store_block-reply.ensures.damaged c.store_block-reply.ensures.faults c.store_block-reply.ensures.lying));
+      gives = subst (λ (before : DepotView g.row.S.Denot). GivesBy (IsObject c.args.key.now c.args.bytes) (g.S.Shelf.may_give before.store.shelf) (g.S.Shelf.may_give c.store_block-reply.new.store.shelf)) c.self.view_is c.store_block-reply.ensures.gives;
     }
