@@ -1,4 +1,5 @@
--- A question for what is missing, beside a collection. The key lemmas are missing_any_runs, missing_any_fresh and kept_told.
+-- A question for what is missing, beside a collection. The key lemmas are keeps_then, missing_any_runs,
+-- missing_any_fresh and kept_told.
 use Rattle.std.proofs.Common.{◌≡◌, inr, ◌||◌, ◌&&◌, not, ℕ, Bool, true, false, List, refl, sym, ap, ◌∙◌, subst, true≢false, Option, None, Some, is_some, option_map}
 use Rattle.std.specs.FinMap as map
 use Rattle.std.specs.FinSet as set
@@ -22,7 +23,7 @@ use Rattle.tree_walk.specs.KnownTrees.{KnownView}
 use Rattle.collector.specs.Marks.{HasTheSameMarks, MarksView, is_candidate}
 use Rattle.depot.specs.Answering.{MayTell}
 use Rattle.depot.specs.DepotView.{AreApart, CollectionView, CollectsIn, DepotView, IsGood, IsKept, KnowsCandidates, running_library, running_of, state_of}
-use Rattle.depot.specs.Fresh.{MayKeep, stored_told}
+use Rattle.depot.specs.Fresh.{HasFresh, MayHaveFresh, MayKeep, MayShield, stored_told}
 use Rattle.depot.specs.FreshKeys.{RunsOn, told_there}
 use Rattle.depot.proofs.BesideLemmas.{FreshTold, good_beside, good_rest}
 use Rattle.depot.proofs.CallFreshLemmas.{in_filter, none_came}
@@ -32,6 +33,27 @@ use Rattle.depot.proofs.FreshLemmas.{RunsAs, fresh_by, keeps_as, runs_by}
 use Rattle.depot.proofs.KeptLemmas.{collects_shielded, fresh_stored}
 use Rattle.depot.proofs.ToldLemmas.{mapped_at}
 use Rattle.depot.proofs.UpdateBesideLemmas.{runs_known}
+
+-- ---- the steps
+
+-- where nothing is changed the same keys are fresh
+pub fresh_still : (o : Option CollectionView) → MayHaveFresh (λ fresh key. set.contains fresh key) o o
+fresh_still None = refl
+fresh_still (Some old) = (old, refl, record { marks = refl; stored = refl; turned = refl; each = λ key. refl })
+
+-- keys that became fresh and were shielded are kept
+pub keeps_then : (keys taken : List Key) (o m n : Option CollectionView) → taken ≡ keys → MayHaveFresh (λ fresh key. set.contains fresh key || is_in taken key) o m → MayShield keys m n → MayKeep keys o n
+keeps_then keys taken None m n same fresh shields = subst (λ p. MayShield keys p n) fresh shields
+keeps_then keys taken (Some old) m n same (mid, is, has) shields =
+    let goes = subst (λ p. MayShield keys p n) is shields in (
+      goes.0,
+      goes.1,
+      record {
+        next = mid;
+        fresh = subst (λ among. HasFresh (λ key. set.contains old.running.fresh key || is_in among key) old mid) same has;
+        shields = goes.2;
+      },
+    )
 
 -- ---- the fresh keys
 

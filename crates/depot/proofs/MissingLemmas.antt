@@ -20,15 +20,12 @@ use Rattle.depot.specs.Missing.{Met, absent_from, is_known}
 
 keys_append : (k : Kind) (front ids : List (List ℕ)) → keys_of k (front ++ ids) ≡ keys_of k front ++ keys_of k ids
 keys_append k [] ids = refl
-keys_append k (id ∷ front) ids = by (is_nil id)
+keys_append k (id ∷ front) ids = by (is_nil id) (keys_append k front ids)
   where
-    rest : keys_of k (front ++ ids) ≡ keys_of k front ++ keys_of k ids
-    rest = keys_append k front ids
-
-    by : (nil : Bool) → (if nil then keys_of k (front ++ ids) else record { kind = k; id = id } ∷ keys_of k (front ++ ids))
-        ≡ (if nil then keys_of k front else record { kind = k; id = id } ∷ keys_of k front) ++ keys_of k ids
-    by true = rest
-    by false = ap (λ (keys : List Key). record { kind = k; id = id } ∷ keys) rest
+    by : (nil : Bool) → keys_of k (front ++ ids) ≡ keys_of k front ++ keys_of k ids
+        → (if nil then keys_of k (front ++ ids) else record { kind = k; id = id } ∷ keys_of k (front ++ ids)) ≡ (if nil then keys_of k front else record { kind = k; id = id } ∷ keys_of k front) ++ keys_of k ids
+    by true rest = rest
+    by false rest = ap (λ (keys : List Key). record { kind = k; id = id } ∷ keys) rest
 
 -- the table knows exactly these keys
 abbrev pub Knows : List Key → Met → Type 0

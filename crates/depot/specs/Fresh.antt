@@ -73,10 +73,6 @@ MayKeep keys (Some old) new = (collection : CollectionView) × (new ≡ Some col
 
 -- ---- which answers tell that something is there
 
-abbrev pub is_told : Reply → Bool
-is_told (Absent ids) = true
-is_told other = false
-
 -- the keys of what is stored among what was asked for, where the answer tells ids
 abbrev pub stored_told : Objects → Kind → List (List ℕ) → Reply → List Key
 stored_told objects k ids (Absent found) = stored_keys objects (keys_of k ids)

@@ -1,20 +1,18 @@
 //! Which ids name nothing that is stored.
-ghost use Rattle.std.specs.Prelude.{◌≡◌, ◌&&◌, ◌++◌, ◌∷◌, [], ℕ, IfOk, OnOk, Some, OnErr, filter, not};
+ghost use Rattle.std.specs.Prelude.{◌≡◌, ◌&&◌, ◌++◌, ◌∷◌, [], IfOk, OnOk, Some, OnErr, filter, not};
 ghost use Rattle.std.specs.FinMap as map;
 ghost use Rattle.std.specs.FinSet as set;
 ghost use Rattle.ids.specs.Key.{Objects};
-ghost use Rattle.library_rules.specs.Calls.{absent, keys_of};
+ghost use Rattle.library_rules.specs.Calls.{keys_of};
 ghost use Rattle.library_rules.specs.Changes.{stored_keys};
-ghost use Rattle.library_rules.specs.LibraryState.{State, is_stored};
+ghost use Rattle.library_rules.specs.LibraryState.{is_stored};
 ghost use Rattle.object_graph.specs.Objects.{is_nil};
 ghost use Rattle.object_store.specs.Shelf.{GivesNoMore};
 ghost use Rattle.object_store.specs.StoreView.{objects_of};
 ghost use Rattle.library_state.specs.declared.call.Act.TheVariants as act;
-ghost use Rattle.depot.specs.Answering.{MayTell, ServesAct};
-ghost use Rattle.depot.specs.Fresh.{MayHaveFresh, MayKeep, is_told, stored_told};
-ghost use Rattle.depot.specs.FreshKeys.{told_there};
+ghost use Rattle.depot.specs.Answering.{ServesAct};
+ghost use Rattle.depot.specs.Fresh.{MayHaveFresh, MayKeep};
 ghost use Rattle.depot.specs.Missing.{absent_from, is_absent, is_known};
-ghost use Rattle.depot.specs.ObjectCalls.{Counts, IsToldDamage, SaysOr};
 
 use crate::collection::Collection;
 use crate::depot::Depot;
@@ -30,39 +28,35 @@ impl<S: Shelf> Depot<S> {
         ensures value { ServesAct S.contents S.may_give S.texts S.faults self.old (act.Missing kind ids.now) result self.new }
         ensures gives { GivesNoMore (S.may_give self.old.store.shelf) (S.may_give self.new.store.shelf) }
     {
-        let reply = missing_objects(self.parts.alloc, &self.parts.store, kind, ids);
-        let kept = keep_told(
-            self.parts.alloc,
-            &self.parts.store,
-            &mut self.running,
-            kind,
-            ids,
-            &reply,
-        );
-        match kept {
-            Ok(()) => reply,
-            Err(_) => Reply::Refused(Refusal::NoMemory),
+        let found = match absent_ids(self.parts.alloc, &self.parts.store, kind, ids) {
+            Ok(found) => found,
+            Err(_) => return Reply::Refused(Refusal::NoMemory),
+        };
+        let store = &self.parts.store;
+        match keep_told(self.parts.alloc, store, &mut self.running, kind, ids) {
+            Ok(()) => {}
+            Err(_) => {
+                drop(found);
+                return Reply::Refused(Refusal::NoMemory);
+            }
         }
+        Reply::Absent(found)
     }
 }
 
-/// Keeps from the collection that runs, if one does, what the answer tells to be stored. After an error nothing is changed.
+/// Keeps from the collection that runs, if one does, what an answer tells to be stored. After an error nothing is changed.
 fn keep_told<S: Shelf>(
     alloc: Global,
     store: &Store<S>,
     running: &mut Option<Collection>,
     kind: Kind,
     ids: &[ObjId],
-    reply: &Reply,
 ) -> Result<(), AllocError>
-    ensures shown { (objects : Objects) → objects_of S.contents store.now ≡ Some objects → OnOk result (MayKeep (stored_told objects kind ids.now reply.now) running.old running.new) }
-    ensures ok { OnOk result (MayKeep (told_there store.now.index (act.Missing kind ids.now) reply.now) running.old running.new) }
+    ensures shown { (objects : Objects) → objects_of S.contents store.now ≡ Some objects → OnOk result (MayKeep (stored_keys objects (keys_of kind ids.now)) running.old running.new) }
+    ensures ok { OnOk result (MayKeep (filter (is_known store.now.index) (keys_of kind ids.now)) running.old running.new) }
     ensures err { OnErr result (MayHaveFresh (λ fresh key. set.contains fresh key) running.old running.new) }
 {
     if running.is_none() {
-        return Ok(());
-    }
-    if !is_told(reply) {
         return Ok(());
     }
     keep_present(alloc, store, running, kind, ids)
@@ -87,16 +81,6 @@ fn keep_present<S: Shelf>(
     Ok(())
 }
 
-/// Whether an answer tells ids.
-fn is_told(reply: &Reply) -> bool
-    ensures value { result ≡ is_told reply.now }
-{
-    match reply {
-        Reply::Absent(_) => true,
-        _ => false,
-    }
-}
-
 /// The keys of the ids that name what is stored.
 fn present_keys<S: Shelf>(
     alloc: Global,
@@ -115,11 +99,7 @@ fn present_keys<S: Shelf>(
 }
 
 /// Lists a key, if it names what is stored.
-fn list_present<S: Shelf>(
-    store: &Store<S>,
-    keys: &mut KeyList,
-    key: &Key,
-) -> Result<(), AllocError>
+fn list_present<S: Shelf>(store: &Store<S>, keys: &mut KeyList, key: &Key) -> Result<(), AllocError>
     ensures shown { (objects : Objects) → objects_of S.contents store.now ≡ Some objects
         → OnOk result (keys.new ≡ keys.old ++ stored_keys objects (keys_of key.now.kind (key.now.id ∷ []))) }
     ensures value { OnOk result (keys.new ≡ keys.old ++ filter (is_known store.now.index) (keys_of key.now.kind (key.now.id ∷ []))) }
@@ -139,20 +119,7 @@ fn is_present<S: Shelf>(store: &Store<S>, key: &Key) -> bool
     !key.id.is_nil() && store.has(*key).is_some()
 }
 
-/// Tells which ids name nothing that is stored as this kind, in the order asked, each once. Forty zeros are never told.
-fn missing_objects<S: Shelf>(alloc: Global, store: &Store<S>, kind: Kind, ids: &[ObjId]) -> Reply
-    ensures value { (s : State) → objects_of S.contents store.now ≡ Some s.objects → SaysOr s.objects (Reply.Absent (absent s kind ids.now)) result }
-    ensures cause { MayTell store.now.index kind ids.now result }
-    ensures damaged { (objects : Objects) → IsToldDamage objects result }
-    ensures faults { (count : ℕ) → Counts count count result }
-{
-    match absent_ids(alloc, store, kind, ids) {
-        Ok(found) => Reply::Absent(found),
-        Err(_) => Reply::Refused(Refusal::NoMemory),
-    }
-}
-
-/// The ids that name nothing.
+/// The ids that name nothing that is stored as this kind, in the order asked, each once. Forty zeros are never told.
 fn absent_ids<S: Shelf>(
     alloc: Global,
     store: &Store<S>,
