@@ -1,24 +1,27 @@
 -- A turn of any kind, by the depot that it leaves. The key lemmas are over_takes, spent_idle, begins_idle, stops_idle, closes_takes,
--- closes_kept, turn_keeps and turn_saves.
-use Rattle.std.proofs.Common.{◌≡◌, ◌≢◌, inl, ℕ, ◌+◌, ◌<◌, ◌≤◌, ◌==◌, Bool, true, false, if◌then◌else◌, List, [], refl, sym, ap, ap₂, ◌∙◌, subst, subst₂, true≢false, eq-eqb, Option, None, Some, Err, option_map, arith}
+-- closes_kept, turn_keeps, turn_saves and owner_at.
+use Rattle.std.proofs.Common.{◌≡◌, ◌≢◌, inl, ℕ, ◌+◌, ◌<◌, ◌≤◌, ◌==◌, Bool, true, false, if◌then◌else◌, List, [], refl, sym, ap, ap₂, ◌∙◌, subst, subst₂, true≢false, eq-eqb, Option, None, Some, Err, option_map, slice_index_or, arith}
 use borrow.Author.Tests.{eqb-true}
 use Rattle.std.specs.Prelude.{⊤}
 use Rattle.std.specs.FinMap as map
 use Rattle.ids.specs.Key.{Objects}
 use Rattle.ids.specs.declared.key.Key.{Key}
+use Rattle.library_rules.specs.Calls.{token_of}
 use Rattle.library_rules.specs.Files.{KeepsKept}
 use Rattle.library_rules.specs.LibraryState.{Running, State, last_number}
 use Rattle.library_rules.specs.Uploads.{KeepsSafe}
 use Rattle.library_state.specs.declared.refusal.Refusal.{Refusal}
 use Rattle.library_state.specs.declared.refusal.Refusal.TheVariants as refusal
 use Rattle.library_state.specs.declared.state.LibState.{LibState}
+use Rattle.library_state.specs.declared.token.Token.{Token}
 use Rattle.object_store.specs.Shelf.{Contents}
 use Rattle.object_store.specs.Store.{CountsShelf}
 use Rattle.object_store.specs.StoreView.{AddsNoStray, StoreView, objects_of, status_of}
 use Rattle.object_store.specs.declared.error.StoreFault.{StoreFault}
 use Rattle.object_store.specs.declared.shelf.Slot.{Slot as ShelfSlot}
 use Rattle.tree_walk.specs.KnownTrees.{KnownView}
-use Rattle.depot.specs.CollectionTurns.{BeginsOver, BeginsSo, IsAimed, IsRunning, TakesTurn, is_begin, is_end, missed, running_after, with_begin}
+use Rattle.depot.specs.Changing.{IsPlaceOf}
+use Rattle.depot.specs.CollectionTurns.{BeginsOver, BeginsSo, IsAimed, IsRunning, TakesTurn, is_begin, is_end, is_owner, missed, permits_collection, running_after, with_begin}
 use Rattle.depot.specs.DepotView.{CollectionView, DepotView, IsGood, IsKept, running_library, running_of, state_of}
 use Rattle.depot.specs.Giving.{GivesBy, IsOwnText}
 use Rattle.depot.specs.Refusals.{store_refusal}
@@ -27,9 +30,21 @@ use Rattle.depot.specs.declared.turn.Turn.{Turn}
 use Rattle.depot.specs.declared.turn.Turn.TheVariants.{Began, Ended, Over, Refused}
 use Rattle.depot.proofs.BeginTurnLemmas.{begins_kept, begins_takes, spent_takes, stops_beginning, stops_kept}
 use Rattle.depot.proofs.BesideLemmas.{good_rest}
+use Rattle.depot.proofs.PlaceLemmas.{place_token}
 use Rattle.depot.proofs.TakesTurnLemmas.{depot_of}
 use Rattle.depot.proofs.ToldLemmas.{mapped_at}
 use Rattle.depot.proofs.TurnLemmas.{turn_files, turn_safe}
+
+-- ---- who may collect
+
+-- it is told by the token at the place
+pub owner_at : (tokens : List Token) (secret : Option (List ℕ)) (digits : List ℕ) (place : ℕ) (d : Token) → secret ≡ Some digits → IsPlaceOf tokens digits place
+    → permits_collection (token_of tokens secret) ≡ is_owner (slice_index_or tokens place d).right
+owner_at tokens secret digits place d shown at =
+    ap (λ o. permits_collection (token_of tokens o)) shown ∙ ap permits_collection (place_token tokens digits place d at)
+
+pub owner_none : (tokens : List Token) (secret : Option (List ℕ)) (digits : List ℕ) → secret ≡ Some digits → token_of tokens (Some digits) ≡ None → permits_collection (token_of tokens secret) ≡ false
+owner_none tokens secret digits shown none = ap (λ o. permits_collection (token_of tokens o)) shown ∙ ap permits_collection none
 
 -- ---- a goal that doesn't run
 
@@ -123,12 +138,10 @@ module _ {S : Type 0} (contents : S → Option Contents) (may_give : S → Shelf
     is_rest : depot_of store state unsettled None ≡ old
     is_rest = subst (λ (p : Option CollectionView). depot_of store state unsettled (running_of p) ≡ old) none is
 
-    pub spent_idle : (moment at_most : ℕ) (keys : List Key) → keys ≡ [] → last_number ≤ state.collection
-        → TakesTurn contents may_give texts faults old None moment at_most (Refused refusal.Spent keys) (depot_of store state unsettled (running_of o))
+    pub spent_idle : (moment at_most : ℕ) (keys : List Key) → keys ≡ [] → last_number ≤ state.collection → TakesTurn contents may_give texts faults old None moment at_most (Refused refusal.Spent keys) old
     spent_idle moment at_most keys empty last =
-        subst (λ (p : Option CollectionView). TakesTurn contents may_give texts faults old None moment at_most (Refused refusal.Spent keys) (depot_of store state unsettled (running_of p))) (sym none)
-        (subst₂ (λ (d : DepotView S) (ks : List Key). TakesTurn contents may_give texts faults d None moment at_most (Refused refusal.Spent ks) (depot_of store state unsettled None)) is_rest (sym empty)
-        (spent_takes contents may_give texts faults store store state unsettled known rest_kept moment at_most last))
+        subst₂ (λ (d : DepotView S) (ks : List Key). TakesTurn contents may_give texts faults d None moment at_most (Refused refusal.Spent ks) d) is_rest (sym empty)
+        (spent_takes contents may_give texts faults store store state unsettled known rest_kept moment at_most last)
 
     module _ (new : StoreView S) (later : LibState) (still : Bool) (moment : ℕ) (next : state.collection < last_number) (stays : objects_of contents new ≡ objects_of contents store)
         (held : new.index ≡ store.index) (lying : AddsNoStray contents store new) (gives : GivesBy (IsOwnText state.lib) (may_give store.shelf) (may_give new.shelf)) where

@@ -103,7 +103,7 @@ pub(crate) fn permitted_place(tokens: &[Token], secret: &Option<Secret>, act: &A
 }
 
 /// The place of the first token of a secret.
-fn place_of(tokens: &[Token], secret: &Secret) -> Option<usize>
+pub(crate) fn place_of(tokens: &[Token], secret: &Secret) -> Option<usize>
     ensures found { IfSome result (IsPlaceOf tokens.now secret.now) }
     ensures absent { IfNone result (token_of tokens.now (Some secret.now) ≡ None) }
 {

@@ -12,20 +12,21 @@ ghost use Rattle.library_state.specs.StateSpelling.{text_of};
 ghost use Rattle.object_store.specs.Store.{CountsShelf};
 ghost use Rattle.object_graph.specs.Traversal.{is_in};
 ghost use Rattle.object_store.specs.StoreView.{AddsNoStray, objects_of, status_of};
-ghost use Rattle.depot.specs.CollectionTurns.{BeginsOver, BeginsSo, CountsTurn, IsAimed, IsToldDamageIn, MarksSo, MayLayIn, SettlesBefore, SweepsSo, TakesTurn, TurnSlotSo, TurnsAsDue, TurnsBySome, is_begin, is_counted_turn, is_end, missed, permits_collection, removed_in, running_after, running_after_turn, state_after_turn};
+ghost use Rattle.depot.specs.CollectionTurns.{BeginsOver, BeginsSo, CountsTurn, IsAimed, IsToldDamageIn, MarksSo, MayLayIn, SettlesBefore, SweepsSo, TakesTurn, TurnSlotSo, TurnsAsDue, TurnsBySome, is_begin, is_counted_turn, is_end, is_owner, missed, permits_collection, removed_in, running_after, running_after_turn, state_after_turn};
 ghost use Rattle.depot.specs.DepotView.{IsGood, IsKept, KnowsCandidates, state_of};
 ghost use Rattle.depot.specs.Giving.{GivesBy, IsOfSweep, IsOwnText};
 ghost use Rattle.depot.specs.NextState.{with_begin};
 ghost use Rattle.depot.specs.Writing.{IsWritten, LeftBy, ReadsBack, settled};
 ghost use Rattle.tree_walk.specs.KnownTrees.{nothing_known};
 
+use crate::answering::place_of;
 use crate::collection::Collection;
 use crate::depot::{Depot, Parts};
 use crate::refusals::{store_refusal, walk_refusal};
 use crate::update_install::{copied, text_with};
 use collector::{Marks, Phase, Swept};
 use ids::{Bytes, IdList, KeyList};
-use library_state::{History, Install, LAST, LibState, Refusal, Right, Secret};
+use library_state::{History, Install, LAST, LibState, Refusal, Right, Secret, Token};
 use object_store::{Shelf, StoreFault};
 use std::alloc::{AllocError, Global};
 use tree_walk::Known;
@@ -62,12 +63,7 @@ impl<S: Shelf> Depot<S> {
     pub fn may_collect(&self, secret: &Option<Secret>) -> bool
         ensures value { result ≡ permits_collection (token_of self.now.state.tokens secret.now) }
     {
-        let shown = match secret {
-            Some(shown) => shown,
-            None => return false,
-        };
-        self.parts.state.tokens.slice().iter().any(|token| shown.is(&token.secret)
-            && token.right == Right::Owner)
+        is_of_owner(self.parts.state.tokens.slice(), secret)
     }
 
     /// Takes one step of a collection, the first that is due, at a moment in seconds since 1970-01-01 UTC: it begins one where
@@ -103,6 +99,16 @@ impl<S: Shelf> Depot<S> {
         ensures text { TurnSlotSo moment result self.old.unsettled self.old.state (status_of S.contents self.old.store) self.new.unsettled
             (status_of S.contents self.new.store) (S.texts self.old.store.shelf) (S.texts self.new.store.shelf) }
     {
+        self.take_turn(goal, moment, at_most)
+    }
+
+    /// The same in one clause, of a library that was sound.
+    fn take_turn(&mut self, goal: Option<u64>, moment: u64, at_most: u64) -> Turn
+        requires some { 1 ≤ at_most }
+        ensures value { TakesTurn S.contents S.may_give S.texts S.faults self.old goal moment at_most result self.new }
+        ensures stands { IsGood S.contents S.faults self.new }
+        ensures found { IsGood S.contents S.faults self.old }
+    {
         match missed(self.running(), goal) {
             Some(number) => return Turn::Over(number),
             None => {}
@@ -132,6 +138,30 @@ impl<S: Shelf> Depot<S> {
             }
             Err(fault) => Turn::Refused(store_refusal(fault), KeyList::new(alloc)),
         }
+    }
+}
+
+/// Whether the first token of the secret is an owner's.
+fn is_of_owner(tokens: &[Token], secret: &Option<Secret>) -> bool
+    ensures value { result ≡ permits_collection (token_of tokens.now secret.now) }
+{
+    let shown = match secret {
+        Some(shown) => shown,
+        None => return false,
+    };
+    match place_of(tokens, shown) {
+        Some(place) => is_owner(tokens[place].right),
+        None => false,
+    }
+}
+
+/// Whether it is the right of an owner.
+fn is_owner(right: Right) -> bool
+    ensures value { result ≡ is_owner right }
+{
+    match right {
+        Right::Owner => true,
+        _ => false,
     }
 }
 

@@ -1,8 +1,7 @@
 -- Two commits more.
-use Rattle.std.proofs.Common.{List, ap, arith, ◌∙◌}
+use Rattle.std.proofs.Common.{ap, arith, ◌∙◌}
 use Rattle.std.proofs.lemmas.List.{take_all}
 use Rattle.library_rules.specs.LibraryState.{kept_commits}
-use Rattle.library_state.specs.declared.history.Install.{Install}
 use Rattle.depot.proofs.BeginTurnLemmas.{two_more}
 use Rattle.depot.proofs.turn.commits_of.Goals as goal
 
@@ -11,7 +10,7 @@ loop-install-init c = c.new-commits.ensures.value
 
 pub loop-install-preserved : goal.loop-install-preserved
 loop-install-preserved c =
-    two_more c.args.kept.now c.loop-install.install-index c.install-item.result c.loop-install-test.true c.install-item.is c.loop-install.commits c.push.new.self c.push-2.new.self c.loop-install.invariant
+    two_more c.args.kept.now c.loop-install.install-index c.install-item.result c.loop-install-test.true c.install-item.is c.loop-install.commits c.push.new.self c.push-in-loop-install.new.self c.loop-install.invariant
     c.in_ok-push.ensures.ok c.in_ok-push-2.ensures.ok
 
 pub returns : goal.returns

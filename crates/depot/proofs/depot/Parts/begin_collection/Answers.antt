@@ -1,11 +1,11 @@
 -- What is made before the first write, and then the text is written.
-use Rattle.std.proofs.Common.{◌≡◌, List, ap, refl, subst, sym, Ok, Err, ◌∙◌}
-use Rattle.std.specs.Prelude.{⊤}
+use Rattle.std.proofs.Common.{◌≡◌, List, ap, subst, sym, Ok, Err, ◌∙◌}
 use Rattle.library_state.specs.StateSpelling.{text_of}
 use Rattle.library_state.specs.declared.history.Install.{Install}
 use Rattle.library_state.specs.declared.state.LibState.{LibState}
 use Rattle.library_rules.specs.LibraryState.{kept_commits}
 use Rattle.object_store.specs.StoreView.{status_of}
+use Rattle.depot.specs.Giving.{GivesBy, IsOwnText}
 use Rattle.depot.specs.NextState.{with_begin}
 use Rattle.depot.specs.Writing.{ReadsBack, RewritesSo}
 use Rattle.depot.proofs.BeginTurnLemmas.{begins_over, begins_so, begun_state}
@@ -52,3 +52,21 @@ returns-in-Err-write_installed-clause-text g c =
     = subst (λ (kept : List Install). ReadsBack (record c.args.self.now.state { kept = kept; collection = next.collection })) c.in-Ok.ensures.value c.in-Ok-text_of_begin.ensures.reads in
     subst (λ (st : LibState). RewritesSo c.args.self.now.unsettled st next (status_of g.S.Shelf.contents c.args.self.now.store) c.write_installed.new.self.unsettled
     (status_of g.S.Shelf.contents c.write_installed.new.self.store) (Err c.in-Err-write_installed.fault)) c.text_of_begin.ensures.state (c.in-Err-write_installed.ensures.value next text reads)
+
+pub returns-in-Err-write_installed-clause-gives : goal.returns-in-Err-write_installed-clause-gives
+returns-in-Err-write_installed-clause-gives g c =
+    let next : LibState = with_begin c.args.moment c.args.self.now.state in
+    let text : c.slice-2.result.now ≡ text_of next
+    = c.slice-2.ensures.value ∙ c.in-Ok-text_of_begin.ensures.value
+    ∙ ap (λ (kept : List Install). text_of (record c.args.self.now.state { kept = kept; collection = next.collection })) c.in-Ok.ensures.value in
+    subst (λ (st : LibState). GivesBy (IsOwnText st.lib) (g.S.Shelf.may_give c.args.self.now.store.shelf) (g.S.Shelf.may_give c.write_installed.new.self.store.shelf)) c.text_of_begin.ensures.state
+    (c.in-Err-write_installed.ensures.gives next text (ap (λ (st : LibState). st.lib) (sym c.text_of_begin.ensures.state)))
+
+pub returns-clause-gives : goal.returns-clause-gives
+returns-clause-gives g c =
+    let next : LibState = with_begin c.args.moment c.args.self.now.state in
+    let text : c.slice-2.result.now ≡ text_of next
+    = c.slice-2.ensures.value ∙ c.in-Ok-text_of_begin.ensures.value
+    ∙ ap (λ (kept : List Install). text_of (record c.args.self.now.state { kept = kept; collection = next.collection })) c.in-Ok.ensures.value in
+    subst (λ (st : LibState). GivesBy (IsOwnText st.lib) (g.S.Shelf.may_give c.args.self.now.store.shelf) (g.S.Shelf.may_give c.write_installed.new.self.store.shelf)) c.text_of_begin.ensures.state
+    (c.in-Ok-write_installed.ensures.gives next text (ap (λ (st : LibState). st.lib) (sym c.text_of_begin.ensures.state)))
