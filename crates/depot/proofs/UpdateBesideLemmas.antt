@@ -114,6 +114,11 @@ pub part_left : (fault : StoreFault) (unsettled : Bool) (present next : LibState
 part_left fault unsettled present next all old still new (stopped part flag slot texts) = part
 part_left fault unsettled present next all old still new (unsure free put left) = record { part = all; front = ([], sym (append-nil all)); objects = put }
 
+-- by the keys that are handed on
+pub taken_of : (there : Key → Bool) (given made : List Key) (m n : Option CollectionView) → given ≡ made → MayHaveFresh (λ fresh k. set.contains fresh k && not (is_in given k && not (there k))) m n
+    → MayHaveFresh (λ fresh k. set.contains fresh k && not (is_in made k && not (there k))) m n
+taken_of there given made m n same may = subst (λ (keys : List Key). MayHaveFresh (λ fresh k. set.contains fresh k && not (is_in keys k && not (there k))) m n) same may
+
 -- what was made fresh and isn't there was taken back
 pub taken_back_each : (there : Key → Bool) (keys : List Key) (o m n : Option CollectionView) (made : List Key) → MayHaveFresh (λ fresh k. set.contains fresh k || is_in keys k) o m → AreNewIn keys o made
     → MayHaveFresh (λ fresh k. set.contains fresh k && not (is_in made k && not (there k))) m n → (before after : Running) → running_of o ≡ Some before → running_of n ≡ Some after → (key : Key)

@@ -8,12 +8,12 @@ use Rattle.depot.proofs.shields.stale_unless_stored.Goals as goal
 
 pub returns-in-Some-clause-shown : goal.returns-in-Some-clause-shown
 returns-in-Some-clause-shown g c = λ objects told.
-    may_fresh c.args.running.now _ c.in-Some.collection.now c.take_back.new.running c.in-Some.is refl
+    may_fresh c.args.running.now _ c.in-Some.collection c.take_back.new.running c.in-Some.is refl
     (λ fresh key. set.contains fresh key && not (is_in c.args.keys.now key && not (is_stored objects key))) (c.take_back.ensures.shown objects told)
 
 pub returns-in-Some-clause-value : goal.returns-in-Some-clause-value
 returns-in-Some-clause-value g c =
-    may_fresh c.args.running.now _ c.in-Some.collection.now c.take_back.new.running c.in-Some.is refl
+    may_fresh c.args.running.now _ c.in-Some.collection c.take_back.new.running c.in-Some.is refl
     (λ fresh key. set.contains fresh key && not (is_in c.args.keys.now key && not (is_some (map.get c.args.store.now.index key)))) c.take_back.ensures.value
 
 pub returns-in-None-clause-shown : goal.returns-in-None-clause-shown

@@ -1,5 +1,5 @@
 -- A key that is stored stays as it is; another is taken back.
-use Rattle.std.proofs.Common.{Bool, ap, is_some, not, sym, ℕ, Option, None, Some}
+use Rattle.std.proofs.Common.{ap, is_some, sym, ℕ, Option}
 use Rattle.std.specs.FinMap as map
 use Rattle.library_rules.specs.LibraryState.{is_stored}
 use Rattle.depot.proofs.CollectionLemmas.{gone_back, kept_back}

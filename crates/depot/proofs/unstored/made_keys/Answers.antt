@@ -14,10 +14,10 @@ returns-in-None-clause-shown g c = λ objects told.
 
 pub returns-clause-value : goal.returns-clause-value
 returns-clause-value g c =
-    made_text (λ key. not (is_some (map.get c.args.store.now.index key))) c.args.plan.now c.in-Some.field-0.now c.in_ok-keys.keys c.push_unstored.new.keys c.commit_key.result c.commit_key.ensures.value
+    made_text (λ key. not (is_some (map.get c.args.store.now.index key))) c.args.plan.now c.in-Some.field-0 c.in_ok-keys.keys c.push_unstored.new.keys c.commit_key.result c.commit_key.ensures.value
     c.in_ok-keys.ensures.value c.in_ok-push_unstored.ensures.value c.in-Some.is
 
 pub returns-clause-shown : goal.returns-clause-shown
 returns-clause-shown g c = λ objects told.
-    made_text (λ key. not (is_stored objects key)) c.args.plan.now c.in-Some.field-0.now c.in_ok-keys.keys c.push_unstored.new.keys c.commit_key.result c.commit_key.ensures.value
+    made_text (λ key. not (is_stored objects key)) c.args.plan.now c.in-Some.field-0 c.in_ok-keys.keys c.push_unstored.new.keys c.commit_key.result c.commit_key.ensures.value
     (c.in_ok-keys.ensures.shown objects told) (c.in_ok-push_unstored.ensures.shown objects told) c.in-Some.is

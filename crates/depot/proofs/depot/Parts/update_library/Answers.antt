@@ -36,7 +36,7 @@ use Rattle.depot.proofs.FitsLemmas.{fits_carried, fits_same}
 use Rattle.depot.proofs.BesideLemmas.{FreshTold, good_rest, serves_beside}
 use Rattle.depot.proofs.CallFreshLemmas.{made_runs, same_fresh, same_runs}
 use Rattle.depot.proofs.FreshLemmas.{as_before, runs_as, runs_then, shields_as}
-use Rattle.depot.proofs.UpdateBesideLemmas.{came_all, came_of, left_fresh, made_fresh, made_now, part_left, taken_back_each, taken_back_runs}
+use Rattle.depot.proofs.UpdateBesideLemmas.{came_all, came_of, left_fresh, made_fresh, made_now, part_left, taken_back_each, taken_back_runs, taken_of}
 use Rattle.depot.proofs.UpdateKeptLemmas.{added_keeps, fresh_goes, fresh_none, kept_installed, kept_unshielded, same_keeps, shielded_goes, shielded_none, twice_goes, was_with}
 use Rattle.depot.proofs.UpdateWholeLemmas.{plan_fault, plan_whole, whole_due}
 use Rattle.depot.proofs.GrownLemmas.{good_kept, kept_status}
@@ -143,7 +143,7 @@ returns-in-Err-prepare-clause-value g c = λ call asks updates.
     let runs = runs_as as_before c.args.running.now c.prepare.new.running c.in-Err-prepare.ensures.err in
     let told_refusal = λ (objects : Objects) (told : objects_of g.S.Shelf.contents old.store ≡ Some objects).
     c.in-Err-prepare.ensures.refused objects (planned.kept.objects ∙ told)
-    (subst (λ id. AreWhole objects id c.in-Some.plan c.args.pushed) (sym (c.head_of-before.ensures.value ∙ ap head_of c.slice-before.ensures.value))
+    (subst (λ id. AreWhole objects id c.in-Some.plan c.args.pushed) (sym (c.head_of-before.ensures.value ∙ ap head_of c.slice-2.ensures.value))
     (plan_whole (library old.state (g.S.Shelf.faults old.store.shelf) objects) c.args.pushed
     (sound_at g.S.Shelf.contents g.S.Shelf.faults old (good_rest g.S.Shelf.contents g.S.Shelf.faults old c.requires.good.good) objects (g.S.Shelf.faults old.store.shelf) told)
     (head_kept old.state.kept c.requires.good.good.head) c.args.moment (due (library old.state (g.S.Shelf.faults old.store.shelf) objects) call) c.in-Some.plan
@@ -253,7 +253,7 @@ returns-in-Ok-carry_out-clause-stands g c =
     let call : Call = record { secret = c.requires.who.0; act = act.Update c.args.pushed } in
     let decides = decides_at c.args.self.now.state call c.args.pushed c.plan_of.new.store.index (g.S.Shelf.may_give c.plan_of.new.store.shelf) c.in-Ok.plan (Some c.in-Some.plan) c.in-Some.is (c.in-Ok.ensures.any call c.requires.who.1 refl) in
     let installed = ap (λ (st : LibState). st.kept) c.in-Ok-carry_out.ensures.ok in
-    let is_before = c.head_of-before.ensures.value ∙ ap head_of c.slice-before.ensures.value in
+    let is_before = c.head_of-before.ensures.value ∙ ap head_of c.slice-2.ensures.value in
     let may = subst (λ i. MayHaveFresh (λ fresh k. set.contains fresh k || is_in (lacking i keys) k) c.args.running.now c.prepare.new.running) planned.kept.index c.in-Ok-prepare.ensures.ok in
     let none = shielded_none (λ fresh k. set.contains fresh k || is_in (lacking old.store.index keys) k) c.in-Ok-prepare.shields.needed c.args.running.now c.prepare.new.running c.shield.new.running may c.shield.ensures.value in
     let back = was_with (objects_of g.S.Shelf.contents old.store) (objects_of g.S.Shelf.contents c.prepare.new.store) (objects_of g.S.Shelf.contents new.store) (objects_in c.in-Some.plan)
@@ -304,16 +304,19 @@ returns-clause-value g c = λ call asks updates.
     (held_in g.S.Shelf.contents g.S.Shelf.texts c.prepare.new.store) new.unsettled (held_in g.S.Shelf.contents g.S.Shelf.texts new.store) c.in-Err-carry_out.ensures.value in
     let now_is = λ (was now : Objects) (told_was : objects_of g.S.Shelf.contents old.store ≡ Some was) (told_now : objects_of g.S.Shelf.contents new.store ≡ Some now).
     made_now was now (objects_of g.S.Shelf.contents old.store) (objects_of g.S.Shelf.contents c.prepare.new.store) (objects_of g.S.Shelf.contents new.store) part.part part.objects kept.objects told_was told_now in
+    let back = taken_of (λ k. is_some (map.get new.store.index k)) c.slice-in-Err-carry_out.result.now c.in-Ok-prepare.shields.made c.prepare.new.running c.stale_unless_stored.new.running
+    c.slice-in-Err-carry_out.ensures.value c.stale_unless_stored.ensures.value in
     let runs = taken_back_runs keys old.store.index new.store.index c.args.running.now c.prepare.new.running c.stale_unless_stored.new.running c.in-Ok-prepare.shields.made
     (subst (λ i. HoldsMore keys i new.store.index) kept.index c.in-Err-carry_out.ensures.held)
     (subst (λ i. MayHaveFresh (λ fresh k. set.contains fresh k || is_in (lacking i keys) k) c.args.running.now c.prepare.new.running) planned.kept.index c.in-Ok-prepare.ensures.ok)
     (subst (λ i. AreNewIn (lacking i keys) c.args.running.now c.in-Ok-prepare.shields.made) planned.kept.index c.in-Ok-prepare.ensures.made)
-    c.stale_unless_stored.ensures.value in
+    back in
     let fresh = left_fresh g.S.Shelf.contents old new c.args.pushed (reply.Refused why) keys
     (λ was now told_was told_now key there gone. subst (λ added. is_in (keys_added added) key ≡ true) (sym part.front.1)
     (came_of was part.part part.front.0 key (subst (λ o. is_stored o key ≡ true) (now_is was now told_was told_now) there) gone))
-    (λ was now told_was told_now. taken_back_each (λ k. is_stored now k) (unstored was keys) c.args.running.now c.prepare.new.running c.stale_unless_stored.new.running c.in-Ok-prepare.shields.made
-    (c.in-Ok-prepare.ensures.shown was (planned.kept.objects ∙ told_was)).1 (c.in-Ok-prepare.ensures.shown was (planned.kept.objects ∙ told_was)).0 (c.stale_unless_stored.ensures.shown now told_now)) in
+    (λ was now told_was told_now. taken_back_each (is_stored now) (unstored was keys) c.args.running.now c.prepare.new.running c.stale_unless_stored.new.running c.in-Ok-prepare.shields.made
+    (c.in-Ok-prepare.ensures.shown was (planned.kept.objects ∙ told_was)).1 (c.in-Ok-prepare.ensures.shown was (planned.kept.objects ∙ told_was)).0 (taken_of (is_stored now) c.slice-in-Err-carry_out.result.now c.in-Ok-prepare.shields.made c.prepare.new.running c.stale_unless_stored.new.running c.slice-in-Err-carry_out.ensures.value
+    (c.stale_unless_stored.ensures.shown now told_now))) in
     let decides = decides_at c.args.self.now.state call c.args.pushed c.plan_of.new.store.index (g.S.Shelf.may_give c.plan_of.new.store.shelf) c.in-Ok.plan (Some c.in-Some.plan) c.in-Some.is (c.in-Ok.ensures.any call asks updates) in
     subst (λ q. Serves g.S.Shelf.contents g.S.Shelf.may_give g.S.Shelf.texts g.S.Shelf.faults old call c.args.moment (reply.Refused q) new) (sym c.store_refusal.ensures.value)
     (serves_beside g.S.Shelf.contents g.S.Shelf.faults old new call c.args.moment (reply.Refused why)
@@ -347,22 +350,25 @@ returns-clause-stands g c =
     (held_in g.S.Shelf.contents g.S.Shelf.texts c.prepare.new.store) new.unsettled (held_in g.S.Shelf.contents g.S.Shelf.texts new.store) c.in-Err-carry_out.ensures.value in
     let now_is = λ (was now : Objects) (told_was : objects_of g.S.Shelf.contents old.store ≡ Some was) (told_now : objects_of g.S.Shelf.contents new.store ≡ Some now).
     made_now was now (objects_of g.S.Shelf.contents old.store) (objects_of g.S.Shelf.contents c.prepare.new.store) (objects_of g.S.Shelf.contents new.store) part.part part.objects kept.objects told_was told_now in
+    let back = taken_of (λ k. is_some (map.get new.store.index k)) c.slice-in-Err-carry_out.result.now c.in-Ok-prepare.shields.made c.prepare.new.running c.stale_unless_stored.new.running
+    c.slice-in-Err-carry_out.ensures.value c.stale_unless_stored.ensures.value in
     let runs = taken_back_runs keys old.store.index new.store.index c.args.running.now c.prepare.new.running c.stale_unless_stored.new.running c.in-Ok-prepare.shields.made
     (subst (λ i. HoldsMore keys i new.store.index) kept.index c.in-Err-carry_out.ensures.held)
     (subst (λ i. MayHaveFresh (λ fresh k. set.contains fresh k || is_in (lacking i keys) k) c.args.running.now c.prepare.new.running) planned.kept.index c.in-Ok-prepare.ensures.ok)
     (subst (λ i. AreNewIn (lacking i keys) c.args.running.now c.in-Ok-prepare.shields.made) planned.kept.index c.in-Ok-prepare.ensures.made)
-    c.stale_unless_stored.ensures.value in
+    back in
     let fresh = left_fresh g.S.Shelf.contents old new c.args.pushed (reply.Refused why) keys
     (λ was now told_was told_now key there gone. subst (λ added. is_in (keys_added added) key ≡ true) (sym part.front.1)
     (came_of was part.part part.front.0 key (subst (λ o. is_stored o key ≡ true) (now_is was now told_was told_now) there) gone))
-    (λ was now told_was told_now. taken_back_each (λ k. is_stored now k) (unstored was keys) c.args.running.now c.prepare.new.running c.stale_unless_stored.new.running c.in-Ok-prepare.shields.made
-    (c.in-Ok-prepare.ensures.shown was (planned.kept.objects ∙ told_was)).1 (c.in-Ok-prepare.ensures.shown was (planned.kept.objects ∙ told_was)).0 (c.stale_unless_stored.ensures.shown now told_now)) in
+    (λ was now told_was told_now. taken_back_each (is_stored now) (unstored was keys) c.args.running.now c.prepare.new.running c.stale_unless_stored.new.running c.in-Ok-prepare.shields.made
+    (c.in-Ok-prepare.ensures.shown was (planned.kept.objects ∙ told_was)).1 (c.in-Ok-prepare.ensures.shown was (planned.kept.objects ∙ told_was)).0 (taken_of (is_stored now) c.slice-in-Err-carry_out.result.now c.in-Ok-prepare.shields.made c.prepare.new.running c.stale_unless_stored.new.running c.slice-in-Err-carry_out.ensures.value
+    (c.stale_unless_stored.ensures.shown now told_now))) in
     let call : Call = record { secret = c.requires.who.0; act = act.Update c.args.pushed } in
     let decides = decides_at c.args.self.now.state call c.args.pushed c.plan_of.new.store.index (g.S.Shelf.may_give c.plan_of.new.store.shelf) c.in-Ok.plan (Some c.in-Some.plan) c.in-Some.is (c.in-Ok.ensures.any call c.requires.who.1 refl) in
     let may = subst (λ i. MayHaveFresh (λ fresh k. set.contains fresh k || is_in (lacking i keys) k) c.args.running.now c.prepare.new.running) planned.kept.index c.in-Ok-prepare.ensures.ok in
     let goes = twice_goes (λ fresh k. set.contains fresh k || is_in (lacking old.store.index keys) k)
     (λ fresh k. set.contains fresh k && not (is_in c.in-Ok-prepare.shields.made k && not (is_some (map.get new.store.index k)))) c.args.running.now c.prepare.new.running c.stale_unless_stored.new.running
-    may c.stale_unless_stored.ensures.value in
+    may back in
     kept_unshielded g.S.Shelf.contents g.S.Shelf.faults old new c.args.pushed (reply.Refused why) c.args.known.now c.plan_of.new.known c.args.running.now c.stale_unless_stored.new.running refl refl c.requires.good
     (good_failed g.S.Shelf.contents g.S.Shelf.may_give g.S.Shelf.texts g.S.Shelf.faults old call c.args.moment c.args.pushed refl c.in-Some.plan decides.0
     (λ objects told. (plans_at (library c.args.self.now.state (g.S.Shelf.faults c.args.self.now.store.shelf) objects) c.args.moment c.args.pushed
@@ -386,7 +392,7 @@ returns-clause-stands g c =
     (was.0, was.1))
     c.in-Err-carry_out.ensures.err
     (λ is. fresh_none (λ fresh k. set.contains fresh k && not (is_in c.in-Ok-prepare.shields.made k && not (is_some (map.get new.store.index k)))) c.prepare.new.running c.stale_unless_stored.new.running
-    c.stale_unless_stored.ensures.value (fresh_none (λ fresh k. set.contains fresh k || is_in (lacking old.store.index keys) k) c.args.running.now c.prepare.new.running may is))
+    back (fresh_none (λ fresh k. set.contains fresh k || is_in (lacking old.store.index keys) k) c.args.running.now c.prepare.new.running may is))
     goes
 
 pub returns-in-Err-clause-gives : goal.returns-in-Err-clause-gives
