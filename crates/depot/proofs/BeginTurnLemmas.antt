@@ -1,6 +1,6 @@
 -- A turn that begins a collection, and one that doesn't. The key lemmas are two_more, lowered, begins_so, begun_state, begins_takes,
 -- begins_kept, spent_takes and stops_beginning.
-use Rattle.std.proofs.Common.{◌≡◌, ◌≢◌, ◌⊎◌, inl, inr, ℕ, ◌+◌, ◌-◌, ◌<◌, ◌≤◌, Bool, true, false, List, [], ◌∷◌, ◌++◌, length, take, get_or, refl, sym, ap, ap₂, ◌∙◌, subst, true≢false, IsTrue, Option, None, Some, Result, Ok, Err, is_some, option_map, arith}
+use Rattle.std.proofs.Common.{◌≡◌, ◌⊎◌, inl, inr, ℕ, ◌+◌, ◌-◌, ◌<◌, ◌≤◌, Bool, false, List, [], ◌∷◌, ◌++◌, length, take, get_or, refl, sym, ap, ap₂, ◌∙◌, subst, true≢false, IsTrue, Option, None, Some, Err, is_some, option_map, arith}
 use Rattle.std.specs.Prelude.{⊤}
 use Rattle.std.specs.Bool.{MatchBool}
 use Rattle.std.specs.FinMap as map
@@ -11,13 +11,12 @@ use Rattle.ids.specs.Key.{Objects, key_cmp}
 use Rattle.ids.specs.declared.key.Key.{Key}
 use Rattle.library_rules.specs.Changes.{begun, counted}
 use Rattle.library_rules.specs.History.{lone}
-use Rattle.library_rules.specs.LibraryState.{IsSound, Running, State, is_stored, kept_commits, last_number}
+use Rattle.library_rules.specs.LibraryState.{IsSound, Running, State, kept_commits, last_number}
 use Rattle.library_rules.specs.declared.entry.Step.TheVariants as step
 use Rattle.library_rules.proofs.KeptHistoryLemmas.{cut_some}
 use Rattle.library_rules.proofs.SoundLemmas.{sound_begun}
 use Rattle.library_state.specs.Retention.{kept_for}
 use Rattle.library_state.specs.declared.history.Install.{Install}
-use Rattle.library_state.specs.declared.refusal.Refusal.{Refusal}
 use Rattle.library_state.specs.declared.refusal.Refusal.TheVariants as refusal
 use Rattle.library_state.specs.declared.reply.Reply.TheVariants as reply
 use Rattle.library_state.specs.declared.state.LibState.{LibState}
@@ -33,7 +32,7 @@ use Rattle.collector.proofs.GoesOnLemmas.{begins_collecting}
 use Rattle.tree_walk.specs.KnownTrees.{KnownView}
 use Rattle.depot.specs.Answering.{is_free_refusal}
 use Rattle.depot.specs.CollectionTurns.{BeginsOver, BeginsSo, MayRefuseTurn, TakesTurn, TurnsBySome, with_begin}
-use Rattle.depot.specs.DepotView.{CollectionView, Holds, IsGood, IsKept, library, running_library, state_of}
+use Rattle.depot.specs.DepotView.{CollectionView, IsKept, library, running_library, state_of}
 use Rattle.depot.specs.Giving.{GivesBy, IsOfSweep, IsOwnText}
 use Rattle.depot.specs.NextState.{collection_began}
 use Rattle.depot.specs.ObjectCalls.{Counts}

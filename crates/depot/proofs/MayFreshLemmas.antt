@@ -1,7 +1,7 @@
 -- What is so of a collection that runs is so where one may run. The key lemmas are may_fresh, fresh_is, shields_is, new_is, needed_is,
 -- none_fresh, lists_next, lists_all and made_text.
 use Rattle.std.proofs.Common.{◌≡◌, ◌++◌, Bool, true, false, cond, is_some, not, List, [], ◌∷◌, ap, refl, sym, ◌∙◌, subst, Option, None, Some, Result, Ok, Err, length, option_map, ℕ, ◌||◌, append-nil, append_assoc}
-use Rattle.std.specs.Prelude.{IfErr, IfOk, OnErr, OnOk, filter}
+use Rattle.std.specs.Prelude.{IfOk, OnErr, OnOk, filter}
 use Rattle.std.specs.FinMap as map
 use Rattle.std.specs.FinSet as set
 use Rattle.std.proofs.lemmas.List.Elements.{filter-append}

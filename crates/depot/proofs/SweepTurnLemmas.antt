@@ -1,6 +1,5 @@
 -- A turn that sweeps, and what it leaves. The key lemmas are sweep_turn and sweep_stands.
-use Rattle.std.proofs.Common.{◌≡◌, ◌≢◌, ◌⊎◌, inl, inr, ℕ, ◌+◌, ◌≤◌, ◌&&◌, Bool, true, false, if◌then◌else◌, not, List, [], length, min, refl, sym, ap, ◌∙◌, subst, subst₂, true≢false, IsTrue, Option, None, Some, Err, is_some, option_map, arith}
-use Rattle.std.specs.Prelude.{⊤}
+use Rattle.std.proofs.Common.{◌≡◌, ◌≢◌, ◌⊎◌, inl, inr, ℕ, ◌≤◌, ◌&&◌, Bool, true, false, if◌then◌else◌, not, List, [], length, min, refl, sym, ap, ◌∙◌, subst, subst₂, true≢false, IsTrue, Option, None, Some, is_some, option_map, arith}
 use Rattle.std.specs.Bool.{MatchBool}
 use Rattle.std.specs.FinMap as map
 use Rattle.std.specs.FinSet as set
@@ -8,9 +7,9 @@ use Rattle.std.proofs.lemmas.Bool.{false_from_ne_true}
 use Rattle.ids.specs.FaultCount.{Rose}
 use Rattle.ids.specs.Key.{Objects}
 use Rattle.ids.specs.declared.key.Key.{Key}
-use Rattle.library_rules.specs.Changes.{moved, swept, turn_counted, without}
+use Rattle.library_rules.specs.Changes.{moved, swept, without}
 use Rattle.library_rules.specs.History.{lone}
-use Rattle.library_rules.specs.LibraryState.{IsSound, Running, State, is_stored}
+use Rattle.library_rules.specs.LibraryState.{IsSound, Running, State}
 use Rattle.library_rules.specs.declared.entry.Step.TheVariants as step
 use Rattle.library_state.specs.declared.refusal.Refusal.{Refusal}
 use Rattle.library_state.specs.declared.reply.Reply.TheVariants as reply
@@ -18,8 +17,8 @@ use Rattle.library_state.specs.declared.state.LibState.{LibState}
 use Rattle.library_state.specs.StateSpelling.{text_of}
 use Rattle.object_graph.specs.Traversal.{is_in}
 use Rattle.object_store.specs.Shelf.{Contents}
-use Rattle.object_store.specs.Store.{is_free, is_of_shelf}
-use Rattle.object_store.specs.StoreView.{AddsNoStray, Index, StoreView, objects_of, status_of}
+use Rattle.object_store.specs.Store.{is_free}
+use Rattle.object_store.specs.StoreView.{Index, StoreView, objects_of, status_of}
 use Rattle.object_store.specs.declared.error.StoreFault.{StoreFault}
 use Rattle.object_store.specs.declared.error.StoreFault.TheVariants as store_fault
 use Rattle.object_store.specs.declared.shelf.Slot.{Slot as ShelfSlot}
@@ -29,12 +28,12 @@ use Rattle.collector.specs.Sweeping.{Took}
 use Rattle.collector.proofs.GoesOnLemmas.{stops_collect, sweeps_collect}
 use Rattle.tree_walk.specs.KnownTrees.{Fits, KnownView, nothing_known}
 use Rattle.depot.specs.Answering.{MayRefuseTree}
-use Rattle.depot.specs.CollectionTurns.{IsAimed, MayLayIn, SettlesBefore, SweepsKeys, SweepsSo, TakesTurn, TurnSlotSo, is_counted_turn, removed_in, running_after, turned_once}
-use Rattle.depot.specs.DepotView.{CollectionView, FitsIn, Holds, IsGood, IsKept, library, running_library, state_of}
+use Rattle.depot.specs.CollectionTurns.{IsAimed, SettlesBefore, SweepsSo, TakesTurn, TurnSlotSo, removed_in, running_after, turned_once}
+use Rattle.depot.specs.DepotView.{CollectionView, FitsIn, Holds, IsKept, library, running_library, state_of}
 use Rattle.depot.specs.Giving.{GivesBy, IsOfSweep}
 use Rattle.depot.specs.ObjectCalls.{Counts, IsToldRefusal, is_of_store}
 use Rattle.depot.specs.Refusals.{store_refusal}
-use Rattle.depot.specs.Writing.{IsWritten, Slot, settled, written}
+use Rattle.depot.specs.Writing.{Slot, settled, written}
 use Rattle.depot.specs.declared.turn.Turn.{Turn}
 use Rattle.depot.specs.declared.turn.Turn.TheVariants.{Swept, Refused}
 use Rattle.depot.proofs.AnsweringLemmas.{fault_of}

@@ -1,6 +1,6 @@
 -- A turn that marks, or ends a collection, and what it leaves. The key lemmas are marks_some, fails_some, marks_takes, fails_takes,
 -- ends_takes, mark_turn, mark_stands, marking_due, sweeping_due and over_due.
-use Rattle.std.proofs.Common.{◌≡◌, ◌≢◌, ◌⊎◌, inl, inr, ℕ, zero, suc, ◌+◌, ◌≤◌, ◌&&◌, ◌||◌, Bool, true, false, not, List, [], ◌∷◌, length, refl, sym, ap, ◌∙◌, subst, subst₂, true≢false, eq-eqb, ◌==◌, if◌then◌else◌, Option, None, Some, Result, Ok, Err, is_some, option_map, arith}
+use Rattle.std.proofs.Common.{◌≡◌, ◌≢◌, inl, ℕ, zero, suc, ◌+◌, ◌≤◌, ◌&&◌, ◌||◌, Bool, true, false, not, List, [], ◌∷◌, length, refl, sym, ap, ◌∙◌, subst, subst₂, true≢false, eq-eqb, ◌==◌, if◌then◌else◌, Option, None, Some, Ok, Err, is_some, option_map, arith}
 use borrow.Author.Tests.{eqb-true}
 use Rattle.std.specs.Prelude.{⊤}
 use Rattle.std.specs.Bool.{MatchBool}
@@ -11,12 +11,11 @@ use Rattle.std.proofs.lemmas.Bool.{or_right}
 use Rattle.ids.specs.FaultCount.{Rose}
 use Rattle.ids.specs.Key.{Objects, key_cmp}
 use Rattle.ids.specs.declared.key.Key.{Key}
-use Rattle.library_rules.specs.Changes.{swept, turn_counted}
+use Rattle.library_rules.specs.Changes.{swept}
 use Rattle.library_rules.specs.CollectionSteps.{IsClean}
 use Rattle.library_rules.specs.History.{lone}
 use Rattle.library_rules.specs.LibraryState.{IsSound, Running, State, is_fresh}
 use Rattle.library_rules.specs.declared.entry.Step.TheVariants as step
-use Rattle.library_rules.proofs.BesideLemmas.{beside}
 use Rattle.library_rules.proofs.MemberLemmas.{same_id-itself}
 use Rattle.library_rules.proofs.SoundLemmas.{sound_counted}
 use Rattle.library_state.specs.declared.refusal.Refusal.{Refusal}
@@ -26,7 +25,7 @@ use Rattle.object_graph.specs.Objects.{same_id}
 use Rattle.object_graph.specs.Traversal.{is_in}
 use Rattle.object_graph.specs.declared.fault.TreeFault.{TreeFault}
 use Rattle.object_store.specs.Shelf.{Contents}
-use Rattle.object_store.specs.StoreView.{Index, Keeps, StoreView, objects_of, status_of}
+use Rattle.object_store.specs.StoreView.{Index, Keeps, StoreView, objects_of}
 use Rattle.object_store.specs.declared.shelf.Slot.{Slot}
 use Rattle.object_store.proofs.StrayLemmas.{strays_kept}
 use Rattle.collector.specs.Collecting.{Collects}
@@ -39,8 +38,8 @@ use Rattle.tree_walk.specs.Files.{first_due}
 use Rattle.tree_walk.specs.KnownTrees.{KnownView}
 use Rattle.tree_walk.specs.Reading.{IsDue, Reads}
 use Rattle.tree_walk.specs.declared.fault.WalkFault.{WalkFault}
-use Rattle.depot.specs.CollectionTurns.{FailsMarking, IsAimed, IsRunning, MarksSo, MarksSome, MayTurn, TakesTurn, TurnsAsDue, TurnsBySome, running_after, turned_once}
-use Rattle.depot.specs.DepotView.{CollectionView, DepotView, Holds, IsGood, IsKept, library, running_library, state_of}
+use Rattle.depot.specs.CollectionTurns.{IsAimed, IsRunning, MarksSo, MayTurn, TakesTurn, TurnsAsDue, TurnsBySome, running_after, turned_once}
+use Rattle.depot.specs.DepotView.{CollectionView, DepotView, IsKept, library, running_library, state_of}
 use Rattle.depot.specs.Fresh.{counted_turn}
 use Rattle.depot.specs.ObjectCalls.{Counts}
 use Rattle.depot.specs.Refusals.{walk_refusal}

@@ -1,5 +1,5 @@
 -- A key that wasn't fresh is listed, and becomes fresh if there is room for it.
-use Rattle.std.proofs.Common.{refl, sym, ◌∙◌}
+use Rattle.std.proofs.Common.{sym, ◌∙◌}
 use Rattle.depot.proofs.CollectionLemmas.{error_then, freshens_again, freshens_failed, freshens_put, freshens_unlisted, ok_then}
 use Rattle.collector.proofs.WorklistLemmas.{on_error}
 use Rattle.depot.proofs.collection.Collection.freshen_one.Goals as goal

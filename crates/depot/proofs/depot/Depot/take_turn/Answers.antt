@@ -1,5 +1,5 @@
 -- A goal that doesn't run is over; else the collection that runs goes on, or one begins.
-use Rattle.std.proofs.Common.{Option, ℕ, Some, ap, subst, sym, ◌∙◌, option_map}
+use Rattle.std.proofs.Common.{Option, ℕ, ap, subst, sym, ◌∙◌, option_map}
 use Rattle.library_rules.specs.LibraryState.{Running}
 use Rattle.depot.specs.CollectionTurns.{TakesTurn, missed, running_after}
 use Rattle.depot.specs.DepotView.{CollectionView, DepotView, IsGood, IsKept, running_of}

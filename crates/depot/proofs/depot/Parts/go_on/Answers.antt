@@ -1,7 +1,6 @@
 -- The step that is due.
-use Rattle.std.proofs.Common.{refl, sym, ◌∙◌}
+use Rattle.std.proofs.Common.{sym, ◌∙◌}
 use Rattle.collector.proofs.GoesOnLemmas.{clean}
-use Rattle.depot.specs.CollectionTurns.{running_after}
 use Rattle.depot.proofs.SweepTurnLemmas.{sweep_stands, sweep_turn}
 use Rattle.depot.proofs.TakesTurnLemmas.{collects_at, ends_takes, library_at, mark_stands, mark_turn, marking_due, none_left, over_due, sweeping_due}
 use Rattle.depot.proofs.depot.Parts.go_on.Goals as goal

@@ -1,5 +1,4 @@
 -- As the marks tell it, and a turn more is counted where some were marked.
-use Rattle.std.proofs.Common.{sym, ◌∙◌}
 use Rattle.depot.proofs.TakesTurnLemmas.{fails_some, marks_some, pending_before}
 use Rattle.depot.proofs.depot.Parts.mark_some.Goals as goal
 
