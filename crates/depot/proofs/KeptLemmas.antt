@@ -1,5 +1,5 @@
--- A call that leaves the objects and the collection as they are. The key lemmas are serves_same, good_same and kept_same,
--- and kept_shielded of one that shields keys.
+-- A call that leaves the objects and the collection as they are. The key lemmas are serves_same, good_same, kept_same
+-- and kept_read, and kept_shielded of one that shields keys.
 use Rattle.std.proofs.Common.{◌≡◌, ◌⊎◌, inl, inr, ◌&&◌, ◌||◌, not, ℕ, Bool, true, false, true≢false, if◌then◌else◌, List, [], refl, sym, ap, ◌∙◌, subst, Option, None, Some, is_some, option_map, Result, Ok, Err}
 use Rattle.std.specs.Prelude.{⊤, OnErr, OnOk}
 use Rattle.std.specs.FinMap as map
@@ -18,7 +18,7 @@ use Rattle.library_state.specs.declared.state.LibState.{LibState}
 use Rattle.object_graph.specs.Traversal.{is_in}
 use Rattle.object_graph.specs.Unchanged.{Keeps}
 use Rattle.object_store.specs.Shelf.{Contents}
-use Rattle.object_store.specs.StoreView.{Index, objects_of}
+use Rattle.object_store.specs.StoreView.{Index, StoreView, Keeps as StoreKeeps, objects_of}
 use Rattle.object_store.specs.declared.error.StoreFault.{StoreFault}
 use Rattle.object_store.specs.declared.shelf.Slot.{Slot as ShelfSlot}
 use Rattle.collector.specs.Collecting.{Collects}
@@ -28,10 +28,12 @@ use Rattle.tree_walk.specs.KnownTrees.{KnownView}
 use Rattle.depot.specs.Answering.{Serves}
 use Rattle.depot.specs.DepotView.{CollectionView, CollectsIn, DepotView, FitsIn, IsGood, IsKept, KnowsCandidates, at_rest, running_library, state_of}
 use Rattle.depot.specs.FreshKeys.{told_there}
-use Rattle.depot.proofs.BesideLemmas.{FreshTold, good_beside, serves_beside}
+use Rattle.depot.proofs.BesideLemmas.{FreshTold, good_beside, good_rest, serves_beside}
 use Rattle.depot.proofs.CallFreshLemmas.{same_fresh, same_runs}
 use Rattle.depot.proofs.CollectsLemmas.{collects_state, shields_fresh}
+use Rattle.depot.proofs.FitsLemmas.{fits_same}
 use Rattle.depot.proofs.FreshLemmas.{RunsAs, as_before, runs_still_as}
+use Rattle.depot.proofs.GrownLemmas.{good_kept, kept_status}
 use Rattle.depot.proofs.ToldLemmas.{mapped_at}
 
 -- an act that tells of no key tells of none, refused or not
@@ -196,3 +198,14 @@ module _ {S : Type 0} (contents : S → Option Contents) (faults : S → ℕ) (o
       gone key true false is_there is_among (inl old_fresh) c = absurd (true≢false (sym old_fresh ∙ c.not_fresh key is_there))
       gone key true false is_there is_among (inr (inl absent)) c = absurd (true≢false (sym (c.stored key is_there) ∙ absent))
       gone key true false is_there is_among (inr (inr among)) c = absurd (true≢false (sym among ∙ is_among))
+
+-- ---- a call that reads alone
+
+pub kept_read : {S : Type 0} (contents : S → Option Contents) (faults : S → ℕ) (old : DepotView S) (store : StoreView S) → StoreKeeps contents old.store store → (known later : KnownView)
+    (collection : Option CollectionView) → IsKept contents faults old known collection → FitsIn contents old.store later → IsKept contents faults (record old { store = store }) later collection
+kept_read {S} contents faults old store keeps known later collection kept fits =
+    let new : DepotView S = record old { store = store } in
+    kept_same contents faults old new keeps.index keeps.objects known later collection kept
+    (good_same contents faults old new keeps.index keeps.objects kept.good refl
+    (good_kept contents faults old (good_rest contents faults old kept.good) store (kept_status contents old.store store keeps) keeps.objects))
+    (fits_same contents old.store store later keeps.objects fits) refl refl

@@ -40,7 +40,7 @@ use Rattle.depot.proofs.UpdateBesideLemmas.{came_all, came_of, left_fresh, made_
 use Rattle.depot.proofs.UpdateKeptLemmas.{added_keeps, fresh_goes, fresh_none, kept_installed, kept_unshielded, same_keeps, shielded_goes, shielded_none, twice_goes, was_with}
 use Rattle.depot.proofs.UpdateWholeLemmas.{plan_fault, plan_whole, whole_due}
 use Rattle.depot.proofs.GrownLemmas.{good_kept, kept_status}
-use Rattle.depot.proofs.KeptLemmas.{good_same, kept_same, serves_same}
+use Rattle.depot.proofs.KeptLemmas.{kept_read, serves_same}
 use Rattle.depot.proofs.RefusalsLemmas.{told_damage}
 use Rattle.depot.proofs.UpdateGoodLemmas.{good_done, good_failed, held_kept, serves_done, serves_failed, serves_kept, serves_refused}
 use Rattle.depot.proofs.UpdatePlanLemmas.{decides_at, plan_puttable, plans_at}
@@ -76,13 +76,7 @@ returns-in-Err-clause-value g c = λ call asks updates.
 pub returns-in-Err-clause-stands : goal.returns-in-Err-clause-stands
 returns-in-Err-clause-stands g c =
     let old : DepotView g.row.S.Denot = record { store = c.args.self.now.store; state = c.args.self.now.state; unsettled = c.args.self.now.unsettled; running = running_of c.args.running.now } in
-    let new : DepotView g.row.S.Denot = record old { store = c.plan_of.new.store } in
-    let keeps = c.in-Err.ensures.stays.kept in
-    kept_same g.S.Shelf.contents g.S.Shelf.faults old new keeps.index keeps.objects c.args.known.now c.plan_of.new.known c.args.running.now c.requires.good
-    (good_same g.S.Shelf.contents g.S.Shelf.faults old new keeps.index keeps.objects c.requires.good.good refl
-    (good_kept g.S.Shelf.contents g.S.Shelf.faults old (good_rest g.S.Shelf.contents g.S.Shelf.faults old c.requires.good.good) c.plan_of.new.store
-    (kept_status g.S.Shelf.contents c.args.self.now.store c.plan_of.new.store keeps) keeps.objects))
-    (fits_same g.S.Shelf.contents c.args.self.now.store c.plan_of.new.store c.plan_of.new.known keeps.objects c.in-Err.ensures.known) refl refl
+    kept_read g.S.Shelf.contents g.S.Shelf.faults old c.plan_of.new.store c.in-Err.ensures.stays.kept c.args.known.now c.plan_of.new.known c.args.running.now c.requires.good c.in-Err.ensures.known
 
 pub head_of-requires : goal.head_of-requires
 head_of-requires g c = record { some = λ none. c.requires.good.good.head (sym c.slice.ensures.value ∙ none) }
@@ -105,13 +99,7 @@ returns-in-None-clause-value g c = λ call asks updates.
 pub returns-in-None-clause-stands : goal.returns-in-None-clause-stands
 returns-in-None-clause-stands g c =
     let old : DepotView g.row.S.Denot = record { store = c.args.self.now.store; state = c.args.self.now.state; unsettled = c.args.self.now.unsettled; running = running_of c.args.running.now } in
-    let new : DepotView g.row.S.Denot = record old { store = c.plan_of.new.store } in
-    let keeps = c.in-Ok.ensures.stays.kept in
-    kept_same g.S.Shelf.contents g.S.Shelf.faults old new keeps.index keeps.objects c.args.known.now c.plan_of.new.known c.args.running.now c.requires.good
-    (good_same g.S.Shelf.contents g.S.Shelf.faults old new keeps.index keeps.objects c.requires.good.good refl
-    (good_kept g.S.Shelf.contents g.S.Shelf.faults old (good_rest g.S.Shelf.contents g.S.Shelf.faults old c.requires.good.good) c.plan_of.new.store
-    (kept_status g.S.Shelf.contents c.args.self.now.store c.plan_of.new.store keeps) keeps.objects))
-    (fits_same g.S.Shelf.contents c.args.self.now.store c.plan_of.new.store c.plan_of.new.known keeps.objects c.in-Ok.ensures.known) refl refl
+    kept_read g.S.Shelf.contents g.S.Shelf.faults old c.plan_of.new.store c.in-Ok.ensures.stays.kept c.args.known.now c.plan_of.new.known c.args.running.now c.requires.good c.in-Ok.ensures.known
 
 -- ---- carried out, or stopped: the rest as where no collection runs, and then beside one
 
