@@ -30,7 +30,7 @@ use Rattle.http_front.specs.Target.{parts, path_of}
 use Rattle.http_front.specs.declared.method.Method.{Method}
 use Rattle.http_front.specs.declared.method.Method.TheVariants as method
 use Rattle.http_front.specs.declared.route.Route.{Route}
-use Rattle.http_front.specs.declared.route.Route.TheVariants.{Version, Check, Head, Update, Get, Put, CheckFs, CheckBlocks, PutFs, GetFs, Ids}
+use Rattle.http_front.specs.declared.route.Route.TheVariants.{Version, Check, Head, Update, Get, Put, CheckFs, CheckBlocks, PutFs, GetFs, Ids, Limit, Collect}
 use Rattle.json_words.proofs.IdLemmas.{has_form-IsOf}
 use Rattle.http_front.proofs.NamedIdLemmas.{id_bytes, id_text, if_some, lib_text, library_bytes}
 
@@ -86,7 +86,11 @@ word_is m lib word own r route asks parts_are call is same =
     (record { method_is = asks; parts_are = ap (λ (w : List ℕ). under lib (w ∷ [])) (same_text word own (sym is)) ∙ parts_are; call_is = call })
 
 word_named : (m : Method) (lib word : List ℕ) (route : Route) → IsLibrary lib → word_route m lib word ≡ Some route → IsPathOf m (under lib (word ∷ [])) route
-word_named method.Put lib word route sized e = let bad : ⊥ = cc in absurd bad
+word_named method.Put lib word route sized e =
+    elim (picked (bytes_eq word (codes "history-limit")) (Limit lib) _ route e) [
+      | inl is ↦ word_is method.Put lib word (codes "history-limit") (Limit lib) route refl refl sized is.0 is.1
+      | inr e ↦ let bad : ⊥ = cc in absurd bad
+    ]
 word_named method.Other lib word route sized e = let bad : ⊥ = cc in absurd bad
 word_named method.Get lib word route sized e =
     elim (picked (bytes_eq word (codes "permission-check")) (Check lib) _ route e) [
@@ -105,7 +109,10 @@ word_named method.Post lib word route sized e =
           | inl is ↦ word_is method.Post lib word (codes "recv-fs") (PutFs lib) route refl refl sized is.0 is.1
           | inr e ↦ elim (picked (bytes_eq word (codes "pack-fs")) (GetFs lib) _ route e) [
             | inl is ↦ word_is method.Post lib word (codes "pack-fs") (GetFs lib) route refl refl sized is.0 is.1
-            | inr e ↦ let bad : ⊥ = cc in absurd bad
+            | inr e ↦ elim (picked (bytes_eq word (codes "collect")) (Collect lib) _ route e) [
+              | inl is ↦ word_is method.Post lib word (codes "collect") (Collect lib) route refl refl sized is.0 is.1
+              | inr e ↦ let bad : ⊥ = cc in absurd bad
+            ]
           ]
         ]
       ]
@@ -324,3 +331,7 @@ path_names target (GetFs lib) is same =
     ap (path_route method.Post) (ap parts same ∙ cut_word lib (codes "pack-fs") refl) ∙ library_named method.Post lib (codes "pack-fs" ∷ []) is
 path_names target (Ids lib) is same =
     ap (path_route method.Get) (ap parts same ∙ cut_word lib (codes "fs-id-list") refl) ∙ library_named method.Get lib (codes "fs-id-list" ∷ []) is
+path_names target (Limit lib) is same =
+    ap (path_route method.Put) (ap parts same ∙ cut_word lib (codes "history-limit") refl) ∙ library_named method.Put lib (codes "history-limit" ∷ []) is
+path_names target (Collect lib) is same =
+    ap (path_route method.Post) (ap parts same ∙ cut_word lib (codes "collect") refl) ∙ library_named method.Post lib (codes "collect" ∷ []) is

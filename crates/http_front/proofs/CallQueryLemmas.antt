@@ -1,11 +1,14 @@
--- A call's own query is read as what it asks for. The lemmas that callers want are check_asked, update_asked and
--- ids_asked, at the end.
-use Rattle.std.proofs.Common.{◌≡◌, ℕ, nat_eq, true, false, List, [], ◌∷◌, ◌++◌, length, get_or, codes, Option, Some, None, Result, Ok, refl, sym, ap, ◌∙◌, arith, not, All, take, drop, ◌+◌, if◌then◌else◌, length-append, ne_eqb}
-use Rattle.std.proofs.lemmas.Bool.{true≢false, not-true}
+-- A call's own query is read as what it asks for. The lemmas that callers want are check_asked, update_asked, limit_asked
+-- and ids_asked, at the end.
+use Rattle.std.proofs.Common.{◌≡◌, ℕ, suc, ℤ, pos, negsuc, neg_ℤ, unsigned_abs, ◌^◌, ◌<◌, ◌≤◌, Bool, decimal, lit<, lit≤, option_map, nat_eq, nat_le, true, false, List, [], ◌∷◌, ◌++◌, length, get_or, codes, Option, Some, None, Result, Ok, refl, sym, ap, ◌∙◌, arith, not, All, take, drop, ◌+◌, if◌then◌else◌, length-append, ne_eqb}
+use Rattle.std.proofs.lemmas.Bool.{and_parts, le-leb, true≢false, not-true}
+use Rattle.std.proofs.lemmas.Fmt.{decimal_nonempty, length-decimal-le}
 use Rattle.std.proofs.lemmas.List.{drop_at, get_or_append_left, get_or_at, length_push, append_assoc, take_at}
 use Rattle.std.proofs.lemmas.List.Elements.{All-append, All-cons, All-from_get_or, All-get_or}
 use Rattle.std.proofs.lemmas.List.Splits.{slice_split_at, slice_split_none}
 use Rattle.std.proofs.lemmas.List.Sums.{AllPass-from_list_all, position_or_len_is}
+use Rattle.std.specs.Char.{is_ascii_digit}
+use Rattle.std.specs.Fmt.{signed_decimal}
 use Rattle.std.specs.List.{after_first, before_first, list_all, position_or_len}
 use Rattle.std.specs.Str.{bytes_eq}
 use Rattle.hex.specs.Hex.{encode_lower}
@@ -14,15 +17,17 @@ use Rattle.ids.proofs.DigitsLemmas as digits
 use Rattle.library_state.specs.declared.call.Op.{Op}
 use Rattle.library_state.specs.declared.call.Op.TheVariants.{Upload, Download}
 use Rattle.library_state.specs.declared.refusal.Refusal.{Refusal}
-use Rattle.http_front.specs.CallQuery.{IsClient, IsObjectId, check_query, ids_query, part_of, update_query}
-use Rattle.http_front.specs.Order.{IsOrder, asked_of, asks_to, asks_what_differs, updates}
-use Rattle.http_front.specs.Query.{and_more, client_asked, id_asked, op_asked, query_of, value_in, values_in, values_of}
+use Rattle.http_front.specs.CallQuery.{IsClient, IsObjectId, check_query, days_query, ids_query, part_of, update_query}
+use Rattle.http_front.specs.Order.{IsOrder, asked_of, asks_to, asks_what_differs, limits, updates}
+use Rattle.http_front.specs.Query.{and_more, client_asked, day_count, days_asked, days_of, id_asked, op_asked, query_of, value_in, values_in, values_of}
+use Rattle.http_front.specs.RequestHead.{number_in}
 use Rattle.http_front.specs.Route.{IsLibrary, method_in, path_in}
 use Rattle.http_front.specs.Target.{path_of}
 use Rattle.http_front.specs.declared.order.Order.{Order}
 use Rattle.http_front.specs.declared.order.What.TheVariants as what
 use Rattle.http_front.specs.declared.route.Route.TheVariants as route
 use Rattle.http_front.proofs.CallLemmas.{id_reads, path_names}
+use Rattle.http_front.proofs.NumberLemmas.{decimal_digits, digit_in_range, number_written}
 
 -- ---- texts without a byte
 
@@ -136,6 +141,50 @@ client_read server None is client_is = rw (no_client server is) refl
 client_read server (Some client) is client_is =
     rw (client_values server client is client_is, id_read_in (codes "client-head") (ids_query server (Some client)) client client_is (client_values server client is client_is)) refl
 
+-- ---- days
+
+fits : (n : ℕ) → n < 10 ^ 18 → n < 2 ^ 64
+fits n short = let most : 10 ^ 18 ≤ 2 ^ 64 = lit≤ tt in omega (arith, short, most)
+
+no_digit : (c d : ℕ) → d < 48 → is_ascii_digit c ≡ true → nat_eq c d ≡ false
+no_digit c d below digit = let range = digit_in_range c digit in ne_eqb c d (λ e. absurd (omega (arith, range, below, e)))
+
+digits_lack : (n : ℕ) → n < 2 ^ 64 → Lacks 38 (decimal n)
+digits_lack n small k d below =
+    no_digit (get_or (decimal n) k d) 38 (lit< tt) (AllPass-from_list_all is_ascii_digit (decimal n) (decimal_digits n small) k d below)
+
+days_lack : (days : ℤ) → unsigned_abs days < 10 ^ 18 → Lacks 38 (signed_decimal days)
+days_lack (pos n) short = digits_lack n (fits n short)
+days_lack (negsuc n) short = All-cons (λ x. nat_eq x 38 ≡ false) 45 (decimal (suc n)) refl (digits_lack (suc n) (fits (suc n) short))
+
+count_read : (n : ℕ) → n < 10 ^ 18 → day_count (decimal n) ≡ Some n
+count_read n short =
+    let few : nat_le (length (decimal n)) 18 ≡ true = le-leb _ _ (length-decimal-le 18 n (lit< tt) short (fits n short)) in
+    let small : n < 10 ^ 19 = let more : 10 ^ 18 ≤ 10 ^ 19 = lit≤ tt in omega (arith, short, more) in
+    ap (λ (b : Bool). if b then number_in (decimal n) else None) few ∙ number_written n small (fits n short)
+
+-- digits alone begin with no minus
+plain_days : (text : List ℕ) → 0 < length text → list_all is_ascii_digit text ≡ true → days_of text ≡ option_map pos (day_count text)
+plain_days [] some are = absurd (omega (arith, some))
+plain_days (c ∷ text) some are =
+    ap (λ (b : Bool). if b then option_map (λ days. neg_ℤ (pos days)) (day_count text) else option_map pos (day_count (c ∷ text)))
+    (no_digit c 45 (lit< tt) (and_parts (is_ascii_digit c) (list_all is_ascii_digit text) are).0)
+
+text_read : (days : ℤ) → unsigned_abs days < 10 ^ 18 → days_of (signed_decimal days) ≡ Some days
+text_read (pos n) short = plain_days (decimal n) (decimal_nonempty n (fits n short)) (decimal_digits n (fits n short)) ∙ ap (option_map pos) (count_read n short)
+text_read (negsuc n) short = ap (option_map (λ days. neg_ℤ (pos days))) (count_read (suc n) short)
+
+days_values : (days : ℤ) → unsigned_abs days < 10 ^ 18 → values_of (codes "days") (days_query days) ≡ signed_decimal days ∷ []
+days_values days short =
+    rw (
+      one_part (codes "days") (days_query days) (part_lacks 38 (codes "days") (signed_decimal days) refl (word_lacks 38 (codes "days") refl) (days_lack days short)),
+      value_named (codes "days") (codes "days") (signed_decimal days) (word_lacks 61 (codes "days") refl),
+    ) refl
+
+days_read : (days : ℤ) → unsigned_abs days < 10 ^ 18 → days_asked (days_query days) ≡ Some days
+unfolding days_asked
+days_read days short = rw (days_values days short) (text_read days short)
+
 -- ---- orders
 
 pub check_asked : (target lib : List ℕ) (op : Op) (secret : Option (List ℕ)) (body : List ℕ) (due : Result Order Refusal) → IsLibrary lib
@@ -150,6 +199,12 @@ pub update_asked : (target lib commit : List ℕ) (secret : Option (List ℕ)) (
 update_asked target lib commit secret body due is commit_is path query order =
     (rw (path_names target (route.Update lib) is path, query) at order)
     ∙ ap (updates lib secret) (id_read_in (codes "head") (update_query commit) commit commit_is (update_values commit commit_is))
+
+pub limit_asked : (target lib : List ℕ) (days : ℤ) (secret : Option (List ℕ)) (body : List ℕ) (due : Result Order Refusal) → IsLibrary lib → unsigned_abs days < 10 ^ 18
+    → path_of target ≡ path_in (route.Limit lib) → query_of target ≡ days_query days → IsOrder (method_in (route.Limit lib)) target secret body due
+    → due ≡ Ok (asked_of lib secret (what.Limit days))
+limit_asked target lib days secret body due is short path query order =
+    (rw (path_names target (route.Limit lib) is path, query) at order) ∙ ap (limits lib secret) (days_read days short)
 
 pub ids_asked : (target lib server : List ℕ) (client secret : Option (List ℕ)) (body : List ℕ) (due : Result Order Refusal) → IsLibrary lib → IsObjectId server → IsClient client
     → path_of target ≡ path_in (route.Ids lib) → query_of target ≡ ids_query server client → IsOrder (method_in (route.Ids lib)) target secret body due

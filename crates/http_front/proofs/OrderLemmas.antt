@@ -34,6 +34,8 @@ once_at (Some (route.CheckBlocks lib)) m secret query body due other is same = i
 once_at (Some (route.PutFs lib)) m secret query body due other is same = is.2 ∙ ap (puts_objects lib secret) (rows_once body is.0 same.0 is.1 same.1) ∙ sym same.2
 once_at (Some (route.GetFs lib)) m secret query body due other is same = is ∙ sym same
 once_at (Some (route.Ids lib)) m secret query body due other is same = is ∙ sym same
+once_at (Some (route.Limit lib)) m secret query body due other is same = is ∙ sym same
+once_at (Some (route.Collect lib)) m secret query body due other is same = is ∙ sym same
 
 pub order_once : (m : Method) (target : List ℕ) (secret : Option (List ℕ)) (body : List ℕ) (due other : Result Order Refusal) → IsOrder m target secret body due → IsOrder m target secret body other
     → due ≡ other

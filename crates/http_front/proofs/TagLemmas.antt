@@ -2,37 +2,19 @@
 use Rattle.std.proofs.Common.{◌≡◌, ◌≢◌, ℕ, zero, suc, ◌+◌, ◌^◌, ◌<◌, ◌==◌, true, false, List, [], ◌∷◌, ◌++◌, length, get_or, take, drop, refl, sym, ap, subst, ◌∙◌, arith, length-append, Option, None, Some, MatchOption, IsUtf8, inl, inr, Bor, decimal}
 use Rattle.std.specs.List.{list_all, position_or_len}
 use Rattle.std.specs.Char.{is_ascii_digit}
-use Rattle.std.specs.Int.{IsInRange}
 use Rattle.std.specs.Str.Parse.{IsNumeral, digits_value, without_leading_plus}
-use Rattle.std.proofs.lemmas.Bool.{and_parts, and_from}
-use Rattle.std.proofs.lemmas.Bool.Decides.{nat_tests, leb_tells}
-use Rattle.std.proofs.lemmas.Fmt.{decimal_is_IsNumeral, decimal-digits_value, digits_decimal, decimal_digit, first_decimal, IsAscii-decimal}
+use Rattle.std.proofs.lemmas.Bool.{and_parts}
+use Rattle.std.proofs.lemmas.Bool.Decides.{leb_tells}
+use Rattle.std.proofs.lemmas.Fmt.{decimal_is_IsNumeral, decimal-digits_value, decimal_digit, first_decimal, IsAscii-decimal}
 use Rattle.std.proofs.lemmas.List.{take_at, drop_at, get_or_at, get_or_append_left, drop-drop, take-append-drop, drop_more}
 use Rattle.std.proofs.lemmas.List.Sums.{AllPass-from_list_all, position_or_len_is}
 use Rattle.std.proofs.lemmas.Str.{IsUtf8-from_ascii}
-use Rattle.std.proofs.lemmas.Str.Parse.{IsDigitsTest, IsNumeralModel, numerals_by_value, without_leading_plus_none}
+use Rattle.std.proofs.lemmas.Str.Parse.{without_leading_plus_none}
 use Rattle.http_front.specs.EntityTag.{quoted}
 use Rattle.http_front.proofs.ElementLemmas.{test_fails}
-use Rattle.http_front.proofs.NumberLemmas.{digit_in_range}
+use Rattle.http_front.proofs.NumberLemmas.{decimal_digits, digit_in_range, own}
 
 -- ---- numbers
-
-range_is_digit : (c : ℕ) → IsInRange 48 57 c → is_ascii_digit c ≡ true
-range_is_digit c h = grind (arith, nat_tests, h)
-
-are_digits_told : IsDigitsTest (λ ds. list_all is_ascii_digit ds ≡ true)
-are_digits_told = record {
-  empty = refl;
-  parts = λ c cs p. let both = and_parts _ _ p in (digit_in_range c both.0, both.1);
-  more = λ c cs k p. and_from _ _ (range_is_digit c k) p;
-}
-
-own : IsNumeralModel (λ ds. list_all is_ascii_digit ds ≡ true) (digits_value 10)
-own = numerals_by_value _ are_digits_told
-
--- a number's text has digits alone
-pub decimal_digits : (n : ℕ) → n < 2 ^ 64 → list_all is_ascii_digit (decimal n) ≡ true
-decimal_digits n fits = digits_decimal own n fits
 
 -- a number's text begins with no zero but its own
 pub no_leading_zero : (n : ℕ) → n < 2 ^ 64 → get_or (decimal n) 0 0 ≡ 48 → 1 < length (decimal n) → ⊥

@@ -45,6 +45,8 @@ limit_at_bound (Some (route.CheckBlocks lib)) = omega arith
 limit_at_bound (Some (route.PutFs lib)) = omega arith
 limit_at_bound (Some (route.GetFs lib)) = omega arith
 limit_at_bound (Some (route.Ids lib)) = omega arith
+limit_at_bound (Some (route.Limit lib)) = omega arith
+limit_at_bound (Some (route.Collect lib)) = omega arith
 
 pub limit_bound : (method : Method) (target : List ℕ) → limit_of method target ≤ 67108864
 unfolding limit_of

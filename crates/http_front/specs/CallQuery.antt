@@ -1,5 +1,6 @@
 -- The query that a call needs, the other way round: what asks for it. Our own. Read first: Query.
-use Rattle.std.specs.Prelude.{ℕ, suc, ℤ, pos, negsuc, decimal, ◌≡◌, ◌<◌, All, Option, None, Some, List, ◌∷◌, ◌++◌, length, codes, ⊤}
+use Rattle.std.specs.Prelude.{ℕ, ℤ, ◌≡◌, ◌<◌, All, Option, None, Some, List, ◌∷◌, ◌++◌, length, codes, ⊤}
+use Rattle.std.specs.Fmt.{signed_decimal}
 use Rattle.hex.specs.Hex.{encode_lower}
 use Rattle.library_state.specs.declared.call.Op.{Op}
 use Rattle.library_state.specs.declared.call.Op.TheVariants.{Upload, Download}
@@ -25,14 +26,9 @@ check_query op = part_of (codes "op") (op_word op)
 abbrev pub update_query : List ℕ → List ℕ
 update_query commit = part_of (codes "head") (encode_lower commit)
 
--- a whole number in decimal
-abbrev pub days_text : ℤ → List ℕ
-days_text (pos days) = decimal days
-days_text (negsuc days) = 45 ∷ decimal (suc days)
-
 -- for how many days history is to be kept
 abbrev pub days_query : ℤ → List ℕ
-days_query days = part_of (codes "days") (days_text days)
+days_query days = part_of (codes "days") (signed_decimal days)
 
 -- the commit whose objects are asked for, and the one that a client has
 abbrev pub ids_query : List ℕ → Option (List ℕ) → List ℕ

@@ -2,7 +2,7 @@
 -- forms, but nothing is percent-decoded: a query is cut at each `&`; a part with a `=` in it is a name, which stands in
 -- front of the first `=`, and a value, which follows it. Every other part is passed over.
 -- Read values_of first, then op_asked, id_asked, days_asked and client_asked, at the end.
-use Rattle.std.specs.Prelude.{ℕ, zero, suc, ℤ, pos, negsuc, nat_le, ◌==◌, if◌then◌else◌, Option, None, Some, List, [], ◌∷◌, length, codes, option_map}
+use Rattle.std.specs.Prelude.{ℕ, ℤ, pos, neg_ℤ, nat_le, ◌==◌, if◌then◌else◌, Option, None, Some, List, [], ◌∷◌, length, codes, option_map}
 use Rattle.std.specs.List.{slice_split, before_first, after_first, position_or_len}
 use Rattle.std.specs.Option.{option_and_then}
 use Rattle.std.specs.Str.{bytes_eq}
@@ -66,15 +66,10 @@ id_asked name query = option_and_then object_id_of (only (values_of name query))
 abbrev pub day_count : List ℕ → Option ℕ
 day_count text = if nat_le (length text) 18 then number_in text else None
 
--- a number below zero, and zero for zero
-abbrev pub minus : ℕ → ℤ
-minus zero = pos 0
-minus (suc n) = negsuc n
-
 -- so many days, with or without a minus
 abbrev pub days_of : List ℕ → Option ℤ
 days_of [] = None
-days_of (c ∷ text) = if c == 45 then option_map minus (day_count text) else option_map pos (day_count (c ∷ text))
+days_of (c ∷ text) = if c == 45 then option_map (λ days. neg_ℤ (pos days)) (day_count text) else option_map pos (day_count (c ∷ text))
 
 -- the days that the one value of `days` is
 unfoldable pub days_asked : List ℕ → Option ℤ

@@ -1,7 +1,8 @@
 use Rattle.std.proofs.Common.{◌∙◌, ℕ, List, get_or, length, sym, ap, arith, ◌<◌, ◌^◌, ◌≢◌, subst}
 use Rattle.std.specs.List.{list_all}
 use Rattle.std.specs.Char.{is_ascii_digit}
-use Rattle.http_front.proofs.TagLemmas.{decimal_digits, no_leading_zero, number_read, number_parses, decimal_is_text}
+use Rattle.http_front.proofs.NumberLemmas.{decimal_digits}
+use Rattle.http_front.proofs.TagLemmas.{no_leading_zero, number_read, number_parses, decimal_is_text}
 use Rattle.http_front.proofs.entity_tag.read_number.Goals.{else-text-gt1-via-then-text-gt1+else-text-eq48, else-text-gt1-via-else-text-gt1}
 use Rattle.http_front.proofs.entity_tag.read_number.Goals as goal
 
