@@ -1,5 +1,5 @@
 //! A collection of a library in turns, and calls between them: what no request of one connection shows.
-use crate::library::{LIB, library_on};
+use crate::library::library_on;
 use depot::{Depot, Turn};
 use ids::{Bytes, IdList, Key, Kind, ObjId};
 use library_state::{Act, Call, Op, Reply, Secret};
@@ -7,8 +7,11 @@ use object_store::MemoryShelf;
 use std::alloc::{AllocError, Global};
 use std::test::Fail;
 
-/// When the library is made.
+/// When the library is made, and when turns are taken.
 const MOMENT: u64 = 7;
+
+/// The id of the library as text.
+const LIB: &str = "11111111-2222-4333-8444-555555555555";
 
 type Kept = Depot<MemoryShelf>;
 
@@ -112,7 +115,7 @@ fn is_updated(depot: &mut Kept, commit: &ObjId) -> bool {
 
 /// The library after three updates, each of which replaced one file; no days of history are kept.
 pub(crate) fn updated_thrice(alloc: Global) -> Result<Kept, Fail> {
-    let mut depot = library_on(alloc, &[], MOMENT)?;
+    let mut depot = library_on(alloc, &[])?;
     let mut parent = depot.head();
     for (byte, letter) in [(0x11, "1"), (0x22, "2"), (0x33, "3")] {
         let commit = put_commit(alloc, &mut depot, byte, &parent, letter)?;
@@ -200,7 +203,7 @@ fn is_present(alloc: Global, depot: &mut Kept, letter: &str) -> Result<bool, All
 
 #[test]
 fn what_was_told_present_stays_through_a_collection(rt: HostRuntime) -> Result<(), Fail> {
-    let mut depot = library_on(rt.alloc(), &[], MOMENT)?;
+    let mut depot = library_on(rt.alloc(), &[])?;
     let _ = put(rt.alloc(), &mut depot, Kind::Block, "a")?;
     let _ = put(rt.alloc(), &mut depot, Kind::Block, "b")?;
     assert!(rt; matches!(depot.turn_of_collection(None, MOMENT, 1000), Turn::Began(1)));
@@ -217,7 +220,7 @@ fn what_was_told_present_stays_through_a_collection(rt: HostRuntime) -> Result<(
 /// Whether an update beside a collection keeps what it needs, when it comes after so many turns of one object: its objects lay
 /// there unneeded before the collection began, and nobody asked for them since.
 fn keeps_what_it_needs(alloc: Global, before: u64) -> Result<bool, Fail> {
-    let mut depot = library_on(alloc, &[], MOMENT)?;
+    let mut depot = library_on(alloc, &[])?;
     let head = depot.head();
     let commit = put_commit(alloc, &mut depot, 0x44, &head, "d")?;
     let _ = put(alloc, &mut depot, Kind::Block, "x")?;
@@ -243,7 +246,7 @@ fn an_update_keeps_what_it_needs_from_the_collection_that_runs(
 
 /// Whether a merged update beside a collection leaves a whole library.
 fn merges_beside(alloc: Global) -> Result<bool, Fail> {
-    let mut depot = library_on(alloc, &[], MOMENT)?;
+    let mut depot = library_on(alloc, &[])?;
     let base = depot.head();
     let one = put_commit(alloc, &mut depot, 0x11, &base, "1")?;
     let two = put_commit(alloc, &mut depot, 0x22, &base, "2")?;
