@@ -13,7 +13,7 @@ use Rattle.http_front.specs.declared.outcome.Outcome.TheVariants.{Version, Same,
 use Rattle.http_front.specs.declared.status.Status.{Status}
 use Rattle.http_front.specs.declared.status.Status.TheVariants as status
 use Rattle.http_client.specs.OrderOutcome.{CanAnswer, CanHave, are_among}
-use Rattle.http_client.specs.OutcomeReading.{IsOutcome, IsPacked, IsRefusal, IsSuccess, absent_of, answered, head_in, ids_in, if_empty, told_in, version_in}
+use Rattle.http_client.specs.OutcomeReading.{IsOutcome, IsPacked, IsRefusal, IsSuccess, absent_of, answered, collected_in, head_in, ids_in, if_empty, told_in, version_in}
 use Rattle.http_client.specs.RefusalWords.{number_at}
 
 refusal_can : (order : What) (s : Status) (body : List ℕ) (o : Outcome) → IsRefusal order s body (Some o) → CanHave order o
@@ -59,6 +59,14 @@ version_can o (Some d) e = by_number (number_at (codes "version") d) e
     by_number None e = absurd (cc)
     by_number (Some n) e = by (n == 2) e
 
+collected_can : (o : Outcome) (x : Option Data) → Some o ≡ option_and_then collected_in x → CanHave what.Collect o
+collected_can o None e = absurd (cc)
+collected_can o (Some d) e = by_number (number_at (codes "collection") d) e
+  where
+    by_number : (n : Option ℕ) → Some o ≡ option_and_then (λ count. option_map (Collected count) (number_at (codes "removed") d)) n → CanHave what.Collect o
+    by_number None e = absurd (cc)
+    by_number (Some count) e = mapped_can what.Collect o (Collected count) (λ removed. refl) (number_at (codes "removed") d) e
+
 absent_can : (kind : _) (asked : List (List ℕ)) (o : Outcome) (ids : Option (List (List ℕ))) → Some o ≡ absent_of asked ids → CanHave (what.Missing kind asked) o
 absent_can kind asked o None e = absurd (cc)
 absent_can kind asked o (Some ids) e = by (are_among asked ids) refl e
@@ -78,6 +86,8 @@ success_can (what.Missing kind ids) body o is = absent_can kind ids o (ids_in bo
 success_can (what.PutFs rows) body o is = empty_can (what.PutFs rows) o body (reply.Stored true) refl is
 success_can (what.GetFs ids) body o is = packed_can ids body o is
 success_can (what.Ids server client) body o is = mapped_can (what.Ids server client) o (λ ids. answered (reply.Listed ids)) (λ ids. refl) (ids_in body) is
+success_can (what.Limit days) body o is = empty_can (what.Limit days) o body reply.Limited refl is
+success_can what.Collect body o is = collected_can o (json_of body) is
 
 pub outcome_can : (order : What) (s : Status) (body : List ℕ) (o : Outcome) → IsOutcome order s body (Some o) → CanHave order o
 outcome_can order status.Success body o is = success_can order body o is

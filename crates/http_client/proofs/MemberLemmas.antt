@@ -1,9 +1,11 @@
 -- What a member of a JSON value is read as, both ways. The key lemmas are text_at-found, number_at-found, id_at-found,
 -- library_at-found, key_at-found, path_at-found and got_at-found, and those that go back: text_at-has and so on.
-use Rattle.std.proofs.Common.{◌≡◌, ℕ, ◌==◌, Bool, true, false, if◌then◌else◌, List, [], ◌∷◌, length, Option, None, Some, codes, refl, sym, ap, subst, ◌∙◌, arith, option_map}
+use Rattle.std.proofs.Common.{◌≡◌, ℕ, ℤ, pos, negsuc, ◌^◌, ◌<◌, w64, nat_lt, ◌==◌, Bool, true, false, if◌then◌else◌, List, [], ◌∷◌, length, Option, None, Some, Result, Ok, codes, refl, sym, ap, subst, ◌∙◌, arith, option_map}
 use Rattle.std.specs.Option.{option_and_then}
 use Rattle.std.specs.Result.{result_ok}
 use Rattle.std.proofs.lemmas.Bool.{eqb-true}
+use Rattle.std.proofs.lemmas.Bool.Decides.{nat_tests}
+use Rattle.std.proofs.lemmas.Int.{fits_signed_from_abs}
 use Rattle.hex.specs.Hex.{encode_lower}
 use Rattle.uuid.specs.Text.{hyphenated_text, lower}
 use Rattle.ids.specs.Kind.{kind_of, kind_word}
@@ -11,12 +13,14 @@ use Rattle.ids.proofs.KindLemmas.{kind_of-has, kind_of-word}
 use Rattle.ids.specs.declared.key.Key.{Key}
 use Rattle.ids.proofs.BasicLemmas.{same_from_some}
 use Rattle.serde_json.specs.Data.{Data, unsigned, negative, float, null, boolean, number, string, array, object}
-use Rattle.serde_json.specs.Find.{get, as_number, as_str, as_u64}
+use Rattle.serde_json.specs.Find.{get, as_i64, as_number, as_str, as_u64, of_integer}
 use Rattle.json_words.specs.Check.{◌>>=◌, ok_or}
-use Rattle.json_words.specs.Fields.{number_field, text_field}
+use Rattle.json_words.specs.Fields.{integer_field, number_field, text_field}
 use Rattle.json_words.specs.IdText.{library_id_of, object_id_of}
+use Rattle.json_words.specs.declared.fields.FieldFault.{FieldFault}
 use Rattle.json_words.specs.declared.fields.FieldFault.TheVariants.{Missing, WrongType}
-use Rattle.json_words.proofs.FoundLemmas.{number_field-found, text_field-found}
+use Rattle.json_words.proofs.FoundLemmas.{integer_field-found, number_field-found, text_field-found}
+use Rattle.library_state.specs.declared.refusal.Refusal.TheVariants as refusal
 use Rattle.tree_model.specs.Name.{IsName}
 use Rattle.tree_model.specs.Path.{PathV, IsPath, path_of, path_text}
 use Rattle.tree_model.proofs.PathReadingLemmas.{IsTextOf, path_of-has, path_of-text}
@@ -26,7 +30,8 @@ use Rattle.http_front.specs.RefusalText.{id_or_null}
 use Rattle.http_front.specs.Route.{IsLibrary}
 use Rattle.http_front.proofs.CallLemmas.{id_reads, lib_reads}
 use Rattle.http_front.proofs.NamedIdLemmas.{id_bytes, id_text, lib_text, library_bytes}
-use Rattle.http_client.specs.RefusalWords.{got_at, id_at, id_or_none, key_at, key_of, library_at, named_path, number_at, path_at, text_at}
+use Rattle.http_client.specs.RefusalReading.{NamesThings}
+use Rattle.http_client.specs.RefusalWords.{got_at, id_at, id_or_none, if_whole, integer_at, key_at, key_of, library_at, named_path, number_at, path_at, text_at}
 
 -- ---- texts and numbers
 
@@ -60,6 +65,47 @@ number_at-has name d n e = by (get name d) e
     by (Some (boolean b)) e = absurd (cc)
     by (Some (number (unsigned m))) e = ap (λ k. Some (number (unsigned k))) (same_from_some m n e)
     by (Some (number (negative z))) e = absurd (cc)
+    by (Some (number (float x))) e = absurd (cc)
+    by (Some (string s)) e = absurd (cc)
+    by (Some (array ds)) e = absurd (cc)
+    by (Some (object ms)) e = absurd (cc)
+
+-- ---- numbers with a sign
+
+below_read : (name : List ℕ) (d : Data) (n : ℕ) → get name d ≡ Some (number (of_integer (negsuc n))) → integer_field name d ≡ Ok (negsuc n)
+unfolding integer_field
+below_read name d n is = rw is
+
+pub integer_at-found : (name : List ℕ) (d : Data) (z : ℤ) → NamesThings (refusal.BadDays z) → get name d ≡ Some (number (of_integer z)) → integer_at name d ≡ Some z
+integer_at-found name d (pos n) small is =
+    ap (λ (r : Result ℤ FieldFault). option_and_then (λ z. if_whole z (number_at name d)) (result_ok r)) (integer_field-found name d (pos n) is (fits_signed_from_abs w64 (pos n) small))
+    ∙ ap (if_whole (pos n)) (number_at-found name d n is)
+integer_at-found name d (negsuc n) small is =
+    ap (λ (r : Result ℤ FieldFault). option_and_then (λ z. if_whole z (number_at name d)) (result_ok r)) (below_read name d n is)
+
+pub integer_at-has : (name : List ℕ) (d : Data) (z : ℤ) → integer_at name d ≡ Some z → NamesThings (refusal.BadDays z) × (get name d ≡ Some (number (of_integer z)))
+unfolding integer_field number_field
+integer_at-has name d z e = by (get name d) e
+  where
+    Reads : Option Data → Type 0
+    Reads o = NamesThings (refusal.BadDays z) × (o ≡ Some (number (of_integer z)))
+
+    small : (n : ℕ) (b : Bool) → nat_lt n (2 ^ 63) ≡ b
+        → option_and_then (λ w. if_whole w (Some n)) (result_ok (ok_or (if b then Some (pos n) else None) WrongType)) ≡ Some z → Reads (Some (number (unsigned n)))
+    small n true is e =
+        let below : n < 2 ^ 63 = grind (arith, nat_tests) in
+        subst (λ (w : ℤ). NamesThings (refusal.BadDays w) × (Some (number (unsigned n)) ≡ Some (number (of_integer w)))) (same_from_some (pos n) z e) (below, refl)
+    small n false is e = absurd (cc)
+
+    by : (o : Option Data) → option_and_then (λ w. if_whole w (result_ok (ok_or o Missing >>= (λ found. ok_or (option_and_then as_u64 (as_number found)) WrongType))))
+        (result_ok (ok_or o Missing >>= (λ found. ok_or (option_and_then as_i64 (as_number found)) WrongType))) ≡ Some z → Reads o
+    by None e = absurd (cc)
+    by (Some null) e = absurd (cc)
+    by (Some (boolean b)) e = absurd (cc)
+    by (Some (number (unsigned n))) e = small n (nat_lt n (2 ^ 63)) refl e
+    by (Some (number (negative (pos n)))) e = absurd (cc)
+    by (Some (number (negative (negsuc n)))) e =
+        subst (λ (w : ℤ). NamesThings (refusal.BadDays w) × (Some (number (negative (negsuc n))) ≡ Some (number (of_integer w)))) (same_from_some (negsuc n) z e) (tt, refl)
     by (Some (number (float x))) e = absurd (cc)
     by (Some (string s)) e = absurd (cc)
     by (Some (array ds)) e = absurd (cc)

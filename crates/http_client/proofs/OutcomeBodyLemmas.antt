@@ -1,5 +1,5 @@
 -- The body that a server writes for an outcome is read as the outcome. The key lemma is outcome_read.
-use Rattle.std.proofs.Common.{◌≡◌, ℕ, ◌==◌, true, if◌then◌else◌, List, [], All, None, Some, codes, refl, sym, ap, ◌∙◌, lit≤, lit<, option_map}
+use Rattle.std.proofs.Common.{◌≡◌, ℕ, ◌^◌, ◌<◌, ◌==◌, true, if◌then◌else◌, List, [], All, Option, None, Some, codes, refl, sym, ap, ap₂, ◌∙◌, lit≤, lit<, option_map}
 use Rattle.std.specs.Option.{option_and_then}
 use Rattle.std.specs.Result.{result_ok}
 use Rattle.std.proofs.lemmas.Bool.{false≢true}
@@ -7,7 +7,7 @@ use Rattle.json_words.proofs.WrittenLemmas.{IsUtf8-are_ascii, json_of-compact_te
 use Rattle.library_state.specs.declared.reply.Reply.TheVariants as reply
 use Rattle.http_front.specs.CallQuery.{IsObjectId}
 use Rattle.http_front.specs.IdArray.{array_text}
-use Rattle.http_front.specs.ReplyBody.{head_body, head_data, version_body, version_data}
+use Rattle.http_front.specs.ReplyBody.{collected_body, collected_data, head_body, head_data, version_body, version_data}
 use Rattle.http_front.specs.ReplyText.{parts_of}
 use Rattle.http_front.specs.Rows.{IsRow, rows_text}
 use Rattle.http_front.specs.declared.order.What.{What}
@@ -16,8 +16,8 @@ use Rattle.http_front.specs.declared.outcome.Outcome.{Outcome}
 use Rattle.http_front.specs.declared.outcome.Outcome.TheVariants.{Version, Same, Plain, Packed, Collected, Refused}
 use Rattle.http_front.specs.declared.row.Row.{Row}
 use Rattle.http_front.specs.declared.status.Status.TheVariants.{Success}
-use Rattle.http_client.specs.OrderOutcome.{CanHave, CanMiss, CanPack, asks_head, asks_list, asks_object, asks_right, asks_version, is_update, stores}
-use Rattle.http_client.specs.OutcomeReading.{IsOutcome, TellsThings, absent_of, answered, as_read, head_in, told_in, version_in}
+use Rattle.http_client.specs.OrderOutcome.{CanHave, CanMiss, CanPack, asks_collection, asks_head, asks_list, asks_object, asks_right, asks_version, is_limit, is_update, stores}
+use Rattle.http_client.specs.OutcomeReading.{IsOutcome, TellsThings, absent_of, answered, as_read, collected_in, head_in, told_in, version_in}
 use Rattle.http_client.proofs.MemberLemmas.{id_at-found, number_at-found}
 use Rattle.http_client.proofs.RefusalBodyLemmas.{refusal_read}
 use Rattle.http_client.proofs.RequestLemmas.{ids_read_back}
@@ -36,6 +36,15 @@ head_told id named =
     (json_of-compact_text (head_data id)
     (IsUtf8-are_ascii (codes "head_commit_id") refl, IsUtf8-encode_lower id, refl, (IsUtf8-are_ascii (codes "is_corrupted") refl, lit< tt, refl, tt)) (lit≤ tt))
     ∙ id_at-found (codes "head_commit_id") (head_data id) id named refl
+
+collected_told : (count removed : ℕ) → count < 2 ^ 64 → removed < 2 ^ 64 → told_in collected_in (collected_body count removed) ≡ Some (Collected count removed)
+unfolding collected_body
+collected_told count removed count_fits removed_fits =
+    let d = collected_data count removed in
+    ap (option_and_then collected_in)
+    (json_of-compact_text d (IsUtf8-are_ascii (codes "collection") refl, count_fits, refl, (IsUtf8-are_ascii (codes "removed") refl, removed_fits, refl, tt)) (lit≤ tt))
+    ∙ ap₂ (λ (n r : Option ℕ). option_and_then (λ c. option_map (Collected c) r) n)
+    (number_at-found (codes "collection") d count refl) (number_at-found (codes "removed") d removed refl)
 
 version_read : (order : What) → asks_version order ≡ true → IsOutcome order Success version_body (Some Version)
 version_read what.Version can = sym version_told
@@ -62,6 +71,15 @@ stored_read (what.Put key bytes) can = refl
 stored_read (what.PutFs objects) can = refl
 stored_read other can = absurd (false≢true can)
 
+limited_read : (order : What) → is_limit order ≡ true → IsOutcome order Success [] (Some (answered reply.Limited))
+limited_read (what.Limit days) can = refl
+limited_read other can = absurd (false≢true can)
+
+collected_read : (count removed : ℕ) → count < 2 ^ 64 → removed < 2 ^ 64 → (order : What) → asks_collection order ≡ true
+    → IsOutcome order Success (collected_body count removed) (Some (Collected count removed))
+collected_read count removed count_fits removed_fits what.Collect can = sym (collected_told count removed count_fits removed_fits)
+collected_read count removed count_fits removed_fits other can = absurd (false≢true can)
+
 listed_read : (ids : List (List ℕ)) (are : All IsObjectId ids) (order : What) → asks_list order ≡ true → IsOutcome order Success (array_text ids) (Some (answered (reply.Listed ids)))
 listed_read ids are (what.Ids server client) can = sym (ap (λ r. option_map (λ i. answered (reply.Listed i)) (result_ok r)) (ids_read_back ids are))
 listed_read ids are other can = absurd (false≢true can)
@@ -83,9 +101,9 @@ outcome_read order (Plain (reply.Got bytes) tag) can is = got_read bytes order c
 outcome_read order (Plain (reply.Stored is_new) tag) can is = stored_read order can
 outcome_read order (Plain (reply.Absent ids) tag) can is = absent_read ids is order can
 outcome_read order (Plain (reply.Updated id) tag) can is = updated_read id is order can
-outcome_read order (Plain reply.Limited tag) can is = absurd can
+outcome_read order (Plain reply.Limited tag) can is = limited_read order can
 outcome_read order (Plain (reply.Listed ids) tag) can is = listed_read ids is order can
 outcome_read order (Plain (reply.Refused why) tag) can is = refusal_read order why can is.0 is.1
 outcome_read order (Packed rows) can is = packed_read rows is order can
-outcome_read order (Collected number removed) can is = absurd can
+outcome_read order (Collected count removed) can is = collected_read count removed is.0 is.1 order can
 outcome_read order (Refused why) can is = refusal_read order why can is.0 is.1

@@ -1,6 +1,5 @@
 -- The body that a server writes for a refusal is read as the refusal. The key lemma is refusal_read.
-use Rattle.std.proofs.Common.{◌≡◌, ◌≤◌, true, None, Some, codes, refl, lit≤, IsUtf8}
-use Rattle.std.proofs.lemmas.Bool.{false≢true}
+use Rattle.std.proofs.Common.{◌≡◌, ◌≤◌, pos, negsuc, true, None, Some, codes, refl, lit≤, IsUtf8}
 use Rattle.ids.specs.Kind.{kind_word}
 use Rattle.ids.specs.declared.key.Kind.{Kind}
 use Rattle.ids.specs.declared.key.Kind.TheVariants.{Commit, Fs, Block}
@@ -78,7 +77,8 @@ spelled refusal.Spent said = (IsUtf8-are_ascii (codes "reason") refl, IsUtf8-are
 spelled refusal.NoMemory said = (IsUtf8-are_ascii (codes "reason") refl, IsUtf8-are_ascii (codes "no-memory") refl, refl, tt)
 spelled (refusal.Damaged want None) said = (IsUtf8-are_ascii (codes "got") refl, tt, refl, (IsUtf8-are_ascii (codes "reason") refl, IsUtf8-are_ascii (codes "damaged") refl, refl, (IsUtf8-are_ascii (codes "want") refl, IsUtf8-encode_lower want, refl, tt)))
 spelled (refusal.Damaged want (Some got)) said = (IsUtf8-are_ascii (codes "got") refl, IsUtf8-encode_lower got, refl, (IsUtf8-are_ascii (codes "reason") refl, IsUtf8-are_ascii (codes "damaged") refl, refl, (IsUtf8-are_ascii (codes "want") refl, IsUtf8-encode_lower want, refl, tt)))
-spelled (refusal.BadDays days) said = absurd said
+spelled (refusal.BadDays (pos days)) said = (IsUtf8-are_ascii (codes "days") refl, said, refl, (IsUtf8-are_ascii (codes "reason") refl, IsUtf8-are_ascii (codes "bad-days") refl, refl, tt))
+spelled (refusal.BadDays (negsuc days)) said = (IsUtf8-are_ascii (codes "days") refl, said, refl, (IsUtf8-are_ascii (codes "reason") refl, IsUtf8-are_ascii (codes "bad-days") refl, refl, tt))
 
 shallow : (why : Refusal) → depth (refused_data why) ≤ 127
 shallow (refusal.Damaged want None) = lit≤ tt
@@ -97,5 +97,5 @@ told order why can named said = record {
 
 pub refusal_read : (order : What) (why : Refusal) → can_refuse order why ≡ true → NamesThings why → IsSpoken why
     → IsOutcome order (refused_status why) (refused_body why) (Some (Refused why))
-refusal_read order (refusal.BadDays days) can named said = absurd (false≢true can)
+refusal_read order refusal.NoLibrary can named said = told order refusal.NoLibrary can named said
 refusal_read order other can named said = told order other can named said

@@ -3,7 +3,7 @@
 use Rattle.std.proofs.Common.{◌≡◌, ℕ, ◌==◌, ◌&&◌, Bool, true, false, if◌then◌else◌, List, Option, None, Some, codes, refl, sym, ap, subst, ◌∙◌, option_map}
 use Rattle.std.specs.Option.{option_and_then}
 use Rattle.std.specs.Str.{bytes_eq}
-use Rattle.std.proofs.lemmas.Bool.{and_parts, and_from, eq-eqb, eqb-true, false≢true}
+use Rattle.std.proofs.lemmas.Bool.{and_parts, and_from, eq-eqb, eqb-true}
 use Rattle.ids.proofs.BasicLemmas.{same_from_bytes_eq, same_from_some}
 use Rattle.serde_json.specs.Data.{Data, string}
 use Rattle.serde_json.specs.Find.{get}
@@ -20,7 +20,7 @@ use Rattle.http_client.specs.OutcomeReading.{IsRefusal, TellsWhy, told_in}
 use Rattle.http_client.specs.RefusalReading.{HasMembers, NamesThings, TellsRefusal, members_of}
 use Rattle.http_client.specs.RefusalWords.{counted_of, damaged_in, got_at, id_at, if_due, keyed_of, located_of, named_of, number_at, or_else, path_at, plain_of, refusal_for, refusal_in, stale_in, text_at, too_long_in}
 use Rattle.http_client.specs.ReplyHead.{status_number}
-use Rattle.http_client.proofs.MemberLemmas.{got_at-found, got_at-has, id_at-found, id_at-has, key_at-found, key_at-has, library_at-found, library_at-has, number_at-found, number_at-has, path_at-found, path_at-has, text_at-found, text_at-has}
+use Rattle.http_client.proofs.MemberLemmas.{got_at-found, got_at-has, id_at-found, id_at-has, integer_at-found, integer_at-has, key_at-found, key_at-has, library_at-found, library_at-has, number_at-found, number_at-has, path_at-found, path_at-has, text_at-found, text_at-has}
 
 -- ---- what tells a refusal that an order can have is read as it
 
@@ -61,7 +61,7 @@ module _ (d : Data) where
       because (codes "too-long") is.has.1.1.0
       ∙ ap (option_and_then (λ p. option_map (refusal.TooLong p) (number_at (codes "length") d))) (path_at-found d path is.named is.has.1.0)
       ∙ ap (option_map (refusal.TooLong path)) (number_at-found (codes "length") d size is.has.0)
-  refusal-found order (refusal.BadDays days) can is = absurd (false≢true can)
+  refusal-found order (refusal.BadDays days) can is = because (codes "bad-days") is.has.1.0 ∙ first_found _ _ (refusal.BadDays days) (ap (option_map refusal.BadDays) (integer_at-found (codes "days") d days is.named is.has.0))
   refusal-found order (refusal.Damaged want got) can is =
       because (codes "damaged") is.has.1.0
       ∙ first_found (damaged_in d) _ (refusal.Damaged want got)
@@ -128,7 +128,8 @@ module _ (d : Data) (reason : List ℕ) (there : get (codes "reason") d ≡ Some
       (for_word (codes "bad-commit") _ _ (λ r. mapped refusal.BadCommit _ (λ n is. record { named = tt; has = (number_at-has (codes "code") d n is, (r, tt)) }))
       (for_word (codes "unrelated") _ _ (λ r. mapped refusal.Unrelated _ (λ n is. record { named = tt; has = (number_at-has (codes "count") d n is, (r, tt)) }))
       (for_word (codes "too-many") _ _ (λ r. mapped refusal.TooMany _ (λ n is. record { named = tt; has = (number_at-has (codes "count") d n is, (r, tt)) }))
-      (for_word (codes "stale") _ _ (λ r. stale_tells r) none_tells)))))
+      (for_word (codes "stale") _ _ (λ r. stale_tells r)
+      (for_word (codes "bad-days") _ _ (λ r. mapped refusal.BadDays _ (λ days is. let has = integer_at-has (codes "days") d days is in record { named = has.0; has = (has.1, (r, tt)) })) none_tells))))))
 
   keyed_tells : All_tell (keyed_of reason d)
   keyed_tells =

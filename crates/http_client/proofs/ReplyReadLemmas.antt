@@ -69,10 +69,9 @@ written_so : (order : What) (o : Outcome) → CanHave order o → IsWritten (par
 written_so order Version can = record { has = refl; untagged = refl; type_is = json }
 written_so order (Same tag) can = absurd can
 written_so order (Plain (reply.Got bytes) tag) can = record { has = refl; untagged = refl; type_is = octets }
-written_so order (Plain reply.Limited tag) can = absurd can
 written_so order (Plain (reply.Refused why) tag) can = record { has = refused_has why; untagged = refl; type_is = json }
 written_so order (Packed rows) can = record { has = refl; untagged = refl; type_is = octets }
-written_so order (Collected number removed) can = absurd can
+written_so order (Collected number removed) can = record { has = refl; untagged = refl; type_is = json }
 written_so order (Refused why) can = record { has = refused_has why; untagged = refl; type_is = json }
 written_so order (Plain other tag) can = record { has = refl; untagged = refl; type_is = json }
 

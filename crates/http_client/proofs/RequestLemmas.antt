@@ -1,5 +1,5 @@
 -- A request that is written for an order is read as that order. The key lemma is order_spelled, at the end.
-use Rattle.std.proofs.Common.{◌≡◌, ℕ, ◌^◌, ◌<◌, ◌≤◌, ◌&&◌, nat_lt, Bool, true, false, List, [], ◌∷◌, ◌++◌, length, map, codes, refl, sym, ap, ap₂, subst, ◌∙◌, ◌==◌, if◌then◌else◌, lit≤, lit<, arith, Option, None, Some, Result, Ok, Err, All}
+use Rattle.std.proofs.Common.{◌≡◌, ℕ, ℤ, unsigned_abs, ◌^◌, ◌<◌, ◌≤◌, ◌&&◌, nat_lt, Bool, true, false, List, [], ◌∷◌, ◌++◌, length, map, codes, refl, sym, ap, ap₂, subst, ◌∙◌, ◌==◌, if◌then◌else◌, lit≤, lit<, arith, Option, None, Some, Result, Ok, Err, All}
 use Rattle.std.specs.List.{list_all}
 use Rattle.std.proofs.lemmas.Bool.Decides.{nat_tests}
 use Rattle.std.proofs.lemmas.List.Elements.{All-head, All-tail}
@@ -24,8 +24,8 @@ use Rattle.library_state.specs.declared.refusal.Refusal.{Refusal}
 use Rattle.library_state.specs.declared.call.Op.{Op}
 use Rattle.http_front.specs.CallQuery.{IsClient, IsObjectId}
 use Rattle.http_front.specs.IdArray.{array_text, id_at, ids_of, ids_of_value}
-use Rattle.http_front.specs.Order.{IsOrder, IsOrderAt, asks_objects, asks_to, asks_what_differs, asks_what_is_absent, updates}
-use Rattle.http_front.specs.Query.{client_asked, id_asked, op_asked, query_of}
+use Rattle.http_front.specs.Order.{IsOrder, IsOrderAt, asks_objects, asks_to, asks_what_differs, asks_what_is_absent, limits, updates}
+use Rattle.http_front.specs.Query.{client_asked, days_asked, id_asked, op_asked, query_of}
 use Rattle.http_front.specs.RequestHead.{closes_by, expects, expects_after, expects_by, fields_of, judge, judged, method_of, wants_continue}
 use Rattle.http_front.specs.Route.{IsCall, IsLibrary, limit_at, limit_of, method_in, route_limit, route_of}
 use Rattle.http_front.specs.declared.method.Method.{Method}
@@ -36,7 +36,7 @@ use Rattle.http_front.specs.declared.order.What.TheVariants as what
 use Rattle.http_front.specs.declared.route.Route.{Route}
 use Rattle.http_front.specs.declared.route.Route.TheVariants as route
 use Rattle.http_front.proofs.CallLemmas.{id_reads, path_names}
-use Rattle.http_front.proofs.CallQueryLemmas.{check_asked, ids_asked, update_asked}
+use Rattle.http_front.proofs.CallQueryLemmas.{check_asked, ids_asked, limit_asked, update_asked}
 use Rattle.http_client.specs.ReadOrder.{HasIds, IsLibraryOrNone, IsSecretOrNone, IsTyped, SpellsOrder}
 use Rattle.http_client.specs.RequestText.{HasRequest, IsAsked, IsHost, IsWithinLimit, NamesLibrary, body_in, is_host_byte, method_word, query_text, request_text, route_in, target_text}
 use Rattle.http_client.proofs.TargetTextLemmas.{is_visible, path_is, query_in, query_is, route_call, tail_of, target_short, target_some, target_visible, weaker, visible_ascii}
@@ -104,6 +104,15 @@ module _ (secret : Option (List ℕ)) where
         (sym (update_asked target lib commit secret [] due is commit_is (path_is (route.Update lib) (query_text w) (query_in w) is (tail_of w))
         (query_is (route.Update lib) (query_text w) (query_in w) is (tail_of w)) (order_by (method_in (route.Update lib)) target secret [] (route.Update lib) due (named_so w is) refl)))
 
+    limit_read : (days : ℤ) → unsigned_abs days < 10 ^ 18 → Reads (Some lib) (what.Limit days)
+    limit_read days short =
+        let w = what.Limit days in
+        let target = target_text (Some lib) w in
+        let due = limits lib secret (days_asked (query_of target)) in
+        read_by (Some lib) w is
+        (sym (limit_asked target lib days secret [] due is short (path_is (route.Limit lib) (query_text w) (query_in w) is (tail_of w))
+        (query_is (route.Limit lib) (query_text w) (query_in w) is (tail_of w)) (order_by (method_in (route.Limit lib)) target secret [] (route.Limit lib) due (named_so w is) refl)))
+
     list_read : (server : List ℕ) (client : Option (List ℕ)) → IsObjectId server → IsClient client → Reads (Some lib) (what.Ids server client)
     list_read server client server_is client_is =
         let w = what.Ids server client in
@@ -124,6 +133,8 @@ module _ (secret : Option (List ℕ)) where
   order_read None (what.PutFs rows) l i n a = absurd n
   order_read None (what.GetFs ids) l i n a = absurd n
   order_read None (what.Ids server client) l i n a = absurd n
+  order_read None (what.Limit days) l i n a = absurd n
+  order_read None what.Collect l i n a = absurd n
   order_read (Some lib) what.Version l i n a = absurd n
   order_read (Some lib) (what.Check op) l i n a = check_read lib l op
   order_read (Some lib) what.Head l i n a = read_by (Some lib) what.Head l refl
@@ -136,6 +147,8 @@ module _ (secret : Option (List ℕ)) where
   order_read (Some lib) (what.PutFs rows) l i n a = read_by (Some lib) (what.PutFs rows) l (Ok rows, (i, refl), refl)
   order_read (Some lib) (what.GetFs ids) l i n a = read_by (Some lib) (what.GetFs ids) l (ap (asks_objects lib secret) (sym (ids_read_back ids i)))
   order_read (Some lib) (what.Ids server client) l i n a = list_read lib l server client i.0 i.1
+  order_read (Some lib) (what.Limit days) l i n a = limit_read lib l days a
+  order_read (Some lib) what.Collect l i n a = read_by (Some lib) what.Collect l refl
 
 -- ---- the whole request
 
@@ -157,6 +170,8 @@ no_body (Some lib) (what.PutFs rows) n a e = absurd (cc)
 no_body None (what.GetFs ids) n a e = absurd n
 no_body (Some lib) (what.GetFs ids) n a e = absurd (cc)
 no_body lib (what.Ids server client) n a e = refl
+no_body lib (what.Limit days) n a e = refl
+no_body lib what.Collect n a e = refl
 
 host_visible : (b : ℕ) → is_host_byte b ≡ true → is_visible b ≡ true
 host_visible b is = grind (arith, nat_tests)
@@ -211,7 +226,7 @@ order_spelled order host rest ends typed has within host_is =
     let short = within.short in
     let small : size < 10 ^ 19 = omega (arith, limit, short) in
     let fits : size < 2 ^ 64 = omega (arith, limit, short) in
-    let visible = target_visible order.lib order.what call typed.ids in
+    let visible = target_visible order.lib order.what call typed.ids has.asked in
     let host_seen : list_all is_visible host ≡ true = weaker is_host_byte is_visible host_visible host (list_all-from_AllPass is_host_byte host host_is.allowed) in
     let secret_seen = secret_visible order.secret typed.secret in
     let head : RequestHead = head_with m target host order.secret size ends in
@@ -236,7 +251,7 @@ order_spelled order host rest ends typed has within host_is =
             request_printed order host ends body rest,
           );
           few = few_so m host order.secret size ends word;
-          short = head_short m target host order.secret size ends word (target_short order.lib order.what call typed.ids) host_is.short (secret_short order.secret typed.secret) small fits;
+          short = head_short m target host order.secret size ends word (target_short order.lib order.what call typed.ids has.asked) host_is.short (secret_short order.secret typed.secret) small fits;
         };
         accepted = accepted;
       };

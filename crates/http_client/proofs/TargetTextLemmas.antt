@@ -1,10 +1,13 @@
 -- The target that is written for an order: its bytes, its length, and the path and query that a server cuts it into. The
 -- key lemmas are target_visible, target_short, path_is and query_is.
-use Rattle.std.proofs.Common.{IsUtf8, get_or, ◌≡◌, ◌≢◌, ℕ, ◌+◌, ◌*◌, ◌<◌, ◌≤◌, ◌==◌, ◌&&◌, not, nat_lt, Bool, true, false, cond, IsTrue, List, [], ◌∷◌, ◌++◌, length, take, drop, get_or, All, Option, None, Some, codes, refl, sym, ap, subst, ◌∙◌, arith, lit≤, lit<, length-append, append-nil}
+use Rattle.std.proofs.Common.{IsUtf8, ℤ, pos, negsuc, suc, unsigned_abs, ◌^◌, decimal, ◌≡◌, ◌≢◌, ℕ, ◌+◌, ◌*◌, ◌<◌, ◌≤◌, ◌==◌, ◌&&◌, not, nat_lt, Bool, true, false, cond, IsTrue, List, [], ◌∷◌, ◌++◌, length, take, drop, get_or, All, Option, None, Some, codes, refl, sym, ap, subst, ◌∙◌, arith, lit≤, lit<, length-append, append-nil}
 use Rattle.std.specs.Prelude.{⊤}
+use Rattle.std.specs.Char.{is_ascii_digit}
+use Rattle.std.specs.Fmt.{signed_decimal}
 use Rattle.std.specs.List.{join_with_byte, list_all, position_or_len}
 use Rattle.std.proofs.lemmas.Bool.{and_parts, and_from, eqb-true, false≢true}
 use Rattle.std.proofs.lemmas.Bool.Decides.{nat_tests}
+use Rattle.std.proofs.lemmas.Fmt.{length-decimal-le}
 use Rattle.std.proofs.lemmas.List.{drop_all, drop_at, drop-drop, take_all, take_at}
 use Rattle.std.proofs.lemmas.List.Elements.{All-from_get_or}
 use Rattle.std.proofs.lemmas.List.Sums.{AllPass-from_list_all, list_all-from_AllPass}
@@ -20,12 +23,13 @@ use Rattle.ids.specs.declared.key.Kind.{Kind}
 use Rattle.ids.specs.declared.key.Kind.TheVariants.{Commit, Fs, Block}
 use Rattle.ids.proofs.DigitsLemmas.{AllPass-encode_lower}
 use Rattle.ids.proofs.LibraryTextLemmas.{IsOf-hyphenated}
-use Rattle.http_front.specs.CallQuery.{IsObjectId, check_query, ids_query, part_of, update_query}
+use Rattle.http_front.specs.CallQuery.{IsObjectId, check_query, days_query, ids_query, part_of, update_query}
 use Rattle.http_front.specs.Query.{query_of}
 use Rattle.http_front.specs.Route.{IsCall, parts_in, path_in, under}
 use Rattle.http_front.specs.Target.{before_query, path_of, without_end_slash}
 use Rattle.http_front.specs.declared.route.Route.{Route}
 use Rattle.http_front.specs.declared.route.Route.TheVariants as route
+use Rattle.http_front.proofs.NumberLemmas.{decimal_digits}
 use Rattle.http_front.proofs.TargetLemmas.{no_end_slash}
 use Rattle.http_front.specs.declared.order.What.{What}
 use Rattle.http_front.specs.declared.order.What.TheVariants as what
@@ -136,6 +140,8 @@ route_parts (route.CheckBlocks lib) is = under_parts lib (codes "check-blocks" �
 route_parts (route.PutFs lib) is = under_parts lib (codes "recv-fs" ∷ []) (word_part (codes "recv-fs") refl (lit≤ tt), tt)
 route_parts (route.GetFs lib) is = under_parts lib (codes "pack-fs" ∷ []) (word_part (codes "pack-fs") refl (lit≤ tt), tt)
 route_parts (route.Ids lib) is = under_parts lib (codes "fs-id-list" ∷ []) (word_part (codes "fs-id-list") refl (lit≤ tt), tt)
+route_parts (route.Limit lib) is = under_parts lib (codes "history-limit" ∷ []) (word_part (codes "history-limit") refl (lit≤ tt), tt)
+route_parts (route.Collect lib) is = under_parts lib (codes "collect" ∷ []) (word_part (codes "collect") refl (lit≤ tt), tt)
 
 few_parts : (r : Route) → length (parts_in r) ≤ 5
 few_parts route.Version = lit≤ tt
@@ -149,6 +155,8 @@ few_parts (route.CheckBlocks lib) = lit≤ tt
 few_parts (route.PutFs lib) = lit≤ tt
 few_parts (route.GetFs lib) = lit≤ tt
 few_parts (route.Ids lib) = lit≤ tt
+few_parts (route.Limit lib) = lit≤ tt
+few_parts (route.Collect lib) = lit≤ tt
 
 path_bytes : (r : Route) → IsCall r → list_all is_path_byte (path_in r) ≡ true
 path_bytes r is = joined_bytes (parts_in r) (route_parts r is)
@@ -257,6 +265,8 @@ route_some (route.CheckBlocks lib) is = lit< tt
 route_some (route.PutFs lib) is = lit< tt
 route_some (route.GetFs lib) is = lit< tt
 route_some (route.Ids lib) is = lit< tt
+route_some (route.Limit lib) is = lit< tt
+route_some (route.Collect lib) is = lit< tt
 
 no_slash_last : (path : List ℕ) → is_part_byte (last_of path) ≡ true → (front : List ℕ) → path ≢ front ++ 47 ∷ []
 unfolding last_of
@@ -278,6 +288,7 @@ abbrev pub query_in : What → List ℕ
 query_in (what.Check op) = check_query op
 query_in (what.Update commit) = update_query commit
 query_in (what.Ids server client) = ids_query server client
+query_in (what.Limit days) = days_query days
 query_in _ = []
 
 pub tail_of : (w : What) → IsTail (query_text w) (query_in w)
@@ -291,6 +302,8 @@ tail_of (what.Missing kind ids) = no_query
 tail_of (what.PutFs rows) = no_query
 tail_of (what.GetFs ids) = no_query
 tail_of (what.Ids server client) = with_query (ids_query server client)
+tail_of (what.Limit days) = with_query (days_query days)
+tail_of what.Collect = no_query
 
 record IsQuery (text : List ℕ) : Type 0 where
   bytes : list_all is_visible text ≡ true
@@ -302,34 +315,52 @@ digits_visible id is = weaker is_part_byte is_visible (λ b e. path_byte_visible
 forty : (id : List ℕ) → IsObjectId id → length (encode_lower id) ≡ 40
 forty id is = let twice = length-encode_with lower_digits id in let size = is.size in omega (arith, size, twice)
 
-query_text_is : (w : What) → HasIds w → IsQuery (query_text w)
-query_text_is what.Version is = record { bytes = refl; short = lit≤ tt }
-query_text_is (what.Check Upload) is = record { bytes = refl; short = lit≤ tt }
-query_text_is (what.Check Download) is = record { bytes = refl; short = lit≤ tt }
-query_text_is what.Head is = record { bytes = refl; short = lit≤ tt }
-query_text_is (what.Update commit) is = record { bytes = digits_visible commit is; short = let f = forty commit is in omega (arith, f) }
-query_text_is (what.Get key) is = record { bytes = refl; short = lit≤ tt }
-query_text_is (what.Put key bytes) is = record { bytes = refl; short = lit≤ tt }
-query_text_is (what.Missing kind ids) is = record { bytes = refl; short = lit≤ tt }
-query_text_is (what.PutFs rows) is = record { bytes = refl; short = lit≤ tt }
-query_text_is (what.GetFs ids) is = record { bytes = refl; short = lit≤ tt }
-query_text_is (what.Ids server None) is = record { bytes = digits_visible server is.0; short = let f = forty server is.0 in omega (arith, f) }
-query_text_is (what.Ids server (Some client)) is = record {
+pub digit_visible : (b : ℕ) → is_ascii_digit b ≡ true → is_visible b ≡ true
+digit_visible b is = grind (arith, nat_tests)
+
+record IsNumberText (text : List ℕ) : Type 0 where
+  bytes : list_all is_visible text ≡ true
+  short : length text ≤ 19
+
+decimal_text : (n : ℕ) → n < 10 ^ 18 → (list_all is_visible (decimal n) ≡ true) × (length (decimal n) ≤ 18)
+decimal_text n short =
+    let fits : n < 2 ^ 64 = let most : 10 ^ 18 ≤ 2 ^ 64 = lit≤ tt in omega (arith, short, most) in
+    (weaker is_ascii_digit is_visible digit_visible (decimal n) (decimal_digits n fits), length-decimal-le 18 n (lit< tt) short fits)
+
+days_text : (days : ℤ) → unsigned_abs days < 10 ^ 18 → IsNumberText (signed_decimal days)
+days_text (pos n) short = let d = decimal_text n short in record { bytes = d.0; short = let few = d.1 in omega (arith, few) }
+days_text (negsuc n) short = let d = decimal_text (suc n) short in record { bytes = d.0; short = let few = d.1 in omega (arith, few) }
+
+query_text_is : (w : What) → HasIds w → IsAsked w → IsQuery (query_text w)
+query_text_is (what.Limit days) is asked = let d = days_text days asked in record { bytes = d.bytes; short = let few = d.short in omega (arith, few) }
+query_text_is what.Collect is asked = record { bytes = refl; short = lit≤ tt }
+query_text_is what.Version is asked = record { bytes = refl; short = lit≤ tt }
+query_text_is (what.Check Upload) is asked = record { bytes = refl; short = lit≤ tt }
+query_text_is (what.Check Download) is asked = record { bytes = refl; short = lit≤ tt }
+query_text_is what.Head is asked = record { bytes = refl; short = lit≤ tt }
+query_text_is (what.Update commit) is asked = record { bytes = digits_visible commit is; short = let f = forty commit is in omega (arith, f) }
+query_text_is (what.Get key) is asked = record { bytes = refl; short = lit≤ tt }
+query_text_is (what.Put key bytes) is asked = record { bytes = refl; short = lit≤ tt }
+query_text_is (what.Missing kind ids) is asked = record { bytes = refl; short = lit≤ tt }
+query_text_is (what.PutFs rows) is asked = record { bytes = refl; short = lit≤ tt }
+query_text_is (what.GetFs ids) is asked = record { bytes = refl; short = lit≤ tt }
+query_text_is (what.Ids server None) is asked = record { bytes = digits_visible server is.0; short = let f = forty server is.0 in omega (arith, f) }
+query_text_is (what.Ids server (Some client)) is asked = record {
   bytes = list_all-joined is_visible (encode_lower server) (38 ∷ part_of (codes "client-head") (encode_lower client)) (digits_visible server is.0) (digits_visible client is.1);
   short = let f = forty server is.0 in let g = forty client is.1 in omega (arith, f, g, length-append (encode_lower server) (38 ∷ part_of (codes "client-head") (encode_lower client)));
 }
 
 -- ---- the whole target
 
-pub target_visible : (lib : Option (List ℕ)) (w : What) → IsCall (route_in lib w) → HasIds w → list_all is_visible (target_text lib w) ≡ true
-target_visible lib w call ids =
+pub target_visible : (lib : Option (List ℕ)) (w : What) → IsCall (route_in lib w) → HasIds w → IsAsked w → list_all is_visible (target_text lib w) ≡ true
+target_visible lib w call ids asked =
     list_all-joined is_visible (path_in (route_in lib w)) (query_text w)
-    (weaker is_path_byte is_visible path_byte_visible (path_in (route_in lib w)) (path_bytes (route_in lib w) call)) (query_text_is w ids).bytes
+    (weaker is_path_byte is_visible path_byte_visible (path_in (route_in lib w)) (path_bytes (route_in lib w) call)) (query_text_is w ids asked).bytes
 
-pub target_short : (lib : Option (List ℕ)) (w : What) → IsCall (route_in lib w) → HasIds w → length (target_text lib w) ≤ 325
-target_short lib w call ids =
+pub target_short : (lib : Option (List ℕ)) (w : What) → IsCall (route_in lib w) → HasIds w → IsAsked w → length (target_text lib w) ≤ 325
+target_short lib w call ids asked =
     let path = path_short (route_in lib w) call in
-    let query = (query_text_is w ids).short in
+    let query = (query_text_is w ids asked).short in
     omega (arith, path, query, length-append (path_in (route_in lib w)) (query_text w))
 
 pub target_some : (lib : Option (List ℕ)) (w : What) → IsCall (route_in lib w) → 0 < length (target_text lib w)
@@ -352,3 +383,5 @@ route_call (Some lib) (what.Missing Block ids) l i n a = l
 route_call (Some lib) (what.PutFs rows) l i n a = l
 route_call (Some lib) (what.GetFs ids) l i n a = l
 route_call (Some lib) (what.Ids server client) l i n a = l
+route_call (Some lib) (what.Limit days) l i n a = l
+route_call (Some lib) what.Collect l i n a = l

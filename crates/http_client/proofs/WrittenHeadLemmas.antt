@@ -1,12 +1,11 @@
 -- The head that is written for an order, as a server reads it. The key lemmas are request_printed, are_fields, judged_so,
 -- closes_so and secret_so.
-use Rattle.std.proofs.Common.{◌≡◌, ℕ, ◌^◌, ◌<◌, nat_lt, nat_le, Bool, true, false, List, [], ◌∷◌, ◌++◌, length, map, reverse, refl, sym, ap, ap₂, ◌∙◌, subst, arith, lit<, append_assoc, append-nil, Option, None, Some, codes, decimal, All}
+use Rattle.std.proofs.Common.{◌≡◌, ℕ, ◌^◌, ◌<◌, Bool, true, false, List, [], ◌∷◌, ◌++◌, length, map, reverse, refl, sym, ap, ap₂, ◌∙◌, subst, arith, lit<, append_assoc, append-nil, Option, None, Some, codes, decimal, All}
 use Rattle.std.specs.Prelude.{⊤}
 use Rattle.std.specs.List.{AllByRecursion, flat_map, list_all}
 use Rattle.std.specs.Char.{is_ascii_digit}
-use Rattle.std.proofs.lemmas.Bool.{and_parts, le-leb}
+use Rattle.std.proofs.lemmas.Bool.{and_parts}
 use Rattle.std.proofs.lemmas.Bool.Decides.{nat_tests}
-use Rattle.std.proofs.lemmas.Fmt.{decimal_is_IsNumeral, decimal_nonempty, length-decimal-le}
 use Rattle.std.proofs.lemmas.Grind.{flat_map-append}
 use Rattle.std.proofs.lemmas.List.Elements.{All-from_recursion}
 use Rattle.std.proofs.lemmas.List.Sums.{AllPass-from_list_all, list_all-from_AllPass}
@@ -25,10 +24,10 @@ use Rattle.http_front.specs.declared.method.Method.TheVariants as method
 use Rattle.http_front.specs.declared.order.Order.{Order}
 use Rattle.http_front.specs.declared.route.Route.{Route}
 use Rattle.http_front.specs.declared.route.Route.TheVariants as route
-use Rattle.http_front.proofs.TagLemmas.{decimal_digits}
+use Rattle.http_front.proofs.NumberLemmas.{decimal_digits, number_written}
 use Rattle.http_client.specs.ReadOrder.{IsSecretOrNone}
 use Rattle.http_client.specs.RequestText.{host_line, length_line, method_word, request_with, route_in, target_text, token_line}
-use Rattle.http_client.proofs.TargetTextLemmas.{is_visible, weaker}
+use Rattle.http_client.proofs.TargetTextLemmas.{digit_visible, is_visible, weaker}
 
 -- ---- the head that is written
 
@@ -129,9 +128,6 @@ trimmed v are =
     trim_ows_space v (skips_none v are)
     (skips_none (reverse v) (list_all-from_AllPass is_visible (reverse v) (AllPass-reverse is_visible v (AllPass-from_list_all is_visible v are))))
 
-digit_visible : (b : ℕ) → is_ascii_digit b ≡ true → is_visible b ≡ true
-digit_visible b is = grind (arith, nat_tests)
-
 pub size_visible : (n : ℕ) → n < 2 ^ 64 → list_all is_visible (decimal n) ≡ true
 size_visible n fits = weaker is_ascii_digit is_visible digit_visible (decimal n) (decimal_digits n fits)
 
@@ -197,6 +193,8 @@ route_word (route.CheckBlocks lib) = post
 route_word (route.PutFs lib) = post
 route_word (route.GetFs lib) = post
 route_word (route.Ids lib) = get
+route_word (route.Limit lib) = put
+route_word (route.Collect lib) = post
 
 pub word_is : (m : Method) → HasWord m → method_of (method_word m) ≡ m
 word_is _ get = refl
@@ -258,16 +256,7 @@ secret_so m host secret size ends word is visible =
 
 -- ---- the length is read as it was written
 
-pub number_so : (n : ℕ) → n < 10 ^ 19 → n < 2 ^ 64 → number_in (decimal n) ≡ Some n
-number_so n small fits =
-    let some : nat_lt 0 (length (decimal n)) ≡ true = lt_told (decimal_nonempty n fits) in
-    let few : nat_le (length (decimal n)) 19 ≡ true = le-leb _ _ (length-decimal-le 19 n (lit< tt) small fits) in
-    rw (some, few, decimal_digits n fits) (ap Some (decimal_is_IsNumeral n fits).1)
-  where
-    lt_told : {a b : ℕ} → a < b → nat_lt a b ≡ true
-    lt_told less = grind (arith, nat_tests)
-
 pub told_size : (m : Method) (size : ℕ) → HasWord m → size < 10 ^ 19 → size < 2 ^ 64 → (m ≡ method.Get → size ≡ 0) → told_length m size ≡ Some size
 told_size _ size get small fits none = ap Some (sym (none refl))
-told_size _ size put small fits none = ap number_in (trimmed (decimal size) (size_visible size fits)) ∙ number_so size small fits
-told_size _ size post small fits none = ap number_in (trimmed (decimal size) (size_visible size fits)) ∙ number_so size small fits
+told_size _ size put small fits none = ap number_in (trimmed (decimal size) (size_visible size fits)) ∙ number_written size small fits
+told_size _ size post small fits none = ap number_in (trimmed (decimal size) (size_visible size fits)) ∙ number_written size small fits

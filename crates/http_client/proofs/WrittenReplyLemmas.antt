@@ -17,7 +17,8 @@ use Rattle.http_front.specs.declared.order.What.{What}
 use Rattle.http_front.specs.declared.status.Status.{Status}
 use Rattle.http_front.specs.declared.status.Status.TheVariants as status
 use Rattle.http_client.specs.ReplyHead.{IsRightBy, IsTagged, size_due, status_number, tag_due}
-use Rattle.http_client.proofs.WrittenHeadLemmas.{close_fields, close_printed, field_of, number_so, size_visible, trimmed, visible_field}
+use Rattle.http_front.proofs.NumberLemmas.{number_written}
+use Rattle.http_client.proofs.WrittenHeadLemmas.{close_fields, close_printed, field_of, size_visible, trimmed, visible_field}
 use Rattle.http_client.proofs.TargetTextLemmas.{is_visible}
 
 -- ---- the head that is written
@@ -171,6 +172,6 @@ right_so order s empty content_type size ends has small fits = record {
   size_is =
       ap (λ (vs : List (List ℕ)). size_due s (found vs)) (size_found empty content_type size ends)
       ∙ size_told s (trim_ows (32 ∷ decimal size)) has
-      ∙ ap number_in (trimmed (decimal size) (size_visible size fits)) ∙ number_so size small fits;
+      ∙ ap number_in (trimmed (decimal size) (size_visible size fits)) ∙ number_written size small fits;
   tagged = subst (λ (b : Bool). IsTagged b (map name_and_value (reply_fields empty content_type size ends))) (sym (no_tag_due order s has)) tt;
 }

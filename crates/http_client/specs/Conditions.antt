@@ -1,5 +1,5 @@
 -- For private clauses: which orders have a request, and how long its body is, as tests and numbers. Read first: RequestText.
-use Rattle.std.specs.Prelude.{ℕ, suc, ℤ, pos, negsuc, nat_lt, ◌^◌, not, Bool, true, false, Option, None, Some, List}
+use Rattle.std.specs.Prelude.{ℕ, nat_lt, ◌^◌, unsigned_abs, not, Bool, true, false, Option, None, Some, List}
 use Rattle.ids.specs.declared.key.Kind.{Kind}
 use Rattle.ids.specs.declared.key.Kind.TheVariants.{Commit, Fs, Block}
 use Rattle.http_front.specs.declared.order.What.{What}
@@ -22,11 +22,6 @@ is_listed_kind Commit = false
 is_listed_kind Fs = true
 is_listed_kind Block = true
 
--- a number has at most 18 digits
-abbrev pub is_short : ℤ → Bool
-is_short (pos days) = nat_lt days (10 ^ 18)
-is_short (negsuc days) = nat_lt (suc days) (10 ^ 18)
-
 abbrev pub is_asked : What → Bool
 is_asked what.Version = true
 is_asked (what.Check op) = true
@@ -38,5 +33,5 @@ is_asked (what.Missing kind ids) = is_listed_kind kind
 is_asked (what.PutFs rows) = true
 is_asked (what.GetFs ids) = true
 is_asked (what.Ids server client) = true
-is_asked (what.Limit days) = is_short days
+is_asked (what.Limit days) = nat_lt (unsigned_abs days) (10 ^ 18)
 is_asked what.Collect = true

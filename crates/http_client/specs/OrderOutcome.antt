@@ -70,9 +70,9 @@ abbrev pub asks_list : What → Bool
 asks_list (what.Ids server client) = true
 asks_list _ = false
 
--- stored trees are walked: those of the commits of an update, or of a list
+-- stored trees are walked: those of the commits of an update, of a list, or that a collection keeps
 abbrev pub walks : What → Bool
-walks order = is_update order || asks_list order
+walks order = is_update order || asks_list order || asks_collection order
 
 -- whether an order can be refused so
 abbrev pub can_refuse : What → Refusal → Bool

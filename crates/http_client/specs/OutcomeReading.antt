@@ -1,7 +1,7 @@
 -- The outcome that the body of a reply tells one who gave an order, by the status. What a text does not show is read as
 -- fixed: a tag of two zeros, that what was put was new, and that a refusal came before any library was asked.
 -- Read first: OrderOutcome, RefusalReading; here: IsOutcome, at the end.
-use Rattle.std.specs.Prelude.{ℕ, ◌≡◌, Bool, true, false, ◌==◌, if◌then◌else◌, Option, None, Some, Ok, List, length, map, option_map, codes, All, ⊤}
+use Rattle.std.specs.Prelude.{ℕ, ◌≡◌, ◌<◌, ◌^◌, Bool, true, false, ◌==◌, if◌then◌else◌, Option, None, Some, Ok, List, length, map, option_map, codes, All, ⊤}
 use Rattle.std.specs.Option.{option_and_then}
 use Rattle.std.specs.Result.{result_ok}
 use Rattle.serde_json.specs.Data.{Data, boolean, number}
@@ -48,7 +48,7 @@ version_in d = option_and_then (λ version. if version == 2 then Some Version el
 
 -- the number of a collection, and how many objects it removed
 abbrev pub collected_in : Data → Option Outcome
-collected_in d = option_and_then (λ number. option_map (λ removed. Collected number removed) (number_at (codes "removed") d)) (number_at (codes "collection") d)
+collected_in d = option_and_then (λ count. option_map (Collected count) (number_at (codes "removed") d)) (number_at (codes "collection") d)
 
 -- a number or a truth value
 abbrev pub is_flag : Data → Bool
@@ -132,7 +132,8 @@ as_read (Packed rows) = Packed rows
 as_read (Collected count removed) = Collected count removed
 as_read (Refused why) = Refused why
 
--- ids are ids, rows have lengths that are told, and what a refusal says can be said, as in every outcome of a program
+-- ids are ids, rows have lengths that are told, numbers have 64 bits, and what a refusal says can be said, as in every outcome
+-- of a program
 abbrev pub SaysThings : Reply → Type 0
 SaysThings (reply.HeadIs id) = IsObjectId id
 SaysThings (reply.Updated id) = IsObjectId id
@@ -144,5 +145,6 @@ SaysThings _ = ⊤
 abbrev pub TellsThings : Outcome → Type 0
 TellsThings (Plain told tag) = SaysThings told
 TellsThings (Packed rows) = All IsRow rows
+TellsThings (Collected count removed) = (count < 2 ^ 64) × (removed < 2 ^ 64)
 TellsThings (Refused why) = NamesThings why × IsSpoken why
 TellsThings _ = ⊤

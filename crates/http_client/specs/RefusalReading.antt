@@ -1,6 +1,6 @@
 -- The refusal that a JSON value tells: the one whose own text, as a server writes it, has no member that the value lacks.
 -- Other members of the value are passed over. Our own. Read first: RefusalText of `http_front`; here: TellsRefusal.
-use Rattle.std.specs.Prelude.{◌≡◌, ◌<◌, ◌^◌, IsUtf8, Some, ⊤}
+use Rattle.std.specs.Prelude.{◌≡◌, ◌<◌, ◌^◌, pos, negsuc, IsUtf8, Some, ⊤}
 use Rattle.serde_json.specs.Data.{Data, null, boolean, number, string, array, object, Members, member, no_members}
 use Rattle.serde_json.specs.Find.{get}
 use Rattle.tree_model.specs.Path.{IsPath, path_text}
@@ -23,7 +23,7 @@ members_of (string text) = no_members
 members_of (array items) = no_members
 members_of (object members) = members
 
--- the ids and paths that a refusal tells are ids and paths
+-- the ids and paths that a refusal tells are ids and paths, and its days are below 2^63
 abbrev pub NamesThings : Refusal → Type 0
 NamesThings (refusal.NoObject key) = IsObjectId key.id
 NamesThings (refusal.Wrong got) = IsObjectId got
@@ -36,6 +36,7 @@ NamesThings (refusal.WrongSize id) = IsObjectId id
 NamesThings (refusal.TooDeep path) = IsPath path
 NamesThings (refusal.TooLong path size) = IsPath path
 NamesThings (refusal.Damaged want got) = IsObjectId want × IsClient got
+NamesThings (refusal.BadDays (pos days)) = days < 2 ^ 63
 NamesThings _ = ⊤
 
 -- a value tells a refusal
@@ -43,7 +44,7 @@ pub record TellsRefusal (d : Data) (why : Refusal) : Type 0 where
   pub named : NamesThings why
   pub has : HasMembers d (members_of (refused_data why))
 
--- its numbers have 64 bits and its path is a text, as in every refusal of a program. That days are bad no order is told
+-- its numbers have 64 bits and its path is a text, as in every refusal of a program
 abbrev pub IsSpoken : Refusal → Type 0
 IsSpoken (refusal.BadBody at) = at < 2 ^ 64
 IsSpoken (refusal.BadFs code) = code < 2 ^ 64
@@ -53,5 +54,6 @@ IsSpoken (refusal.Unrelated count) = count < 2 ^ 64
 IsSpoken (refusal.TooDeep path) = IsUtf8 (path_text path)
 IsSpoken (refusal.TooMany count) = count < 2 ^ 64
 IsSpoken (refusal.TooLong path size) = IsUtf8 (path_text path) × (size < 2 ^ 64)
-IsSpoken (refusal.BadDays days) = ⊥
+IsSpoken (refusal.BadDays (pos days)) = days < 2 ^ 64
+IsSpoken (refusal.BadDays (negsuc days)) = days < 2 ^ 63
 IsSpoken _ = ⊤

@@ -1,5 +1,5 @@
 -- For private clauses: the refusal that a JSON value tells, reason by reason. Read first: RefusalReading.
-use Rattle.std.specs.Prelude.{ℕ, ◌==◌, ◌&&◌, Option, None, Some, List, [], codes, length, if◌then◌else◌, option_map}
+use Rattle.std.specs.Prelude.{ℕ, ℤ, pos, negsuc, ◌==◌, ◌&&◌, Option, None, Some, List, [], codes, length, if◌then◌else◌, option_map}
 use Rattle.std.specs.Option.{option_and_then}
 use Rattle.std.specs.Result.{result_ok}
 use Rattle.std.specs.Str.{bytes_eq}
@@ -8,7 +8,7 @@ use Rattle.ids.specs.declared.key.Key.{Key}
 use Rattle.ids.specs.declared.key.Kind.{Kind}
 use Rattle.serde_json.specs.Data.{Data, null, string}
 use Rattle.serde_json.specs.Find.{get}
-use Rattle.json_words.specs.Fields.{number_field, text_field}
+use Rattle.json_words.specs.Fields.{integer_field, number_field, text_field}
 use Rattle.json_words.specs.IdText.{library_id_of, object_id_of}
 use Rattle.tree_model.specs.Path.{PathV, path_of}
 use Rattle.library_state.specs.declared.refusal.Refusal.{Refusal}
@@ -28,6 +28,15 @@ text_at name d = result_ok (text_field name d)
 
 abbrev pub number_at : List ℕ → Data → Option ℕ
 number_at name d = result_ok (number_field name d)
+
+-- the number itself, where it is below zero or a natural number too
+abbrev pub if_whole : ℤ → Option ℕ → Option ℤ
+if_whole (pos n) None = None
+if_whole (pos n) (Some m) = Some (pos n)
+if_whole (negsuc n) natural = Some (negsuc n)
+
+abbrev pub integer_at : List ℕ → Data → Option ℤ
+integer_at name d = option_and_then (λ n. if_whole n (number_at name d)) (result_ok (integer_field name d))
 
 abbrev pub id_at : List ℕ → Data → Option (List ℕ)
 id_at name d = option_and_then object_id_of (text_at name d)
@@ -89,6 +98,7 @@ counted_of reason d =
     else if bytes_eq reason (codes "unrelated") then option_map refusal.Unrelated (number_at (codes "count") d)
     else if bytes_eq reason (codes "too-many") then option_map refusal.TooMany (number_at (codes "count") d)
     else if bytes_eq reason (codes "stale") then stale_in d
+    else if bytes_eq reason (codes "bad-days") then option_map refusal.BadDays (integer_at (codes "days") d)
     else None
 
 -- the key of an object

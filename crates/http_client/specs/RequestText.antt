@@ -1,7 +1,7 @@
 -- The bytes of a request, as a client writes what it orders (RFC 9112, sections 2 to 5). Which method, path and query ask
 -- for what is the table of calls that the server reads by: Route and CallQuery of `http_front`. Read request_text first, then
 -- HasRequest and IsWithinLimit, at the end: which orders have a request.
-use Rattle.std.specs.Prelude.{ℕ, ◌≤◌, All, IsTrue, Bool, ◌||◌, ◌==◌, Option, None, Some, List, [], ◌∷◌, ◌++◌, length, codes, decimal, ⊤}
+use Rattle.std.specs.Prelude.{ℕ, ◌<◌, ◌≤◌, ◌^◌, unsigned_abs, All, IsTrue, Bool, ◌||◌, ◌==◌, Option, None, Some, List, [], ◌∷◌, ◌++◌, length, codes, decimal, ⊤}
 use Rattle.std.specs.Char.{is_ascii_alphanumeric}
 use Rattle.hex.specs.Hex.{encode_lower}
 use Rattle.ids.specs.declared.key.Kind.{Kind}
@@ -108,11 +108,13 @@ NamesLibrary None _ = ⊥
 NamesLibrary (Some lib) what.Version = ⊥
 NamesLibrary (Some lib) _ = ⊤
 
--- files and directories are named by ids in a body alone, and it is not asked which commits are there
+-- files and directories are named by ids in a body alone, it is not asked which commits are there, and days have at most 18
+-- digits
 abbrev pub IsAsked : What → Type 0
 IsAsked (what.Get key) = IsPathKind key.kind
 IsAsked (what.Put key bytes) = IsPathKind key.kind
 IsAsked (what.Missing Commit ids) = ⊥
+IsAsked (what.Limit days) = unsigned_abs days < 10 ^ 18
 IsAsked _ = ⊤
 
 -- the order is one of a request

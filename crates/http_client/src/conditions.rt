@@ -1,5 +1,5 @@
 //! Which orders have a request, and how long its body is. Nothing is written for it.
-ghost use Rattle.std.specs.Prelude.{◌≡◌, ◌↔◌, ◌≤◌, ◌<◌, ◌+◌, ◌-◌, ◌^◌, ℕ, List, length, min, All, IsTrue};
+ghost use Rattle.std.specs.Prelude.{◌≡◌, ◌↔◌, ◌≤◌, ◌<◌, ◌+◌, ◌-◌, ◌^◌, ℕ, List, length, min, nat_lt, unsigned_abs, All, IsTrue};
 ghost use Rattle.std.specs.List.{list_all};
 ghost use Rattle.hex.specs.Hex.{encode_lower};
 ghost use Rattle.http_front.specs.CallQuery.{IsObjectId};
@@ -7,7 +7,7 @@ ghost use Rattle.http_front.specs.IdArray.{array_text};
 ghost use Rattle.http_front.specs.Limits.{body_limit};
 ghost use Rattle.http_front.specs.Rows.{rows_text};
 ghost use Rattle.http_front.specs.Route.{object_limit, route_limit};
-ghost use Rattle.http_client.specs.Conditions.{is_asked, is_listed_kind, is_path_kind, is_short, names_library};
+ghost use Rattle.http_client.specs.Conditions.{is_asked, is_listed_kind, is_path_kind, names_library};
 ghost use Rattle.http_client.specs.OrderOutcome.{asks_version};
 ghost use Rattle.http_client.specs.RequestText.{HasRequest, IsHost, IsWithinLimit, body_in, is_host_byte, library_route, limit_in, missing_route};
 
@@ -18,7 +18,7 @@ use ids::{Kind, ObjId, Text};
 pub(crate) const MAX_HOST: usize = 255;
 
 /// Whether the order has a request. It names a library just where it doesn't ask for the version; files and directories
-/// are named by rows and lists alone; and which commits are absent is not asked.
+/// are named by rows and lists alone; which commits are absent is not asked; and days have at most 18 digits.
 pub fn has_request(order: &Order) -> bool
     ensures value { IsTrue result ↔ HasRequest order.now }
 {
@@ -64,11 +64,11 @@ fn is_asked(what: &What) -> bool
     }
 }
 
-/// Whether a number has at most 18 digits.
+/// Whether days have at most 18 digits.
 fn is_short(days: i64) -> bool
-    ensures value { result ≡ is_short days }
+    ensures value { result ≡ nat_lt (unsigned_abs days) (10 ^ 18) }
 {
-    -999_999_999_999_999_999 <= days && days <= 999_999_999_999_999_999
+    days.unsigned_abs() < 1_000_000_000_000_000_000
 }
 
 /// Whether a path can name an object of the kind.

@@ -2,7 +2,7 @@
 ghost use Rattle.std.specs.Prelude.{◌≡◌, ◌==◌, ◌&&◌, ◌||◌, IfOk};
 ghost use Rattle.serde_json.specs.View.{view};
 ghost use Rattle.http_front.specs.RefusalText.{refused_status};
-ghost use Rattle.http_client.specs.OrderOutcome.{asks_library, asks_list, can_refuse, is_commit, is_limit, is_update, seeks, stores, stores_commit, stores_fs, walks};
+ghost use Rattle.http_client.specs.OrderOutcome.{asks_collection, asks_library, asks_list, can_refuse, is_commit, is_limit, is_update, seeks, stores, stores_commit, stores_fs, walks};
 ghost use Rattle.http_client.specs.OutcomeReading.{IsRefusal, told_in};
 ghost use Rattle.http_client.specs.RefusalWords.{if_due, refusal_in as refusal_told};
 ghost use Rattle.http_client.specs.ReplyHead.{status_number};
@@ -157,6 +157,16 @@ fn is_limit(order: &What) -> bool
     }
 }
 
+/// Whether a collection is asked for.
+fn asks_collection(order: &What) -> bool
+    ensures value { result ≡ asks_collection order.now }
+{
+    match order {
+        What::Collect => true,
+        _ => false,
+    }
+}
+
 /// Whether it is asked what one commit needs and another does not.
 fn asks_list(order: &What) -> bool
     ensures value { result ≡ asks_list order.now }
@@ -171,5 +181,5 @@ fn asks_list(order: &What) -> bool
 fn walks(order: &What) -> bool
     ensures value { result ≡ walks order.now }
 {
-    is_update(order) || asks_list(order)
+    is_update(order) || asks_list(order) || asks_collection(order)
 }

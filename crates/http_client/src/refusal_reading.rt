@@ -1,10 +1,10 @@
 //! The refusal that a JSON value tells.
 ghost use Rattle.std.specs.Prelude.{◌≡◌, option_map, IfOk};
 ghost use Rattle.serde_json.specs.View.{view};
-ghost use Rattle.http_client.specs.RefusalWords.{counted_of, damaged_in, got_at, id_at, id_or_none, key_at, keyed_of, library_at, located_of, named_of, named_path, number_at, path_at, plain_of, refusal_for, refusal_in, stale_in, text_at, too_long_in};
+ghost use Rattle.http_client.specs.RefusalWords.{counted_of, damaged_in, got_at, id_at, id_or_none, integer_at, key_at, keyed_of, library_at, located_of, named_of, named_path, number_at, path_at, plain_of, refusal_for, refusal_in, stale_in, text_at, too_long_in};
 
 use ids::{Key, Kind, LibId, ObjId};
-use json_words::{library_id, number_field, object_id, text_field};
+use json_words::{integer_field, library_id, number_field, object_id, text_field};
 use library_state::Refusal;
 use serde_json::Value;
 use std::alloc::{AllocError, Global};
@@ -81,6 +81,8 @@ fn counted_of(reason: &str, value: &Value) -> Option<Refusal>
         Some(Refusal::TooMany(number_at(value, "count")?))
     } else if reason == "stale" {
         stale_in(value)
+    } else if reason == "bad-days" {
+        Some(Refusal::BadDays(integer_at(value, "days")?))
     } else {
         None
     }
@@ -179,6 +181,24 @@ pub(crate) fn number_at(value: &Value, name: &str) -> Option<u64>
     ensures value { result ≡ number_at name.now (view value.now) }
 {
     number_field(value, name).ok()
+}
+
+/// The whole number from -2^63 to 2^63 - 1 that a member is.
+fn integer_at(value: &Value, name: &str) -> Option<i64>
+    ensures value { result ≡ integer_at name.now (view value.now) }
+{
+    match integer_field(value, name) {
+        Ok(number) => {
+            if number < 0 {
+                return Some(number);
+            }
+            match number_at(value, name) {
+                Some(_) => Some(number),
+                None => None,
+            }
+        }
+        Err(_) => None,
+    }
 }
 
 pub(crate) fn id_at(value: &Value, name: &str) -> Option<ObjId>
