@@ -37,6 +37,9 @@ fn plain(word: &str) -> What {
         "get" => What::Get(key(Kind::Block)),
         "list" => What::Ids(abc(), None),
         "differ" => What::Ids(abc(), Some(abc())),
+        "limit" => What::Limit(-1),
+        "long limit" => What::Limit(-1_000_000_000_000_000_000),
+        "collect" => What::Collect,
         _ => What::Head,
     }
 }

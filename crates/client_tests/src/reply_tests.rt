@@ -16,7 +16,7 @@ fn holds(alloc: Global, word: &str, reply: &[u8], wanted: &str) -> Result<bool, 
 }
 
 /// Orders, replies to them, and what is told.
-const OUTCOMES: [(&str, &str, &str); 9] = [
+const OUTCOMES: [(&str, &str, &str); 13] = [
     (
         "version",
         "HTTP/1.1 200 OK\r\ncontent-length: 13\r\n\r\n{\"version\":2}",
@@ -61,6 +61,26 @@ const OUTCOMES: [(&str, &str, &str); 9] = [
         "get",
         "HTTP/1.1 500 Internal Server Error\r\nContent-Length: 19\r\n\r\n{\"reason\": \"store\"}",
         "Whole { outcome: Refused(Store), used: 77, closes: false }",
+    ),
+    (
+        "limit",
+        "HTTP/1.1 200 OK\r\nContent-Length: 0\r\n\r\n",
+        "Whole { outcome: Plain(Limited, Tag { opening: 0, count: 0 }), used: 38, closes: false }",
+    ),
+    (
+        "collect",
+        "HTTP/1.1 200 OK\r\nContent-Length: 28\r\n\r\n{\"collection\":3,\"removed\":7}",
+        "Whole { outcome: Collected { number: 3, removed: 7 }, used: 67, closes: false }",
+    ),
+    (
+        "limit",
+        "HTTP/1.1 400 Bad Request\r\nContent-Length: 31\r\n\r\n{\"days\":-2,\"reason\":\"bad-days\"}",
+        "Whole { outcome: Refused(BadDays(-2)), used: 79, closes: false }",
+    ),
+    (
+        "collect",
+        "HTTP/1.1 200 OK\r\nContent-Length: 16\r\n\r\n{\"collection\":3}",
+        "Bad(39)",
     ),
 ];
 

@@ -42,7 +42,7 @@ fn a_block_is_asked_for_in_one_text(rt: HostRuntime) -> Result<(), AllocError> {
 }
 
 /// Words without a body, and their requests.
-const PATHS: [(&str, &str); 5] = [
+const PATHS: [(&str, &str); 7] = [
     (
         "check",
         "GET /repo/11111111-2222-4333-8444-555555555555/permission-check?op=upload HTTP/1.1\r\nHost: x\r\nSeafile-Repo-Token: aaaaaaaaaaaaaaaaaaaaaaaaaaaaaaaaaaaaaaaa\r\n\r\n",
@@ -62,6 +62,14 @@ const PATHS: [(&str, &str); 5] = [
     (
         "list",
         "GET /repo/11111111-2222-4333-8444-555555555555/fs-id-list?server-head=a9993e364706816aba3e25717850c26c9cd0d89d HTTP/1.1\r\nHost: x\r\nSeafile-Repo-Token: aaaaaaaaaaaaaaaaaaaaaaaaaaaaaaaaaaaaaaaa\r\n\r\n",
+    ),
+    (
+        "limit",
+        "PUT /repo/11111111-2222-4333-8444-555555555555/history-limit?days=-1 HTTP/1.1\r\nHost: x\r\nSeafile-Repo-Token: aaaaaaaaaaaaaaaaaaaaaaaaaaaaaaaaaaaaaaaa\r\nContent-Length: 0\r\n\r\n",
+    ),
+    (
+        "collect",
+        "POST /repo/11111111-2222-4333-8444-555555555555/collect HTTP/1.1\r\nHost: x\r\nSeafile-Repo-Token: aaaaaaaaaaaaaaaaaaaaaaaaaaaaaaaaaaaaaaaa\r\nContent-Length: 0\r\n\r\n",
     ),
 ];
 
@@ -108,6 +116,12 @@ fn what_has_a_body_is_sent_with_its_length(rt: HostRuntime) -> Result<(), AllocE
 #[test]
 fn which_commits_are_absent_is_not_asked(rt: HostRuntime) -> Result<(), AllocError> {
     assert!(rt; !has_request(&order(rt.alloc(), "missing commits")?));
+    Ok(())
+}
+
+#[test]
+fn days_of_nineteen_digits_are_not_asked(rt: HostRuntime) -> Result<(), AllocError> {
+    assert!(rt; !has_request(&order(rt.alloc(), "long limit")?));
     Ok(())
 }
 
