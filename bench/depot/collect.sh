@@ -1,0 +1,18 @@
+#!/usr/bin/env bash
+# Collections beside the removal of the same files and the hashing of what must be read: see collect.py.
+#   bench/depot/collect.sh SERVER [ALL GARBAGE]..     30,000 objects of which 20,000 are garbage if left out; ROUNDS=3 of each, in WORK,
+#                                                     which is /dev/shm if left out
+set -eu
+here=$(cd "$(dirname "$0")" && pwd)
+server=$(realpath "$1")
+shift
+[ "$#" -gt 0 ] || set -- 30000 20000
+while [ "$#" -gt 0 ]; do
+    for _ in $(seq "${ROUNDS:-3}"); do
+        work=$(mktemp -d "${WORK:-/dev/shm}/collect.XXXXXX")
+        echo "# $(date -u +%FT%TZ) load $(cut -d' ' -f1-3 /proc/loadavg)"
+        python3 "$here/collect.py" "$server" "$work" "$1" "$2" || true
+        rm -rf "$work"
+    done
+    shift 2
+done
