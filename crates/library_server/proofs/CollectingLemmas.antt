@@ -3,6 +3,8 @@
 use Rattle.std.proofs.Common.{◌≡◌, ℕ, ◌+◌, true, List, [], ◌∷◌, ◌++◌, length, min, refl, sym, ap, ◌∙◌, subst, Option, None, Some, option_map, arith}
 use Rattle.std.specs.List.{AllByRecursion}
 use Rattle.std.proofs.lemmas.List.{length-append}
+use Rattle.std.proofs.lemmas.List.Sums.{sum_by-append}
+use Rattle.ids.proofs.BasicLemmas.{AllByRecursion-push}
 use Rattle.depot.specs.CollectionTurns.{IsRunning, TakesTurn, removed_in}
 use Rattle.depot.specs.DepotView.{DepotView, IsGood}
 use Rattle.depot.specs.declared.turn.Turn.{Turn}
@@ -13,18 +15,16 @@ use Rattle.object_store.specs.Shelf.{Contents}
 use Rattle.object_store.specs.declared.shelf.Slot.{Slot}
 use Rattle.worker_server.specs.declared.host.Collected.{Collected}
 use Rattle.worker_server.specs.declared.host.Collected.TheVariants as collected
-use Rattle.library_server.specs.Collecting.{EndsAs, StepsSo, TakesTurns, TellsTurns, TurnsOn, ended, endless, goes_on, most_in_turn, number_running, removed_by, told_removed}
+use Rattle.library_server.specs.Collecting.{EndsAs, StepsSo, TakesTurns, TurnsOn, ended, endless, goes_on, most_in_turn, number_running, removed_by, told_removed}
 use Rattle.library_server.specs.declared.collecting.Step.TheVariants as step
 
 -- ---- one turn more
 
-all_push : (P : Turn → Type 0) (turns : List Turn) (turn : Turn) → AllByRecursion P turns → P turn → AllByRecursion P (turns ++ turn ∷ [])
-all_push P [] turn all one = (one, tt)
-all_push P (t ∷ turns) turn all one = (all.0, all_push P turns turn all.1 one)
-
 removed_push : (turns : List Turn) (turn : Turn) → removed_by (turns ++ turn ∷ []) ≡ removed_by turns + length (removed_in turn)
-removed_push [] turn = omega arith
-removed_push (t ∷ turns) turn = let rest = removed_push turns turn in omega (arith, rest)
+removed_push turns turn =
+    let both = sum_by-append (λ t. length (removed_in t)) turns (turn ∷ []) in
+    let one : removed_by (turn ∷ []) ≡ 0 + length (removed_in turn) = refl in
+    omega (arith, both, one)
 
 -- the goal after some turns: that of the call, or the collection that the last of them left
 abbrev pub goal_then : {S : Type 0} → Option ℕ → List Turn → DepotView S → Option ℕ
@@ -72,7 +72,7 @@ module _ {S : Type 0} (contents : S → Option Contents) (may_give : S → Slot 
     one_more next sum is (goes, told) = record {
       turns = so_far.turns ++ turn ∷ [];
       on = on_then;
-      goes = all_push (λ t. goes_on t ≡ true) so_far.turns turn so_far.goes goes;
+      goes = AllByRecursion-push (λ t. goes_on t ≡ true) so_far.turns turn so_far.goes goes;
       goal_is = is ∙ goal_after so_far.turns;
       sum = told ∙ told_push;
       count = length-append so_far.turns (turn ∷ []) ∙ ap (λ n. n + 1) so_far.count;

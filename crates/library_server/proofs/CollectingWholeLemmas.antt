@@ -1,10 +1,10 @@
 -- A collection over storage that never fails, and objects under their own names. The key lemmas are turn_names, turns_whole,
 -- collects_here, collects_denied and collects_elsewhere.
-use Rattle.std.proofs.Common.{◌≡◌, ◌≢◌, ℕ, ◌≤◌, Bool, true, false, cond, List, [], ◌∷◌, ◌++◌, refl, sym, ap, ◌∙◌, subst, true≢false, Option, None, Some, option_map}
-use Rattle.std.specs.Prelude.{IsFalse, ⊤}
+use Rattle.std.proofs.Common.{◌≡◌, ◌≢◌, ℕ, Bool, true, false, cond, List, [], ◌∷◌, refl, sym, ap, ◌∙◌, subst, true≢false, Option, None, Some, option_map}
+use Rattle.std.specs.Prelude.{IsFalse}
 use Rattle.std.specs.FinMap as map
 use Rattle.std.specs.List.{AllByRecursion}
-use Rattle.std.proofs.lemmas.List.Elements.{AllByRecursion-middle}
+use Rattle.ids.proofs.BasicLemmas.{AllByRecursion-middle}
 use Rattle.ids.specs.Key.{Objects}
 use Rattle.ids.specs.declared.key.Key.{Key}
 use Rattle.ids.proofs.KeyOrderLemmas.{key_cmp_total}
@@ -26,7 +26,6 @@ use Rattle.library_state.specs.declared.reply.Reply.TheVariants as reply
 use Rattle.object_graph.proofs.KeyLemmas.{same_key}
 use Rattle.object_store.specs.Shelf.{Contents}
 use Rattle.object_store.specs.Store.{HasNames, has_other_name}
-use Rattle.object_store.specs.StoreView.{objects_of}
 use Rattle.object_store.specs.declared.shelf.Slot.{Slot}
 use Rattle.worker_server.specs.declared.host.Collected.{Collected}
 use Rattle.worker_server.specs.declared.host.Collected.TheVariants as collected

@@ -32,8 +32,8 @@ use Rattle.library_server.specs.Collecting.{CollectsOn, EndsAs, TellsTurns, Turn
 use Rattle.library_server.proofs.CauseLemmas.{Harmless, call_caused, no_text, refused_caused, reply_back}
 
 -- since objects left, nothing may be given too
-nothing_more : {before now : Slot → Option (List ℕ) → Type 0} → Harmless before now → Harmless (OrNothing before) now
-nothing_more {before} harmless key given is = by (harmless key given is)
+nothing_more : (before now : Slot → Option (List ℕ) → Type 0) → Harmless before now → Harmless (OrNothing before) now
+nothing_more before now harmless key given is = by (harmless key given is)
   where
     by : before (Object key) given ⊎ ((bytes : List ℕ) × (given ≡ Some bytes) × (has_other_name key bytes ≡ false)) → OrNothing before (Object key) given ⊎ ((bytes : List ℕ) × (given ≡ Some bytes) × (has_other_name key bytes ≡ false))
     by (inl was) = inl (inl was)
@@ -105,7 +105,7 @@ module _ {S : Type 0} (contents : S → Option Contents) (may_give : S → Slot 
   collection_caused gives u lib secret ends lines v harmless collects = by (bytes_eq lib u.state.lib) (permits_collection (token_of u.state.tokens secret)) refl refl
     where
       later : Harmless (OrNothing gives) (may_give u.store.shelf)
-      later = nothing_more harmless
+      later = nothing_more gives (may_give u.store.shelf) harmless
 
       refused : (why : Refusal) → IsCaused (OrNothing gives) why → (ends ≡ collected.Refused why) × (v ≡ u) → IsCausedEnd (OrNothing gives) ends × Harmless (OrNothing gives) (may_give v.store.shelf)
       refused why caused (is, same) = (

@@ -3,6 +3,7 @@ use Rattle.std.proofs.Common.{arith, refl, sym, ◌∙◌}
 use Rattle.depot.specs.CollectionTurns.{TakesTurn}
 use Rattle.library_server.specs.Collecting.{most_in_turn}
 use Rattle.library_server.proofs.CollectingLemmas.{ends_never, ends_there, none_taken, one_more}
+use Rattle.library_server.proofs.StartingLemmas.{is_other, is_same}
 use Rattle.library_server.proofs.CollectingWholeLemmas.{collects_denied, collects_elsewhere, collects_here}
 use Rattle.library_state.specs.declared.refusal.Refusal.TheVariants as refusal
 use Rattle.worker_server.specs.declared.host.Collected.TheVariants as collected
@@ -28,16 +29,16 @@ loop-taken-preserved g c =
       slot = c.turn_of_collection.ensures.text;
     } in
     one_more g.S.Shelf.contents g.S.Shelf.may_give g.S.Shelf.texts g.S.Shelf.faults (g.C.Clock.shows c.args.clock.now) c.args.depot.now c.loop-taken.depot c.turn_of_collection.new.self c.loop-taken.goal c.loop-taken.removed c.loop-taken._taken
-    c.now.result c.turn_of_collection.result c.loop-taken.invariant c.now.ensures.value takes c.turn_of_collection.ensures.stands c.running.result c.in-Goes.sum c.running.ensures.value c.in-Goes.ensures.value
+    c.now.result c.turn_of_collection.result c.loop-taken.invariant c.now.ensures.value takes c.turn_of_collection.ensures.stands c.running-goal.result c.in-Goes.sum c.running-goal.ensures.value c.in-Goes.ensures.value
 
 pub returns-then-ne : goal.returns-then-ne
 returns-then-ne g c = record {
-  value = collects_elsewhere g.S.Shelf.contents g.S.Shelf.may_give g.S.Shelf.texts g.S.Shelf.faults (g.C.Clock.shows c.args.clock.now) c.args.depot.now c.args.lib c.args.secret.now (λ same. c.if-ne.true (same ∙ sym c.lib.ensures.value));
+  value = collects_elsewhere g.S.Shelf.contents g.S.Shelf.may_give g.S.Shelf.texts g.S.Shelf.faults (g.C.Clock.shows c.args.clock.now) c.args.depot.now c.args.lib c.args.secret.now (λ same. is_other _ _ c.if-ne.ensures (same ∙ sym c.lib.ensures.value));
 }
 
 pub returns-then-not-may_collect : goal.returns-then-not-may_collect
 returns-then-not-may_collect g c = record {
-  value = collects_denied g.S.Shelf.contents g.S.Shelf.may_give g.S.Shelf.texts g.S.Shelf.faults (g.C.Clock.shows c.args.clock.now) c.args.depot.now c.args.lib c.args.secret.now (c.if-ne.false ∙ c.lib.ensures.value)
+  value = collects_denied g.S.Shelf.contents g.S.Shelf.may_give g.S.Shelf.texts g.S.Shelf.faults (g.C.Clock.shows c.args.clock.now) c.args.depot.now c.args.lib c.args.secret.now (is_same _ _ c.if-ne.ensures ∙ c.lib.ensures.value)
       (sym c.may_collect.ensures.value ∙ c.if-not-may_collect.true);
 }
 
@@ -59,7 +60,7 @@ returns-in-Ends g c =
     } in
     record {
       value = collects_here g.S.Shelf.contents g.S.Shelf.may_give g.S.Shelf.texts g.S.Shelf.faults (g.C.Clock.shows c.args.clock.now) c.args.depot.now c.args.lib c.args.secret.now c.in-Ends.told c.turn_of_collection.new.self
-          (c.if-ne.false ∙ c.lib.ensures.value) (sym c.may_collect.ensures.value ∙ c.if-not-may_collect.false)
+          (is_same _ _ c.if-ne.ensures ∙ c.lib.ensures.value) (sym c.may_collect.ensures.value ∙ c.if-not-may_collect.false)
           (ends_there g.S.Shelf.contents g.S.Shelf.may_give g.S.Shelf.texts g.S.Shelf.faults (g.C.Clock.shows c.args.clock.now) c.args.depot.now c.loop-taken.depot c.turn_of_collection.new.self c.loop-taken.goal c.loop-taken.removed c.loop-taken._taken
           c.now.result c.turn_of_collection.result c.loop-taken.invariant c.now.ensures.value takes c.turn_of_collection.ensures.stands c.in-Ends.told c.in-Ends.ensures.value);
     }
@@ -67,7 +68,7 @@ returns-in-Ends g c =
 pub returns : goal.returns
 returns g c = record {
   value = collects_here g.S.Shelf.contents g.S.Shelf.may_give g.S.Shelf.texts g.S.Shelf.faults (g.C.Clock.shows c.args.clock.now) c.args.depot.now c.args.lib c.args.secret.now (collected.Refused refusal.NoMemory) c.loop-taken.depot
-      (c.if-ne.false ∙ c.lib.ensures.value) (sym c.may_collect.ensures.value ∙ c.if-not-may_collect.false)
+      (is_same _ _ c.if-ne.ensures ∙ c.lib.ensures.value) (sym c.may_collect.ensures.value ∙ c.if-not-may_collect.false)
       (ends_never g.S.Shelf.contents g.S.Shelf.may_give g.S.Shelf.texts g.S.Shelf.faults (g.C.Clock.shows c.args.clock.now) c.args.depot.now c.loop-taken.goal c.loop-taken.removed c.loop-taken._taken c.loop-taken.depot (collected.Refused refusal.NoMemory)
       c.loop-taken.invariant (omega arith) refl);
 }
