@@ -1,4 +1,5 @@
 pub mod DurabilityLemmas
+pub mod LibraryFolderLemmas
 pub mod PathLemmas
 pub mod StandingLemmas
 pub mod UnsyncedLemmas

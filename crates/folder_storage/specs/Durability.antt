@@ -42,6 +42,11 @@ abbrev pub StaysListed : Slot → (old new : List Key) → Type 0
 StaysListed (Object key) old new = AreAmong old new
 StaysListed Status old new = ⊤
 
+-- a put made this of the disk, or it failed before the disk was asked
+abbrev pub PutsOrStays : {D : Type 0} → (Bool → D → D → Type 0) → Bool → (old new : D) → Type 0
+PutsOrStays puts true old new = puts true old new
+PutsOrStays puts false old new = (new ≡ old) ⊎ puts false old new
+
 -- each object's folder is among the directories, and so is the folder of its kind
 abbrev pub AreNamedIn : List Key → List Directory → Type 0
 AreNamedIn keys directories = (key : Key) → In key keys → In (Objects key.kind (slice_index key.id 0)) directories × In (OfKind key.kind) directories

@@ -1,5 +1,6 @@
 pub mod Durability
 pub mod Ground
+pub mod LibraryFolder
 pub mod Listing
 pub mod MemoryGround
 pub mod Paths

@@ -1,5 +1,5 @@
 //! What a call on files answers, and what its failure counts for.
-ghost use Rattle.std.specs.Prelude.{◌≡◌, ⊤, Err, IfOk, Ok};
+ghost use Rattle.std.specs.Prelude.{◌≡◌, ⊤, Err, IfOk, Ok, is_ok};
 ghost use Rattle.object_store.specs.Shelf.{CountsFaults};
 
 use object_store::ShelfFailed;
@@ -10,6 +10,7 @@ use std::io::ErrorKind;
 /// counts as a fault.
 pub(crate) fn answer<T>(faults: &mut u64, outcome: io::Result<T>) -> Result<T, ShelfFailed>
     ensures value { IfOk result (λ value. outcome ≡ Ok value) }
+    ensures fails { is_ok result ≡ is_ok outcome }
     ensures faults { CountsFaults faults.old faults.new result }
 {
     match outcome {
@@ -21,6 +22,7 @@ pub(crate) fn answer<T>(faults: &mut u64, outcome: io::Result<T>) -> Result<T, S
 /// The answer of a call that may have changed something where it fails, so that each failure counts as a fault.
 pub(crate) fn counted<T>(faults: &mut u64, outcome: io::Result<T>) -> Result<T, ShelfFailed>
     ensures value { IfOk result (λ value. outcome ≡ Ok value) }
+    ensures fails { is_ok result ≡ is_ok outcome }
     ensures faults { CountsFaults faults.old faults.new result }
 {
     match outcome {

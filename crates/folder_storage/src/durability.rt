@@ -1,5 +1,5 @@
 //! How what was put is made durable: every object, and then every folder that names one.
-ghost use Rattle.std.specs.Prelude.{◌≡◌, ◌⊎◌, ℕ, List, [], ◌∷◌, IfErr, IfOk, IsTrue, OnErr, OnOk, Option, map, slice_index};
+ghost use Rattle.std.specs.Prelude.{◌≡◌, ◌⊎◌, ℕ, List, [], ◌∷◌, IfErr, IfOk, IsTrue, OnErr, OnOk, Option, is_ok, map, slice_index};
 ghost use Rattle.folder_storage.specs.Durability.{AreAmong, AreNamedIn, BeganSyncs, EndedSyncs, Gathered, In, MakesDurable, OnlySyncs, PutObject, PutText, Step, SyncedObject, SyncedDirectory, with_steps};
 
 use ids::{Key, Kind};
@@ -18,6 +18,8 @@ pub(crate) enum Directory {
 /// The calls by which objects are put and made durable, and a state text after them. A disk may tell what was done; the
 /// one over files tells nothing, and no other is here.
 pub(crate) trait Disk {
+    ghost use Rattle.std.specs.Prelude.{Bool};
+    ghost use Rattle.ids.specs.declared.key.Key.{Key};
     ghost use Rattle.folder_storage.specs.Durability.{Step};
 
     /// What is known of an object that was written beside its slot.
@@ -26,11 +28,15 @@ pub(crate) trait Disk {
     // What was done, in its order.
     ghost steps: { Self → Option (List Step) };
 
+    // What a put of an object's bytes, done or not, may make of the disk as it was.
+    ghost puts: { Key → List ℕ → Bool → Self → Self → Type 0 };
+
     /// Moves the object that was written beside into its slot. After a failure it may be there.
     fn put_object(&mut self, key: &Key, bytes: &[u8], way: &Self::Way) -> io::Result<()>
         ensures ok { OnOk result (steps self.new ≡ with_steps (steps self.old) (PutObject key.now ∷ [])) }
         ensures err { OnErr result ((steps self.new ≡ steps self.old)
-            ⊎ (steps self.new ≡ with_steps (steps self.old) (PutObject key.now ∷ []))) };
+            ⊎ (steps self.new ≡ with_steps (steps self.old) (PutObject key.now ∷ []))) }
+        ensures after { puts key.now bytes.now (is_ok result) self.old self.new };
 
     /// Adds what was put before this run, and may not be durable, to the list. It fails where no text may be put.
     fn gather(&mut self, keys: &mut Vec<Key>) -> io::Result<()>

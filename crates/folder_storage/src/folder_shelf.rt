@@ -1,7 +1,8 @@
 //! A shelf over the files of one library's folder.
-ghost use Rattle.std.specs.Prelude.{◌≡◌, OnOk};
+ghost use Rattle.std.specs.Prelude.{◌≡◌, OnErr, OnOk, is_ok};
 ghost use Rattle.object_store.specs.Shelf.{CountsFaults, texts_after};
 ghost use Rattle.folder_storage.specs.Durability.{IsListed, StaysListed};
+ghost use Rattle.folder_storage.specs.LibraryFolder.{PutsInto, WantsNoMore, doubts_of};
 
 use crate::answer::{answer, counted};
 use crate::file_system::FileSystem;
@@ -72,6 +73,7 @@ impl<F: FileSystem + Drop> Shelf for FolderShelf<F> {
 
     fn fetch(&mut self, slot: Slot) -> Result<Option<Bytes>, ShelfFailed>
         ensures listed { self.new.unsynced.keys.items ≡ self.old.unsynced.keys.items }
+        ensures folder { doubts_of self.new.folder ≡ doubts_of self.old.folder }
         ensures faults { CountsFaults self.old.faults self.new.faults result }
         ensures texts { self.new.texts.count ≡ self.old.texts.count }
     {
@@ -81,6 +83,7 @@ impl<F: FileSystem + Drop> Shelf for FolderShelf<F> {
     fn put(&mut self, slot: Slot, bytes: &[u8]) -> Result<(), ShelfFailed>
         ensures listed { OnOk result (IsListed slot self.new.unsynced.keys.items) }
         ensures stays { StaysListed slot self.old.unsynced.keys.items self.new.unsynced.keys.items }
+        ensures folder { PutsInto slot bytes.now (is_ok result) (doubts_of self.old.folder) (doubts_of self.new.folder) }
         ensures faults { CountsFaults self.old.faults self.new.faults result }
         ensures texts { self.new.texts.count ≡ texts_after slot self.old.texts.count }
     {
@@ -105,6 +108,7 @@ impl<F: FileSystem + Drop> Shelf for FolderShelf<F> {
     fn put_own(&mut self, slot: Slot, bytes: Bytes) -> Result<(), ShelfFailed>
         ensures listed { OnOk result (IsListed slot self.new.unsynced.keys.items) }
         ensures stays { StaysListed slot self.old.unsynced.keys.items self.new.unsynced.keys.items }
+        ensures folder { PutsInto slot bytes (is_ok result) (doubts_of self.old.folder) (doubts_of self.new.folder) }
         ensures faults { CountsFaults self.old.faults self.new.faults result }
         ensures texts { self.new.texts.count ≡ texts_after slot self.old.texts.count }
     {
@@ -113,6 +117,8 @@ impl<F: FileSystem + Drop> Shelf for FolderShelf<F> {
 
     fn remove(&mut self, slot: Slot) -> Result<(), ShelfFailed>
         ensures listed { self.new.unsynced.keys.items ≡ self.old.unsynced.keys.items }
+        ensures ok { OnOk result (WantsNoMore slot (doubts_of self.old.folder) (doubts_of self.new.folder)) }
+        ensures err { OnErr result (doubts_of self.new.folder ≡ doubts_of self.old.folder) }
         ensures faults { CountsFaults self.old.faults self.new.faults result }
         ensures texts { self.new.texts.count ≡ self.old.texts.count }
     {
@@ -123,6 +129,7 @@ impl<F: FileSystem + Drop> Shelf for FolderShelf<F> {
 
     fn next(&mut self, kind: Kind, after: Option<ObjId>) -> Result<Option<Found>, ShelfFailed>
         ensures listed { self.new.unsynced.keys.items ≡ self.old.unsynced.keys.items }
+        ensures folder { doubts_of self.new.folder ≡ doubts_of self.old.folder }
         ensures faults { CountsFaults self.old.faults self.new.faults result }
         ensures texts { self.new.texts.count ≡ self.old.texts.count }
     {
@@ -145,6 +152,7 @@ fn write_beside<F: FileSystem + Drop>(
     bytes: &[u8],
 ) -> io::Result<Way>
     ensures stays { unsynced.new.keys.items ≡ unsynced.old.keys.items }
+    ensures folder { doubts_of folder.new ≡ doubts_of folder.old }
 {
     unsynced.make_room()?;
     folder.write_beside(key, bytes)

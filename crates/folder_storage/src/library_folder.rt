@@ -1,5 +1,6 @@
 //! The folder of one library, held by this process.
-ghost use Rattle.std.specs.Prelude.{◌≡◌, false};
+ghost use Rattle.std.specs.Prelude.{◌≡◌, false, is_ok, OnErr, OnOk};
+ghost use Rattle.folder_storage.specs.LibraryFolder.{FindsAgain, IsFoundAgain, MayNote, PutsOne, TakesOut, WantsNoMore, doubts_of, noted};
 ghost use Rattle.folder_storage.specs.Listing.{IsForgotten, IsForgottenAt};
 
 use crate::durability::first_byte;
@@ -74,7 +75,9 @@ impl<F: FileSystem + Drop> LibraryFolder<F> {
 
     /// Whether the folder is still there: where a file isn't, this tells an empty slot from a lost folder. While a folder's
     /// own name is in doubt, what isn't there tells nothing.
-    fn check(&mut self) -> io::Result<()> {
+    fn check(&mut self) -> io::Result<()>
+        ensures stays { doubts_of self.new ≡ doubts_of self.old }
+    {
         if self.is_adrift {
             return Err(io::Error::from(ErrorKind::Other));
         }
@@ -85,7 +88,9 @@ impl<F: FileSystem + Drop> LibraryFolder<F> {
     }
 
     /// The bytes in a slot.
-    pub(crate) fn read(&mut self, slot: &Slot) -> io::Result<Option<Bytes>> {
+    pub(crate) fn read(&mut self, slot: &Slot) -> io::Result<Option<Bytes>>
+        ensures stays { doubts_of self.new ≡ doubts_of self.old }
+    {
         let path = slot_path(self.files.alloc(), self.path.as_str(), slot)?;
         match self.files.read(path.as_str())? {
             Some(bytes) => Ok(Some(Bytes::from_vec(bytes))),
@@ -97,7 +102,9 @@ impl<F: FileSystem + Drop> LibraryFolder<F> {
     }
 
     /// Writes the bytes of an object beside its slot, and finds out what its move needs. No slot changes.
-    pub(crate) fn write_beside(&mut self, key: &Key, bytes: &[u8]) -> io::Result<Way> {
+    pub(crate) fn write_beside(&mut self, key: &Key, bytes: &[u8]) -> io::Result<Way>
+        ensures stays { doubts_of self.new ≡ doubts_of self.old }
+    {
         if self.is_adrift {
             return Err(io::Error::from(ErrorKind::Other));
         }
@@ -108,7 +115,9 @@ impl<F: FileSystem + Drop> LibraryFolder<F> {
     }
 
     /// The paths that an object is moved along, and whether its folder is there.
-    fn way_of(&mut self, key: &Key) -> io::Result<Way> {
+    fn way_of(&mut self, key: &Key) -> io::Result<Way>
+        ensures stays { doubts_of self.new ≡ doubts_of self.old }
+    {
         let spare = self.spare()?;
         let folder = self.folder_of(key)?;
         let path = object_path(self.files.alloc(), self.path.as_str(), key)?;
@@ -127,7 +136,9 @@ impl<F: FileSystem + Drop> LibraryFolder<F> {
         spare: &str,
         bytes: &[u8],
         is_durable: bool,
-    ) -> io::Result<()> {
+    ) -> io::Result<()>
+        ensures stays { doubts_of self.new ≡ doubts_of self.old }
+    {
         let written = self.files.write(spare, bytes, is_durable);
         if written.is_err() {
             let _ = self.files.remove_file(spare);
@@ -136,7 +147,9 @@ impl<F: FileSystem + Drop> LibraryFolder<F> {
     }
 
     /// Moves the spare file to this path. Where that fails it is taken away, if it can be.
-    pub(crate) fn move_spare(&mut self, spare: &str, path: &str) -> io::Result<()> {
+    pub(crate) fn move_spare(&mut self, spare: &str, path: &str) -> io::Result<()>
+        ensures stays { doubts_of self.new ≡ doubts_of self.old }
+    {
         let moved = self.files.rename(spare, path);
         if moved.is_err() {
             let _ = self.files.remove_file(spare);
@@ -152,6 +165,7 @@ impl<F: FileSystem + Drop> LibraryFolder<F> {
     /// Moves the object that was written beside into its slot. Where that fails the spare file is taken away, if it
     /// can be. The object's folder is listed anew, since a move that fails may have been done.
     pub(crate) fn move_in(&mut self, key: &Key, bytes: &[u8], way: &Way) -> io::Result<()>
+        ensures after { PutsOne key.now bytes.now (is_ok result) (doubts_of self.old) (doubts_of self.new) }
         ensures forgotten { IsForgotten self.new.listing key.now }
     {
         let moved = self.move_object(key, bytes, way);
@@ -164,7 +178,9 @@ impl<F: FileSystem + Drop> LibraryFolder<F> {
 
     /// Moves the object that was written beside into its slot, whose folder is made where it wasn't there. Only what was
     /// moved is no longer what an earlier run put, and no longer lost.
-    fn move_object(&mut self, key: &Key, bytes: &[u8], way: &Way) -> io::Result<()> {
+    fn move_object(&mut self, key: &Key, bytes: &[u8], way: &Way) -> io::Result<()>
+        ensures after { PutsOne key.now bytes.now (is_ok result) (doubts_of self.old) (doubts_of self.new) }
+    {
         self.note_commit(key, bytes)?;
         if !way.is_there {
             self.files.make_folder(way.folder.as_str())?;
@@ -177,7 +193,11 @@ impl<F: FileSystem + Drop> LibraryFolder<F> {
     }
 
     /// Notes the bytes of a commit that is put by this run.
-    fn note_commit(&mut self, key: &Key, bytes: &[u8]) -> Result<(), AllocError> {
+    fn note_commit(&mut self, key: &Key, bytes: &[u8]) -> Result<(), AllocError>
+        ensures ok { OnOk result (self.new.commits.items ≡ noted key.now.kind key.now.id bytes.now self.old.commits.items) }
+        ensures err { OnErr result (MayNote key.now.kind key.now.id bytes.now self.old.commits.items self.new.commits.items) }
+        ensures stays { doubts_of self.new ≡ record (doubts_of self.old) { commits = self.new.commits.items } }
+    {
         if key.kind == Kind::Commit {
             let sum = ObjId::of(bytes);
             self.commits.retain(|commit| commit.id != key.id);
@@ -187,7 +207,10 @@ impl<F: FileSystem + Drop> LibraryFolder<F> {
     }
 
     /// An object that was lost is put again, or wanted no more.
-    fn find_again(&mut self, key: &Key) {
+    fn find_again(&mut self, key: &Key)
+        ensures found { FindsAgain key.now self.old.lost self.new.lost }
+        ensures stays { self.new ≡ record self.old { lost = self.new.lost } }
+    {
         if self.lost == Some(*key) {
             self.lost = None;
         }
@@ -206,20 +229,35 @@ impl<F: FileSystem + Drop> LibraryFolder<F> {
 
     /// Takes away the file of a slot, if it is there. The folder that it lies in is listed anew.
     pub(crate) fn remove(&mut self, slot: &Slot, path: &str) -> io::Result<()>
+        ensures ok { OnOk result (WantsNoMore slot.now (doubts_of self.old) (doubts_of self.new)) }
+        ensures err { OnErr result (doubts_of self.new ≡ doubts_of self.old) }
         ensures forgotten { IsForgottenAt self.new.listing slot.now }
     {
-        let removed = self.take_away(path);
-        if let Slot::Object(key) = slot {
-            if removed.is_ok() {
-                self.find_again(key);
-            }
-            self.forget_listing(key);
+        match slot {
+            Slot::Object(key) => self.remove_object(key, path),
+            Slot::Status => self.take_away(path),
         }
-        removed
+    }
+
+    /// Takes away the file of an object, if it is there. The folder that it lies in is listed anew.
+    fn remove_object(&mut self, key: &Key, path: &str) -> io::Result<()>
+        ensures ok { OnOk result (IsFoundAgain key.now (doubts_of self.old) (doubts_of self.new)) }
+        ensures err { OnErr result (doubts_of self.new ≡ doubts_of self.old) }
+        ensures forgotten { IsForgotten self.new.listing key.now }
+    {
+        let removed = self.take_away(path);
+        self.forget_listing(key);
+        if let Err(failure) = removed {
+            return Err(failure);
+        }
+        self.find_again(key);
+        Ok(())
     }
 
     /// Takes away the file at this path, if it is there.
-    fn take_away(&mut self, path: &str) -> io::Result<()> {
+    fn take_away(&mut self, path: &str) -> io::Result<()>
+        ensures stays { doubts_of self.new ≡ doubts_of self.old }
+    {
         if !self.files.remove_file(path)? {
             self.check()?;
         }
@@ -228,6 +266,7 @@ impl<F: FileSystem + Drop> LibraryFolder<F> {
 
     /// Forgets what was listed of the folder that an object lies in.
     pub(crate) fn forget_listing(&mut self, key: &Key)
+        ensures stays { doubts_of self.new ≡ doubts_of self.old }
         ensures forgotten { IsForgotten self.new.listing key.now }
     {
         let is_stale = match &self.listing {
@@ -240,7 +279,9 @@ impl<F: FileSystem + Drop> LibraryFolder<F> {
     }
 
     /// The object of the kind with the least id above `after`.
-    pub(crate) fn next(&mut self, kind: Kind, after: &Option<ObjId>) -> io::Result<Option<Found>> {
+    pub(crate) fn next(&mut self, kind: Kind, after: &Option<ObjId>) -> io::Result<Option<Found>>
+        ensures stays { doubts_of self.new ≡ doubts_of self.old }
+    {
         for first in first_listed(after)..=u8::MAX {
             if let Some(found) = self.next_in(kind, first, after)? {
                 return Ok(Some(found));
@@ -251,12 +292,9 @@ impl<F: FileSystem + Drop> LibraryFolder<F> {
     }
 
     /// The same among the objects whose ids begin with one byte. They are listed once, however often this is asked.
-    fn next_in(
-        &mut self,
-        kind: Kind,
-        first: u8,
-        after: &Option<ObjId>,
-    ) -> io::Result<Option<Found>> {
+    fn next_in(&mut self, kind: Kind, first: u8, after: &Option<ObjId>) -> io::Result<Option<Found>>
+        ensures stays { doubts_of self.new ≡ doubts_of self.old }
+    {
         if let Some(listing) = &self.listing {
             if listing.is_of(kind, first) {
                 return Ok(listing.next(after));
@@ -290,7 +328,9 @@ fn first_listed(id: &Option<ObjId>) -> u8 {
 }
 
 /// Takes a key out of a sorted list, if it is there.
-fn take_out(keys: &mut Vec<Key>, key: &Key) {
+fn take_out(keys: &mut Vec<Key>, key: &Key)
+    ensures after { TakesOut key.now keys.old.items keys.new.items }
+{
     if let Ok(place) = keys.binary_search(key) {
         let _ = keys.remove(place);
     }

@@ -1,6 +1,7 @@
 //! How a library's folder makes durable what was put, and the state text after it.
-ghost use Rattle.std.specs.Prelude.{◌≡◌, [], is_some, not, true, IsErr, OnErr, OnOk};
+ghost use Rattle.std.specs.Prelude.{◌≡◌, [], is_some, not, option_map, string_bytes, true, IsErr, OnErr, OnOk};
 ghost use Rattle.folder_storage.specs.Durability.{AddsEarlier, AreAmong};
+ghost use Rattle.folder_storage.specs.LibraryFolder.{doubts_of, ended};
 
 use crate::durability::{Directory, Disk, first_byte};
 use crate::file_system::FileSystem;
@@ -20,6 +21,7 @@ impl<F: FileSystem + Drop> LibraryFolder<F> {
         ensures ok { OnOk result (self.new.earlier.torn.items ≡ []) }
         ensures stays { (self.new.earlier.near.items ≡ self.old.earlier.near.items)
             × (self.new.earlier.whole.items ≡ self.old.earlier.whole.items) × (self.new.has_earlier ≡ self.old.has_earlier) }
+        ensures after { doubts_of self.new ≡ record (doubts_of self.old) { torn = self.new.earlier.torn.items; is_adrift = self.new.is_adrift } }
     {
         let torn = self.earlier.torn.clone()?;
         let mut is_touched = false;
@@ -39,6 +41,7 @@ impl<F: FileSystem + Drop> LibraryFolder<F> {
     fn take_torn(&mut self, key: &Key, is_touched: &mut bool) -> io::Result<()>
         ensures stays { (self.new.earlier.near.items ≡ self.old.earlier.near.items)
             × (self.new.earlier.whole.items ≡ self.old.earlier.whole.items) × (self.new.has_earlier ≡ self.old.has_earlier) }
+        ensures after { doubts_of self.new ≡ record (doubts_of self.old) { is_adrift = self.new.is_adrift } }
     {
         let path = object_path(self.files.alloc(), self.path.as_str(), key)?;
         let folder = self.folder_of(key)?;
@@ -59,6 +62,7 @@ impl<F: FileSystem + Drop> LibraryFolder<F> {
         ensures stays { (self.new.earlier.near.items ≡ self.old.earlier.near.items)
             × (self.new.earlier.whole.items ≡ self.old.earlier.whole.items) }
         ensures err { OnErr result (self.new.has_earlier ≡ self.old.has_earlier) }
+        ensures after { doubts_of self.new ≡ record (doubts_of self.old) { has_earlier = self.new.has_earlier } }
     {
         if self.has_earlier {
             return Ok(());
@@ -80,6 +84,7 @@ impl<F: FileSystem + Drop> LibraryFolder<F> {
         ensures refused { (self.old.is_adrift ≡ true → IsErr result) × (is_some self.old.lost ≡ true → IsErr result) }
         ensures stays { (self.new.earlier.near.items ≡ self.old.earlier.near.items)
             × (self.new.earlier.whole.items ≡ self.old.earlier.whole.items) × (self.new.has_earlier ≡ self.old.has_earlier) }
+        ensures after { doubts_of self.new ≡ record (doubts_of self.old) { torn = self.new.earlier.torn.items; is_adrift = self.new.is_adrift } }
     {
         if self.is_adrift || self.lost.is_some() {
             return Err(io::Error::from(ErrorKind::Other));
@@ -89,7 +94,9 @@ impl<F: FileSystem + Drop> LibraryFolder<F> {
 
     /// Leaves a mark before the first sync: a run that finds it trusts no sync of what that mark's run put. Where a sync
     /// failed before, the mark is left anew, and made durable.
-    fn mark(&mut self) -> io::Result<()> {
+    fn mark(&mut self) -> io::Result<()>
+        ensures after { doubts_of self.new ≡ record (doubts_of self.old) { is_marked = self.new.is_marked } }
+    {
         let mark = named_path(self.files.alloc(), self.path.as_str(), "syncing")?;
         if self.is_in_doubt {
             self.files.remove_file(mark.as_str())?;
@@ -106,7 +113,9 @@ impl<F: FileSystem + Drop> LibraryFolder<F> {
     }
 
     /// Takes the mark away. One that stays costs time alone.
-    fn unmark(&mut self) {
+    fn unmark(&mut self)
+        ensures after { doubts_of self.new ≡ record (doubts_of self.old) { is_marked = self.new.is_marked } }
+    {
         if self.is_marked {
             if let Ok(mark) = named_path(self.files.alloc(), self.path.as_str(), "syncing") {
                 self.is_marked = self.files.remove_file(mark.as_str()).is_err();
@@ -115,7 +124,9 @@ impl<F: FileSystem + Drop> LibraryFolder<F> {
     }
 
     /// Writes an object anew, durably, unless it was removed. It has to read back as what was put.
-    fn write_anew(&mut self, key: &Key, path: &str) -> io::Result<()> {
+    fn write_anew(&mut self, key: &Key, path: &str) -> io::Result<()>
+        ensures stays { doubts_of self.new ≡ doubts_of self.old }
+    {
         let bytes = match self.files.read(path)? {
             Some(bytes) => bytes,
             None => return Ok(()),
@@ -148,7 +159,9 @@ impl<F: FileSystem + Drop> LibraryFolder<F> {
 
     /// Takes away an object of this run that could not be made durable. One that an earlier run put stays, since a state
     /// text that stands may name it.
-    fn give_up(&mut self, key: &Key, path: &str) -> io::Result<()> {
+    fn give_up(&mut self, key: &Key, path: &str) -> io::Result<()>
+        ensures after { doubts_of self.new ≡ record (doubts_of self.old) { lost = self.new.lost } }
+    {
         if self.earlier.whole.binary_search(key).is_ok()
             || self.earlier.near.binary_search(key).is_ok()
         {
@@ -161,7 +174,9 @@ impl<F: FileSystem + Drop> LibraryFolder<F> {
     }
 
     /// Writes the name of each folder of these objects anew, before those names are synced.
-    fn enter_folders(&mut self, keys: &[Key]) -> io::Result<()> {
+    fn enter_folders(&mut self, keys: &[Key]) -> io::Result<()>
+        ensures after { doubts_of self.new ≡ record (doubts_of self.old) { is_adrift = self.new.is_adrift } }
+    {
         let mut last = None;
         for key in keys {
             let directory = Directory::Objects(key.kind, first_byte(key));
@@ -175,7 +190,9 @@ impl<F: FileSystem + Drop> LibraryFolder<F> {
     }
 
     /// Moves a folder away and back, so that its name is written anew.
-    fn enter_anew(&mut self, folder: &str) -> io::Result<()> {
+    fn enter_anew(&mut self, folder: &str) -> io::Result<()>
+        ensures after { doubts_of self.new ≡ record (doubts_of self.old) { is_adrift = self.new.is_adrift } }
+    {
         if self.files.look(folder)?.is_none() {
             return Ok(());
         }
@@ -196,7 +213,9 @@ impl<F: FileSystem + Drop> LibraryFolder<F> {
     }
 
     /// Makes the name of the state text durable, and that of the library's folder.
-    fn settle(&mut self) -> io::Result<()> {
+    fn settle(&mut self) -> io::Result<()>
+        ensures after { doubts_of self.new ≡ record (doubts_of self.old) { is_adrift = self.new.is_adrift; path = string_bytes self.new.path; home = option_map string_bytes self.new.home; above = option_map string_bytes self.new.above } }
+    {
         self.files.sync_folder(self.path.as_str())?;
         match self.home.take() {
             Some(home) => self.take_name(home),
@@ -205,7 +224,9 @@ impl<F: FileSystem + Drop> LibraryFolder<F> {
     }
 
     /// Gives a new library's folder its name. Where that can't be made durable it has no name again.
-    fn take_name(&mut self, home: String) -> io::Result<()> {
+    fn take_name(&mut self, home: String) -> io::Result<()>
+        ensures after { doubts_of self.new ≡ record (doubts_of self.old) { is_adrift = self.new.is_adrift; path = string_bytes self.new.path; home = option_map string_bytes self.new.home; above = option_map string_bytes self.new.above } }
+    {
         if let Err(failure) = self.files.rename(self.path.as_str(), home.as_str()) {
             self.home = Some(home);
             return Err(failure);
@@ -221,7 +242,9 @@ impl<F: FileSystem + Drop> LibraryFolder<F> {
     }
 
     /// Makes the name of the library's folder durable, once in this run.
-    fn sync_above(&mut self) -> io::Result<()> {
+    fn sync_above(&mut self) -> io::Result<()>
+        ensures after { doubts_of self.new ≡ record (doubts_of self.old) { is_adrift = self.new.is_adrift; above = option_map string_bytes self.new.above } }
+    {
         if let Some(above) = &self.above {
             if let Err(failure) = self.files.sync_folder(above.as_str()) {
                 self.is_adrift = true;
@@ -235,10 +258,13 @@ impl<F: FileSystem + Drop> LibraryFolder<F> {
 
 impl<F: FileSystem + Drop> Disk for LibraryFolder<F> {
     ghost use Rattle.std.specs.Prelude.{None};
+    ghost use Rattle.folder_storage.specs.LibraryFolder.{PutsOne, doubts_of};
 
     type Way = Way;
 
     ghost steps = { λ _. None };
+
+    ghost puts = { λ key bytes is_done old new. PutsOne key bytes is_done (doubts_of old) (doubts_of new) };
 
     fn put_object(&mut self, key: &Key, bytes: &[u8], way: &Way) -> io::Result<()> {
         self.move_in(key, bytes, way)
@@ -253,6 +279,7 @@ impl<F: FileSystem + Drop> Disk for LibraryFolder<F> {
         ensures stays { (self.new.earlier.near.items ≡ self.old.earlier.near.items)
             × (self.new.earlier.whole.items ≡ self.old.earlier.whole.items) }
         ensures err { OnErr result (self.new.has_earlier ≡ self.old.has_earlier) }
+        ensures after { doubts_of self.new ≡ record (doubts_of self.old) { torn = self.new.earlier.torn.items; is_adrift = self.new.is_adrift; has_earlier = self.new.has_earlier } }
     {
         if let Err(failure) = self.clear() {
             return Err(failure);
@@ -261,7 +288,9 @@ impl<F: FileSystem + Drop> Disk for LibraryFolder<F> {
     }
 
     /// Leaves the mark, and after a sync that may have failed writes the names of the folders anew.
-    fn begin_syncs(&mut self, keys: &[Key]) -> io::Result<()> {
+    fn begin_syncs(&mut self, keys: &[Key]) -> io::Result<()>
+        ensures after { doubts_of self.new ≡ record (doubts_of self.old) { is_marked = self.new.is_marked; is_adrift = self.new.is_adrift } }
+    {
         if !keys.is_empty() {
             self.mark()?;
         }
@@ -274,6 +303,7 @@ impl<F: FileSystem + Drop> Disk for LibraryFolder<F> {
     /// Where a sync failed, what it was to make durable is in doubt: another sync would say that all is well.
     fn end_syncs(&mut self, is_synced: bool)
         ensures ok { self.new.is_in_doubt ≡ not is_synced }
+        ensures after { doubts_of self.new ≡ ended is_synced (doubts_of self.old) }
     {
         self.is_in_doubt = !is_synced;
         if is_synced {
@@ -284,7 +314,9 @@ impl<F: FileSystem + Drop> Disk for LibraryFolder<F> {
     }
 
     /// Makes an object's file durable. One whose sync may have failed is written anew.
-    fn sync_object(&mut self, key: &Key) -> io::Result<()> {
+    fn sync_object(&mut self, key: &Key) -> io::Result<()>
+        ensures after { doubts_of self.new ≡ record (doubts_of self.old) { lost = self.new.lost } }
+    {
         let path = object_path(self.files.alloc(), self.path.as_str(), key)?;
         if !self.is_in_doubt && self.files.sync_file(path.as_str()).is_ok() {
             return Ok(());
@@ -302,7 +334,9 @@ impl<F: FileSystem + Drop> Disk for LibraryFolder<F> {
     }
 
     /// Makes a folder's names durable. A folder of objects that isn't there has none.
-    fn sync_directory(&mut self, directory: Directory) -> io::Result<()> {
+    fn sync_directory(&mut self, directory: Directory) -> io::Result<()>
+        ensures stays { doubts_of self.new ≡ doubts_of self.old }
+    {
         let alloc = self.files.alloc();
         let is_there = match directory {
             Directory::Objects(kind, first) => {
@@ -322,7 +356,9 @@ impl<F: FileSystem + Drop> Disk for LibraryFolder<F> {
     }
 
     /// Puts the state text, durably. With its first one a new library's folder takes its name.
-    fn put_text(&mut self, text: &[u8]) -> io::Result<()> {
+    fn put_text(&mut self, text: &[u8]) -> io::Result<()>
+        ensures after { doubts_of self.new ≡ record (doubts_of self.old) { is_marked = self.new.is_marked; is_adrift = self.new.is_adrift; path = string_bytes self.new.path; home = option_map string_bytes self.new.home; above = option_map string_bytes self.new.above } }
+    {
         let status = named_path(self.files.alloc(), self.path.as_str(), "status")?;
         let spare = self.spare()?;
         self.write_spare(spare.as_str(), text, true)?;
