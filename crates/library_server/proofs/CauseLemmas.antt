@@ -1,6 +1,6 @@
 -- The cause of damage that is told in a connection. The key lemmas are call_caused, opening_harmless, started_gives and
 -- made_gives.
-use Rattle.std.proofs.Common.{◌≡◌, ◌≢◌, ◌⊎◌, inl, inr, ℕ, Bool, true, false, true≢false, if◌then◌else◌, List, [], ◌∷◌, ◌++◌, nat_lt, not, Option, None, Some, option_map, Result, Ok, Err, refl, sym, ap, subst, ◌∙◌}
+use Rattle.std.proofs.Common.{◌≡◌, ◌⊎◌, inl, inr, ℕ, Bool, true, false, true≢false, if◌then◌else◌, List, [], ◌∷◌, ◌++◌, nat_lt, not, Option, None, Some, option_map, Result, Ok, Err, refl, sym, ap, subst, ◌∙◌}
 use Rattle.std.specs.Prelude.{IfOk, IsTrue, ⊤}
 use Rattle.std.specs.Bool.{then_some}
 use Rattle.std.specs.Str.{bytes_eq}
