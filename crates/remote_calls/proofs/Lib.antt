@@ -1,0 +1,10 @@
+pub mod DeskOutcomeLemmas
+pub mod ExchangeLemmas
+pub mod LinkChoiceLemmas
+pub mod LinkCountLemmas
+pub mod MayRefuseLemmas
+pub mod OneAnswerLemmas
+pub mod OrderReplyLemmas
+pub mod SendsLemmas
+pub mod SpelledLemmas
+pub mod SpellingLemmas

@@ -1,0 +1,200 @@
+//! A server behind links, as a remote.
+ghost use Rattle.std.specs.Prelude.{◌≡◌, ◌++◌, [], None, Some, map, IfOk};
+ghost use Rattle.ids.specs.Outcome.{ExactlyWith};
+ghost use Rattle.http_client.specs.OrderOutcome.{CanHave};
+ghost use Rattle.http_client.specs.RequestText.{HasRequest, IsHost};
+ghost use Rattle.remote_calls.specs.Exchange.{link_view};
+ghost use Rattle.http_front.specs.Dial.{count_sum};
+ghost use Rattle.remote_calls.specs.HttpRemote.{Reaches, SendsOver, left_over, links_in, links_of, sum_with};
+ghost use Rattle.remote_calls.specs.Sends.{CountsSend, IsTooLarge, SendsOne, is_no_memory, size_told};
+ghost use Rattle.remote_calls.specs.Spelling.{SpellsAll};
+
+use crate::error::RemoteFault;
+use crate::link_choice::ready_link;
+use crate::open_link::{OpenLink, send_on};
+use crate::remote::{Remote, SentLog, list_send};
+use http_client::{body_size, is_within_limit, request_bytes};
+use http_front::{Dial, Order, Outcome};
+use http_server::Log;
+use ids::Text;
+use std::alloc::Global;
+use std::marker::Model;
+
+/// A server at a port of a host, asked over links of a dial.
+///
+/// A link is made as an order has none, and kept for the next one: up to 9,000 requests, and until a fault comes over it or
+/// a reply closes. The link of the last send stays until the next, with what it gave. What it gives behind a reply is read
+/// as the reply to the next order. It is never let go: `end` gives its links back.
+pub struct HttpRemote<D: Dial> {
+    dial: D,
+    host: Text,
+    port: u16,
+    kept: Option<OpenLink<D::L>>,
+    sends: SentLog,
+    // The dial as it was handed in, for proofs alone.
+    made: Log<D, u64>,
+}
+
+impl<D: Dial> Model for HttpRemote<D> {
+    ghost use Rattle.http_client.specs.RequestText.{IsHost};
+    ghost use Rattle.remote_calls.specs.Exchange.{link_view};
+    ghost use Rattle.remote_calls.specs.HttpRemote.{HttpRemoteView, remote_of};
+    ghost use Rattle.remote_calls.specs.Spelling.{IsSpelled};
+
+    ghost Value = { HttpRemoteView };
+
+    ghost view = { λ a. remote_of (link_view D.L.left D.L.taken D.L.given D.L.asked D.L.faults) D.back D.faults a.host a.port a.dial a.kept a.made.items a.sends.items };
+
+    ghost invariant = { λ a. record {
+      name : IsHost a.host;
+      spelled : IsSpelled (remote_of (link_view D.L.left D.L.taken D.L.given D.L.asked D.L.faults) D.back D.faults a.host a.port a.dial a.kept a.made.items a.sends.items);
+    } };
+}
+
+impl<D: Dial + Drop> HttpRemote<D> {
+    /// A server at this port of this host, to which no link was made yet. Whether a text is the name of a host,
+    /// `http_client::is_host` tells. It takes no memory.
+    pub fn new(dial: D, host: Text, port: u16) -> HttpRemote<D>
+        requires name { IsHost host }
+        ensures value { result ≡ record {
+          peer = record { host = host; port = port; start = map (link_view D.L.left D.L.taken D.L.given D.L.asked D.L.faults) (D.back dial) };
+          links = links_of (link_view D.L.left D.L.taken D.L.given D.L.asked D.L.faults) D.back D.faults dial None;
+          sends = [];
+        } }
+    {
+        let made = Log::new().and(&dial, &0);
+        HttpRemote {
+            dial,
+            host,
+            port,
+            kept: None,
+            sends: Log::new(),
+            made,
+        }
+    }
+
+    /// The dial, to which every link went back: the bytes that were moved on those that came back since `new`, where they tell
+    /// them, are the requests and replies of the sends. It takes no memory.
+    pub fn end(self) -> D
+        ensures back { map (link_view D.L.left D.L.taken D.L.given D.L.asked D.L.faults) (D.back result) ≡ self.links.back ++ left_over self.links.kept }
+        ensures told { SpellsAll self.peer.host self.peer.start (map (link_view D.L.left D.L.taken D.L.given D.L.asked D.L.faults) (D.back result)) self.sends }
+        ensures faults { count_sum (D.faults result) 0 ≡ self.links.faults }
+    {
+        let HttpRemote {
+            dial,
+            host: _,
+            port: _,
+            kept,
+            sends: _,
+            made: _,
+        } = self;
+        let mut dial = dial;
+        hang_up(&mut dial, kept);
+        dial
+    }
+}
+
+impl<D: Dial> Remote for HttpRemote<D> {
+    ghost use Rattle.remote_calls.specs.HttpRemote.{HttpPeer};
+
+    ghost Peer = { HttpPeer };
+
+    ghost peer = { λ remote. remote.peer };
+
+    ghost sends = { λ remote. remote.sends };
+
+    ghost faults = { λ remote. remote.links.faults };
+
+    /// The faults, in the order in which they are looked for: `TooLarge`; then `Link` where no link could be made or the
+    /// request could not be given whole; then `BadReply`, `Cut` and `Link` by what the link gave. The list of sends and the
+    /// links beside, a fault leaves all as it was.
+    fn send(&mut self, alloc: Global, order: &Order) -> Result<Outcome, RemoteFault>
+        requires proper { HasRequest order.now }
+        ensures told { IfOk result (CanHave order.now.what) }
+        ensures too_large { ExactlyWith is_no_memory result RemoteFault.TooLarge (size_told order.now) (IsTooLarge order.now) }
+        ensures listed { SendsOne self.old.sends self.new.sends order.now result }
+        ensures faults { CountsSend self.old.links.faults self.new.links.faults result }
+        ensures stays { self.new.peer ≡ self.old.peer }
+
+        // Which link it went over, what was given to it, and what it gave.
+        ensures value { SendsOver (Reaches (link_view D.L.left D.L.taken D.L.given D.L.asked D.L.faults) D.reaches) self.old.peer.host self.old.peer.port order.now
+            self.old.links self.new.links result }
+    {
+        let ending = send_over(
+            alloc,
+            &mut self.dial,
+            &mut self.kept,
+            &self.host,
+            self.port,
+            order,
+        );
+        list_send(&mut self.sends, order, &ending);
+        ending
+    }
+}
+
+/// One order, over the link that is kept or another.
+fn send_over<D: Dial>(
+    alloc: Global,
+    dial: &mut D,
+    kept: &mut Option<OpenLink<D::L>>,
+    host: &Text,
+    port: u16,
+    order: &Order,
+) -> Result<Outcome, RemoteFault>
+    requires proper { HasRequest order.now }
+    requires name { IsHost host.now }
+    ensures told { IfOk result (CanHave order.now.what) }
+    ensures too_large { ExactlyWith is_no_memory result RemoteFault.TooLarge (size_told order.now) (IsTooLarge order.now) }
+    ensures faults { CountsSend (links_of (link_view D.L.left D.L.taken D.L.given D.L.asked D.L.faults) D.back D.faults dial.old kept.old).faults
+        (links_of (link_view D.L.left D.L.taken D.L.given D.L.asked D.L.faults) D.back D.faults dial.new kept.new).faults result }
+    ensures value { SendsOver (Reaches (link_view D.L.left D.L.taken D.L.given D.L.asked D.L.faults) D.reaches) host.now port order.now
+        (links_of (link_view D.L.left D.L.taken D.L.given D.L.asked D.L.faults) D.back D.faults dial.old kept.old)
+        (links_of (link_view D.L.left D.L.taken D.L.given D.L.asked D.L.faults) D.back D.faults dial.new kept.new) result }
+{
+    if !is_within_limit(order) {
+        return Err(RemoteFault::TooLarge(body_size(order)));
+    }
+    let text = match request_bytes(alloc, order, host, false) {
+        Ok(text) => text,
+        Err(_) => return Err(RemoteFault::NoMemory),
+    };
+    let mut chosen = match ready_link(alloc, dial, kept, host, port) {
+        Ok(chosen) => chosen,
+        Err(fault) => return Err(fault),
+    };
+    let ending = send_on(alloc, &mut chosen, order, text.slice());
+    put_kept(dial, kept, chosen);
+    ending
+}
+
+/// Keeps a link where none is kept. A link can't be dropped, so one that was kept would be given back.
+fn put_kept<D: Dial>(dial: &mut D, kept: &mut Option<OpenLink<D::L>>, chosen: OpenLink<D::L>)
+    requires none { kept.old ≡ None }
+    ensures after { kept.new ≡ Some chosen }
+    ensures stays { dial.new ≡ dial.old }
+{
+    match kept.replace(chosen) {
+        Some(last) => hang_up(dial, Some(last)),
+        None => {}
+    }
+}
+
+/// Gives the link that is kept back, if there is one.
+fn hang_up<D: Dial>(dial: &mut D, kept: Option<OpenLink<D::L>>)
+    ensures back { D.back dial.new ≡ D.back dial.old ++ links_in kept }
+    ensures faults { D.faults dial.new ≡ sum_with D.L.faults (D.faults dial.old) kept }
+{
+    match kept {
+        Some(last) => {
+            let OpenLink {
+                link,
+                buffer: _,
+                count: _,
+                over: _,
+            } = last;
+            dial.hang_up(link);
+        }
+        None => {}
+    }
+}
