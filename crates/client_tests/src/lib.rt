@@ -4,7 +4,11 @@
 #![tactic(auto)]
 
 #[cfg(test)]
+mod desk_tests;
+#[cfg(test)]
 mod orders;
+#[cfg(test)]
+mod remote_tests;
 #[cfg(test)]
 mod reply_tests;
 #[cfg(test)]
