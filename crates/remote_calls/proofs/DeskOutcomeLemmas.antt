@@ -1,5 +1,5 @@
 -- What a library answers to the calls of an order is an outcome that the order can have. The key lemmas are order_can, over any
--- host whose answers may be replied so, and desk_replies, that a library in memory is one.
+-- host whose answers may be replied so, and desk_replies and desk_collects, that a library in memory is one.
 use Rattle.std.proofs.Common.{◌≡◌, ℕ, ◌++◌, Bool, true, false, List, [], ◌∷◌, map, refl, sym, ap, subst, ◌∙◌, inl, inr, append_assoc, append-nil, Option, None, Some}
 use Rattle.std.proofs.lemmas.List.{map-append}
 use Rattle.std.specs.Prelude.{⊤}
@@ -8,11 +8,14 @@ use Rattle.std.proofs.lemmas.Bool.{false≢true, true≢false}
 use Rattle.std.proofs.lemmas.Slice.Eq.{bytes_eq-Decides}
 use Rattle.library_state.specs.declared.call.Act.{Act}
 use Rattle.library_state.specs.declared.call.Call.{Call}
+use Rattle.library_rules.specs.Calls.{token_of}
+use Rattle.library_state.specs.declared.refusal.Refusal.{Refusal}
 use Rattle.library_state.specs.declared.refusal.Refusal.TheVariants as refusal
 use Rattle.library_state.specs.declared.reply.Reply.{Reply}
 use Rattle.library_state.specs.declared.reply.Reply.TheVariants as reply
 use Rattle.object_store.specs.Shelf.{Contents}
 use Rattle.object_store.specs.declared.shelf.Slot.{Slot}
+use Rattle.depot.specs.CollectionTurns.{permits_collection}
 use Rattle.depot.specs.DepotView.{DepotView}
 use Rattle.http_front.specs.Rows.{row_with}
 use Rattle.http_front.specs.declared.order.Order.{Order}
@@ -21,11 +24,13 @@ use Rattle.http_front.specs.declared.order.What.TheVariants as what
 use Rattle.http_front.specs.declared.outcome.Outcome.{Outcome}
 use Rattle.http_front.specs.declared.outcome.Outcome.TheVariants.{Refused}
 use Rattle.http_front.specs.declared.row.Row.{Row}
-use Rattle.http_client.specs.OrderOutcome.{CanAnswer, CanHave, asks_library, asks_object, row_id}
+use Rattle.http_client.specs.OrderOutcome.{CanAnswer, CanHave, asks_library, asks_object, can_refuse, row_id}
 use Rattle.http_client.specs.RequestText.{HasRequest, IsAsked, NamesLibrary}
-use Rattle.worker_server.specs.Calls.{AskedSo, GetsEach, HostRules, NotAsked, PutsEach, ServedAt, ServedBy, ServesOrder, call_of, get_of, is_got, put_of}
+use Rattle.worker_server.specs.Calls.{AskedSo, GetsEach, HostRules, NotAsked, PutsEach, ServedAt, ServedBy, ServesOrder, call_of, collected_outcome, get_of, is_got, put_of}
 use Rattle.worker_server.specs.declared.host.Answer.{Answer}
-use Rattle.remote_calls.specs.DeskRemote.{DeskAnswers}
+use Rattle.worker_server.specs.declared.host.Collected.{Collected}
+use Rattle.worker_server.specs.declared.host.Collected.TheVariants as collected
+use Rattle.remote_calls.specs.DeskRemote.{DeskAnswers, DeskCollects}
 use Rattle.remote_calls.specs.OrderReply.{Asks, MayReply, gives_objects}
 use Rattle.remote_calls.proofs.OrderReplyLemmas.{may_reply}
 
@@ -45,7 +50,9 @@ not_got w other none is = is
 
 module _ {V Operation : Type 0} (rules : HostRules V Operation)
     (replies : (w : What) (u : V) (lib : List ℕ) (call : Call) (answer : Answer) (lines : List Operation) (v : V)
-    → IsAsked w → Asks w call.act → rules.asks u lib call answer lines v → MayReply w answer.reply) where
+    → IsAsked w → Asks w call.act → rules.asks u lib call answer lines v → MayReply w answer.reply)
+    (ends_so : (u : V) (lib : List ℕ) (secret : Option (List ℕ)) (ends : Collected) (lines : List Operation) (v : V)
+    → rules.collects u lib secret ends lines v → CanHave what.Collect (collected_outcome ends)) where
   one_can : (w : What) (a : Act) (u : V) (lib : List ℕ) (secret : Option (List ℕ)) (o : Outcome) (lines : List Operation) (v : V) → IsAsked w → Asks w a
       → (gives_objects w ≡ true → asks_object w ≡ true) → AskedSo rules.asks u lib (call_of secret a) o lines v → CanHave w o
   one_can w a u lib secret o lines v asked of_it one is =
@@ -83,6 +90,7 @@ module _ {V Operation : Type 0} (rules : HostRules V Operation)
   library_can (what.Get key) lib secret u o lines v asked is = one_can (what.Get key) _ u lib secret o lines v asked refl (λ e. e) is
   library_can (what.PutFs rows) lib secret u o lines v asked is = rows_can rows lib secret rows u o lines v is
   library_can (what.GetFs ids) lib secret u o lines v asked is = ids_can ids lib secret ids [] u o lines v refl is.0
+  library_can what.Collect lib secret u o lines v asked is = subst (CanHave what.Collect) (sym is.2) (ends_so u lib secret is.0 lines v is.1)
   library_can other lib secret u o lines v asked is = one_can other _ u lib secret o lines v asked refl (λ e. absurd (false≢true e)) is
 
   -- an order that names no library asks for the version
@@ -97,7 +105,9 @@ module _ {V Operation : Type 0} (rules : HostRules V Operation)
   named_can None secret (what.Missing kind ids) u o lines v names asked is = absurd names
   named_can None secret (what.PutFs rows) u o lines v names asked is = absurd names
   named_can None secret (what.GetFs ids) u o lines v names asked is = absurd names
+  named_can None secret (what.Limit days) u o lines v names asked is = absurd names
   named_can None secret (what.Ids server client) u o lines v names asked is = absurd names
+  named_can None secret what.Collect u o lines v names asked is = absurd names
   named_can (Some lib) secret w u o lines v names asked is = library_can w lib secret u o lines v asked is
 
   -- want of memory may come to every order
@@ -126,3 +136,17 @@ module _ {S : Type 0} (contents : S → Option Contents) (may_give : S → Slot 
       by false other =
           let none = is.elsewhere (λ same. true≢false (sym ((bytes_eq-Decides lib old.state.lib).1 same) ∙ other)) in
           subst (MayReply w) (sym none.0) (asks_one w call.act of_it)
+
+module _ {S : Type 0} where
+  -- why a collection takes no turn, the order for one can be told
+  pub desk_collects : (old : DepotView S) (lib : List ℕ) (secret : Option (List ℕ)) (ends : Collected) (lines : List ⊤) (new : DepotView S)
+      → DeskCollects old lib secret ends lines new → CanHave what.Collect (collected_outcome ends)
+  desk_collects old lib secret ends lines new is = by (bytes_eq lib old.state.lib) (permits_collection (token_of old.state.tokens secret)) refl refl
+    where
+      told : (why : Refusal) → can_refuse what.Collect why ≡ true → ends ≡ collected.Refused why → CanHave what.Collect (collected_outcome ends)
+      told why can same = subst (λ (e : Collected). CanHave what.Collect (collected_outcome e)) (sym same) can
+
+      by : (b d : Bool) → bytes_eq lib old.state.lib ≡ b → permits_collection (token_of old.state.tokens secret) ≡ d → CanHave what.Collect (collected_outcome ends)
+      by true true same may = told refusal.NoMemory refl (is.here ((bytes_eq-Decides lib old.state.lib).0 same) may)
+      by true false same may = told refusal.Denied refl (is.denied ((bytes_eq-Decides lib old.state.lib).0 same) may)
+      by false d other may = told refusal.NoLibrary refl (is.elsewhere (λ same. true≢false (sym ((bytes_eq-Decides lib old.state.lib).1 same) ∙ other)))

@@ -1,5 +1,5 @@
 -- Each reply that a library may give to a call of an order is one that the order can have. The key lemma is may_reply.
-use Rattle.std.proofs.Common.{◌≡◌, ℕ, ◌++◌, not, nat_lt, Bool, true, false, if◌then◌else◌, List, [], ◌∷◌, Option, None, Some, Result, Ok, Err, refl, sym, ap, subst, option_map}
+use Rattle.std.proofs.Common.{◌≡◌, ℕ, ℤ, ◌++◌, not, nat_lt, Bool, true, false, if◌then◌else◌, List, [], ◌∷◌, Option, None, Some, Result, Ok, Err, refl, sym, ap, subst, option_map}
 use Rattle.std.specs.Prelude.{⊤, filter, is_some}
 use Rattle.sha1.specs.Sha1.{sha1}
 use Rattle.std.specs.Bool.{then_some}
@@ -28,7 +28,7 @@ use Rattle.library_state.specs.declared.reply.Reply.TheVariants as reply
 use Rattle.library_state.specs.declared.state.LibState.{LibState}
 use Rattle.library_state.specs.declared.token.Token.{Token}
 use Rattle.library_rules.specs.Calls.{act_decided, first_refusal, ids_decided, ids_of, keys_of, may, not_commit, not_fs, put_decided, put_refusals, token_decided, token_of, update_decided}
-use Rattle.library_rules.specs.LibraryState.{head_of, is_kept}
+use Rattle.library_rules.specs.LibraryState.{head_of, is_day_count, is_kept}
 use Rattle.object_graph.specs.Objects.{commit_key, is_nil, same_id}
 use Rattle.object_graph.specs.Traversal.{distinct_from, is_in}
 use Rattle.object_store.specs.StoreView.{Index}
@@ -170,6 +170,13 @@ update_said state token commit said e = by (is_kept state.kept commit) (nat_lt t
     by true c e = subst (MayReply (what.Update commit)) (same_from_some (reply.Updated (head_of state.kept)) said e) refl
     by false c e = later c token.last state.collection e
 
+limit_said : (state : LibState) (token : Token) (days : ℤ) (said : Reply) → act_decided state token (act.Limit days) ≡ Some said → MayReply (what.Limit days) said
+limit_said state token days said e = by (is_day_count days) e
+  where
+    by : (b : Bool) → Some (if b then reply.Limited else reply.Refused (refusal.BadDays days)) ≡ Some said → MayReply (what.Limit days) said
+    by true e = subst (MayReply (what.Limit days)) (same_from_some reply.Limited said e) refl
+    by false e = subst (MayReply (what.Limit days)) (same_from_some (reply.Refused (refusal.BadDays days)) said e) refl
+
 ids_said : (state : LibState) (server : List ℕ) (client : Option (List ℕ)) (said : Reply) → ids_decided state.kept server ≡ Some said → MayReply (what.Ids server client) said
 ids_said state server client said e = by (is_kept state.kept server) e
   where
@@ -238,6 +245,10 @@ module _ (index : Index) (gives : Slot → Option (List ℕ) → Type 0) (state 
       token_can (what.GetFs ids) (get_of id) r token refl (λ t it e. absurd (cc))
       (λ t e m. get_can index gives (what.GetFs ids) (record { kind = kind.Fs; id = id }) r refl refl refl m)
       (subst (λ (x : Act). MayAnswer index gives x (token_decided state x token) r) asks.1 is)
+  reply_can (what.Limit days) a token r asked asks is =
+      token_can (what.Limit days) (act.Limit days) r token refl (λ t it e. limit_said state t days it e) (λ t e m. absurd m)
+      (subst (λ (x : Act). MayAnswer index gives x (token_decided state x token) r) asks is)
+  reply_can what.Collect a token r asked asks is = absurd asks
   reply_can (what.Ids server client) a token r asked asks is =
       token_can (what.Ids server client) (act.Ids server client) r token refl (λ t it e. ids_said state server client it e) (λ t e m. list_can index gives server client r m)
       (subst (λ (x : Act). MayAnswer index gives x (token_decided state x token) r) asks is)

@@ -12,6 +12,7 @@ use Rattle.library_state.specs.declared.refusal.Refusal.TheVariants as refusal
 use Rattle.library_state.specs.declared.reply.Reply.{Reply}
 use Rattle.library_state.specs.declared.reply.Reply.TheVariants as reply
 use Rattle.depot.specs.Answering.{Serves, permits}
+use Rattle.depot.specs.CollectionTurns.{permits_collection}
 use Rattle.depot.specs.DepotView.{DepotView, IsGood, depot_code}
 use Rattle.depot.specs.FirstGet.{fs_get, sizes_of}
 use Rattle.depot.specs.Giving.{GivesBy, MayLay}
@@ -19,8 +20,10 @@ use Rattle.library_rules.specs.Calls.{token_of}
 use Rattle.object_store.specs.MemoryShelf.{MemoryShelfState, memory_shelf_code}
 use Rattle.object_store.specs.Shelf.{Contents, lies_in}
 use Rattle.object_store.specs.declared.shelf.Slot.{Slot}
-use Rattle.worker_server.specs.Calls.{ServesOrder, rules_at}
+use Rattle.worker_server.specs.Calls.{HostRules, ServesOrder, rules_at}
 use Rattle.worker_server.specs.declared.host.Answer.{Answer}
+use Rattle.worker_server.specs.declared.host.Collected.{Collected}
+use Rattle.worker_server.specs.declared.host.Collected.TheVariants as collected
 use Rattle.remote_calls.specs.Sends.{Ending, IsTooLarge, Sent, size_told}
 use Rattle.remote_calls.specs.contracts.error.RemoteFault as fault_contracts
 use Rattle.remote_calls.specs.declared.error.RemoteFault.TheVariants as fault
@@ -69,6 +72,15 @@ AsksTooMuch depot lib secret [] most = ⊥
 AsksTooMuch depot lib secret (id ∷ ids) most =
     (lib ≡ depot.state.lib) × (permits (token_of depot.state.tokens secret) (fs_get id) ≡ true) × (most < sizes_of depot.store.index (id ∷ ids))
 
+-- a collection that is asked for takes no turn: it is refused where the library is another, where the secret isn't an owner's, and
+-- else as for want of memory
+pub record DeskCollects {S : Type 0} (old : DepotView S) (lib : List ℕ) (secret : Option (List ℕ)) (ends : Collected) (lines : List ⊤) (new : DepotView S) : Type 0 where
+  pub here : lib ≡ old.state.lib → permits_collection (token_of old.state.tokens secret) ≡ true → ends ≡ collected.Refused refusal.NoMemory
+  pub denied : lib ≡ old.state.lib → permits_collection (token_of old.state.tokens secret) ≡ false → ends ≡ collected.Refused refusal.Denied
+  pub elsewhere : lib ≢ old.state.lib → ends ≡ collected.Refused refusal.NoLibrary
+  pub stays : new ≡ old
+  pub no_lines : lines ≡ []
+
 -- the moment of an order is the number of orders that were taken before
 abbrev pub IsAt : ℕ → ℕ → Type 0
 IsAt count moment = moment ≡ count
@@ -87,6 +99,10 @@ texts_of shelf = shelf.texts
 abbrev pub faults_of : MemoryShelfState → ℕ
 faults_of shelf = shelf.faults
 
+-- the rules of a library in memory, which is asked at this moment
+abbrev pub desk_rules : ℕ → HostRules (DepotView MemoryShelfState) ⊤
+desk_rules moment = rules_at (IsAt moment) (DeskAnswers told_contents gives_told texts_of faults_of) AsksTooMuch (λ _. DeskCollects)
+
 -- ---- a send
 
 -- an order that is taken: one more is counted, and nothing else changes but the library and the count of faults
@@ -102,4 +118,4 @@ pub data DesksOver (order : Order) (old new : DeskView) (ending : Ending) : Type
   failed : ending ≡ Err fault.Link → is_due old.fails old.count ≡ true → Takes old new → new.depot ≡ old.depot
       → new.faults ≡ counted old.faults → DesksOver order old new ending
   answered : (outcome : Outcome) → ending ≡ Ok outcome → is_due old.fails old.count ≡ false → Takes old new → new.faults ≡ old.faults → (lines : List ⊤)
-      → ServesOrder (rules_at (IsAt old.count) (DeskAnswers told_contents gives_told texts_of faults_of) AsksTooMuch) old.depot order outcome lines new.depot → DesksOver order old new ending
+      → ServesOrder (desk_rules old.count) old.depot order outcome lines new.depot → DesksOver order old new ending

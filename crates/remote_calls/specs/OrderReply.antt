@@ -22,7 +22,9 @@ Asks (what.Put key bytes) a = a ≡ act.Put key bytes
 Asks (what.Missing kind ids) a = a ≡ act.Missing kind ids
 Asks (what.PutFs rows) a = (row : Row) × (a ≡ put_of row)
 Asks (what.GetFs ids) a = (id : List ℕ) × (a ≡ get_of id)
+Asks (what.Limit days) a = a ≡ act.Limit days
 Asks (what.Ids server client) a = a ≡ act.Ids server client
+Asks what.Collect a = ⊥
 
 -- an object is given by a call of it
 abbrev pub gives_objects : What → Bool

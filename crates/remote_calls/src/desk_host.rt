@@ -1,5 +1,7 @@
 //! A library that is asked at one moment.
-ghost use Rattle.std.specs.Prelude.{◌≡◌, ◌≢◌, ◌∷◌};
+ghost use Rattle.std.specs.Prelude.{◌≡◌, ◌≢◌, ◌∷◌, false, true};
+ghost use Rattle.library_rules.specs.Calls.{token_of};
+ghost use Rattle.depot.specs.CollectionTurns.{permits_collection};
 ghost use Rattle.depot.specs.FirstGet.{fs_call};
 ghost use Rattle.remote_calls.specs.DeskRemote.{AsksTooMuch, DeskReplies};
 
@@ -9,7 +11,7 @@ use library_state::{Call, Refusal, Reply, Secret};
 use object_store::Shelf;
 use std::alloc::Global;
 use std::marker::PhantomData;
-use worker_server::{Answer, Host};
+use worker_server::{Answer, Collected, Host};
 
 /// The place that each answer tells: none in a history, since no count of changes is kept.
 const NO_PLACE: u64 = 0;
@@ -24,7 +26,7 @@ pub(crate) struct DeskHost<S> {
 impl<S: Shelf> Host for DeskHost<S> {
     ghost use Rattle.std.specs.Prelude.{⊤};
     ghost use Rattle.depot.specs.DepotView.{DepotView};
-    ghost use Rattle.remote_calls.specs.DeskRemote.{AsksTooMuch, DeskAnswers, IsAt};
+    ghost use Rattle.remote_calls.specs.DeskRemote.{AsksTooMuch, DeskAnswers, DeskCollects, IsAt};
 
     type Pass = Depot<S>;
 
@@ -41,6 +43,8 @@ impl<S: Shelf> Host for DeskHost<S> {
     ghost asks = { DeskAnswers S.contents S.may_give S.texts S.faults };
 
     ghost too_much = { AsksTooMuch };
+
+    ghost collects = { λ _. DeskCollects };
 
     fn ask(&self, alloc: Global, pass: &mut Depot<S>, lib: LibId, call: Call) -> Answer {
         let _ = alloc;
@@ -70,6 +74,33 @@ impl<S: Shelf> Host for DeskHost<S> {
             place: NO_PLACE,
         }
     }
+
+    fn collect(
+        &self,
+        alloc: Global,
+        pass: &mut Depot<S>,
+        lib: LibId,
+        secret: Option<Secret>,
+    ) -> Collected {
+        let _ = alloc;
+        Collected::Refused(uncollected(pass, lib, &secret))
+    }
+}
+
+/// Why a collection that is asked for takes no turn: the library is another, the secret isn't an owner's, and else as for want
+/// of memory.
+fn uncollected<S: Shelf>(depot: &Depot<S>, lib: LibId, secret: &Option<Secret>) -> Refusal
+    ensures here { lib ≡ depot.now.state.lib → permits_collection (token_of depot.now.state.tokens secret.now) ≡ true → result ≡ Refusal.NoMemory }
+    ensures denied { lib ≡ depot.now.state.lib → permits_collection (token_of depot.now.state.tokens secret.now) ≡ false → result ≡ Refusal.Denied }
+    ensures elsewhere { lib ≢ depot.now.state.lib → result ≡ Refusal.NoLibrary }
+{
+    if lib == depot.lib() {
+        if depot.may_collect(secret) {
+            return Refusal::NoMemory;
+        }
+        return Refusal::Denied;
+    }
+    Refusal::NoLibrary
 }
 
 /// The reply to a call on a library. `NoLibrary` comes exactly where it is another.

@@ -4,8 +4,8 @@ ghost use Rattle.ids.specs.FaultCount.{is_due};
 ghost use Rattle.ids.specs.Outcome.{ExactlyWith};
 ghost use Rattle.http_client.specs.OrderOutcome.{CanHave};
 ghost use Rattle.http_client.specs.RequestText.{HasRequest};
-ghost use Rattle.worker_server.specs.Calls.{ServesOrder, rules_at};
-ghost use Rattle.remote_calls.specs.DeskRemote.{AsksTooMuch, DeskAnswers, DesksOver, IsAt, faults_of, gives_told, texts_of, told_contents};
+ghost use Rattle.worker_server.specs.Calls.{ServesOrder};
+ghost use Rattle.remote_calls.specs.DeskRemote.{DesksOver, desk_rules};
 ghost use Rattle.remote_calls.specs.Sends.{CountsSend, IsTooLarge, SendsOne, Sent, is_no_memory, size_told};
 
 use crate::desk_host::DeskHost;
@@ -150,7 +150,7 @@ fn is_due_at(fails: &[u64], number: u64) -> bool
 fn answer_at(alloc: Global, depot: &mut Depot<MemoryShelf>, moment: u64, order: Order) -> Outcome
     requires proper { HasRequest order }
     ensures told { CanHave order.what result }
-    ensures serves { (lines : List ⊤) × ServesOrder (rules_at (IsAt moment) (DeskAnswers told_contents gives_told texts_of faults_of) AsksTooMuch) depot.old order result lines depot.new }
+    ensures serves { (lines : List ⊤) × ServesOrder (desk_rules moment) depot.old order result lines depot.new }
 {
     let host = DeskHost {
         moment,

@@ -44,7 +44,9 @@ fn copy_what(alloc: Global, what: &What) -> Result<What, AllocError>
             Ok(copied) => Ok(What::GetFs(copied)),
             Err(error) => Err(error),
         },
+        What::Limit(days) => Ok(What::Limit(*days)),
         What::Ids(server, client) => Ok(What::Ids(*server, *client)),
+        What::Collect => Ok(What::Collect),
     }
 }
 

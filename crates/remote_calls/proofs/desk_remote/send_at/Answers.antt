@@ -6,8 +6,8 @@ use Rattle.http_client.specs.OrderOutcome.{CanHave}
 use Rattle.http_client.specs.RequestText.{HasRequest}
 use Rattle.http_front.specs.declared.order.Order.{Order}
 use Rattle.http_front.specs.declared.outcome.Outcome.{Outcome}
-use Rattle.worker_server.specs.Calls.{ServesOrder, rules_at}
-use Rattle.remote_calls.specs.DeskRemote.{AsksTooMuch, DeskAnswers, DesksOver, IsAt, faults_of, gives_told, texts_of, told_contents}
+use Rattle.worker_server.specs.Calls.{ServesOrder}
+use Rattle.remote_calls.specs.DeskRemote.{DesksOver, desk_rules}
 use Rattle.remote_calls.specs.Sends.{IsTooLarge, is_no_memory, size_told}
 use Rattle.remote_calls.specs.declared.error.RemoteFault.TheVariants as fault
 use Rattle.remote_calls.proofs.SendsLemmas.{fits_from, large_from, refused_for, rose_by_one, too_large}
@@ -67,7 +67,6 @@ returns-clause-too_large c = fits_from c.args.order.now c.is_within_limit.result
 
 pub returns-clause-value : goal.returns-clause-value
 returns-clause-value c = λ before after.
-    let host = rules_at (IsAt c.args.count.now) (DeskAnswers told_contents gives_told texts_of faults_of) AsksTooMuch in
     let served = c.answer_at.ensures.serves in
     DesksOver.answered c.answer_at.result refl (sym c.is_due_at.ensures.value ∙ c.if-is_due_at.false) (record { fails = refl; count = search rules }) refl
-    served.0 (subst (λ (o : Order). ServesOrder host c.args.depot.now o c.answer_at.result served.0 c.answer_at.new.depot) c.in-Ok.ensures.value served.1)
+    served.0 (subst (λ (o : Order). ServesOrder (desk_rules c.args.count.now) c.args.depot.now o c.answer_at.result served.0 c.answer_at.new.depot) c.in-Ok.ensures.value served.1)
