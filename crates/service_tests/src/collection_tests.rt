@@ -165,10 +165,10 @@ fn a_collection_takes_one_step_a_turn(rt: HostRuntime) -> Result<(), Fail> {
 /// Runs the collection that runs to its end, or begins one and does; and tells how many keys it removed, unless a turn is
 /// refused.
 fn collected(depot: &mut Kept) -> Option<u64> {
-    let mut removed = 0;
+    let mut removed: u64 = 0;
     for _ in 0..100 {
         match depot.turn_of_collection(None, MOMENT, 1000) {
-            Turn::Swept(keys) => removed += keys.len() as u64,
+            Turn::Swept(keys) => removed = removed.saturating_add(keys.len() as u64),
             Turn::Ended(_) => return Some(removed),
             Turn::Began(_) => {}
             Turn::Marked(_) => {}
