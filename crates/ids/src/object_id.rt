@@ -1,5 +1,7 @@
 //! Object ids: the SHA-1 of an object's bytes (FIPS 180-4), written as 40 lower-case hexadecimal digits.
 ghost use Rattle.std.specs.Prelude.{◌≡◌, ◌↔◌, ◌<◌, All, IsOk, IfOk, IfErr, IsTrue, IsUtf8, Ok, length};
+ghost use Rattle.std.proofs.Common.{rules};
+ghost use Rattle.std.specs.Cmp.Rules.{comparing};
 ghost use Rattle.hex.specs.Hex.{decode_of, encode_lower};
 ghost use Rattle.sha1.specs.Sha1.{sha1};
 ghost use Rattle.ids.specs.Digits.{digits_form};
@@ -8,10 +10,11 @@ ghost use Rattle.ids.specs.ObjectId.{nil};
 
 use crate::digits::{BadId, bytes_told, digits_of, read_digits};
 use sha1::Sha1;
+use std::cmp::Ordering;
 use std::marker::Model;
 
 /// The name of an object: 20 bytes, ordered by them. Contracts see it as the list of its bytes.
-#[derive(Clone, Copy, Debug, PartialEq, Eq, PartialOrd, Ord, Hash)]
+#[derive(Clone, Copy, Debug, PartialEq, Eq, Hash)]
 pub struct ObjId([u8; 20]);
 
 impl Model for ObjId {
@@ -22,6 +25,42 @@ impl Model for ObjId {
     ghost view = { λ a. a.0 };
 
     ghost inverse = { λ bytes. record { 0 = bytes } };
+}
+
+impl PartialOrd for ObjId {
+    ghost use Rattle.std.specs.Ordering.{nat_cmp, as_partial_cmp};
+    ghost use Rattle.std.specs.Cmp.Lexicographic.{slice_cmp};
+    ghost use Rattle.std.specs.Cmp.{partial_order_from_own_ties};
+
+    ghost partial_cmp = { as_partial_cmp (slice_cmp nat_cmp) };
+
+    ghost laws = { partial_order_from_own_ties (Prim.search (comparing, rules)) (Prim.search (comparing, rules)) };
+
+    fn partial_cmp(&self, other: &ObjId) -> Option<Ordering> {
+        Some(self.cmp(other))
+    }
+}
+
+impl Ord for ObjId {
+    ghost use Rattle.std.specs.Cmp.Lexicographic.{lists_agrees, lists_ties, nat_list_cmp_total};
+    ghost use Rattle.std.specs.Ordering.{nat_cmp};
+    ghost use Rattle.ids.specs.ObjectId.{id_cmp};
+
+    ghost cmp = { id_cmp };
+
+    ghost total = { nat_list_cmp_total };
+
+    ghost matches_partial_cmp = { Prim.search (comparing, rules) };
+
+    ghost matches_eq = { Prim.search (comparing, rules) };
+
+    fn cmp(&self, other: &ObjId) -> Ordering {
+        let (first, others) = (self.0[0], other.0[0]);
+        if first != others {
+            return first.cmp(&others);
+        }
+        self.0.cmp(&other.0)
+    }
 }
 
 impl ObjId {
