@@ -1,21 +1,23 @@
 -- What a `BTreeMap`'s calls do to the finite map that it is seen as, for any keys in a total order. The key lemmas are
--- get-map_of, insert-map_of, remove-map_of, len-map_of, entries-map_of
--- and insert-same.
-use Rattle.std.proofs.Common.{◌≡◌, ℕ, Bool, true, false, cond, List, [], ◌∷◌, length, None, Some, refl, sym, ap, ◌∙◌, arith, ◌<◌, zero, suc, true≢false}
+-- get-map_of, insert-map_of, remove-map_of, len-map_of, entries-map_of, insert-same, paired_next
+-- and keys-built.
+use Rattle.std.proofs.Common.{◌≡◌, ℕ, Bool, true, false, cond, is_some, List, [], ◌∷◌, ◌++◌, length, None, Some, refl, sym, ap, ◌∙◌, arith, ◌<◌, zero, suc, true≢false}
 use Rattle.std.specs.BTreeMap as tree
-use Rattle.std.specs.BTreeMap.{BTreeMap, IsLowerBound, UpdatesBy, is_at, IsOrdered, btree_map_len}
+use Rattle.std.specs.BTreeMap.{BTreeMap, IsFromIterResult, IsLowerBound, UpdatesBy, is_at, IsOrdered, btree_map_len}
 use Rattle.std.specs.BTreeMap.Range.{IsRangeOf}
 use Rattle.std.specs.Cmp.{Equal-is, IsTotalOrder, eq_by_cmp_equiv}
 use Rattle.std.specs.FinMap as map
 use Rattle.std.specs.List.{AllByRecursion}
 use Rattle.std.specs.List.Sorted.{IsStrictlySortedBy}
 use Rattle.std.specs.Map.{lookup, keys_of}
+use Rattle.std.specs.Set.{is_member}
 use Rattle.std.specs.Ordering.{is_eq, eq_by_cmp}
 use Rattle.std.specs.declared.cmp.Ordering.{Ordering}
 use Rattle.std.specs.declared.cmp.Ordering.TheVariants.{Less}
 use Rattle.std.specs.declared.ops.Bound.TheVariants.{Excluded, Unbounded}
 use Rattle.ids.specs.MapView.{IsLeastAbove, map_of}
 use Rattle.std.proofs.lemmas.List.{nil_from_length}
+use Rattle.std.proofs.lemmas.Map.Made.{is_some-lookup, is_some-update_all}
 
 -- a number that is not above 0
 pub no_number : (n : ℕ) → (0 < n → false ≡ true) → n ≡ 0
@@ -94,3 +96,18 @@ module _ {K X : Type 0} {R : K → K → Ordering} (o : IsTotalOrder R) where
         there : (q : K) (b : Bool) → eq_by_cmp R q k ≡ b → cond b (Some v) (map.get m q) ≡ map.get m q
         there q true e = sym found ∙ map.get_tied o m q k ((Equal-is (R q k)).0 e)
         there q false e = refl
+
+-- ---- keys alone
+
+-- one key more has its pair
+pub paired_next : {K X : Type 0} (pairs : List (K × X)) (key : K) (value : X) (left : List K)
+    → keys_of (pairs ++ (key, value) ∷ []) ++ left ≡ keys_of pairs ++ key ∷ left
+paired_next [] key value left = refl
+paired_next {K} (p ∷ pairs) key value left = ap (λ (keys : List K). p.0 ∷ keys) (paired_next pairs key value left)
+
+-- a map of pairs has the keys of the map whose keys these are
+pub keys-built : {K V X : Type 0} {R : K → K → Ordering} (o : IsTotalOrder R) (m : BTreeMap K V) (pairs : List (K × X)) (n : BTreeMap K X)
+    → keys_of pairs ≡ tree.keys m → IsFromIterResult R pairs n → (q : K) → is_some (map.get (map_of R n) q) ≡ is_some (map.get (map_of R m) q)
+keys-built {K} {R = R} o m pairs n same made q =
+    ap is_some (get-map_of o n q ∙ made.0 q) ∙ is_some-update_all (eq_by_cmp_equiv o) q (λ _. None) pairs
+    ∙ ap (λ (keys : List K). is_member (eq_by_cmp R) keys q) same ∙ sym (is_some-lookup (eq_by_cmp R q) m.entries) ∙ ap is_some (sym (get-map_of o m q))

@@ -1,7 +1,10 @@
 //! A map by key, seen by contracts as a finite map.
-ghost use Rattle.std.specs.Prelude.{◌≡◌, OnOk, OnErr, IfOk, is_some, option_copied, Some, None};
+ghost use Rattle.std.specs.Prelude.{◌≡◌, ◌++◌, ◌∷◌, [], OnOk, OnErr, IfOk, is_some, option_copied, Some, None};
+ghost use Rattle.std.specs.BTreeMap as tree;
 ghost use Rattle.std.specs.FinMap as map;
+ghost use Rattle.std.specs.Map.{keys_of};
 ghost use Rattle.ids.specs.Key.{key_cmp};
+ghost use Rattle.ids.specs.declared.key.Key.{Key};
 ghost use Rattle.ids.specs.MapView.{IsNext, map_of};
 
 use crate::key::Key;
@@ -66,6 +69,15 @@ impl<V> KeyTable<V> {
         ensures value { result ≡ map.entries self.now }
     {
         self.held.iter()
+    }
+
+    /// The keys alone, in a table of their own.
+    pub fn keys(&self, alloc: Global) -> Result<KeyTable<()>, AllocError>
+        ensures value { IfOk result (λ keys. (key : Key) → is_some (map.get keys key) ≡ is_some (map.get self.now key)) }
+    {
+        let pairs = bare_keys(alloc, &self.held)?;
+        let held = built(alloc, pairs)?;
+        Ok(KeyTable { held })
     }
 
     /// The least key above `after`, or the least of all.
@@ -135,4 +147,30 @@ fn first<V>(held: &BTreeMap<Key, V>) -> Option<Key>
         Some((key, _)) => Some(*key),
         None => None,
     }
+}
+
+/// The keys of a map in order, each with nothing.
+fn bare_keys<V>(alloc: Global, held: &BTreeMap<Key, V>) -> Result<Vec<(Key, ())>, AllocError>
+    ensures value { IfOk result (λ pairs. keys_of pairs.items ≡ tree.keys held.now) }
+{
+    let mut pairs = Vec::with_capacity(alloc, held.len())?;
+    for key in held.keys() {
+        push_bare(&mut pairs, key)?;
+    }
+    Ok(pairs)
+}
+
+/// Appends a key with nothing.
+fn push_bare(pairs: &mut Vec<(Key, ())>, key: &Key) -> Result<(), AllocError>
+    ensures value { OnOk result (pairs.new.items ≡ pairs.old.items ++ (key.now, tt) ∷ []) }
+{
+    pairs.push((*key, ()))?;
+    Ok(())
+}
+
+/// The map of pairs. Where they are in order it is built without a search, and its nodes are full.
+fn built(alloc: Global, pairs: Vec<(Key, ())>) -> Result<BTreeMap<Key, ()>, AllocError>
+    ensures value { IfOk result (tree.IsFromIterResult key_cmp pairs.items) }
+{
+    BTreeMap::from_iter(alloc, pairs)
 }
