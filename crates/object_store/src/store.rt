@@ -3,6 +3,7 @@ ghost use Rattle.std.specs.Prelude.{◌≡◌, ℕ, List, length, IfOk, IfErr, O
 ghost use Rattle.std.specs.FinMap as map;
 ghost use Rattle.sha1.specs.Sha1.{sha1};
 ghost use Rattle.ids.specs.Key.{Objects};
+ghost use Rattle.ids.specs.declared.key.Key.{Key};
 ghost use Rattle.ids.specs.MapView.{IsNext};
 ghost use Rattle.ids.specs.ObjectId.{nil};
 ghost use Rattle.ids.specs.Outcome.{ExactlyWith, RefusesAs};
@@ -18,7 +19,7 @@ use crate::key_index::read_index;
 use crate::put::Put;
 use crate::shelf::{Shelf, Slot};
 use ids::{Bytes, Key, KeyTable};
-use std::alloc::Global;
+use std::alloc::{AllocError, Global};
 use std::marker::Model;
 
 /// The objects of a library on a shelf: those that lie there and whose keys stand in the store's index, with the size of
@@ -175,6 +176,15 @@ impl<S: Shelf> Store<S> {
         ensures found { (objects : Objects) → objects_of S.contents self.now ≡ Some objects → IsNext objects key result }
     {
         self.index.next(key)
+    }
+
+    /// The stored keys alone, in a table of their own.
+    pub fn keys(&self, alloc: Global) -> Result<KeyTable<()>, AllocError>
+        ensures value { IfOk result (λ keys. (key : Key) → is_some (map.get keys key) ≡ is_some (map.get self.now.index key)) }
+        ensures found { (objects : Objects) → objects_of S.contents self.now ≡ Some objects
+            → IfOk result (λ keys. (key : Key) → is_some (map.get keys key) ≡ is_some (map.get objects key)) }
+    {
+        self.index.keys(alloc)
     }
 
     /// The number of stored keys. It takes no memory.
