@@ -9,6 +9,6 @@ pub mod MarkingLemmas
 pub mod NamingLemmas
 pub mod NeedLemmas
 pub mod OpeningLemmas
-pub mod StoredLemmas
 pub mod SweepLemmas
+pub mod TakenOutLemmas
 pub mod WorklistLemmas

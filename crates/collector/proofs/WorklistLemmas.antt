@@ -1,4 +1,4 @@
--- Keys that are met one after another. The key lemmas are met_new, noted_back, opened_one, opens_next, met_view,
+-- Keys that are met one after another. The key lemmas are met_new, noted_again, noted_back, opened_one, opens_next, met_view,
 -- met_next, met_all, met_part, waits_next, distinct_append and once_met.
 use Rattle.std.proofs.Common.{◌≡◌, ◌≢◌, ◌||◌, ◌<◌, ◌≤◌, ◌+◌, ◌==◌, ℕ, Bool, true, false, cond, if◌then◌else◌, is_some, List, [], ◌∷◌, ◌++◌, length, map as map_list, take, drop, get_or, Option, None, Some, Result, Ok, Err, arith, refl, sym, ap, ap₂, ◌∙◌, subst, subst₂, append-nil, append_assoc, true≢false, ⊎_elim}
 use Rattle.std.specs.Prelude.{⊤, OnErr}
@@ -43,7 +43,20 @@ met_new order met next key is new = record {
     by false o true e = e
     by false o false e = e
 
--- the same, where the list didn't grow and the key was taken out again
+-- a key that was met, put into the table again
+pub noted_again : (order : List Key) (met : map.FinMap key_cmp ⊤) (next : ℕ) (key : Key) → IsWorklist order met next → is_in order key ≡ true
+    → IsWorklist order (map.insert met key tt) next
+noted_again order met next key is was = record {
+  there = λ q. ap is_some (map.get-insert key_cmp_total met key tt q) ∙ by q (same_key q key) refl;
+  once = is.once;
+  within = is.within;
+}
+  where
+    by : (q : Key) (b : Bool) → same_key q key ≡ b → is_some (cond b (Some tt) (map.get met q)) ≡ is_in order q
+    by q true same = sym (ap (is_in order) (same_key-true q key same) ∙ was)
+    by q false other = is.there q
+
+-- a key that wasn't met, where the list didn't grow and the key was taken out again
 pub noted_back : (order : List Key) (met : map.FinMap key_cmp ⊤) (next : ℕ) (key : Key) → IsWorklist order met next → is_in order key ≡ false
     → IsWorklist order (map.remove (map.insert met key tt) key) next
 noted_back order met next key is new = record {

@@ -1,5 +1,5 @@
 //! What a collection has marked, and what it may remove.
-ghost use Rattle.std.specs.Prelude.{◌≡◌, ◌&&◌, [], is_some, not, IfOk, OnOk, Some, map as map_list};
+ghost use Rattle.std.specs.Prelude.{◌≡◌, ◌&&◌, [], is_some, not, IfOk, Some, map as map_list};
 ghost use Rattle.ids.specs.Key.{Objects};
 ghost use Rattle.ids.specs.declared.key.Key.{Key};
 ghost use Rattle.std.specs.FinMap as map;
@@ -29,8 +29,7 @@ pub enum Phase {
 ///
 /// It begins with all that is stored as candidates, and with commits that wait to be marked. What is marked leaves the
 /// candidates, and what it names waits, if it was not met before; so each object that the commits need is opened once, in
-/// as many steps as there are objects and names. A shielded key leaves the candidates too, and is no mark. While it runs it
-/// takes some 75 bytes for each stored object at most, by reckoning; no clause says so.
+/// as many steps as there are objects and names. A shielded key leaves the candidates too, and is no mark.
 ///
 /// It is of one store, and lives as long as the process: nothing of it is written.
 #[derive(Drop)]
@@ -71,7 +70,7 @@ impl Marks {
     {
         let commits = IdList::copy(alloc, kept.slice())?;
         let work = waiting(alloc, kept.slice())?;
-        let candidates = stored_keys(alloc, store)?;
+        let candidates = store.keys(alloc)?;
         Ok(Marks {
             alloc,
             commits,
@@ -127,31 +126,4 @@ fn take_out(candidates: &mut KeyTable<()>, keys: &[Key])
     for key in keys {
         candidates.remove(key);
     }
-}
-
-/// All keys of a store.
-fn stored_keys<S: Shelf>(alloc: Global, store: &Store<S>) -> Result<KeyTable<()>, AllocError>
-    ensures value { IfOk result (λ keys. (key : Key) → is_some (map.get keys key) ≡ is_some (map.get store.now.index key)) }
-    ensures shown { (objects : Objects) → objects_of S.contents store.now ≡ Some objects
-        → IfOk result (λ keys. (key : Key) → is_some (map.get keys key) ≡ is_some (map.get objects key)) }
-{
-    let mut keys = KeyTable::new(alloc);
-    let mut last = None;
-    for _ in 0..u64::MAX {
-        let key = match store.after(last) {
-            Some(key) => key,
-            None => return Ok(keys),
-        };
-        put_key(&mut keys, &key)?;
-        last = Some(key);
-    }
-    // No memory holds so many keys.
-    Err(AllocError)
-}
-
-/// Puts a key among others.
-fn put_key(keys: &mut KeyTable<()>, key: &Key) -> Result<(), AllocError>
-    ensures value { OnOk result (keys.new ≡ map.insert keys.old key.now tt) }
-{
-    keys.put(*key, ())
 }

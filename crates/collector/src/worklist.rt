@@ -1,11 +1,14 @@
 //! Keys that are met one after another, and opened in the same order.
+ghost use Rattle.std.specs.Prelude.{◌≡◌, is_some, IfOk, OnErr, OnOk};
+ghost use Rattle.std.specs.FinMap as map;
+
 use ids::{Key, KeyList, KeyTable};
 use std::alloc::{AllocError, Global};
 use std::marker::Model;
 
 /// Keys that were met, each once. Those before a place were opened; the others wait, in the order in which they were met.
 ///
-/// Nothing is taken out: one list and one table, some 55 bytes a key, and 75 while the list grows.
+/// Nothing is taken out: one list and one table, some 57 bytes a key, and 78 while the list grows.
 #[derive(Drop)]
 pub(crate) struct Worklist {
     order: KeyList,
@@ -85,10 +88,10 @@ impl Worklist {
         ensures ok { OnOk result (self.new ≡ with_met self.old key.now) }
         ensures err { OnErr result (self.new ≡ self.old) }
     {
-        if self.met.has(key) {
+        let again = note(&mut self.met, key)?;
+        if again {
             return Ok(());
         }
-        self.met.put(*key, ())?;
         match self.order.push(*key) {
             Ok(()) => Ok(()),
             Err(failed) => {
@@ -121,4 +124,14 @@ impl Worklist {
         } = self;
         order
     }
+}
+
+/// Puts a key among those that were met, and tells whether it was there. After an error nothing is changed.
+fn note(met: &mut KeyTable<()>, key: &Key) -> Result<bool, AllocError>
+    ensures ok { OnOk result (met.new ≡ map.insert met.old key.now tt) }
+    ensures told { IfOk result (λ again. again ≡ is_some (map.get met.old key.now)) }
+    ensures err { OnErr result (met.new ≡ met.old) }
+{
+    let before = met.insert(*key, ())?;
+    Ok(before.is_some())
 }

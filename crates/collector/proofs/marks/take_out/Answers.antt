@@ -4,7 +4,7 @@ use Rattle.std.proofs.lemmas.List.{take_all}
 use Rattle.ids.specs.declared.key.Key.{Key}
 use Rattle.object_graph.specs.Traversal.{is_in}
 use Rattle.collector.specs.Sweeping.{is_listed}
-use Rattle.collector.proofs.StoredLemmas.{out_next, out_none}
+use Rattle.collector.proofs.TakenOutLemmas.{out_next, out_none}
 use Rattle.collector.proofs.marks.take_out.Goals as goal
 
 pub loop-key-init : goal.loop-key-init

@@ -34,4 +34,4 @@ pub returns-clause-good : goal.returns-clause-good
 returns-clause-good g c = invariant_of-result g c
 
 pub returns-clause-shown : goal.returns-clause-shown
-returns-clause-shown g c = λ objects told. c.in_ok-candidates.ensures.shown objects told
+returns-clause-shown g c = λ objects told. c.in_ok-candidates.ensures.found objects told
