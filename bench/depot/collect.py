@@ -1,6 +1,6 @@
 """What does a collection cost, beside the removal of the same files by the system and the hashing of what it must read?
 
-collect.py SERVER FOLDER ALL GARBAGE
+collect.py SERVER FOLDER ALL GARBAGE [ENTRIES]
     A library of ALL objects, of which GARBAGE blocks are needed by no commit; the others are the blocks, files, directories and
     commits of its head. They are collected over one connection: the server's processor time, and how far its memory rose
     above what it held. Beside it, in the same run:
@@ -8,7 +8,10 @@ collect.py SERVER FOLDER ALL GARBAGE
       read    that of Python's reading and hashing (SHA-1) of the files, directories and commits that are needed, each from its own
               file, which a collection has to read; it reads no block
     and, where it is there, of `restic prune` over a repository of the same files that has forgotten those of the garbage.
-FOLDER in memory (/dev/shm) spares the disk: what is measured is processor time.
+    With ENTRIES the head has a directory of so many empty ones beside its files: 750,000 of them are one object of 66 MB, nearly
+    the longest that a library takes, which is marked in a turn with others. Then two objects more are needed: that one and its root.
+FOLDER in memory (/dev/shm) spares the disk: what is measured is processor time. There a file takes 5 kB, and the garbage stands
+twice, once for `rm`: for a million objects a folder on a disk.
 """
 import hashlib
 import json
@@ -20,8 +23,8 @@ import sys
 
 sys.path.insert(0, os.path.dirname(os.path.abspath(__file__)))
 import flat
-from flat import Library, Tree, forget_peak, memory, spent
-from pipe_client import name_of
+from flat import MOMENT, Library, Tree, forget_peak, memory, spent
+from pipe_client import NIL, commit_object, compact, directory_entry, directory_object, name_of
 
 
 def lay_garbage(folder, count):
@@ -35,6 +38,19 @@ def lay_garbage(folder, count):
         with open(paths[-1], "wb") as out:
             out.write(data)
     return paths
+
+
+def push_wide(library, entries):
+    """Makes a head whose root has the one before it as `files`, and a directory of so many empty ones as `wide`."""
+    # (one text for all entries: they are in the order in which names are written)
+    wide = b'{"dirents":[' + b",".join(compact(directory_entry(f"{number:06}", NIL, 0)) for number in reversed(range(entries))) + b'],"type":3,"version":1}'
+    root = directory_object([directory_entry("files", library.tree.directory(), MOMENT), directory_entry("wide", name_of(wide), MOMENT)])
+    for text in (wide, root):
+        library.connection.put_fs([(name_of(text), text)])
+    name, data = commit_object(library.library, name_of(root), library.head, "wide", MOMENT)
+    library.connection.put_commit(name, data)
+    library.head = library.connection.update(name)
+    assert library.head == name
 
 
 def objects_of(folder):
@@ -102,17 +118,20 @@ def snapshots(words, tag):
 
 def main():
     server, folder, count, garbage = sys.argv[1], sys.argv[2], int(sys.argv[3]), int(sys.argv[4])
+    entries = int(sys.argv[5]) if len(sys.argv) > 5 else 0
     files = (count - garbage) * 100 // 203
     flat.CONTENTS = files
     library = Library(server, folder, 1, Tree(files))
     library.first()
+    if entries:
+        push_wide(library, entries)
     library.connection.end()
     at = f"{folder}/{library.library}"
     kept = objects_of(at)
     paths = lay_garbage(at, garbage)
     read = read_by_python([path for path in kept if "/blocks/" not in path])
     removed = removed_by_rm(folder, paths, at)
-    pruned = pruned_by_restic(folder, kept, paths)
+    pruned = pruned_by_restic(folder, kept, paths) if paths else None
     library.connection = None
     library.open()  # (it makes what was laid durable)
     library.open()
@@ -123,7 +142,8 @@ def main():
     assert library.connection.end() == 0
     left = objects_of(at)
     assert sorted(left) == sorted(kept), (len(left), len(kept))
-    print(f"{len(kept) + garbage} objects, {garbage} of them garbage: {told.decode()}")
+    wide = f", one of {max(map(os.path.getsize, kept)) / 1e6:.1f} MB" if entries else ""
+    print(f"{len(kept) + garbage} objects{wide}, {garbage} of them garbage: {told.decode()}")
     print(f"collect {took * 1e3:.0f} ms, {took / (removed + read):.2f} times rm and read; {rose:.1f} MiB above, "
           f"{rose * 1048576 / (len(kept) + garbage):.0f} bytes an object")
     print(f"rm {removed * 1e3:.0f} ms, read {read * 1e3:.0f} ms" + ("" if pruned is None else f", restic prune {pruned * 1e3:.0f} ms"))
