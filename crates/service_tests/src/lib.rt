@@ -5,14 +5,10 @@
 #![tactic(auto)]
 
 #[cfg(test)]
-mod collection_tests;
-#[cfg(test)]
 mod depot_tests;
 #[cfg(test)]
 mod library;
 #[cfg(test)]
 mod library_server_tests;
-#[cfg(test)]
-mod stopped_collection_tests;
 #[cfg(test)]
 mod turnstile_tests;

@@ -1,13 +1,13 @@
 //! A collection over a shelf that stops: whatever the call at which it does, the library opens again with its last commit, and
 //! the next collection ends.
-use crate::collection_tests::updated_thrice;
+use crate::objects::updated_thrice;
 use depot::{Depot, Turn};
 use object_store::{FuseShelf, MemoryShelf, Shelf, Store};
 use std::alloc::Global;
 use std::test::Fail;
 
 /// A library over a shelf that passes so many calls, from the opening of the store on; none where it doesn't open.
-fn opened(
+pub(crate) fn opened(
     alloc: Global,
     shelf: MemoryShelf,
     passes: u64,
@@ -51,7 +51,7 @@ fn stopped(alloc: Global, shelf: MemoryShelf, passes: u64, late: bool) -> (Memor
 }
 
 /// Whether a library opens from the shelf with this head, and a collection then leaves four objects.
-fn is_whole(alloc: Global, shelf: MemoryShelf, head: &[u8]) -> bool {
+pub(crate) fn is_whole(alloc: Global, shelf: MemoryShelf, head: &[u8]) -> bool {
     let store = match Store::start(alloc, shelf) {
         Ok(store) => store,
         Err(_) => return false,
@@ -69,7 +69,7 @@ fn is_whole(alloc: Global, shelf: MemoryShelf, head: &[u8]) -> bool {
 /// Whether that is so for each number of calls, and how many calls a collection takes.
 fn stops(alloc: Global, late: bool) -> Result<Option<u64>, Fail> {
     for passes in 0..200 {
-        let depot = updated_thrice(alloc)?;
+        let depot = updated_thrice(alloc, &[])?;
         let head = depot.head().digits();
         let (shelf, ended) = stopped(alloc, depot.close().end(), passes, late);
         if !is_whole(alloc, shelf, head.as_slice()) {

@@ -1,132 +1,11 @@
 //! A collection of a library in turns, and calls between them: what no request of one connection shows.
 use crate::library::library_on;
+use crate::objects::{Kept, MOMENT, asked, has_block, is_updated, put, put_commit, updated_thrice};
 use depot::{Depot, Turn};
-use ids::{Bytes, IdList, Key, Kind, ObjId};
-use library_state::{Act, Call, Op, Reply, Secret};
-use object_store::MemoryShelf;
+use ids::{IdList, Kind, ObjId};
+use library_state::{Act, Op, Reply};
 use std::alloc::{AllocError, Global};
 use std::test::Fail;
-
-/// When the library is made, and when turns are taken.
-const MOMENT: u64 = 7;
-
-/// The id of the library as text.
-const LIB: &str = "11111111-2222-4333-8444-555555555555";
-
-type Kept = Depot<MemoryShelf>;
-
-/// What its owner is answered.
-fn asked(depot: &mut Kept, act: Act) -> Reply {
-    let call = Call {
-        secret: Some(Secret::from_bytes([0xaa; 20])),
-        act,
-    };
-    depot.answer(&call, 9)
-}
-
-/// An id as text.
-fn push_id(text: &mut String, id: &ObjId) -> Result<(), AllocError> {
-    for digit in id.digits() {
-        text.push(digit as char)?;
-    }
-    Ok(())
-}
-
-/// Puts an object of this text under its own name.
-fn put(alloc: Global, depot: &mut Kept, kind: Kind, text: &str) -> Result<ObjId, Fail> {
-    let id = ObjId::of(text.as_bytes());
-    let id = &id;
-    let bytes = Bytes::copy(alloc, text.as_bytes())?;
-    match asked(depot, Act::Put(Key { kind, id: *id }, bytes)) {
-        Reply::Stored(_) => Ok(*id),
-        _ => Err(Fail::from("put")),
-    }
-}
-
-/// Puts a file of one block of this letter.
-fn put_file(alloc: Global, depot: &mut Kept, letter: &str) -> Result<ObjId, Fail> {
-    let block = put(alloc, depot, Kind::Block, letter)?;
-    let mut text = String::from_str(alloc, "{\"block_ids\":[\"")?;
-    push_id(&mut text, &block)?;
-    text.push_str("\"],\"size\":1,\"type\":1,\"version\":1}")?;
-    put(alloc, depot, Kind::Fs, text.as_str())
-}
-
-/// Puts a directory with this file as `a`.
-fn put_root(alloc: Global, depot: &mut Kept, file: &ObjId) -> Result<ObjId, Fail> {
-    let mut text = String::from_str(alloc, "{\"dirents\":[{\"id\":\"")?;
-    push_id(&mut text, file)?;
-    text.push_str(
-        "\",\"mode\":33188,\"modifier\":\"me\",\"mtime\":7,\"name\":\"a\",\"size\":1}],\"type\":3,\"version\":1}",
-    )?;
-    put(alloc, depot, Kind::Fs, text.as_str())
-}
-
-/// The text of a commit of this name, parent and root.
-fn commit_text(
-    alloc: Global,
-    id: &ObjId,
-    parent: &ObjId,
-    root: &ObjId,
-) -> Result<String, AllocError> {
-    let mut text = String::from_str(alloc, "{\"commit_id\":\"")?;
-    push_id(&mut text, id)?;
-    text.push_str("\",\"ctime\":1,\"parent_id\":\"")?;
-    push_id(&mut text, parent)?;
-    text.push_str("\",\"repo_id\":\"")?;
-    text.push_str(LIB)?;
-    text.push_str("\",\"root_id\":\"")?;
-    push_id(&mut text, root)?;
-    text.push_str("\"}")?;
-    Ok(text)
-}
-
-/// Puts a commit of forty digits of this byte, with a file of one letter, on a parent.
-fn put_commit(
-    alloc: Global,
-    depot: &mut Kept,
-    byte: u8,
-    parent: &ObjId,
-    letter: &str,
-) -> Result<ObjId, Fail> {
-    let file = put_file(alloc, depot, letter)?;
-    let root = put_root(alloc, depot, &file)?;
-    let id = ObjId::from_bytes([byte; 20]);
-    let id = &id;
-    let text = commit_text(alloc, id, parent, &root)?;
-    let bytes = Bytes::copy(alloc, text.as_bytes())?;
-    let key = Key {
-        kind: Kind::Commit,
-        id: *id,
-    };
-    match asked(depot, Act::Put(key, bytes)) {
-        Reply::Stored(_) => Ok(*id),
-        _ => Err(Fail::from("commit")),
-    }
-}
-
-/// Whether an update of the commit makes this the head.
-fn is_updated(depot: &mut Kept, commit: &ObjId) -> bool {
-    match asked(depot, Act::Update(*commit)) {
-        Reply::Updated(head) => head == *commit,
-        _ => false,
-    }
-}
-
-/// The library after three updates, each of which replaced one file; no days of history are kept.
-pub(crate) fn updated_thrice(alloc: Global) -> Result<Kept, Fail> {
-    let mut depot = library_on(alloc, &[])?;
-    let mut parent = depot.head();
-    for (byte, letter) in [(0x11, "1"), (0x22, "2"), (0x33, "3")] {
-        let commit = put_commit(alloc, &mut depot, byte, &parent, letter)?;
-        if !is_updated(&mut depot, &commit) {
-            return Err(Fail::from("update"));
-        }
-        parent = commit;
-    }
-    let _ = asked(&mut depot, Act::Limit(0));
-    Ok(depot)
-}
 
 /// One turn of one object, as a letter; `?` where it is none of these, or takes another number of objects.
 fn letter_of(turn: &Turn) -> char {
@@ -154,7 +33,7 @@ fn turns(alloc: Global, depot: &mut Kept, count: u64) -> Result<String, AllocErr
 
 #[test]
 fn a_collection_takes_one_step_a_turn(rt: HostRuntime) -> Result<(), Fail> {
-    let mut depot = updated_thrice(rt.alloc())?;
+    let mut depot = updated_thrice(rt.alloc(), &[])?;
     let letters = turns(rt.alloc(), &mut depot, 16)?;
     assert_eq!(rt; letters.as_str(), "bmmmmssssssssseo");
     assert!(rt; depot.running().is_none());
@@ -177,18 +56,6 @@ fn collected(depot: &mut Kept) -> Option<u64> {
         }
     }
     None
-}
-
-/// Whether the block of this letter is given.
-fn has_block(depot: &mut Kept, letter: &str) -> bool {
-    let key = Key {
-        kind: Kind::Block,
-        id: ObjId::of(letter.as_bytes()),
-    };
-    match asked(depot, Act::Get(key)) {
-        Reply::Got(bytes) => bytes.slice() == letter.as_bytes(),
-        _ => false,
-    }
 }
 
 /// Whether none of the blocks of these letters is missing.

@@ -1,0 +1,100 @@
+//! What an update costs beside a collection that marks, in calls of the shelf: what it changes, and not the library.
+use crate::library::library_on;
+use crate::objects::{MOMENT, asked, is_updated, put_commit_of, put_root};
+use crate::stop_tests::opened;
+use depot::{Depot, Turn};
+use ids::ObjId;
+use library_state::{Act, Op};
+use object_store::{FuseShelf, MemoryShelf};
+use std::alloc::Global;
+use std::test::Fail;
+
+/// The names of the files of a small library, and of a larger one.
+const FEW: &[&str] = &["a", "b", "c"];
+
+const MANY: &[&str] = &[
+    "a", "b", "c", "d", "e", "f", "g", "h", "i", "j", "k", "l", "m", "n", "o", "p", "q", "r", "s",
+    "t", "u", "v", "w", "x",
+];
+
+/// The shelf of a library of these files, with all objects of an update that changes the first one, and that update's commit.
+fn pushed(alloc: Global, names: &[&str]) -> Result<(MemoryShelf, ObjId), Fail> {
+    let mut depot = library_on(alloc, &[])?;
+    let first = depot.head();
+    let root = put_root(alloc, &mut depot, names, "a")?;
+    let old = put_commit_of(alloc, &mut depot, 0x11, &first, &root)?;
+    if !is_updated(&mut depot, &old) {
+        return Err(Fail::from("update"));
+    }
+    let root = put_root(alloc, &mut depot, names, "z")?;
+    let new = put_commit_of(alloc, &mut depot, 0x22, &old, &root)?;
+    Ok((depot.close().end(), new))
+}
+
+/// Takes so many turns of one object, if none is refused.
+fn turned(depot: &mut Depot<FuseShelf>, turns: u64) -> bool {
+    for _ in 0..turns {
+        match depot.turn_of_collection(None, MOMENT, 1) {
+            Turn::Refused(_, _) => return false,
+            _ => {}
+        }
+    }
+    true
+}
+
+/// Whether so many calls of the shelf are enough to open the library and take the turns, and for the update, where it is asked.
+fn is_enough(
+    alloc: Global,
+    names: &[&str],
+    turns: u64,
+    updates: bool,
+    calls: u64,
+) -> Result<bool, Fail> {
+    let (shelf, commit) = pushed(alloc, names)?;
+    let mut depot = match opened(alloc, shelf, calls, false) {
+        Ok(depot) => depot,
+        Err(_) => return Ok(false),
+    };
+    if !turned(&mut depot, turns) {
+        return Ok(false);
+    }
+    if !updates {
+        return Ok(true);
+    }
+    let _ = asked(&mut depot, Act::Check(Op::Upload));
+    Ok(is_updated(&mut depot, &commit))
+}
+
+/// How many calls are enough.
+fn calls_of(alloc: Global, names: &[&str], turns: u64, updates: bool) -> Result<u64, Fail> {
+    for calls in 0..1000 {
+        if is_enough(alloc, names, turns, updates, calls)? {
+            return Ok(calls);
+        }
+    }
+    Err(Fail::from("calls"))
+}
+
+/// How many calls the update takes after so many turns.
+fn cost(alloc: Global, names: &[&str], turns: u64) -> Result<u64, Fail> {
+    let without = calls_of(alloc, names, turns, false)?;
+    let with = calls_of(alloc, names, turns, true)?;
+    Ok(with.saturating_sub(without))
+}
+
+/// Whether it takes as many in both libraries, and fewer than the larger one has files.
+fn is_flat(alloc: Global, turns: u64) -> Result<bool, Fail> {
+    let few = cost(alloc, FEW, turns)?;
+    let many = cost(alloc, MANY, turns)?;
+    Ok(few == many && many > 0 && many < 24)
+}
+
+#[test]
+fn an_update_beside_a_collection_that_marks_costs_what_it_changes(
+    rt: HostRuntime,
+) -> Result<(), Fail> {
+    for turns in 1..4 {
+        assert!(rt; is_flat(rt.alloc(), turns)?, "{turns}");
+    }
+    Ok(())
+}

@@ -1,0 +1,81 @@
+//! A collection over a shelf that fails once: whatever the call, the collection goes on after it and ends, and the library is whole.
+use crate::objects::{Kept, MOMENT, updated_thrice};
+use crate::stop_tests::is_whole;
+use depot::Turn;
+use std::alloc::Global;
+use std::test::Fail;
+
+/// Takes turns until the collection ended, over those that are refused, and tells how many were; nothing where it doesn't end in a
+/// hundred turns.
+fn refused_till_end(depot: &mut Kept) -> Option<u64> {
+    let mut refused: u64 = 0;
+    for _ in 0..100 {
+        match depot.turn_of_collection(None, MOMENT, 3) {
+            Turn::Ended(_) => return Some(refused),
+            Turn::Refused(_, _) => refused = refused.saturating_add(1),
+            Turn::Over(_) => return None,
+            Turn::Began(_) => {}
+            Turn::Marked(_) => {}
+            Turn::Swept(_) => {}
+        }
+    }
+    None
+}
+
+/// What a collection comes to over a shelf that fails at one call.
+#[derive(Clone, Copy)]
+enum Came {
+    /// The call is one of those that make the library.
+    Unmade,
+    /// No turn was refused: the call comes after the collection.
+    Untouched,
+    /// One turn was refused. The collection ended, and the library is whole.
+    Outlived,
+    /// None of these.
+    Lost,
+}
+
+/// What the collection of this library comes to.
+fn came(alloc: Global, depot: Kept) -> Came {
+    let mut depot = depot;
+    let head = depot.head().digits();
+    match refused_till_end(&mut depot) {
+        Some(0) => Came::Untouched,
+        Some(1) => if is_whole(alloc, depot.close().end(), head.as_slice()) {
+            Came::Outlived
+        } else {
+            Came::Lost
+        },
+        _ => Came::Lost,
+    }
+}
+
+/// The same of a library whose shelf fails at the call of this number.
+fn came_at(alloc: Global, call: u64) -> Came {
+    match updated_thrice(alloc, &[call]) {
+        Ok(depot) => came(alloc, depot),
+        Err(_) => Came::Unmade,
+    }
+}
+
+/// How many calls of a collection it outlives, if it is all of them.
+fn outlived(alloc: Global) -> Option<u64> {
+    let mut count: u64 = 0;
+    for call in 0..300 {
+        match came_at(alloc, call) {
+            Came::Unmade => {}
+            Came::Untouched => return Some(count),
+            Came::Outlived => count = count.saturating_add(1),
+            Came::Lost => return None,
+        }
+    }
+    None
+}
+
+// The text of the begin, three objects that are read, and nine that are removed.
+#[test]
+fn a_collection_outlives_a_fault_at_each_of_its_calls(rt: HostRuntime) -> Result<(), Fail> {
+    let calls = outlived(rt.alloc());
+    assert!(rt; calls == Some(13), "{calls:?}");
+    Ok(())
+}

@@ -1,0 +1,17 @@
+//! Tests of collections in turns, over the depot's public calls alone: what no scenario over the built program can show.
+//!
+//! They stand apart, since a crate with tests is proved twice. It has no code but its tests.
+#![tactic(auto)]
+
+#[cfg(test)]
+mod cost_tests;
+#[cfg(test)]
+mod fault_tests;
+#[cfg(test)]
+mod library;
+#[cfg(test)]
+mod objects;
+#[cfg(test)]
+mod stop_tests;
+#[cfg(test)]
+mod turn_tests;
