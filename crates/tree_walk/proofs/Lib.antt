@@ -6,6 +6,7 @@ pub mod KnownLemmas
 pub mod KnownTreesLemmas
 pub mod LimitLemmas
 pub mod ListingLemmas
+pub mod NameOrderLemmas
 pub mod OrderedLemmas
 pub mod ReachingLemmas
 pub mod ReadsLemmas

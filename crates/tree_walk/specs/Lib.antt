@@ -5,6 +5,7 @@ pub mod Known
 pub mod KnownTrees
 pub mod Limits
 pub mod Listings
+pub mod NameOrder
 pub mod Reaching
 pub mod Reading
 pub mod Steps
