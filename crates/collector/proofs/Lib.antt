@@ -9,6 +9,7 @@ pub mod MarkingLemmas
 pub mod NamingLemmas
 pub mod NeedLemmas
 pub mod OpeningLemmas
+pub mod StoredCandidatesLemmas
 pub mod SweepLemmas
 pub mod TakenOutLemmas
 pub mod WorklistLemmas

@@ -1,30 +1,37 @@
 -- What a sweep takes, key after key. The key lemmas are took_none, took_then, took_err, took_refused, still_known, gives_then,
--- and those of what a sweep answers.
-use Rattle.std.proofs.Common.{◌≡◌, ◌≢◌, ◌&&◌, ◌||◌, ◌⊎◌, ◌<◌, ◌≤◌, ◌+◌, inl, inr, ℕ, Bool, true, false, cond, not, if◌then◌else◌, is_some, arith, List, [], ◌∷◌, ◌++◌, length, take, refl, sym, ap, ◌∙◌, subst, true≢false, IsTrue, Option, None, Some, option_map, Result, Ok, Err}
+-- least_then, least_err, strays_at_key, strays_after, and those of what a sweep answers.
+use Rattle.std.proofs.Common.{◌≡◌, ◌≢◌, ◌&&◌, ◌||◌, ◌⊎◌, ◌<◌, ◌≤◌, ◌+◌, inl, inr, ℕ, Bool, true, false, cond, not, if◌then◌else◌, is_some, arith, List, [], ◌∷◌, ◌++◌, length, take, refl, sym, ap, ◌∙◌, subst, subst₂, true≢false, IsTrue, Option, None, Some, option_map, Result, Ok, Err}
 use Rattle.std.specs.Prelude.{⊤, IfErr, IfOk, IfSome}
 use Rattle.std.specs.Result.{result_err}
 use Rattle.std.specs.Cmp.{eq_by_cmp_equiv}
 use Rattle.std.specs.FinMap as map
-use Rattle.std.specs.List.{IsDistinct}
-use Rattle.std.proofs.lemmas.Bool.{and_parts, not-true}
+use Rattle.std.specs.List.{AllByRecursion, IsDistinct}
+use Rattle.std.specs.List.Sorted.{IsStrictlySortedBy}
+use Rattle.std.specs.Ordering.{is_gt}
+use Rattle.std.specs.declared.cmp.Ordering.{Ordering}
+use Rattle.std.specs.declared.cmp.Ordering.TheVariants.{Less, Equal, Greater}
+use Rattle.std.proofs.lemmas.Bool.{and_parts, not-true, or_left, or_right}
 use Rattle.std.proofs.lemmas.List.{length_push, take-append-le, take_all}
 use Rattle.std.proofs.lemmas.Map.Keys.{IsDistinct-push}
 use Rattle.ids.specs.Key.{Objects, key_cmp}
+use Rattle.ids.specs.MapView.{IsLeastAbove}
 use Rattle.ids.specs.declared.key.Key.{Key}
 use Rattle.ids.proofs.BasicLemmas.{pushed_is_some}
 use Rattle.ids.proofs.KeyOrderLemmas.{key_cmp_exact, key_cmp_total}
 use Rattle.library_rules.specs.Changes.{without}
 use Rattle.object_graph.specs.Traversal.{is_in}
-use Rattle.object_graph.proofs.KeyLemmas.{in_append, in_pushed, same_key}
-use Rattle.object_store.specs.Shelf.{Contents}
+use Rattle.object_graph.proofs.KeyLemmas.{in_append, in_pushed, same_key, same_key-itself, same_key-true}
+use Rattle.object_store.specs.Shelf.{Contents, removed_known}
 use Rattle.object_store.specs.Store.{CountsShelf, is_free, is_of_shelf}
-use Rattle.object_store.specs.StoreView.{Index, RemovalChanges, StoreView, StraysBy, left_after, objects_of}
+use Rattle.object_store.specs.StoreView.{AddsNoStray, Index, IsStray, RemovalChanges, StoreView, left_after, objects_of}
 use Rattle.object_store.specs.declared.error.StoreFault.{StoreFault}
 use Rattle.object_store.specs.declared.error.StoreFault.TheVariants.{Taken, Wrong, Damaged, Shelf, NoMemory}
 use Rattle.object_store.specs.declared.shelf.Slot.{Slot}
 use Rattle.object_store.specs.declared.shelf.Slot.TheVariants.{Object}
+use Rattle.object_store.proofs.StrayLemmas.{strays_kept, strays_removed}
+use Rattle.tree_model.proofs.LastEntryLemmas.{IsStrictlySortedBy-push}
 use Rattle.collector.specs.Marks.{Candidates}
-use Rattle.collector.specs.Sweeping.{AddsNoStrayBy, CountsSwept, EndsAtFault, EndsSo, GivesOrNothing, TakesKey, TakesNone, TellsRest, Took, TookOne, is_listed}
+use Rattle.collector.specs.Sweeping.{CountsSwept, EndsAtFault, EndsSo, GivesOrNothing, IsLast, StraysAtEnd, StraysIf, TakesKey, TakesNone, TellsRest, Took, TookLeast, TookOne, is_listed}
 use Rattle.collector.proofs.CountedLemmas.{len_less}
 
 -- keys leave one after another
@@ -125,6 +132,83 @@ gives_then first next last one two slot given is = by (two slot given is)
     by (inl was) = one slot given was
     by (inr gone) = inr gone
 
+-- ---- in which order they leave
+
+all_in : (P : Key → Type 0) (keys : List Key) → ((key : Key) → is_in keys key ≡ true → P key) → AllByRecursion P keys
+all_in P [] each = tt
+all_in P (key ∷ keys) each =
+    (each key (or_left (same_key key key) (is_in keys key) (same_key-itself key)), all_in P keys (λ other there. each other (or_right (same_key other key) (is_in keys other) there)))
+
+pub least_none : (candidates : Candidates) (removed : List Key) → removed ≡ [] → TookLeast candidates removed
+unfolding IsStrictlySortedBy
+least_none candidates removed none = subst (λ (keys : List Key). TookLeast candidates keys) (sym none) (record { order = tt; least = λ key other e there. absurd (true≢false (sym e)) })
+
+-- what isn't the least of all is above it
+above_least : (o : Ordering) → is_gt o ≡ false → (o ≡ Equal → ⊥) → o ≡ Less
+above_least Less e other = refl
+above_least Equal e other = absurd (other refl)
+above_least Greater e other = absurd (true≢false e)
+
+not_here : (s : Bool) (o : Option ⊤) → is_some (cond s None o) ≡ true → (s ≡ false) × (is_some o ≡ true)
+not_here true o e = absurd (true≢false (sym e))
+not_here false o e = (refl, e)
+
+pub least_then : (now after : Candidates) (removed told : List Key) (key : Key) → after ≡ map.remove now key → told ≡ removed ++ key ∷ [] → IsLeastAbove now None key
+    → TookLeast now removed → TookLeast after told
+least_then now after removed told key gone pushed is took =
+    subst (λ (keys : List Key). TookLeast after keys) (sym pushed)
+    (record { order = IsStrictlySortedBy-push key_cmp removed key took.order (all_in (λ q. key_cmp q key ≡ Less) removed (λ q there. took.least q key there is.there)); least = least })
+  where
+    still : (other : Key) → is_listed after other ≡ true → (same_key other key ≡ false) × (is_listed now other ≡ true)
+    still other there =
+        not_here (same_key other key) (map.get now other)
+        (sym (ap is_some (ap (λ (c : Candidates). map.get c other) gone ∙ map.get-remove key_cmp_total now key other)) ∙ there)
+
+    -- the key itself is below what is left
+    below : (other : Key) → is_listed after other ≡ true → key_cmp key other ≡ Less
+    below other there =
+        above_least (key_cmp key other) (is.least other tt (still other there).1)
+        (λ same. true≢false (sym (ap (λ (k : Key). same_key k key) (sym (key_cmp_exact key other same)) ∙ same_key-itself key) ∙ (still other there).0))
+
+    least : (q other : Key) → is_in (removed ++ key ∷ []) q ≡ true → is_listed after other ≡ true → key_cmp q other ≡ Less
+    least q other e there =
+        elim (in_pushed removed key q e)
+        [ inl old ↦ took.least q other old (still other there).1 | inr own ↦ subst (λ (k : Key). key_cmp k other ≡ Less) (sym own) (below other there) ]
+
+-- ---- what comes to lie beside
+
+pub strays_at_key : {S : Type 0} (contents : S → Option Contents) (old new : StoreView S) (before after : Candidates) (told_before told : List Key) (key : Key) (fault : StoreFault)
+    → RemovalChanges contents old new key (Err fault) → TookOne contents old new before after told_before told key (Err fault) → StraysAtEnd contents old new told (Some fault)
+strays_at_key contents old new before after told_before told key Shelf changes one = λ other stray. by other stray (same_key other key) refl
+  where
+    was : (other : Key) → IsStray contents new other → same_key other key ≡ false
+        → (contents new.shelf ≡ contents old.shelf) ⊎ (contents new.shelf ≡ removed_known (contents old.shelf) (Object key)) → IsStray contents old other
+    was other stray apart (inl kept) = record {
+      held = stray.held;
+      told = sym kept ∙ stray.told;
+      lies = stray.lies;
+      unknown =
+          ap (λ (b : Bool). cond b None (map.get old.index other)) (sym apart) ∙ sym (map.get-remove key_cmp_total old.index key other) ∙ ap (λ (i : Index). map.get i other) (sym changes.index) ∙ stray.unknown;
+    }
+    was other stray apart (inr gone) = strays_removed contents old new key (Ok tt) (changes.index, gone) other stray
+
+    by : (other : Key) → IsStray contents new other → (b : Bool) → same_key other key ≡ b → IsStray contents old other ⊎ IsLast told other
+    by other stray true same = inr (record { front = told_before; is = one.removed ∙ ap (λ (k : Key). told_before ++ k ∷ []) (sym (same_key-true other key same)) })
+    by other stray false apart = inl (was other stray apart changes.shelf)
+strays_at_key contents old new before after told_before told key NoMemory changes one = strays_kept contents old new changes.index changes.shelf
+strays_at_key contents old new before after told_before told key (Taken id) changes one = absurd one
+strays_at_key contents old new before after told_before told key (Wrong id) changes one = absurd one
+strays_at_key contents old new before after told_before told key (Damaged want got) changes one = absurd one
+
+pub strays_after : {S : Type 0} (contents : S → Option Contents) (first next last : StoreView S) (removed : List Key) (fault : Option StoreFault) → AddsNoStray contents first next
+    → StraysAtEnd contents next last removed fault → StraysAtEnd contents first last removed fault
+strays_after {S} contents first next last removed None adds strays = λ key stray. adds key (strays key stray)
+strays_after {S} contents first next last removed (Some fault) adds strays = by (is_of_shelf fault) strays
+  where
+    by : (b : Bool) → StraysIf b contents next last removed → StraysIf b contents first last removed
+    by true ends = λ key stray. elim (ends key stray) [ inl old ↦ inl (adds key old) | inr own ↦ inr own ]
+    by false ends = λ key stray. adds key (ends key stray)
+
 -- ---- one key that is refused
 
 took_same : {S : Type 0} (contents : S → Option Contents) (first next last : StoreView S) (before now after : Candidates) (removed told : List Key)
@@ -158,6 +242,15 @@ few_err contents next last now after removed told key NoMemory most one less = o
 few_err contents next last now after removed told key (Taken id) most one less = absurd one
 few_err contents next last now after removed told key (Wrong id) most one less = absurd one
 few_err contents next last now after removed told key (Damaged want got) most one less = absurd one
+
+pub least_err : {S : Type 0} (contents : S → Option Contents) (next last : StoreView S) (now after : Candidates) (removed told : List Key) (key : Key) (fault : StoreFault)
+    → TookOne contents next last now after removed told key (Err fault) → IsLeastAbove now None key → TookLeast now removed → TookLeast after told
+least_err contents next last now after removed told key Shelf one is took = least_then now after removed told key one.candidates one.removed is took
+least_err contents next last now after removed told key NoMemory one is took =
+    subst₂ (λ (c : Candidates) (keys : List Key). TookLeast c keys) (sym one.candidates) (sym one.removed) took
+least_err contents next last now after removed told key (Taken id) one is took = absurd one
+least_err contents next last now after removed told key (Wrong id) one is took = absurd one
+least_err contents next last now after removed told key (Damaged want got) one is took = absurd one
 
 pub told_err : {S : Type 0} (contents : S → Option Contents) (next last : StoreView S) (now after : Candidates) (removed told : List Key) (key : Key) (fault : StoreFault)
     → TookOne contents next last now after removed told key (Err fault) → is_of_shelf fault ≡ true → told ≢ []
@@ -209,11 +302,6 @@ ended_free (Err why) fault is free = subst (λ (o : Option StoreFault). IfSome o
 pub ended_told : (r : Result ⊤ StoreFault) (fault : Option StoreFault) (removed told : List Key) → fault ≡ result_err r → told ≡ removed → EndsSo removed r → EndsAtFault told fault
 ended_told (Ok done) fault removed told is same ends = subst (EndsAtFault told) (sym is) tt
 ended_told (Err why) fault removed told is same ends = subst (EndsAtFault told) (sym is) (λ shelf none. ends shelf (sym same ∙ none))
-
-pub ended_strays : {S : Type 0} (contents : S → Option Contents) (old new : StoreView S) (r : Result ⊤ StoreFault) (fault : Option StoreFault) → fault ≡ result_err r
-    → StraysBy is_of_shelf contents old new r → AddsNoStrayBy contents old new fault
-ended_strays contents old new (Ok done) fault is strays = subst (AddsNoStrayBy contents old new) (sym is) strays
-ended_strays contents old new (Err why) fault is strays = subst (AddsNoStrayBy contents old new) (sym is) strays
 
 pub ended_counted : (before now : ℕ) (r : Result ⊤ StoreFault) (fault : Option StoreFault) → fault ≡ result_err r → CountsShelf before now r → CountsSwept before now fault
 ended_counted before now (Ok done) fault is counts = subst (CountsSwept before now) (sym is) counts

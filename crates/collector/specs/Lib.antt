@@ -4,5 +4,6 @@ pub mod Comparing
 pub mod Marking
 pub mod Marks
 pub mod Naming
+pub mod StoredCandidates
 pub mod Sweeping
 pub mod Worklist

@@ -1,15 +1,18 @@
 -- What a sweep takes, and what it leaves. Our own. Read Took.
-use Rattle.std.specs.Prelude.{◌≡◌, ◌≢◌, ◌⊎◌, ◌+◌, ◌&&◌, not, ℕ, Bool, true, false, if◌then◌else◌, is_some, List, [], ◌∷◌, ◌++◌, length, take, Option, None, Some, option_map, Result, Ok, Err, ⊤}
+use Rattle.std.specs.Prelude.{◌≡◌, ◌≢◌, ◌⊎◌, ◌+◌, ◌&&◌, not, ℕ, Bool, true, if◌then◌else◌, is_some, List, [], ◌∷◌, ◌++◌, length, take, Option, None, Some, option_map, Result, Ok, Err, ⊤}
+use Rattle.std.specs.Bool.{MatchBool}
 use Rattle.std.specs.FinMap as map
 use Rattle.std.specs.List.{IsDistinct}
+use Rattle.std.specs.List.Sorted.{IsStrictlySortedBy}
 use Rattle.std.specs.Ordering.{eq_by_cmp}
+use Rattle.std.specs.declared.cmp.Ordering.TheVariants.{Less}
 use Rattle.ids.specs.Key.{key_cmp}
 use Rattle.ids.specs.declared.key.Key.{Key}
 use Rattle.library_rules.specs.Changes.{without}
 use Rattle.object_graph.specs.Traversal.{is_in}
 use Rattle.object_store.specs.Shelf.{Contents}
 use Rattle.object_store.specs.Store.{CountsShelf, is_of_shelf}
-use Rattle.object_store.specs.StoreView.{AddsNoStray, Keeps, StoreView, objects_of, without_object}
+use Rattle.object_store.specs.StoreView.{AddsNoStray, IsStray, Keeps, StoreView, objects_of, without_object}
 use Rattle.object_store.specs.declared.error.StoreFault.{StoreFault}
 use Rattle.object_store.specs.declared.error.StoreFault.TheVariants.{Taken, Wrong, Damaged, Shelf, NoMemory}
 use Rattle.object_store.specs.declared.shelf.Slot.{Slot}
@@ -31,7 +34,12 @@ pub record Took {S : Type 0} (contents : S → Option Contents) (old new : Store
   pub held : map.len new.index + length removed ≡ map.len old.index
   pub objects : objects_of contents new ≡ option_map (λ objects. without objects removed) (objects_of contents old)
 
--- a sweep that the shelf ended told the key at which it failed
+-- the keys that left stand in their order, and before each candidate that is left
+pub record TookLeast (after : Candidates) (removed : List Key) : Type 0 where
+  pub order : IsStrictlySortedBy key_cmp removed
+  pub least : (key : Key) (other : Key) → is_in removed key ≡ true → is_listed after other ≡ true → key_cmp key other ≡ Less
+
+-- a sweep that the shelf ended told a key at least
 abbrev pub EndsAtFault : List Key → Option StoreFault → Type 0
 EndsAtFault removed None = ⊤
 EndsAtFault removed (Some fault) = is_of_shelf fault ≡ true → removed ≢ []
@@ -41,10 +49,20 @@ abbrev pub CountsSwept : ℕ → ℕ → Option StoreFault → Type 0
 CountsSwept before now None = now ≡ before
 CountsSwept before now (Some fault) = CountsShelf {T = ⊤} before now (Err fault)
 
--- nothing comes to lie beside the store's objects, unless the shelf failed
-abbrev pub AddsNoStrayBy : {S : Type 0} → (S → Option Contents) → StoreView S → StoreView S → Option StoreFault → Type 0
-AddsNoStrayBy contents old new None = AddsNoStray contents old new
-AddsNoStrayBy contents old new (Some fault) = is_of_shelf fault ≡ false → AddsNoStray contents old new
+-- it is the last of these keys
+pub record IsLast (keys : List Key) (key : Key) : Type 0 where
+  pub front : List Key
+  pub is : keys ≡ front ++ key ∷ []
+
+-- nothing comes to lie beside the store's objects; or, if the shelf failed, nothing but under the last of the keys that left
+abbrev pub StraysIf : {S : Type 0} → Bool → (S → Option Contents) → StoreView S → StoreView S → List Key → Type 0
+StraysIf failed contents old new removed =
+    MatchBool failed ((key : Key) → IsStray contents new key → IsStray contents old key ⊎ IsLast removed key) (AddsNoStray contents old new)
+
+-- the same of what ended a sweep: the key at which the shelf failed is the last that left
+abbrev pub StraysAtEnd : {S : Type 0} → (S → Option Contents) → StoreView S → StoreView S → List Key → Option StoreFault → Type 0
+StraysAtEnd contents old new removed None = AddsNoStray contents old new
+StraysAtEnd contents old new removed (Some fault) = StraysIf (is_of_shelf fault) contents old new removed
 
 -- the shelf may give what it might give before, or that nothing lies in an object's slot
 abbrev pub GivesOrNothing : (Slot → Option (List ℕ) → Type 0) → (Slot → Option (List ℕ) → Type 0) → Type 0

@@ -1,5 +1,6 @@
 //! That the marks keep a collection to its permitted steps: theorems on the definitions, with no code.
-ghost use Rattle.std.specs.Prelude.{◌≡◌, ◌≢◌, ◌⊎◌, [], ℕ, suc, true, false, List, Some};
+ghost use Rattle.std.specs.Prelude.{◌≡◌, ◌≢◌, ◌⊎◌, [], ℕ, suc, true, false, is_some, List, Some};
+ghost use Rattle.std.specs.FinMap as map;
 ghost use Rattle.ids.specs.Key.{Objects};
 ghost use Rattle.ids.specs.declared.key.Key.{Key};
 ghost use Rattle.library_rules.specs.Answered.{Fails, Plain};
@@ -9,10 +10,14 @@ ghost use Rattle.library_rules.specs.LibraryState.{IsSound, Running, State};
 ghost use Rattle.library_rules.specs.declared.entry.Entry.{Entry};
 ghost use Rattle.library_state.specs.declared.reply.Reply.TheVariants.{Checked};
 ghost use Rattle.object_graph.specs.Traversal.{is_in};
-ghost use Rattle.object_store.specs.StoreView.{Index};
+ghost use Rattle.object_store.specs.StoreView.{Index, StoreView};
 ghost use Rattle.collector.specs.Collecting.{AreCandidates, AreKeptCommits, Collects, KnowsStored, LeavesCandidates, ShieldsSo};
-ghost use Rattle.collector.specs.Marking.{MarksMany, MarksUpTo};
+ghost use Rattle.collector.specs.Marking.{HasMarked, MarksMany, MarksUpTo};
 ghost use Rattle.collector.specs.Marks.{AreFirst, AreMarks, HasTheSameMarks, IsExact, Leads, MarksView, is_candidate, needed_by};
+ghost use Rattle.collector.specs.StoredCandidates.{AreStoredIn};
+ghost use Rattle.collector.specs.Sweeping.{Took};
+
+use object_store::Shelf;
 
 /// A collection begins with the marks that begin with it, for the commits that are kept then.
 pub fn a_collection_begins_with_its_marks()
@@ -72,4 +77,16 @@ pub fn a_collection_may_end_where_nothing_is_left()
 pub fn a_call_that_shields_goes_on_with_the_collection()
     ensures { (s : State) → (t : State) → (before : Running) → (after : Running) → (old : MarksView) → (new : MarksView) → IsSound s → IsSound t
         → Collects s before old → AreMarks new → ShieldsSo s t before after old new → Collects t after new }
+{}
+
+/// What a sweep asks of its store, that each candidate is in the index, holds as a collection begins. It stays so as objects
+/// are marked, as candidates leave, and as there are fewer candidates while the index grows.
+pub fn candidates_are_stored_and_stay_so<S: Shelf>()
+    ensures stored { (index : Index) → (commits : List (List ℕ)) → (marks : MarksView) → AreFirst index commits marks → AreStoredIn index marks }
+    ensures left { (index : Index) → (old : MarksView) → (new : MarksView) → HasMarked old new → AreStoredIn index old → AreStoredIn index new }
+    ensures gone { (old : StoreView S) → (new : StoreView S) → (before : MarksView) → (after : MarksView) → (removed : List Key)
+        → Took S.contents old new before.candidates after.candidates removed → AreStoredIn old.index before → AreStoredIn new.index after }
+    ensures stays { (index : Index) → (more : Index) → (old : MarksView) → (new : MarksView)
+        → ((key : Key) → is_some (map.get index key) ≡ true → is_some (map.get more key) ≡ true)
+        → ((key : Key) → is_candidate new key ≡ true → is_candidate old key ≡ true) → AreStoredIn index old → AreStoredIn more new }
 {}

@@ -3,10 +3,11 @@ ghost use Rattle.std.specs.Prelude.{◌≡◌, ◌≢◌, ◌≤◌, [], true, I
 ghost use Rattle.std.specs.Result.{result_err};
 ghost use Rattle.std.specs.FinMap as map;
 ghost use Rattle.ids.specs.declared.key.Key.{Key};
-ghost use Rattle.object_store.specs.Store.{CountsShelf, is_free, is_of_shelf};
-ghost use Rattle.object_store.specs.StoreView.{StraysBy, status_of};
-ghost use Rattle.collector.specs.Marks.{AreMarks, HasTheSameMarks, is_candidate};
-ghost use Rattle.collector.specs.Sweeping.{AddsNoStrayBy, CountsSwept, EndsAtFault, EndsSo, GivesOrNothing, TellsRest, Took, TookOne, is_listed};
+ghost use Rattle.object_store.specs.Store.{CountsShelf, is_free};
+ghost use Rattle.object_store.specs.StoreView.{status_of};
+ghost use Rattle.collector.specs.Marks.{AreMarks, HasTheSameMarks};
+ghost use Rattle.collector.specs.StoredCandidates.{AreStoredIn};
+ghost use Rattle.collector.specs.Sweeping.{CountsSwept, EndsAtFault, EndsSo, GivesOrNothing, StraysAtEnd, TellsRest, Took, TookLeast, TookOne, is_listed};
 
 use crate::marks::Marks;
 use ids::{Key, KeyList, KeyTable};
@@ -15,19 +16,19 @@ use object_store::{Shelf, Store, StoreFault};
 /// What a sweep removed, and the fault that ended it, if one did.
 #[derive(Debug, Drop)]
 pub struct Swept {
-    /// The keys that are gone from the store, in the order in which they went.
+    /// The keys that are gone from the store, in their order.
     pub removed: KeyList,
-    /// `Shelf`: the last of the keys is the one at which the shelf failed, and its bytes may still lie there.
-    /// `NoMemory`: the next candidate stays.
+    /// `Shelf`: one key at least is gone, and the bytes of the last, and of no other, may still lie there. `NoMemory`: no
+    /// bytes of these keys lie there.
     pub fault: Option<StoreFault>,
 }
 
 impl Marks {
-    /// Gives up candidates, the least keys first, up to so many: one at least where one is left, and none while an object
-    /// waits to be marked. It ends at the first fault. No object is read.
+    /// Gives up candidates, the least keys first, up to so many; where no fault ends it, as many as that or all that are
+    /// left. While an object waits to be marked it gives up none.
     pub fn sweep<S: Shelf>(&mut self, store: &mut Store<S>, at_most: u64) -> Swept
         requires some { 1 ≤ at_most }
-        requires stored { (key : Key) → is_candidate self.old key ≡ true → IsSome (map.get store.old.index key) }
+        requires stored { AreStoredIn store.old.index self.old }
         ensures value { Took S.contents store.old store.new self.old.candidates self.new.candidates result.removed }
         ensures stays { HasTheSameMarks self.old self.new }
         ensures good { AreMarks self.new }
@@ -39,7 +40,8 @@ impl Marks {
         ensures unwritten { status_of S.contents store.new ≡ status_of S.contents store.old }
         ensures gives { GivesOrNothing (S.may_give store.old.shelf) (S.may_give store.new.shelf) }
         ensures texts { S.texts store.new.shelf ≡ S.texts store.old.shelf }
-        ensures lying { AddsNoStrayBy S.contents store.old store.new result.fault }
+        ensures order { TookLeast self.new.candidates result.removed }
+        ensures lying { StraysAtEnd S.contents store.old store.new result.removed result.fault }
         ensures faults { CountsSwept (S.faults store.old.shelf) (S.faults store.new.shelf) result.fault }
     {
         let mut removed = Vec::new(self.alloc);
@@ -85,7 +87,8 @@ fn take_some<S: Shelf>(
     ensures unwritten { status_of S.contents store.new ≡ status_of S.contents store.old }
     ensures gives { GivesOrNothing (S.may_give store.old.shelf) (S.may_give store.new.shelf) }
     ensures texts { S.texts store.new.shelf ≡ S.texts store.old.shelf }
-    ensures lying { StraysBy is_of_shelf S.contents store.old store.new result }
+    ensures order { TookLeast candidates.new removed.new.items }
+    ensures lying { StraysAtEnd S.contents store.old store.new removed.new.items (result_err result) }
     ensures faults { CountsShelf (S.faults store.old.shelf) (S.faults store.new.shelf) result }
 {
     while (removed.len() as u64) < at_most {
@@ -116,7 +119,7 @@ fn take<S: Shelf>(
     ensures unwritten { status_of S.contents store.new ≡ status_of S.contents store.old }
     ensures gives { GivesOrNothing (S.may_give store.old.shelf) (S.may_give store.new.shelf) }
     ensures texts { S.texts store.new.shelf ≡ S.texts store.old.shelf }
-    ensures lying { StraysBy is_of_shelf S.contents store.old store.new result }
+    ensures lying { StraysAtEnd S.contents store.old store.new removed.new.items (result_err result) }
     ensures faults { CountsShelf (S.faults store.old.shelf) (S.faults store.new.shelf) result }
 {
     let told = removed.len();

@@ -28,14 +28,16 @@ use Rattle.object_store.specs.declared.error.StoreFault.TheVariants as faults_of
 use Rattle.object_store.specs.declared.shelf.Slot.{Slot as ShelfSlot}
 use Rattle.collector.specs.Collecting.{Collects}
 use Rattle.collector.specs.Marks.{AreFirst, AreMarks, MarksView, is_candidate}
+use Rattle.collector.specs.StoredCandidates.{AreStoredIn}
 use Rattle.collector.proofs.GoesOnLemmas.{begins_collecting}
+use Rattle.collector.proofs.StoredCandidatesLemmas.{first_stored}
 use Rattle.tree_walk.specs.KnownTrees.{KnownView}
 use Rattle.depot.specs.Answering.{is_free_refusal}
 use Rattle.depot.specs.CollectionTurns.{BeginsOver, BeginsSo, MayRefuseTurn, TakesTurn, TurnsBySome, with_begin}
 use Rattle.depot.specs.DepotView.{CollectionView, IsKept, library, running_library, state_of}
 use Rattle.depot.specs.Giving.{GivesBy, IsOfSweep, IsOwnText}
 use Rattle.depot.specs.NextState.{collection_began}
-use Rattle.depot.specs.ObjectCalls.{Counts}
+use Rattle.depot.specs.ObjectCalls.{Counts, is_of_store}
 use Rattle.depot.specs.Refusals.{store_refusal}
 use Rattle.depot.specs.Writing.{IsWritten, LeftBy, settled}
 use Rattle.depot.specs.declared.turn.Turn.{Turn}
@@ -44,6 +46,7 @@ use Rattle.depot.proofs.AnsweringLemmas.{fault_of}
 use Rattle.depot.proofs.BesideLemmas.{sound_fresh}
 use Rattle.depot.proofs.CollectsLemmas.{collects_state}
 use Rattle.depot.proofs.RefusalsLemmas.{counted_same, free_told, told_damage}
+use Rattle.depot.proofs.StrayLemmas.{strays_none}
 use Rattle.depot.proofs.TakesTurnLemmas.{depot_of}
 use Rattle.depot.proofs.ToldLemmas.{mapped_at}
 use Rattle.depot.proofs.TurnLemmas.{begun_turn, idle_turn}
@@ -135,7 +138,7 @@ module _ {S : Type 0} (contents : S → Option Contents) (may_give : S → Shelf
       runs = ap Some begins.runs;
       index = λ key. ap (λ (i : Index). map.get i key) held;
       number = same_size held;
-      lying = λ uncounted. lying;
+      lying = lying;
       gives = gives;
       slot = (refl, written);
     }
@@ -159,7 +162,7 @@ module _ {S : Type 0} (contents : S → Option Contents) (may_give : S → Shelf
       collects = λ t is.
           let at = mapped_at (running_library (with_begin moment state) (Some collection.running) (faults new.shelf)) (objects_of contents new) t is in
           subst (λ (u : State). Collects u collection.running collection.marks) at.gives (goes at.value (sym stays ∙ at.is));
-      candidates = λ key there. ap (λ (i : Index). is_some (map.get i key)) held ∙ sym (begins.marks.candidates key) ∙ there;
+      candidates = subst (λ (i : Index). AreStoredIn i collection.marks) (sym held) (first_stored store.index (kept_commits (with_begin moment state).kept) collection.marks begins.marks);
       apart = λ key there. none_fresh key;
     }
       where
@@ -205,7 +208,7 @@ module _ {S : Type 0} (contents : S → Option Contents) (may_give : S → Shelf
     runs = refl;
     index = λ key. refl;
     number = (let size : map.len store.index + 0 ≡ map.len store.index = omega arith in size);
-    lying = λ uncounted key stray. stray;
+    lying = λ key stray. stray;
     gives = λ slot given now. inl now;
     slot = inl (refl, refl, refl);
   }
@@ -259,7 +262,7 @@ module _ {S : Type 0} (contents : S → Option Contents) (may_give : S → Shelf
           runs = refl;
           index = λ key. ap (λ (i : Index). map.get i key) held;
           number = same_size held;
-          lying = λ uncounted. lying;
+          lying = strays_none contents (is_of_store (store_refusal fault)) store new [] lying;
           gives = λ slot given now. wider slot given (gives slot given now);
           slot = inr (inr (fault, refl, refl, left_by));
         })

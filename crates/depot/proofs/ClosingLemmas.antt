@@ -110,7 +110,7 @@ module _ {S : Type 0} (contents : S → Option Contents) (may_give : S → Shelf
     runs = refl;
     index = λ key. refl;
     number = (let size : map.len old.store.index + 0 ≡ map.len old.store.index = omega arith in size);
-    lying = λ uncounted key stray. stray;
+    lying = λ key stray. stray;
     gives = λ slot given now. inl now;
     slot = (refl, refl, refl);
   }

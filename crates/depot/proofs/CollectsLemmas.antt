@@ -18,6 +18,7 @@ use Rattle.object_store.specs.StoreView.{Index}
 use Rattle.collector.specs.Collecting.{Collects, ShieldsSo}
 use Rattle.collector.specs.Marks.{HasTheSameMarks, MarksView, is_candidate, needed_by}
 use Rattle.collector.proofs.NeedLemmas.{needed_alike}
+use Rattle.collector.proofs.StoredCandidatesLemmas.{grown_stored}
 use Rattle.depot.specs.DepotView.{CollectionView, KnowsCandidates}
 use Rattle.depot.specs.Plan.{objects_in}
 use Rattle.depot.specs.Shields.{ListsNeeded, with_plan}
@@ -44,7 +45,7 @@ collects_state s state faults running marks same collects = record {
 -- what a collection may still remove is known still, as the index grows and candidates get fewer
 pub known_more : (old new : Index) (before after : CollectionView) → ((key : Key) → is_some (map.get old key) ≡ true → is_some (map.get new key) ≡ true)
     → ((key : Key) → is_candidate after.marks key ≡ true → is_candidate before.marks key ≡ true) → KnowsCandidates old (Some before) → KnowsCandidates new (Some after)
-known_more old new before after stays fewer knows key there = stays key (knows key (fewer key there))
+known_more old new before after stays fewer knows = grown_stored old new before.marks after.marks stays fewer knows
 
 -- ---- needs as objects come
 

@@ -10,15 +10,16 @@ use Rattle.library_state.specs.declared.refusal.Refusal.{Refusal}
 use Rattle.library_state.specs.declared.state.LibState.{LibState}
 use Rattle.object_graph.specs.Traversal.{is_in}
 use Rattle.object_store.specs.Shelf.{Contents}
-use Rattle.object_store.specs.Store.{CountsShelf, is_free}
+use Rattle.object_store.specs.Store.{CountsShelf, is_free, is_of_shelf}
 use Rattle.object_store.specs.StoreView.{AddsNoStray, Index, StoreView, objects_of}
 use Rattle.object_store.specs.declared.error.StoreFault.{StoreFault}
 use Rattle.object_store.specs.declared.error.StoreFault.TheVariants as faults_of_store
 use Rattle.object_store.specs.declared.shelf.Slot.{Slot as ShelfSlot}
 use Rattle.object_store.specs.declared.shelf.Slot.TheVariants.{Object}
 use Rattle.collector.specs.Marks.{Candidates, HasTheSameMarks, MarksView}
-use Rattle.collector.specs.Sweeping.{AddsNoStrayBy, CountsSwept, GivesOrNothing, Took}
+use Rattle.collector.specs.Sweeping.{CountsSwept, GivesOrNothing, StraysAtEnd, Took}
 use Rattle.collector.proofs.CollectingLemmas.{distinct_none}
+use Rattle.collector.proofs.SweepLemmas.{strays_after}
 use Rattle.depot.specs.CollectionTurns.{SettlesBefore, SweepsSo}
 use Rattle.depot.specs.DepotView.{CollectionView}
 use Rattle.depot.specs.Fresh.{counted_turn}
@@ -27,6 +28,7 @@ use Rattle.depot.specs.Refusals.{store_refusal}
 use Rattle.depot.specs.Writing.{LeftBy, SettlesSo, Slot, again, nothing, settled}
 use Rattle.depot.specs.declared.turn.Turn.TheVariants.{Refused, Swept}
 use Rattle.depot.proofs.CollectionLemmas.{collection_of}
+use Rattle.depot.proofs.StrayLemmas.{strays_none}
 
 -- ---- where the slot couldn't be settled
 
@@ -102,7 +104,7 @@ module _ {S : Type 0} (contents : S → Option Contents) (may_give : S → Shelf
           took = took_none store new before.marks.candidates held stays;
           same = same_marks before.marks;
           runs = refl;
-          lying = λ free. lying;
+          lying = strays_none contents (is_of_shelf fault) store new [] lying;
           count = count;
         },
       )
@@ -126,7 +128,7 @@ module _ {S : Type 0} (contents : S → Option Contents) (may_give : S → Shelf
       (counted_none : faults mid.shelf ≡ faults store.shelf) (took : Took contents mid new marks.candidates next.candidates keys) (same : HasTheSameMarks marks next) where
     -- some left
     pub swept_turned : (at_most : ℕ) (fault : Option StoreFault) (after : CollectionView) → fault ≡ None → after ≡ counted_turn (collection_of next table stored turned) → marks.pending ≡ []
-        → (marks.pending ≡ [] → fault ≡ None → length keys ≡ min at_most (map.len marks.candidates)) → AddsNoStrayBy contents mid new fault → CountsSwept (faults mid.shelf) (faults new.shelf) fault
+        → (marks.pending ≡ [] → fault ≡ None → length keys ≡ min at_most (map.len marks.candidates)) → StraysAtEnd contents mid new keys fault → CountsSwept (faults mid.shelf) (faults new.shelf) fault
         → SweepsSo contents may_give texts faults store old at_most (Swept keys) new after
     swept_turned at_most fault after none counts empty size strays counted =
         subst (λ (o : CollectionView). SweepsSo contents may_give texts faults store o at_most (Swept keys) new after) is
@@ -136,14 +138,14 @@ module _ {S : Type 0} (contents : S → Option Contents) (may_give : S → Shelf
             took = took_then store mid new marks.candidates next.candidates keys held stays took;
             same = same;
             runs = refl;
-            lying = λ key stray. lying key (subst (AddsNoStrayBy contents mid new) none strays key stray);
+            lying = λ key stray. lying key (subst (StraysAtEnd contents mid new keys) none strays key stray);
             count = subst (CountsSwept (faults mid.shelf) (faults new.shelf)) none counted ∙ counted_none;
           },
         ))
 
     -- a fault ended the sweep
     pub swept_stopped : (at_most : ℕ) (fault : Option StoreFault) (why_fault : StoreFault) (why : Refusal) → fault ≡ Some why_fault → why ≡ store_refusal why_fault → length keys ≤ at_most
-        → IfSome fault (λ f. IsTrue (is_free f)) → AddsNoStrayBy contents mid new fault → CountsSwept (faults mid.shelf) (faults new.shelf) fault
+        → IfSome fault (λ f. IsTrue (is_free f)) → StraysAtEnd contents mid new keys fault → CountsSwept (faults mid.shelf) (faults new.shelf) fault
         → SweepsSo contents may_give texts faults store old at_most (Refused why keys) new (collection_of next table stored turned)
     swept_stopped at_most fault why_fault why at refusal few free strays counted =
         subst (λ (o : CollectionView). SweepsSo contents may_give texts faults store o at_most (Refused why keys) new (collection_of next table stored turned)) is (
@@ -155,7 +157,7 @@ module _ {S : Type 0} (contents : S → Option Contents) (may_give : S → Shelf
             took = took_then store mid new marks.candidates next.candidates keys held stays took;
             same = same;
             runs = refl;
-            lying = λ uncounted key stray. lying key (subst (AddsNoStrayBy contents mid new) at strays uncounted key stray);
+            lying = strays_after contents store mid new keys (Some why_fault) lying (subst (StraysAtEnd contents mid new keys) at strays);
             count = subst (λ (n : ℕ). CountsShelf {T = ⊤} n (faults new.shelf) (Err why_fault)) counted_none (subst (CountsSwept (faults mid.shelf) (faults new.shelf)) at counted);
           },
         )

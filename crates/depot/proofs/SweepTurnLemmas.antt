@@ -24,8 +24,9 @@ use Rattle.object_store.specs.declared.error.StoreFault.TheVariants as store_fau
 use Rattle.object_store.specs.declared.shelf.Slot.{Slot as ShelfSlot}
 use Rattle.collector.specs.Collecting.{AreCandidates, Collects, LeavesCandidates}
 use Rattle.collector.specs.Marks.{MarksView, is_candidate}
-use Rattle.collector.specs.Sweeping.{Took}
+use Rattle.collector.specs.Sweeping.{StraysIf, Took}
 use Rattle.collector.proofs.GoesOnLemmas.{stops_collect, sweeps_collect}
+use Rattle.collector.proofs.StoredCandidatesLemmas.{taken_stored}
 use Rattle.tree_walk.specs.KnownTrees.{Fits, KnownView, nothing_known}
 use Rattle.depot.specs.Answering.{MayRefuseTree}
 use Rattle.depot.specs.CollectionTurns.{IsAimed, SettlesBefore, SweepsSo, TakesTurn, TurnSlotSo, removed_in, running_after, turned_once}
@@ -104,7 +105,7 @@ module _ {S : Type 0} (contents : S → Option Contents) (may_give : S → Shelf
     runs = ap Some sweeps.runs;
     index = sweeps.took.index;
     number = sweeps.took.held;
-    lying = λ uncounted. sweeps.lying;
+    lying = sweeps.lying;
     gives = gives;
     slot = slot;
   }
@@ -138,7 +139,7 @@ module _ {S : Type 0} (contents : S → Option Contents) (may_give : S → Shelf
     runs = ap Some sweeps.runs;
     index = sweeps.took.index;
     number = sweeps.took.held;
-    lying = λ uncounted. sweeps.lying (counted_same fault ∙ sym (ap is_of_store refusal) ∙ uncounted);
+    lying = subst (λ (b : Bool). StraysIf b contents store new keys) (counted_same fault ∙ sym (ap is_of_store refusal)) sweeps.lying;
     gives = gives;
     slot = slot;
   }
@@ -170,16 +171,7 @@ module _ {S : Type 0} (contents : S → Option Contents) (may_give : S → Shelf
 
   module _ (keys : List Key) (took : Took contents store new before.marks.candidates after.marks.candidates keys) where
     known_after : (key : Key) → is_candidate after.marks key ≡ true → is_some (map.get new.index key) ≡ true
-    known_after key there =
-        ap is_some (took.index key ∙ ap (λ (b : Bool). if b then None else map.get store.index key) (parts.1)) ∙ kept.candidates key parts.0
-      where
-        split : (a b : Bool) → (a && not b) ≡ true → (a ≡ true) × (b ≡ false)
-        split true true e = absurd (true≢false (sym e))
-        split true false e = (refl, refl)
-        split false b e = absurd (true≢false (sym e))
-
-        parts : (is_candidate before.marks key ≡ true) × (is_in keys key ≡ false)
-        parts = split (is_candidate before.marks key) (is_in keys key) (sym (took.candidates key) ∙ there)
+    known_after = taken_stored contents store new before.marks after.marks keys took kept.candidates
 
     -- a key that is fresh is no candidate, and stays
     fresh_known : ((key : Key) → set.contains after.running.fresh key ≡ set.contains before.running.fresh key) → ((key : Key) → set.contains before.running.fresh key ≡ true → is_in keys key ≡ false)

@@ -41,7 +41,7 @@ use Rattle.tree_walk.specs.declared.fault.WalkFault.{WalkFault}
 use Rattle.depot.specs.CollectionTurns.{IsAimed, IsRunning, MarksSo, MayTurn, TakesTurn, TurnsAsDue, TurnsBySome, running_after, turned_once}
 use Rattle.depot.specs.DepotView.{CollectionView, DepotView, IsKept, library, running_library, state_of}
 use Rattle.depot.specs.Fresh.{counted_turn}
-use Rattle.depot.specs.ObjectCalls.{Counts}
+use Rattle.depot.specs.ObjectCalls.{Counts, is_of_store}
 use Rattle.depot.specs.Refusals.{walk_refusal}
 use Rattle.depot.specs.declared.turn.Turn.{Turn}
 use Rattle.depot.specs.declared.turn.Turn.TheVariants.{Marked, Ended, Over, Refused}
@@ -50,6 +50,7 @@ use Rattle.depot.proofs.BesideLemmas.{sound_fresh}
 use Rattle.depot.proofs.CollectionLemmas.{collection_of}
 use Rattle.depot.proofs.CollectsLemmas.{collects_state}
 use Rattle.depot.proofs.RefusalsLemmas.{counted_alike, none_due, walk_not_damaged, walked_cause}
+use Rattle.depot.proofs.StrayLemmas.{strays_none}
 use Rattle.depot.proofs.ToldLemmas.{mapped_at}
 use Rattle.depot.proofs.TurnLemmas.{ended_turn, fails_marking, marked_turn, refused_turn}
 
@@ -163,7 +164,7 @@ module _ {S : Type 0} (contents : S → Option Contents) (may_give : S → Slot 
     runs = ap Some marks.turned;
     index = λ key. ap (λ (i : Index). map.get i key) marks.reads.kept.index;
     number = same_size store.index new.index marks.reads.kept.index;
-    lying = λ uncounted. strays_kept contents store new marks.reads.kept.index marks.reads.kept.shelf;
+    lying = strays_kept contents store new marks.reads.kept.index marks.reads.kept.shelf;
     gives = λ slot given now. inl (marks.reads.shelf.gives slot given now);
     slot = (refl, ap (option_map (λ (held : Contents). held.status)) marks.reads.kept.shelf, marks.reads.shelf.written);
   }
@@ -196,7 +197,7 @@ module _ {S : Type 0} (contents : S → Option Contents) (may_give : S → Slot 
         runs = ap Some fails.same;
         index = λ key. ap (λ (i : Index). map.get i key) fails.reads.kept.index;
         number = same_size store.index new.index fails.reads.kept.index;
-        lying = λ uncounted. strays_kept contents store new fails.reads.kept.index fails.reads.kept.shelf;
+        lying = strays_none contents (is_of_store (walk_refusal fails.fault)) store new [] (strays_kept contents store new fails.reads.kept.index fails.reads.kept.shelf);
         gives = λ slot given now. inl (fails.reads.shelf.gives slot given now);
         slot = inl (refl, ap (option_map (λ (held : Contents). held.status)) fails.reads.kept.shelf, fails.reads.shelf.written);
       }))
@@ -230,7 +231,7 @@ module _ {S : Type 0} (contents : S → Option Contents) (may_give : S → Slot 
     runs = refl;
     index = λ key. refl;
     number = same_size store.index store.index refl;
-    lying = λ uncounted key stray. stray;
+    lying = λ key stray. stray;
     gives = λ slot given now. inl now;
     slot = (refl, refl, refl);
   }

@@ -22,13 +22,13 @@ use Rattle.library_state.specs.declared.token.Token.{Token}
 use Rattle.object_graph.specs.Traversal.{is_in}
 use Rattle.object_store.specs.Shelf.{Contents}
 use Rattle.object_store.specs.Store.{is_free}
-use Rattle.object_store.specs.StoreView.{AddsNoStray, Index, StoreView, objects_of, status_of}
+use Rattle.object_store.specs.StoreView.{Index, StoreView, objects_of, status_of}
 use Rattle.object_store.specs.declared.shelf.Slot.{Slot as ShelfSlot}
 use Rattle.object_store.specs.declared.error.StoreFault.{StoreFault}
 use Rattle.depot.specs.Answering.{MayRefuseTree, is_free_refusal}
 use Rattle.collector.specs.Marking.{HasMarked, IsMarkFault, MarksMany, MarksUpTo}
 use Rattle.collector.specs.Marks.{AreFirst, AreMarks, HasTheSameMarks, IsExact, is_candidate}
-use Rattle.collector.specs.Sweeping.{AddsNoStrayBy, CountsSwept, Took}
+use Rattle.collector.specs.Sweeping.{CountsSwept, StraysAtEnd, StraysIf, Took}
 use Rattle.tree_walk.specs.Reading.{Reads}
 use Rattle.tree_walk.specs.declared.fault.WalkFault.{WalkFault}
 use Rattle.depot.specs.DepotView.{CollectionView, DepotView, state_of}
@@ -191,7 +191,7 @@ pub record TakesTurn {S : Type 0} (contents : S → Option Contents) (may_give :
   pub runs : new.running ≡ running_after_turn (map.len old.store.index) old.running turn
   pub index : (key : Key) → map.get new.store.index key ≡ (if is_in (removed_in turn) key then None else map.get old.store.index key)
   pub number : map.len new.store.index + length (removed_in turn) ≡ map.len old.store.index
-  pub lying : is_counted_turn turn ≡ false → AddsNoStray contents old.store new.store
+  pub lying : StraysIf (is_counted_turn turn) contents old.store new.store (removed_in turn)
   pub gives : GivesBy (MayLayIn old.state.lib turn) (may_give old.store.shelf) (may_give new.store.shelf)
   pub slot : TurnSlotSo moment turn old.unsettled old.state (status_of contents old.store) new.unsettled (status_of contents new.store)
       (texts old.store.shelf) (texts new.store.shelf)
@@ -257,7 +257,7 @@ module _ {S : Type 0} (contents : S → Option Contents) (may_give : S → Shelf
     pub took : Took contents old new before.marks.candidates after.marks.candidates keys
     pub same : HasTheSameMarks before.marks after.marks
     pub runs : after.running ≡ running
-    pub lying : AddsNoStrayBy contents old new fault
+    pub lying : StraysAtEnd contents old new keys fault
     pub count : CountsSwept (faults old.shelf) (faults new.shelf) fault
 
   abbrev pub SweepsSo : StoreView S → CollectionView → ℕ → Turn → StoreView S → CollectionView → Type 0

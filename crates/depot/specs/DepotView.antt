@@ -16,6 +16,7 @@ use Rattle.object_store.specs.Shelf.{Contents}
 use Rattle.object_store.specs.StoreView.{Index, StoreView, store_code, objects_of, status_of}
 use Rattle.collector.specs.Collecting.{Collects}
 use Rattle.collector.specs.Marks.{MarksView, is_candidate, marks_code}
+use Rattle.collector.specs.StoredCandidates.{AreStoredIn}
 use Rattle.tree_walk.specs.KnownTrees.{Fits, KnownView}
 use Rattle.depot.specs.NextState.{Follows}
 use Rattle.depot.specs.Writing.{ReadsBack}
@@ -121,7 +122,7 @@ CollectsIn s (Some collection) = Collects s collection.running collection.marks
 -- what a collection may still remove is known, over any shelf
 abbrev pub KnowsCandidates : Index → Option CollectionView → Type 0
 KnowsCandidates index None = ⊤
-KnowsCandidates index (Some collection) = (key : Key) → is_candidate collection.marks key ≡ true → is_some (map.get index key) ≡ true
+KnowsCandidates index (Some collection) = AreStoredIn index collection.marks
 
 -- nor is it fresh, over any shelf
 abbrev pub AreApart : Option CollectionView → Type 0

@@ -12,6 +12,7 @@ ghost use Rattle.library_state.specs.StateSpelling.{text_of};
 ghost use Rattle.object_store.specs.Store.{CountsShelf};
 ghost use Rattle.object_graph.specs.Traversal.{is_in};
 ghost use Rattle.object_store.specs.StoreView.{AddsNoStray, objects_of, status_of};
+ghost use Rattle.collector.specs.Sweeping.{StraysIf};
 ghost use Rattle.depot.specs.CollectionTurns.{BeginsOver, BeginsSo, CountsTurn, IsAimed, IsToldDamageIn, MarksSo, MayLayIn, SettlesBefore, SweepsSo, TakesTurn, TurnSlotSo, TurnsAsDue, TurnsBySome, is_begin, is_counted_turn, is_end, is_owner, missed, permits_collection, removed_in, running_after, running_after_turn, state_after_turn};
 ghost use Rattle.depot.specs.DepotView.{IsGood, IsKept, KnowsCandidates, state_of};
 ghost use Rattle.depot.specs.Giving.{GivesBy, IsOfSweep, IsOwnText};
@@ -44,7 +45,8 @@ pub enum Turn {
     Ended(u64),
     /// The collection of this number, which is the goal, doesn't run, and nothing was done.
     Over(u64),
-    /// Why not, and the keys that left all the same. A collection that ran goes on.
+    /// Why not, and the keys that left all the same. Where the shelf failed, the bytes of the last of them, and nothing else,
+    /// may come to lie beside the library. A collection that ran goes on.
     Refused(Refusal, KeyList),
 }
 
@@ -95,7 +97,7 @@ impl<S: Shelf> Depot<S> {
         ensures held { (key : Key) → map.get self.new.store.index key
             ≡ (if is_in (removed_in result) key then None else map.get self.old.store.index key) }
         ensures size { map.len self.new.store.index + length (removed_in result) ≡ map.len self.old.store.index }
-        ensures lying { is_counted_turn result ≡ false → AddsNoStray S.contents self.old.store self.new.store }
+        ensures lying { StraysIf (is_counted_turn result) S.contents self.old.store self.new.store (removed_in result) }
         ensures text { TurnSlotSo moment result self.old.unsettled self.old.state (status_of S.contents self.old.store) self.new.unsettled
             (status_of S.contents self.new.store) (S.texts self.old.store.shelf) (S.texts self.new.store.shelf) }
     {

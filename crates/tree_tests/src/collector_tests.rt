@@ -1,6 +1,6 @@
 //! A collection of a small store, turn by turn, and what one tree needs beside another.
 ghost use Rattle.std.specs.Prelude.{IfOk};
-ghost use Rattle.tree_tests.specs.StoredCandidates.{AreStored};
+ghost use Rattle.collector.specs.StoredCandidates.{AreStoredIn};
 
 use collector::{Marks, Phase, unshared};
 use ids::{Bytes, IdList, Items, Key, KeyList, KeyTable, Kind, ObjId};
@@ -105,7 +105,7 @@ fn small(alloc: Global, with_block: bool, fails: Items<u64>) -> Result<Shelved, 
 
 /// The marks of a collection of it that begins.
 fn begun(alloc: Global, store: &Shelved) -> Result<Marks, AllocError>
-    ensures stored { IfOk result (AreStored store.now.index) }
+    ensures stored { IfOk result (AreStoredIn store.now.index) }
 {
     let mut kept = IdList::new(alloc);
     kept.push(ObjId::from_bytes([0xcc; 20]))?;
@@ -113,10 +113,10 @@ fn begun(alloc: Global, store: &Shelved) -> Result<Marks, AllocError>
 }
 
 /// How many turns of one object a marking takes; none where it is refused, or isn't over after a hundred.
-#[tactic(auto, using(crate::proofs::StoredCandidatesLemmas::marked_stays))]
+#[tactic(auto, using(crate::proofs::StoredCandidatesLemmas::marked_stored))]
 fn marked(store: &mut Shelved, marks: &mut Marks) -> Option<u64>
-    requires stored { AreStored store.old.index marks.old }
-    ensures stored { AreStored store.new.index marks.new }
+    requires stored { AreStoredIn store.old.index marks.old }
+    ensures stored { AreStoredIn store.new.index marks.new }
 {
     for turns in 0..100 {
         if marks.phase() != Phase::Marking {
@@ -132,9 +132,9 @@ fn marked(store: &mut Shelved, marks: &mut Marks) -> Option<u64>
 }
 
 /// How many turns of one object a sweep takes, and none where it isn't over then.
-#[tactic(auto, using(crate::proofs::StoredCandidatesLemmas::swept_stays))]
+#[tactic(auto, using(crate::proofs::StoredCandidatesLemmas::taken_stored))]
 fn swept(store: &mut Shelved, marks: &mut Marks) -> Option<u64>
-    requires stored { AreStored store.old.index marks.old }
+    requires stored { AreStoredIn store.old.index marks.old }
 {
     for turns in 0..100 {
         if marks.phase() == Phase::Over {

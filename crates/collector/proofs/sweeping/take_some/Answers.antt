@@ -1,14 +1,15 @@
 -- One candidate more leaves; none is left, the shelf fails, or as many left as were asked for.
-use Rattle.std.proofs.Common.{Err, ap, arith, inl, length, refl, subst, ◌∙◌, ℕ}
+use Rattle.std.proofs.Common.{Err, Some, ap, arith, inl, length, refl, subst, ◌∙◌, ℕ}
 use Rattle.std.proofs.lemmas.List.{length_push}
 use Rattle.std.specs.Prelude.{⊤}
 use Rattle.object_store.specs.Store.{CountsShelf}
-use Rattle.collector.proofs.SweepLemmas.{few_err, gives_then, none_len, still_known, told_err, took_err, took_nothing, took_then}
+use Rattle.collector.proofs.SweepLemmas.{few_err, gives_then, least_err, least_none, least_then, none_len, still_known, strays_after, told_err, took_err, took_nothing, took_then}
 use Rattle.collector.proofs.sweeping.take_some.Goals as goal
 
 pub loop-candidates-init : goal.loop-candidates-init
 loop-candidates-init g c = record {
   took = took_nothing g.S.Shelf.contents c.args.store.now c.args.candidates.now c.args.removed.now.items c.requires.ready;
+  least = least_none c.args.candidates.now c.args.removed.now.items c.requires.ready;
   few = omega (arith, ap length c.requires.ready);
   unwritten = refl;
   gives = λ slot given may. inl may;
@@ -37,6 +38,9 @@ loop-candidates-preserved g c =
       took =
           took_then g.S.Shelf.contents c.args.store.now c.loop-candidates.store c.take.new.store c.args.candidates.now c.loop-candidates.candidates c.take.new.candidates
           c.loop-candidates.removed.items c.take.new.removed.items c.in-Some.key inv.took c.in-Ok.ensures.value there known;
+      least =
+          least_then c.loop-candidates.candidates c.take.new.candidates c.loop-candidates.removed.items c.take.new.removed.items c.in-Some.key c.in-Ok.ensures.value.candidates c.in-Ok.ensures.value.removed
+          c.in-Some.ensures.value inv.least;
       few = omega (arith, c.loop-candidates-test.true, ap length c.in-Ok.ensures.value.removed, length_push c.loop-candidates.removed.items c.in-Some.key);
       unwritten = c.take.ensures.unwritten ∙ inv.unwritten;
       gives =
@@ -80,8 +84,15 @@ returns-in-Err-clause-gives g c =
     gives_then (g.S.Shelf.may_give c.args.store.now.shelf) (g.S.Shelf.may_give c.loop-candidates.store.shelf) (g.S.Shelf.may_give c.take.new.store.shelf)
     c.loop-candidates.invariant.gives c.take.ensures.gives
 
+pub returns-in-Err-clause-order : goal.returns-in-Err-clause-order
+returns-in-Err-clause-order g c =
+    least_err g.S.Shelf.contents c.loop-candidates.store c.take.new.store c.loop-candidates.candidates c.take.new.candidates c.loop-candidates.removed.items c.take.new.removed.items
+    c.in-Some.key c.in-Err.fault c.in-Err.ensures.value c.in-Some.ensures.value c.loop-candidates.invariant.least
+
 pub returns-in-Err-clause-lying : goal.returns-in-Err-clause-lying
-returns-in-Err-clause-lying g c = λ free key stray. c.loop-candidates.invariant.strays key (c.in-Err.ensures.lying free key stray)
+returns-in-Err-clause-lying g c =
+    strays_after g.S.Shelf.contents c.args.store.now c.loop-candidates.store c.take.new.store c.take.new.removed.items (Some c.in-Err.fault) c.loop-candidates.invariant.strays
+    c.in-Err.ensures.lying
 
 pub returns-in-Err-clause-faults : goal.returns-in-Err-clause-faults
 returns-in-Err-clause-faults g c =

@@ -1,15 +1,17 @@
 -- Nothing is taken while an object waits; else what was taken is told, with the fault that ended it.
-use Rattle.std.proofs.Common.{◌≡◌, IsSome, List, ap, arith, length, not, refl, rules, subst, sym, true, ◌∙◌}
+use Rattle.std.proofs.Common.{◌≡◌, IsSome, List, Option, ap, arith, length, not, refl, rules, subst, sym, true, ◌∙◌}
 use Rattle.std.specs.Prelude.{min}
+use Rattle.std.specs.Result.{result_err}
 use Rattle.std.specs.FinMap as map
 use Rattle.std.proofs.lemmas.Bool.{and_parts}
 use Rattle.ids.specs.declared.key.Key.{Key}
 use Rattle.object_graph.specs.Traversal.{is_in}
+use Rattle.object_store.specs.declared.error.StoreFault.{StoreFault}
 use Rattle.collector.specs.Marks.{AreMarks, Candidates, MarksView}
-use Rattle.collector.specs.Sweeping.{Took, is_listed}
+use Rattle.collector.specs.Sweeping.{StraysAtEnd, Took, TookLeast, is_listed}
 use Rattle.collector.proofs.LeadingLemmas.{fewer_good}
 use Rattle.collector.proofs.MarkingLemmas.{marks_of}
-use Rattle.collector.proofs.SweepLemmas.{ended_counted, ended_free, ended_strays, ended_told, ended_well, took_nothing}
+use Rattle.collector.proofs.SweepLemmas.{ended_counted, ended_free, ended_told, ended_well, least_none, took_nothing}
 use Rattle.collector.proofs.WorklistLemmas.{nothing_waits, some_waiting}
 use Rattle.collector.proofs.marks.Marks.sweep.Goals as goal
 
@@ -27,6 +29,13 @@ returns-then-not-is_done-clause-good g c = subst AreMarks c.self.view_is c.self.
 
 pub returns-then-not-is_done-clause-stays : goal.returns-then-not-is_done-clause-stays
 returns-then-not-is_done-clause-stays g c = record { commits = refl; marked = refl; pending = refl }
+
+pub returns-then-not-is_done-clause-order : goal.returns-then-not-is_done-clause-order
+returns-then-not-is_done-clause-order g c = least_none c.args.self.now.candidates c.answer_of.result.removed (search rules)
+
+pub returns-then-not-is_done-clause-lying : goal.returns-then-not-is_done-clause-lying
+returns-then-not-is_done-clause-lying g c =
+    subst (λ (fault : Option StoreFault). StraysAtEnd g.S.Shelf.contents c.args.store.now c.args.store.now c.answer_of.result.removed fault) (sym c.answer_of.ensures.value.1) (λ key stray. stray)
 
 -- none waits
 pub returns-clause-value : goal.returns-clause-value
@@ -67,9 +76,14 @@ returns-clause-failed g c =
     ended_told c.take_some-ended.result c.answer_of-2.result.fault c.take_some-ended.new.removed.items c.answer_of-2.result.removed c.answer_of-2.ensures.value.1
     c.answer_of-2.ensures.value.0 c.take_some-ended.ensures.failed
 
+pub returns-clause-order : goal.returns-clause-order
+returns-clause-order g c = subst (λ (keys : List Key). TookLeast c.take_some-ended.new.candidates keys) (sym c.answer_of-2.ensures.value.0) c.take_some-ended.ensures.order
+
 pub returns-clause-lying : goal.returns-clause-lying
 returns-clause-lying g c =
-    ended_strays g.S.Shelf.contents c.args.store.now c.take_some-ended.new.store c.take_some-ended.result c.answer_of-2.result.fault c.answer_of-2.ensures.value.1 c.take_some-ended.ensures.lying
+    subst (λ (fault : Option StoreFault). StraysAtEnd g.S.Shelf.contents c.args.store.now c.take_some-ended.new.store c.answer_of-2.result.removed fault) (sym c.answer_of-2.ensures.value.1)
+    (subst (λ (keys : List Key). StraysAtEnd g.S.Shelf.contents c.args.store.now c.take_some-ended.new.store keys (result_err c.take_some-ended.result)) (sym c.answer_of-2.ensures.value.0)
+    c.take_some-ended.ensures.lying)
 
 pub returns-clause-faults : goal.returns-clause-faults
 returns-clause-faults g c =
