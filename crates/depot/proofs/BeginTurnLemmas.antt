@@ -131,7 +131,7 @@ module _ {S : Type 0} (contents : S → Option Contents) (may_give : S → Shelf
         left = left_begun (faults store.shelf) objects told counts;
         turns = (refl, refl, begun_turn (idle_at objects) moment next);
       });
-      may_come = record { may = (refl, refl, refl, next); over = λ number asked apart. no_goal asked; spent = λ none idle last. absurd (omega (arith, next, last)) };
+      may_come = record { may = (refl, refl, refl, next); unfresh = refl; over = λ number asked apart. no_goal asked; spent = λ none idle last. absurd (omega (arith, next, last)) };
       damage = λ objects told. tt;
       count = counts;
       left = refl;
@@ -201,7 +201,7 @@ module _ {S : Type 0} (contents : S → Option Contents) (may_give : S → Shelf
           left = ap (option_map (running_library state None (faults store.shelf))) told;
           turns = (omega arith, turn.1);
         });
-    may_come = record { may = last; over = λ number asked apart. no_goal asked; spent = λ none idle at_last. refl };
+    may_come = record { may = last; unfresh = refl; over = λ number asked apart. no_goal asked; spent = λ none idle at_last. refl };
     damage = λ objects told. tt;
     count = refl;
     left = refl;
@@ -255,7 +255,7 @@ module _ {S : Type 0} (contents : S → Option Contents) (may_give : S → Shelf
                 left = ap (option_map (running_library state None (faults new.shelf))) (stays ∙ told);
                 turns = (omega arith, turn.1);
               });
-          may_come = record { may = may_refuse fault is_free_fault; over = λ number asked apart. no_goal asked; spent = λ none idle last. absurd (omega (arith, next, last)) };
+          may_come = record { may = may_refuse fault is_free_fault; unfresh = refl; over = λ number asked apart. no_goal asked; spent = λ none idle last. absurd (omega (arith, next, last)) };
           damage = λ objects told. told_damage objects (store_refusal fault) (free_told objects fault is_free_fault);
           count = counts;
           left = refl;

@@ -31,7 +31,7 @@ use Rattle.depot.specs.declared.turn.Turn.TheVariants.{Began, Ended, Over, Refus
 use Rattle.depot.proofs.BeginTurnLemmas.{begins_kept, begins_takes, spent_takes, stops_beginning, stops_kept}
 use Rattle.depot.proofs.BesideLemmas.{good_rest}
 use Rattle.depot.proofs.PlaceLemmas.{place_token}
-use Rattle.depot.proofs.TakesTurnLemmas.{depot_of}
+use Rattle.depot.proofs.TakesTurnLemmas.{depot_of, unfresh_none}
 use Rattle.depot.proofs.ToldLemmas.{mapped_at}
 use Rattle.depot.proofs.TurnLemmas.{turn_files, turn_safe}
 
@@ -101,6 +101,7 @@ module _ {S : Type 0} (contents : S → Option Contents) (may_give : S → Shelf
         };
     may_come = record {
       may = (due.0, apart_running old.running old.state.collection number due.1);
+      unfresh = unfresh_none old.running;
       over = λ other asked apart. ap Over (same_number (sym due.0 ∙ asked));
       spent = λ none idle last. no_number (sym due.0 ∙ none);
     };

@@ -98,7 +98,8 @@ module _ {S : Type 0} (contents : S → Option Contents) (may_give : S → Shelf
           left = left_as keys (turned_once before.running) (faults store.shelf) objects sweeps.took told sweeps.runs sweeps.count;
           turns = (some_keys keys at_most (map.len before.marks.candidates) size least left, omega (arith, size), turn.1);
         });
-    may_come = as_due store.index (may_give new.shelf) before.running state.collection goal (Swept keys) aimed (λ idle. runs_some idle);
+    may_come = as_due store.index (may_give new.shelf) before.running state.collection goal (Swept keys) aimed (λ idle. runs_some idle)
+        (λ key there. kept.apart key (sweeps.took.each key there));
     damage = λ objects told. tt;
     count = sweeps.count;
     left = refl;
@@ -132,7 +133,8 @@ module _ {S : Type 0} (contents : S → Option Contents) (may_give : S → Shelf
           turns = (few, refused.1);
         });
     may_come = as_due store.index (may_give new.shelf) before.running state.collection goal (Refused why keys) aimed
-        (subst (MayRefuseTree store.index (may_give new.shelf)) (sym refusal) (free_cause store.index (may_give new.shelf) fault free));
+        (subst (MayRefuseTree store.index (may_give new.shelf)) (sym refusal) (free_cause store.index (may_give new.shelf) fault free))
+        (λ key there. kept.apart key (sweeps.took.each key there));
     damage = λ objects told. told_damage objects why (told_why objects);
     count = counts;
     left = refl;

@@ -38,7 +38,7 @@ use Rattle.tree_walk.specs.Files.{first_due}
 use Rattle.tree_walk.specs.KnownTrees.{KnownView}
 use Rattle.tree_walk.specs.Reading.{IsDue, Reads}
 use Rattle.tree_walk.specs.declared.fault.WalkFault.{WalkFault}
-use Rattle.depot.specs.CollectionTurns.{IsAimed, IsRunning, MarksSo, MayTurn, TakesTurn, TurnsAsDue, TurnsBySome, running_after, turned_once}
+use Rattle.depot.specs.CollectionTurns.{IsAimed, IsRunning, MarksSo, MayTurn, NoneFresh, TakesTurn, TurnsAsDue, TurnsBySome, removed_in, running_after, turned_once}
 use Rattle.depot.specs.DepotView.{CollectionView, DepotView, IsKept, library, running_library, state_of}
 use Rattle.depot.specs.Fresh.{counted_turn}
 use Rattle.depot.specs.ObjectCalls.{Counts, is_of_store}
@@ -84,10 +84,16 @@ module _ {S : Type 0} (contents : S → Option Contents) (may_give : S → Slot 
 runs_some : {running : Running} → Some running ≡ None → ⊥
 runs_some e = cc
 
+-- where none leaves, no fresh key does
+pub unfresh_none : (running : Option Running) → NoneFresh running []
+unfresh_none None = refl
+unfresh_none (Some running) = λ key there. absurd (true≢false (sym there))
+
 pub as_due : (index : Index) (gives : Slot → Option (List ℕ) → Type 0) (running : Running) (collection : ℕ) (goal : Option ℕ) (turn : Turn) → IsAimed goal collection
-    → MayTurn index gives (Some running) collection goal turn → TurnsAsDue index gives (Some running) collection goal turn
-as_due index gives running collection goal turn aimed may = record {
+    → MayTurn index gives (Some running) collection goal turn → NoneFresh (Some running) (removed_in turn) → TurnsAsDue index gives (Some running) collection goal turn
+as_due index gives running collection goal turn aimed may unfresh = record {
   may = may;
+  unfresh = unfresh;
   over = over goal aimed;
   spent = λ none idle last. absurd (runs_some idle);
 }
@@ -157,7 +163,7 @@ module _ {S : Type 0} (contents : S → Option Contents) (may_give : S → Slot 
       left = left_as (turned_once before.running) (faults store.shelf) objects marks.reads.kept told marks.turned marks.reads.count;
       turns = (least, few, marked_turn (library state (faults store.shelf) objects) before.running before.marks (sound_at objects told) (collects_at objects told) moment some);
     });
-    may_come = as_due store.index (may_give new.shelf) before.running state.collection goal (Marked count) aimed (λ idle. runs_some idle);
+    may_come = as_due store.index (may_give new.shelf) before.running state.collection goal (Marked count) aimed (λ idle. runs_some idle) (unfresh_none (Some before.running));
     damage = λ objects told. tt;
     count = marks.reads.count;
     left = refl;
@@ -190,7 +196,7 @@ module _ {S : Type 0} (contents : S → Option Contents) (may_give : S → Slot 
             });
         may_come = as_due store.index (may_give new.shelf) before.running state.collection goal (Refused (walk_refusal fails.fault) []) aimed
             (subst (λ (i : Index). MayTurn i (may_give new.shelf) (Some before.running) state.collection goal (Refused (walk_refusal fails.fault) [])) fails.reads.kept.index
-            (walked_cause new.index (may_give new.shelf) fails.fault fails.reads.cause));
+            (walked_cause new.index (may_give new.shelf) fails.fault fails.reads.cause)) (unfresh_none (Some before.running));
         damage = λ objects told. walk_not_damaged objects None fails.fault (due objects told);
         count = counts;
         left = refl;
@@ -224,7 +230,7 @@ module _ {S : Type 0} (contents : S → Option Contents) (may_give : S → Slot 
       left = ap (option_map (running_library state None (faults store.shelf))) told;
       turns = (refl, clean objects told, ended_turn (library state (faults store.shelf) objects) before.running before.marks (sound_at objects told) (collects_at objects told) moment (clean objects told));
     });
-    may_come = as_due store.index (may_give store.shelf) before.running state.collection goal (Ended state.collection) aimed refl;
+    may_come = as_due store.index (may_give store.shelf) before.running state.collection goal (Ended state.collection) aimed refl (unfresh_none (Some before.running));
     damage = λ objects told. tt;
     count = refl;
     left = refl;

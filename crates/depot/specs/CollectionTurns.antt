@@ -119,9 +119,15 @@ MayTurn index may_give running collection goal (Ended number) = IsRunning runnin
 MayTurn index may_give running collection goal (Over number) = (goal ≡ Some number) × (IsRunning running collection number → ⊥)
 MayTurn index may_give running collection goal (Refused why keys) = MayRefuseTurn index may_give running collection why
 
--- the turn may come; it is over where the goal doesn't run, and spent where one would begin and the last number was given
+-- no fresh key is among these; and where no collection runs, none is
+abbrev pub NoneFresh : Option Running → List Key → Type 0
+NoneFresh None keys = keys ≡ []
+NoneFresh (Some running) keys = (key : Key) → is_in keys key ≡ true → set.contains running.fresh key ≡ false
+
+-- the turn may come, and no fresh key leaves; it is over where the goal doesn't run, and spent where one would begin and the last number was given
 pub record TurnsAsDue (index : Index) (may_give : ShelfSlot → Option (List ℕ) → Type 0) (running : Option Running) (collection : ℕ) (goal : Option ℕ) (turn : Turn) : Type 0 where
   pub may : MayTurn index may_give running collection goal turn
+  pub unfresh : NoneFresh running (removed_in turn)
   pub over : (number : ℕ) → goal ≡ Some number → (IsRunning running collection number → ⊥) → turn ≡ Over number
   pub spent : goal ≡ None → running ≡ None → last_number ≤ collection → turn ≡ Refused refusal.Spent []
 

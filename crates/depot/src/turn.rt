@@ -85,7 +85,7 @@ impl<S: Shelf> Depot<S> {
         ensures safe { (s : State) → (t : State) → state_of S.contents S.faults self.old ≡ Some s → state_of S.contents S.faults self.new ≡ Some t
             → is_begin result ≡ false → KeepsSafe s t }
 
-        // Of every shelf: which turn it may be, and the cause of each fault.
+        // Of every shelf: which turn it may be, that no fresh key leaves, and the cause of each fault.
         ensures cause { TurnsAsDue self.old.store.index (S.may_give self.new.store.shelf) self.old.running self.old.state.collection goal result }
         ensures damaged { (objects : Objects) → objects_of S.contents self.old.store ≡ Some objects → IsToldDamageIn objects result }
         ensures faults { CountsTurn (S.faults self.old.store.shelf) (S.faults self.new.store.shelf) result }
