@@ -16,7 +16,7 @@ use Rattle.object_store.specs.StoreView.{Index, StoreView, Keeps, objects_of}
 use Rattle.object_store.specs.declared.shelf.Slot.{Slot}
 use Rattle.object_graph.specs.Objects.{is_nil}
 use Rattle.object_graph.specs.declared.fault.TreeFault.{TreeFault}
-use Rattle.tree_walk.specs.Reading.{AnswersRead, IsDamageOf, IsReadFault, IsStoreDue, Reads, is_counted}
+use Rattle.tree_walk.specs.Reading.{AnswersRead, IsDamageAt, IsDamageOf, IsReadFault, IsStoreDue, Reads, is_counted}
 use Rattle.tree_walk.specs.declared.fault.WalkFault.{WalkFault}
 use Rattle.tree_walk.specs.declared.fault.WalkFault.TheVariants as walk
 
@@ -100,3 +100,8 @@ store_of key may_give (store.Wrong id) cause = tt
 store_of key may_give (store.Damaged want got) cause = cause.named
 store_of key may_give store.Shelf cause = tt
 store_of key may_give store.NoMemory cause = tt
+
+-- and where the objects are told, of the very object
+pub store_damage : (objects : Objects) (key : Key) (fault : StoreFault) → (damage_at objects key ≡ Some fault) ⊎ IsTrue (is_free fault) → IsDamageAt objects key (walk.Store fault)
+store_damage objects key (store.Damaged want got) refused = elim refused [ inl is ↦ is | inr free ↦ cc ]
+store_damage objects key other refused = tt

@@ -99,6 +99,11 @@ IsFaultAt key (WrongSize id) = ⊥
 IsFaultAt key (TooDeep path) = ⊥
 IsFaultAt key (TooMany paths) = ⊥
 
+-- where objects are told, damage is told of the object under this key alone
+abbrev pub IsDamageAt : Objects → Key → WalkFault → Type 0
+IsDamageAt objects key (Store (Damaged want got)) = damage_at objects key ≡ Some (Damaged want got)
+IsDamageAt objects key other = ⊤
+
 -- the failure that the shelf counts
 abbrev pub is_counted : WalkFault → Bool
 is_counted (Store fault) = is_of_shelf fault

@@ -3,7 +3,7 @@ ghost use Rattle.std.specs.Prelude.{◌≡◌, IfErr, IfOk, Some};
 ghost use Rattle.ids.specs.Key.{Objects};
 ghost use Rattle.object_graph.specs.Objects.{fs_at, commit_at, block_key, fs_key, commit_key};
 ghost use Rattle.object_store.specs.StoreView.{objects_of};
-ghost use Rattle.tree_walk.specs.Reading.{AnswersRead, IsFaultAt, Reads, stored_at};
+ghost use Rattle.tree_walk.specs.Reading.{AnswersRead, IsDamageAt, IsFaultAt, Reads, stored_at};
 
 use crate::fault::WalkFault;
 use commit_objects::Commit;
@@ -65,6 +65,7 @@ pub fn fs_at<S: Shelf>(
 pub fn bytes_at<S: Shelf>(store: &mut Store<S>, key: &Key) -> Result<Bytes, WalkFault>
     ensures value { (objects : Objects) → objects_of S.contents store.old ≡ Some objects → AnswersRead objects (stored_at objects key.now) result }
     ensures of_key { IfErr result (IsFaultAt key.now) }
+    ensures damaged { (objects : Objects) → objects_of S.contents store.old ≡ Some objects → IfErr result (IsDamageAt objects key.now) }
     ensures stays { Reads S.contents S.may_give S.texts S.faults store.old store.new result }
 {
     match store.get(*key) {

@@ -4,7 +4,7 @@ use Rattle.std.specs.FinMap as map
 use Rattle.object_store.specs.Store.{IsOfStored}
 use Rattle.object_store.specs.StoreView.{Index}
 use Rattle.tree_walk.specs.Reading.{stored_at}
-use Rattle.tree_walk.proofs.ReadsLemmas.{read_stops, store_cause, store_due, store_of}
+use Rattle.tree_walk.proofs.ReadsLemmas.{read_stops, store_cause, store_damage, store_due, store_of}
 use Rattle.tree_walk.proofs.reading.bytes_at.Goals as goal
 
 pub returns-in-Err-clause-value : goal.returns-in-Err-clause-value
@@ -14,6 +14,9 @@ returns-in-Err-clause-value g c = λ objects told.
 
 pub returns-in-Err-clause-of_key : goal.returns-in-Err-clause-of_key
 returns-in-Err-clause-of_key g c = store_of c.args.key.now (g.S.Shelf.may_give c.get.new.self.shelf) c.in-Err.fault c.in-Err.ensures.damaged
+
+pub returns-in-Err-clause-damaged : goal.returns-in-Err-clause-damaged
+returns-in-Err-clause-damaged g c = λ objects told. store_damage objects c.args.key.now c.in-Err.fault (c.in-Err.ensures.refused objects told)
 
 pub returns-in-Err-clause-stays : goal.returns-in-Err-clause-stays
 returns-in-Err-clause-stays g c = record {
