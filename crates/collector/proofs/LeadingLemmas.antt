@@ -1,6 +1,6 @@
 -- The marks lead to what is needed, and to nothing else. The key lemmas are begins, begins_exact, first_good, fewer_good,
 -- leads_many, exact_many,
--- leads_up_to, exact_up_to, good_many, all_marked and fails_by_store.
+-- leads_up_to, exact_up_to, good_many, all_marked, fails_by_store, fails_in_store and damage_needed.
 use Rattle.std.proofs.Common.{◌≡◌, ◌||◌, ◌⊎◌, inl, inr, ℕ, zero, suc, Bool, true, false, cond, is_some, List, [], ◌∷◌, ◌++◌, map as map_list, refl, sym, ap, ap₂, ◌∙◌, subst, subst₂, append_assoc, true≢false, Option, None, Some, Result, Ok, Err}
 use Rattle.std.specs.FinMap as map
 use Rattle.std.specs.List.{IsDistinct, list_any}
@@ -16,12 +16,13 @@ use Rattle.object_graph.specs.declared.fault.TreeFault.{TreeFault}
 use Rattle.object_graph.proofs.KeyLemmas.{Within, in_append, in_distinct, in_distinct_from, in_last, in_pushed, same_key, same_key-itself, same_key-true}
 use Rattle.object_graph.proofs.ReachingLemmas.{commit_closes, in_first, reached_within, visited_reached}
 use Rattle.object_store.specs.StoreView.{Index}
+use Rattle.object_store.specs.declared.error.StoreFault.TheVariants as store
 use Rattle.library_rules.proofs.MemberLemmas.{any_found, same_id-itself, same_id-true}
 use Rattle.tree_walk.specs.Files.{first_due}
-use Rattle.tree_walk.specs.Reading.{AnswersRead, IsDue}
+use Rattle.tree_walk.specs.Reading.{AnswersRead, IsDamageAt, IsDue}
 use Rattle.tree_walk.specs.declared.fault.WalkFault.{WalkFault}
 use Rattle.tree_walk.specs.declared.fault.WalkFault.TheVariants.{Incomplete, Unreadable, WrongKind, WrongSize, TooDeep, TooMany, Store}
-use Rattle.collector.specs.Marking.{FailsToMark, MarksMany, MarksOne, MarksUpTo, WaitsWith, first_fault, is_of_store, named_first}
+use Rattle.collector.specs.Marking.{FailsToMark, IsDamageOfNeeded, MarksMany, MarksOne, MarksUpTo, WaitsWith, first_fault, is_of_store, named_first}
 use Rattle.collector.specs.Marks.{AreCompleteCommits, AreFirst, AreMarks, Candidates, IsExact, Leads, MarksView, is_candidate, needed_by}
 use Rattle.collector.specs.Naming.{names_at}
 use Rattle.collector.proofs.NamingLemmas.{can_be_read}
@@ -357,13 +358,30 @@ read_alone : (objects : Objects) (r : Result (List Key) TreeFault) (keys : List 
 read_alone objects (Ok other) keys fault e due = store_alone objects fault due
 read_alone objects (Err why) keys fault e due = cc e
 
--- where the commits are complete only the store can fail
+-- where the commits are complete they need the object that can't be marked
+fails_needed : (objects : Objects) (m : MarksView) (fault : WalkFault) → AreCompleteCommits objects m.commits → IsExact objects m → (fails : FailsToMark objects m fault)
+    → needed_by objects m.commits fails.key ≡ true
+fails_needed objects m fault complete exact fails =
+    exact.each complete fails.key
+    (in_append m.marked m.pending fails.key
+    ∙ or_right (is_in m.marked fails.key) (is_in m.pending fails.key) (ap (λ (ks : List Key). is_in ks fails.key) fails.first ∙ in_first fails.key fails.rest))
+
+-- so only the store can fail
+pub fails_in_store : (objects : Objects) (m : MarksView) (fault : WalkFault) → AreCompleteCommits objects m.commits → IsExact objects m
+    → FailsToMark objects m fault → is_of_store fault ≡ true
+fails_in_store objects m fault complete exact fails =
+    let one = any_of (λ commit. is_in (needs objects commit) fails.key) m.commits (fails_needed objects m fault complete exact fails) in
+    read_alone objects (names_at objects fails.key) (named objects fails.key) fault (can_be_read objects one.0 fails.key (complete one.0 one.1) one.2) fails.due
+
 pub fails_by_store : (objects : Objects) (m : MarksView) (fault : WalkFault) → first_fault objects m.commits ≡ None → IsExact objects m
     → FailsToMark objects m fault → is_of_store fault ≡ true
-fails_by_store objects m fault none exact fails =
-    let complete = complete_commits objects m.commits none in
-    let met : is_in (m.marked ++ m.pending) fails.key ≡ true
-    = in_append m.marked m.pending fails.key
-    ∙ or_right (is_in m.marked fails.key) (is_in m.pending fails.key) (ap (λ (ks : List Key). is_in ks fails.key) fails.first ∙ in_first fails.key fails.rest) in
-    let one = any_of (λ commit. is_in (needs objects commit) fails.key) m.commits (exact.each complete fails.key met) in
-    read_alone objects (names_at objects fails.key) (named objects fails.key) fault (can_be_read objects one.0 fails.key (complete one.0 one.1) one.2) fails.due
+fails_by_store objects m fault none exact fails = fails_in_store objects m fault (complete_commits objects m.commits none) exact fails
+
+-- and damage is that of an object which they need
+pub damage_needed : (objects : Objects) (m : MarksView) (fault : WalkFault) → AreCompleteCommits objects m.commits → IsExact objects m
+    → FailsToMark objects m fault → IsDamageOfNeeded objects m.commits fault
+damage_needed objects m fault complete exact fails = by fault fails.damage
+  where
+    by : (f : WalkFault) → IsDamageAt objects fails.key f → IsDamageOfNeeded objects m.commits f
+    by (Store (store.Damaged want got)) is = (fails.key, is, fails_needed objects m fault complete exact fails)
+    by other is = tt

@@ -18,16 +18,16 @@ use Rattle.object_store.specs.Shelf.{Contents}
 use Rattle.object_store.specs.StoreView.{Index, StoreView}
 use Rattle.object_store.specs.declared.shelf.Slot.{Slot}
 use Rattle.tree_walk.specs.Files.{first_due}
-use Rattle.tree_walk.specs.Reading.{AnswersRead, IsCause, IsDue, Reads}
+use Rattle.tree_walk.specs.Reading.{AnswersRead, IsCause, IsDamageAt, IsDue, Reads}
 use Rattle.tree_walk.specs.declared.fault.WalkFault.{WalkFault}
 use Rattle.tree_walk.specs.declared.fault.WalkFault.TheVariants.{Incomplete, Unreadable, WrongKind, WrongSize, TooDeep, TooMany, Store}
 use Rattle.tree_walk.proofs.StepsLemmas.{due_anywhere}
-use Rattle.collector.specs.Marking.{FailsToMark, HasMarked, IsMarkFault, MarksMany, MarksOne, MarksUpTo, TellsMarked, WaitsWith, first_fault, is_of_store, named_first}
-use Rattle.collector.specs.Marks.{AreMarks, Candidates, IsExact, MarksView, is_candidate, phase_of}
+use Rattle.collector.specs.Marking.{FailsToMark, HasMarked, IsDamageOfNeeded, IsMarkFault, MarksMany, MarksOne, MarksUpTo, TellsMarked, WaitsWith, first_fault, is_of_store, named_first}
+use Rattle.collector.specs.Marks.{AreCompleteCommits, AreMarks, Candidates, IsExact, MarksView, is_candidate, phase_of}
 use Rattle.collector.specs.declared.marks.Phase.TheVariants.{Marking, Sweeping, Over}
 use Rattle.collector.specs.Naming.{names_at}
 use Rattle.collector.specs.Worklist.{MeetsFront, Opens, WorklistView, all_met, first_of}
-use Rattle.collector.proofs.LeadingLemmas.{commits_many, exact_many, fails_by_store, not_marked}
+use Rattle.collector.proofs.LeadingLemmas.{commits_many, damage_needed, exact_many, fails_by_store, fails_in_store, not_marked}
 use Rattle.collector.proofs.WorklistLemmas.{first_is, once_met}
 
 -- ---- the marks, by their parts
@@ -157,9 +157,9 @@ waits_none objects m = record {
 }
 
 pub fails_to_mark : (objects : Objects) (commits : List (List ℕ)) (marked pending : List Key) (candidates : Candidates) (key : Key) (fault : WalkFault) → Some key ≡ first_of pending
-    → AnswersRead {T = List Key} objects (names_at objects key) (Err fault) → FailsToMark objects (marks_of commits marked pending candidates) fault
-fails_to_mark objects commits marked pending candidates key fault is due =
-    let one = first_is pending key is in record { key = key; rest = one.0; first = one.1; due = due }
+    → AnswersRead {T = List Key} objects (names_at objects key) (Err fault) → IsDamageAt objects key fault → FailsToMark objects (marks_of commits marked pending candidates) fault
+fails_to_mark objects commits marked pending candidates key fault is due damage =
+    let one = first_is pending key is in record { key = key; rest = one.0; first = one.1; due = due; damage = damage }
 
 pub size_next : (names : List Key) (key : Key) (work opened : WorklistView) → Steps names key work opened → length opened.opened ≡ length work.opened + 1
 size_next names key work opened steps = ap length steps.marked ∙ length_push work.opened key
@@ -271,6 +271,22 @@ pub some_fault : (objects : Objects) (old next new : MarksView) (count : ℕ) (f
 some_fault objects old next new count fault marks waits exact fails other none =
     true≢false
     (sym (fails_by_store objects next fault (ap (first_fault objects) (sym waits.commits) ∙ none) (exact_many objects old next count marks exact) fails) ∙ other)
+
+-- where the commits are complete that can't come
+pub none_fails : (objects : Objects) (old next : MarksView) (count : ℕ) (fault : WalkFault) → MarksMany objects old next count → IsExact objects old
+    → AreCompleteCommits objects old.commits → FailsToMark objects next fault → is_of_store fault ≡ false → ⊥
+none_fails objects old next count fault marks exact complete fails other =
+    true≢false
+    (sym (fails_in_store objects next fault (subst (AreCompleteCommits objects) (sym (commits_many objects old next count marks)) complete) (exact_many objects old next count marks exact) fails)
+    ∙ other)
+
+-- and damage that is told is that of an object which they need
+pub needed_damage : (objects : Objects) (old next : MarksView) (count : ℕ) (fault : WalkFault) → MarksMany objects old next count → IsExact objects old
+    → AreCompleteCommits objects old.commits → FailsToMark objects next fault → IsDamageOfNeeded objects old.commits fault
+needed_damage objects old next count fault marks exact complete fails =
+    let same : next.commits ≡ old.commits = commits_many objects old next count marks in
+    subst (λ (commits : List (List ℕ)). IsDamageOfNeeded objects commits fault) same
+    (damage_needed objects next fault (subst (AreCompleteCommits objects) (sym same) complete) (exact_many objects old next count marks exact) fails)
 
 -- the commits are those for which it began
 pub same_commits : (objects : Objects) (old next new : MarksView) (count : ℕ) → MarksMany objects old next count → WaitsWith objects next new → new.commits ≡ old.commits

@@ -1,5 +1,5 @@
 -- What an object names, as it is read. The key lemmas are names_named, can_be_read, block_there,
--- block_gone, names_unread, names_by_bytes, commit_names, fs_names, reads_bytes, entries_next and blocks_next.
+-- block_gone, names_unread, names_by_bytes, commit_names, fs_names, reads_bytes, undamaged, entries_next and blocks_next.
 use Rattle.std.proofs.Common.{◌≡◌, ℕ, ◌+◌, ◌<◌, Bool, true, false, is_some, List, [], ◌∷◌, ◌++◌, length, take, get_or, Option, None, Some, option_map, Result, Ok, Err, IsTrue, refl, sym, ap, ◌∙◌, subst, true≢false, append-nil, append_assoc}
 use Rattle.std.specs.Prelude.{IfErr}
 use Rattle.std.specs.FinMap as map
@@ -23,7 +23,7 @@ use Rattle.object_store.specs.Shelf.{Contents}
 use Rattle.object_store.specs.StoreView.{Index, StoreView}
 use Rattle.object_store.specs.declared.error.StoreFault.TheVariants as store
 use Rattle.object_store.specs.declared.shelf.Slot.{Slot}
-use Rattle.tree_walk.specs.Reading.{AnswersRead, CausedBy, IsCause, Reads, is_counted, stored_at, stored_in}
+use Rattle.tree_walk.specs.Reading.{AnswersRead, CausedBy, IsCause, IsDamageAt, Reads, is_counted, stored_at, stored_in}
 use Rattle.tree_walk.specs.declared.fault.WalkFault.{WalkFault}
 use Rattle.tree_walk.specs.declared.fault.WalkFault.TheVariants as walk
 use Rattle.tree_walk.proofs.StepsLemmas.{due_anywhere}
@@ -238,6 +238,15 @@ module _ {S : Type 0} {contents : S → Option Contents} {may_give : S → Slot 
       count : (r : Result U WalkFault) → IfErr r (λ fault. IsTrue (is_of_bytes fault)) → FailsBy is_counted (faults old.shelf) (faults new.shelf) r
       count (Ok given) is = reads.count
       count (Err fault) is = uncounted fault (is_counted fault) (bytes_uncounted fault is) refl
+
+-- a fault of bytes that are at hand isn't damage
+bytes_undamaged : (objects : Objects) (key : Key) (fault : WalkFault) → IsTrue (is_of_bytes fault) → IsDamageAt objects key fault
+bytes_undamaged objects key (walk.Store (store.Damaged want got)) is = cc
+bytes_undamaged objects key other is = tt
+
+pub undamaged : {T : Type 0} (objects : Objects) (key : Key) (r : Result T WalkFault) → IfErr r (λ fault. IsTrue (is_of_bytes fault)) → IfErr r (IsDamageAt objects key)
+undamaged objects key (Ok given) is = tt
+undamaged objects key (Err fault) is = bytes_undamaged objects key fault is
 
 -- ---- the loops: the names so far are those of a front
 

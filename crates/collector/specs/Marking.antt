@@ -1,16 +1,18 @@
 -- How objects are marked, and why one can't be. Our own. Read MarksOne, then MarksMany.
-use Rattle.std.specs.Prelude.{◌≡◌, ◌≢◌, ◌≤◌, ◌<◌, ◌+◌, ◌&&◌, not, ℕ, zero, suc, Bool, true, false, List, [], ◌∷◌, ◌++◌, length, Option, None, Err}
+use Rattle.std.specs.Prelude.{◌≡◌, ◌≢◌, ◌≤◌, ◌<◌, ◌+◌, ◌&&◌, not, ℕ, zero, suc, Bool, true, false, List, [], ◌∷◌, ◌++◌, length, Option, None, Some, Err, ⊤}
 use Rattle.std.specs.FinMap as map
 use Rattle.ids.specs.Key.{Objects}
 use Rattle.ids.specs.declared.key.Key.{Key}
 use Rattle.object_graph.specs.Reached.{named}
 use Rattle.object_graph.specs.Traversal.{distinct_from, is_in, walk_commit}
 use Rattle.object_graph.specs.declared.fault.TreeFault.{TreeFault}
+use Rattle.object_store.specs.Store.{damage_at}
+use Rattle.object_store.specs.declared.error.StoreFault.TheVariants.{Damaged}
 use Rattle.tree_walk.specs.Files.{first_due}
-use Rattle.tree_walk.specs.Reading.{AnswersRead, IsDue}
+use Rattle.tree_walk.specs.Reading.{AnswersRead, IsDamageAt, IsDue}
 use Rattle.tree_walk.specs.declared.fault.WalkFault.{WalkFault}
 use Rattle.tree_walk.specs.declared.fault.WalkFault.TheVariants.{Incomplete, Unreadable, WrongKind, WrongSize, TooDeep, TooMany, Store}
-use Rattle.collector.specs.Marks.{MarksView, is_candidate}
+use Rattle.collector.specs.Marks.{MarksView, is_candidate, needed_by}
 use Rattle.collector.specs.Naming.{names_at}
 
 -- the object that waits first is marked and leaves the candidates, and what it names and wasn't met waits
@@ -87,9 +89,16 @@ first_fault objects (commit ∷ commits) = first_due (walk_commit objects commit
 abbrev pub IsMarkFault : Objects → List (List ℕ) → WalkFault → Type 0
 IsMarkFault objects commits fault = IsDue objects (first_fault objects commits) fault
 
+-- damage is told of an object that is damaged and that one of the commits needs
+abbrev pub IsDamageOfNeeded : Objects → List (List ℕ) → WalkFault → Type 0
+IsDamageOfNeeded objects commits (Store (Damaged want got)) =
+    (key : Key) × (damage_at objects key ≡ Some (Damaged want got)) × (needed_by objects commits key ≡ true)
+IsDamageOfNeeded objects commits other = ⊤
+
 -- for a private clause: the object that waits first can't be read, or the store failed
 pub record FailsToMark (objects : Objects) (marks : MarksView) (fault : WalkFault) : Type 0 where
   pub key : Key
   pub rest : List Key
   pub first : marks.pending ≡ key ∷ rest
   pub due : AnswersRead {T = List Key} objects (names_at objects key) (Err fault)
+  pub damage : IsDamageAt objects key fault

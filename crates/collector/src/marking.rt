@@ -3,8 +3,8 @@ ghost use Rattle.std.specs.Prelude.{◌≡◌, ◌≢◌, ◌≤◌, ◌+◌, �
 ghost use Rattle.ids.specs.Key.{Objects};
 ghost use Rattle.object_store.specs.StoreView.{objects_of};
 ghost use Rattle.tree_walk.specs.Reading.{Answers, IsCause, Reads};
-ghost use Rattle.collector.specs.Marking.{FailsToMark, HasMarked, IsMarkFault, MarksMany, MarksOne, MarksUpTo, TellsMarked, WaitsWith, first_fault, is_of_store};
-ghost use Rattle.collector.specs.Marks.{AreMarks, IsExact};
+ghost use Rattle.collector.specs.Marking.{FailsToMark, HasMarked, IsDamageOfNeeded, IsMarkFault, MarksMany, MarksOne, MarksUpTo, TellsMarked, WaitsWith, first_fault, is_of_store};
+ghost use Rattle.collector.specs.Marks.{AreCompleteCommits, AreMarks, IsExact};
 
 use crate::marks::Marks;
 use crate::naming::names_at;
@@ -18,7 +18,8 @@ impl Marks {
     /// one waits. Each is opened, and what it names and wasn't met before waits.
     ///
     /// With a fault those before the object that can't be read are marked, and it goes on waiting. A fault of a tree comes
-    /// only where the traversal of one of the commits has that fault.
+    /// only where the traversal of one of the commits has that fault. Where the commits are complete, damage is told of no
+    /// object but one that they need.
     pub fn mark<S: Shelf>(&mut self, store: &mut Store<S>, at_most: u64) -> Result<u64, WalkFault>
         requires some { 1 ≤ at_most }
         ensures value { (objects : Objects) → objects_of S.contents store.old ≡ Some objects → IfOk result (MarksMany objects self.old self.new) }
@@ -28,6 +29,8 @@ impl Marks {
         ensures good { AreMarks self.new }
         ensures cause { (objects : Objects) → objects_of S.contents store.old ≡ Some objects → IsExact objects self.old
             → IfErr result (IsMarkFault objects self.old.commits) }
+        ensures damaged { (objects : Objects) → objects_of S.contents store.old ≡ Some objects → IsExact objects self.old → AreCompleteCommits objects self.old.commits
+            → IfErr result (IsDamageOfNeeded objects self.old.commits) }
         ensures stays { Reads S.contents S.may_give S.texts S.faults store.old store.new result }
     {
         for count in 0..at_most {

@@ -4,7 +4,7 @@ ghost use Rattle.ids.specs.Key.{Objects};
 ghost use Rattle.object_graph.specs.Objects.{fs_in};
 ghost use Rattle.object_graph.specs.Reached.{block_keys, entry_keys, named_in, own_keys};
 ghost use Rattle.object_store.specs.StoreView.{objects_of};
-ghost use Rattle.tree_walk.specs.Reading.{AnswersRead, Reads};
+ghost use Rattle.tree_walk.specs.Reading.{AnswersRead, IsDamageAt, Reads};
 ghost use Rattle.collector.specs.Naming.{is_of_bytes, names_at, names_by, names_of};
 
 use commit_objects::Commit;
@@ -24,6 +24,7 @@ pub(crate) fn names_at<S: Shelf>(
     key: &Key,
 ) -> Result<KeyList, WalkFault>
     ensures value { (objects : Objects) → objects_of S.contents store.old ≡ Some objects → AnswersRead objects (names_at objects key.now) result }
+    ensures damaged { (objects : Objects) → objects_of S.contents store.old ≡ Some objects → IfErr result (IsDamageAt objects key.now) }
     ensures stays { Reads S.contents S.may_give S.texts S.faults store.old store.new result }
 {
     match key.kind {
@@ -41,6 +42,7 @@ fn block_names<S: Shelf>(
 ) -> Result<KeyList, WalkFault>
     requires ready { key.now.kind ≡ Kind.Block }
     ensures value { (objects : Objects) → objects_of S.contents store.old ≡ Some objects → AnswersRead objects (names_at objects key.now) result }
+    ensures damaged { (objects : Objects) → objects_of S.contents store.old ≡ Some objects → IfErr result (IsDamageAt objects key.now) }
     ensures stays { Reads S.contents S.may_give S.texts S.faults store.old store.new result }
 {
     match store.has(*key) {
@@ -56,6 +58,7 @@ fn names_read<S: Shelf>(
     key: &Key,
 ) -> Result<KeyList, WalkFault>
     ensures value { (objects : Objects) → objects_of S.contents store.old ≡ Some objects → AnswersRead objects (names_at objects key.now) result }
+    ensures damaged { (objects : Objects) → objects_of S.contents store.old ≡ Some objects → IfErr result (IsDamageAt objects key.now) }
     ensures stays { Reads S.contents S.may_give S.texts S.faults store.old store.new result }
 {
     let bytes = match bytes_at(store, key) {

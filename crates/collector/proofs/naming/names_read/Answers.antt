@@ -1,4 +1,4 @@
-use Rattle.collector.proofs.NamingLemmas.{names_by_bytes, names_unread, reads_bytes}
+use Rattle.collector.proofs.NamingLemmas.{names_by_bytes, names_unread, reads_bytes, undamaged}
 use Rattle.tree_walk.proofs.ReadsLemmas.{read_ok}
 use Rattle.collector.proofs.naming.names_read.Goals as goal
 
@@ -11,3 +11,6 @@ returns-clause-value g c = λ objects told.
 
 pub returns-clause-stays : goal.returns-clause-stays
 returns-clause-stays g c = reads_bytes c.in-Ok.bytes c.names_of.result c.in-Ok.ensures.stays c.names_of.ensures.free
+
+pub returns-clause-damaged : goal.returns-clause-damaged
+returns-clause-damaged g c = λ objects told. undamaged objects c.args.key.now c.names_of.result c.names_of.ensures.free

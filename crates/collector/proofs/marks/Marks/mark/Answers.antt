@@ -3,7 +3,7 @@ use Rattle.std.proofs.Common.{◌≡◌, ℕ, Err, Ok, arith, refl, subst, sym, 
 use Rattle.tree_walk.proofs.ReadsLemmas.{reads_then, told_after}
 use Rattle.collector.specs.Marking.{MarksMany, MarksUpTo, first_fault}
 use Rattle.collector.specs.Naming.{names_at}
-use Rattle.collector.proofs.MarkingLemmas.{as_commits, has_marked_none, has_marked_then, no_value, none_marked, one_more, reads_fails, reads_uncounted, same_commits, size_more, some_fault, store_due, tells_all, tells_done, up_to}
+use Rattle.collector.proofs.MarkingLemmas.{as_commits, has_marked_none, has_marked_then, needed_damage, no_value, none_fails, none_marked, one_more, reads_fails, reads_uncounted, same_commits, size_more, some_fault, store_due, tells_all, tells_done, up_to}
 use Rattle.collector.proofs.WorklistLemmas.{nothing_waits, on_error, some_waiting}
 use Rattle.collector.proofs.marks.Marks.mark.Goals as goal
 
@@ -68,6 +68,12 @@ returns-then-is_of_store-clause-cause g c = λ objects told exact.
     store_due objects (names_at objects fails.key) (first_fault objects c.args.self.now.commits) c.in-Err.fault
     (sym c.is_of_store.ensures.value ∙ c.if-is_of_store.true) fails.due
 
+pub returns-then-is_of_store-clause-damaged : goal.returns-then-is_of_store-clause-damaged
+returns-then-is_of_store-clause-damaged g c = λ objects told exact complete.
+    let inv = c.loop-count.invariant in
+    needed_damage objects c.args.self.now c.loop-count.self c.loop-count.count c.in-Err.fault (inv.marks objects told) exact complete
+    (c.in-Err.ensures.cause objects (told_after inv.reads told))
+
 pub returns-then-is_of_store-clause-stays : goal.returns-then-is_of_store-clause-stays
 returns-then-is_of_store-clause-stays g c =
     reads_then tt (Err c.in-Err.fault) c.loop-count.invariant.reads (reads_fails c.in-Err.fault c.in-Err.ensures.stays)
@@ -109,6 +115,13 @@ returns-in-Err-clause-cause g c = λ objects told exact.
     (c.tree_fault.ensures.value objects (told_after c.in-Err.ensures.stays before)
     (some_fault objects c.args.self.now c.loop-count.self c.mark_next.new.self c.loop-count.count c.in-Err.fault marks waits exact (c.in-Err.ensures.cause objects before)
     (sym c.is_of_store.ensures.value ∙ c.if-is_of_store.false)))
+
+pub returns-in-Err-clause-damaged : goal.returns-in-Err-clause-damaged
+returns-in-Err-clause-damaged g c = λ objects told exact complete.
+    let inv = c.loop-count.invariant in
+    absurd
+    (none_fails objects c.args.self.now c.loop-count.self c.loop-count.count c.in-Err.fault (inv.marks objects told) exact complete
+    (c.in-Err.ensures.cause objects (told_after inv.reads told)) (sym c.is_of_store.ensures.value ∙ c.if-is_of_store.false))
 
 pub returns-in-Err-clause-stays : goal.returns-in-Err-clause-stays
 returns-in-Err-clause-stays g c =

@@ -36,7 +36,8 @@ returns-in-Err-clause-left g c = has_marked_none c.args.self.now
 pub returns-in-Err-clause-cause : goal.returns-in-Err-clause-cause
 returns-in-Err-clause-cause g c = λ objects told.
     subst (λ (m : MarksView). FailsToMark objects m c.in-Err.fault) c.self.view_is
-    (fails_to_mark objects c.self.inside.commits c.self.inside.work.opened c.self.inside.work.waiting c.self.inside.candidates c.in-Some.key c.in-Err.fault c.in-Some.ensures.value (c.in-Err.ensures.value objects told))
+    (fails_to_mark objects c.self.inside.commits c.self.inside.work.opened c.self.inside.work.waiting c.self.inside.candidates c.in-Some.key c.in-Err.fault c.in-Some.ensures.value (c.in-Err.ensures.value objects told)
+    (c.in-Err.ensures.damaged objects told))
 
 -- where there is no memory to meet what it names
 pub returns-in-Err-meet_all-clause-err : goal.returns-in-Err-meet_all-clause-err
@@ -54,7 +55,7 @@ pub returns-in-Err-meet_all-clause-cause : goal.returns-in-Err-meet_all-clause-c
 returns-in-Err-meet_all-clause-cause g c = λ objects told.
     subst (λ (m : MarksView). FailsToMark objects m (walk.Store store.NoMemory)) c.self.view_is
     (fails_to_mark objects c.self.inside.commits c.self.inside.work.opened c.self.inside.work.waiting c.self.inside.candidates c.in-Some.key (walk.Store store.NoMemory) c.in-Some.ensures.value
-    (read_stops objects (names_at objects c.in-Some.key) store.NoMemory tt))
+    (read_stops objects (names_at objects c.in-Some.key) store.NoMemory tt) tt)
 
 pub invariant_of-self : goal.invariant_of-self
 invariant_of-self g c =
