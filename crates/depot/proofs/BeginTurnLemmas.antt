@@ -45,7 +45,7 @@ use Rattle.depot.specs.declared.turn.Turn.TheVariants.{Began, Refused}
 use Rattle.depot.proofs.AnsweringLemmas.{fault_of}
 use Rattle.depot.proofs.BesideLemmas.{sound_fresh}
 use Rattle.depot.proofs.CollectsLemmas.{collects_state}
-use Rattle.depot.proofs.RefusalsLemmas.{counted_same, free_told, told_damage}
+use Rattle.depot.proofs.RefusalsLemmas.{counted_same, free_told, told_damage, free_needed}
 use Rattle.depot.proofs.StrayLemmas.{strays_none}
 use Rattle.depot.proofs.TakesTurnLemmas.{depot_of}
 use Rattle.depot.proofs.ToldLemmas.{mapped_at}
@@ -133,6 +133,7 @@ module _ {S : Type 0} (contents : S → Option Contents) (may_give : S → Shelf
       });
       may_come = record { may = (refl, refl, refl, next); unfresh = refl; over = λ number asked apart. no_goal asked; spent = λ none idle last. absurd (omega (arith, next, last)) };
       damage = λ objects told. tt;
+      needed = λ s told. tt;
       count = counts;
       left = refl;
       runs = ap Some begins.runs;
@@ -203,6 +204,7 @@ module _ {S : Type 0} (contents : S → Option Contents) (may_give : S → Shelf
         });
     may_come = record { may = last; unfresh = refl; over = λ number asked apart. no_goal asked; spent = λ none idle at_last. refl };
     damage = λ objects told. tt;
+    needed = λ s told. tt;
     count = refl;
     left = refl;
     runs = refl;
@@ -257,6 +259,7 @@ module _ {S : Type 0} (contents : S → Option Contents) (may_give : S → Shelf
               });
           may_come = record { may = may_refuse fault is_free_fault; unfresh = refl; over = λ number asked apart. no_goal asked; spent = λ none idle last. absurd (omega (arith, next, last)) };
           damage = λ objects told. told_damage objects (store_refusal fault) (free_told objects fault is_free_fault);
+          needed = λ s told. free_needed s [] fault is_free_fault;
           count = counts;
           left = refl;
           runs = refl;

@@ -106,6 +106,7 @@ module _ {S : Type 0} (contents : S → Option Contents) (may_give : S → Shelf
       spent = λ none idle last. no_number (sym due.0 ∙ none);
     };
     damage = λ objects told. tt;
+    needed = λ s told. tt;
     count = refl;
     left = refl;
     runs = refl;

@@ -1,7 +1,9 @@
 -- Faults of a store and of a reading as refusals. The key lemmas are store_told, none_due, one_due, walk_not_damaged,
--- walked_cause, may_refuse and counted_alike.
-use Rattle.std.proofs.Common.{◌≡◌, ◌⊎◌, inl, inr, ℕ, true≢false, List, refl, sym, ap, Option, None, Some, is_some, IsTrue}
+-- walk_needed, free_needed, walked_cause, may_refuse and counted_alike.
+use Rattle.std.proofs.Common.{◌≡◌, ◌⊎◌, inl, inr, ℕ, true, true≢false, List, refl, sym, ap, Option, None, Some, is_some, IsTrue}
 use Rattle.ids.specs.Key.{Objects}
+use Rattle.ids.specs.declared.key.Key.{Key}
+use Rattle.library_rules.specs.LibraryState.{State, is_needed}
 use Rattle.library_rules.specs.MergeBase.{refusal_of}
 use Rattle.library_state.specs.declared.refusal.Refusal.{Refusal}
 use Rattle.library_state.specs.declared.refusal.Refusal.TheVariants as refusal
@@ -12,12 +14,16 @@ use Rattle.object_store.specs.StoreView.{Index}
 use Rattle.object_store.specs.declared.error.StoreFault.{StoreFault}
 use Rattle.object_store.specs.declared.error.StoreFault.TheVariants as store
 use Rattle.object_store.specs.declared.shelf.Slot.{Slot}
+use Rattle.collector.specs.Marking.{IsDamageOfNeeded}
+use Rattle.collector.specs.Marks.{needed_by}
 use Rattle.tree_walk.specs.Reading.{IsCause, IsDue, IsReadFault, IsStoreDue, is_counted}
 use Rattle.tree_walk.specs.declared.fault.WalkFault.{WalkFault}
 use Rattle.tree_walk.specs.declared.fault.WalkFault.TheVariants as walk
+use Rattle.depot.specs.CollectionTurns.{IsToldNeeded}
 use Rattle.depot.specs.Answering.{MayRefuseTree, MayRefuseUpdate}
 use Rattle.depot.specs.ObjectCalls.{IsToldDamageOf, IsToldRefusal, is_of_store}
 use Rattle.depot.specs.Refusals.{store_refusal, walk_refusal}
+use Rattle.depot.specs.declared.turn.Turn.TheVariants.{Refused}
 use Rattle.depot.proofs.AnsweringLemmas.{damage_other}
 
 -- ---- of a store
@@ -62,6 +68,21 @@ told_damage objects other is = tt
 pub walk_not_damaged : (objects : Objects) (o : Option TreeFault) (fault : WalkFault) → IsDue objects o fault → IsToldDamageOf objects (walk_refusal fault)
 walk_not_damaged objects o (walk.Store fault) is = told_damage objects (store_refusal fault) (store_told objects fault is)
 walk_not_damaged objects o other is = tt
+
+-- ---- the object of a refused turn
+
+-- damage of what commits need is that of what is needed
+pub walk_needed : (s : State) (keys : List Key) (commits : List (List ℕ)) (fault : WalkFault)
+    → ((key : Key) → needed_by s.objects commits key ≡ true → is_needed s.objects s.state.kept key ≡ true) → IsDamageOfNeeded s.objects commits fault
+    → IsToldNeeded s (Refused (walk_refusal fault) keys)
+walk_needed s keys commits (walk.Store (store.Damaged want got)) each is = (is.0, is.1, each is.0 is.2)
+walk_needed s keys commits (walk.Store other) each is = tt
+walk_needed s keys commits other each is = tt
+
+-- a failure of the shelf and want of memory tell none
+pub free_needed : (s : State) (keys : List Key) (fault : StoreFault) → IsTrue (is_free fault) → IsToldNeeded s (Refused (store_refusal fault) keys)
+free_needed s keys (store.Damaged want got) free = cc
+free_needed s keys other free = tt
 
 -- ---- over any shelf
 

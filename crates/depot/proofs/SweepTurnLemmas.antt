@@ -29,7 +29,7 @@ use Rattle.collector.proofs.GoesOnLemmas.{stops_collect, sweeps_collect}
 use Rattle.collector.proofs.StoredCandidatesLemmas.{taken_stored}
 use Rattle.tree_walk.specs.KnownTrees.{Fits, KnownView, nothing_known}
 use Rattle.depot.specs.Answering.{MayRefuseTree}
-use Rattle.depot.specs.CollectionTurns.{IsAimed, SettlesBefore, SweepsSo, TakesTurn, TurnSlotSo, removed_in, running_after, turned_once}
+use Rattle.depot.specs.CollectionTurns.{IsAimed, IsToldNeeded, SettlesBefore, SweepsSo, TakesTurn, TurnSlotSo, removed_in, running_after, turned_once}
 use Rattle.depot.specs.DepotView.{CollectionView, FitsIn, Holds, IsKept, library, running_library, state_of}
 use Rattle.depot.specs.Giving.{GivesBy, IsOfSweep}
 use Rattle.depot.specs.ObjectCalls.{Counts, IsToldRefusal, is_of_store}
@@ -40,7 +40,7 @@ use Rattle.depot.specs.declared.turn.Turn.TheVariants.{Swept, Refused}
 use Rattle.depot.proofs.AnsweringLemmas.{fault_of}
 use Rattle.depot.proofs.CollectsLemmas.{collects_state}
 use Rattle.depot.proofs.FitsLemmas.{fits_empty}
-use Rattle.depot.proofs.RefusalsLemmas.{counted_same, free_told, told_damage}
+use Rattle.depot.proofs.RefusalsLemmas.{counted_same, free_needed, free_told, told_damage}
 use Rattle.depot.proofs.TakesTurnLemmas.{as_due, collects_at, depot_of, library_at, sound_at, told_by}
 use Rattle.depot.proofs.ToldLemmas.{mapped_at}
 use Rattle.depot.proofs.TurnLemmas.{fails_sweeping, refused_turn, swept_turn, turn_sound}
@@ -101,6 +101,7 @@ module _ {S : Type 0} (contents : S → Option Contents) (may_give : S → Shelf
     may_come = as_due store.index (may_give new.shelf) before.running state.collection goal (Swept keys) aimed (λ idle. runs_some idle)
         (λ key there. kept.apart key (sweeps.took.each key there));
     damage = λ objects told. tt;
+    needed = λ s told. tt;
     count = sweeps.count;
     left = refl;
     runs = ap Some sweeps.runs;
@@ -136,6 +137,7 @@ module _ {S : Type 0} (contents : S → Option Contents) (may_give : S → Shelf
         (subst (MayRefuseTree store.index (may_give new.shelf)) (sym refusal) (free_cause store.index (may_give new.shelf) fault free))
         (λ key there. kept.apart key (sweeps.took.each key there));
     damage = λ objects told. told_damage objects why (told_why objects);
+    needed = λ s told. subst (λ (w : Refusal). IsToldNeeded s (Refused w keys)) (sym refusal) (free_needed s keys fault free);
     count = counts;
     left = refl;
     runs = ap Some sweeps.runs;

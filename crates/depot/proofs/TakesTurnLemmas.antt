@@ -29,16 +29,17 @@ use Rattle.object_store.specs.StoreView.{Index, Keeps, StoreView, objects_of}
 use Rattle.object_store.specs.declared.shelf.Slot.{Slot}
 use Rattle.object_store.proofs.StrayLemmas.{strays_kept}
 use Rattle.collector.specs.Collecting.{Collects}
-use Rattle.collector.specs.Marking.{HasMarked, IsMarkFault, MarksMany, MarksUpTo, TellsMarked, first_fault}
+use Rattle.collector.specs.Marking.{HasMarked, IsDamageOfNeeded, IsMarkFault, MarksMany, MarksUpTo, TellsMarked, first_fault}
 use Rattle.collector.specs.Marks.{AreCompleteCommits, AreMarks, Candidates, IsExact, MarksView, is_candidate, phase_of}
 use Rattle.collector.specs.declared.marks.Phase.TheVariants as Phases
 use Rattle.collector.proofs.CollectingLemmas.{whole}
 use Rattle.collector.proofs.GoesOnLemmas.{marks_collect, waits_collect}
+use Rattle.collector.proofs.NeedLemmas.{needed_kept}
 use Rattle.tree_walk.specs.Files.{first_due}
 use Rattle.tree_walk.specs.KnownTrees.{KnownView}
 use Rattle.tree_walk.specs.Reading.{IsDue, Reads}
 use Rattle.tree_walk.specs.declared.fault.WalkFault.{WalkFault}
-use Rattle.depot.specs.CollectionTurns.{IsAimed, IsRunning, MarksSo, MayTurn, NoneFresh, TakesTurn, TurnsAsDue, TurnsBySome, removed_in, running_after, turned_once}
+use Rattle.depot.specs.CollectionTurns.{IsAimed, IsRunning, MarksSo, MayTurn, NoneFresh, TakesTurn, TurnsAsDue, TurnsBySome, removed_in, running_after, turned_once, IsToldNeeded}
 use Rattle.depot.specs.DepotView.{CollectionView, DepotView, IsKept, library, running_library, state_of}
 use Rattle.depot.specs.Fresh.{counted_turn}
 use Rattle.depot.specs.ObjectCalls.{Counts, is_of_store}
@@ -49,7 +50,7 @@ use Rattle.depot.proofs.AnsweringLemmas.{fault_of}
 use Rattle.depot.proofs.BesideLemmas.{sound_fresh}
 use Rattle.depot.proofs.CollectionLemmas.{collection_of}
 use Rattle.depot.proofs.CollectsLemmas.{collects_state}
-use Rattle.depot.proofs.RefusalsLemmas.{counted_alike, none_due, walk_not_damaged, walked_cause}
+use Rattle.depot.proofs.RefusalsLemmas.{counted_alike, none_due, walk_not_damaged, walked_cause, walk_needed}
 use Rattle.depot.proofs.StrayLemmas.{strays_none}
 use Rattle.depot.proofs.ToldLemmas.{mapped_at}
 use Rattle.depot.proofs.TurnLemmas.{ended_turn, fails_marking, marked_turn, refused_turn}
@@ -73,11 +74,12 @@ module _ {S : Type 0} (contents : S → Option Contents) (may_give : S → Slot 
 
   pub fails_some : (at_most : ℕ) (fault : WalkFault) (why : Refusal) (keys : List Key) → why ≡ walk_refusal fault → keys ≡ [] → Reads {T = ℕ} contents may_give texts faults store new (Err fault)
       → ((objects : Objects) → objects_of contents store ≡ Some objects → IsExact objects marks → IsMarkFault objects marks.commits fault)
+      → ((objects : Objects) → objects_of contents store ≡ Some objects → IsExact objects marks → AreCompleteCommits objects marks.commits → IsDamageOfNeeded objects marks.commits fault)
       → ((objects : Objects) → objects_of contents store ≡ Some objects → MarksUpTo objects marks next) → HasMarked marks next → AreMarks next
       → MarksSo contents may_give texts faults store old at_most (Refused why keys) new (collection_of next table stored turned)
-  fails_some at_most fault why keys refusal none reads cause up_to left good =
+  fails_some at_most fault why keys refusal none reads cause needed up_to left good =
       subst (λ (o : CollectionView). MarksSo contents may_give texts faults store o at_most (Refused why keys) new (collection_of next table stored turned)) is
-      (none, record { fault = fault; refusal = refusal; reads = reads; cause = cause; marks = up_to; left = left; good = good; same = refl })
+      (none, record { fault = fault; refusal = refusal; reads = reads; cause = cause; needed = needed; marks = up_to; left = left; good = good; same = refl })
 
 -- ---- a turn of the collection that runs is neither over nor spent
 
@@ -165,6 +167,7 @@ module _ {S : Type 0} (contents : S → Option Contents) (may_give : S → Slot 
     });
     may_come = as_due store.index (may_give new.shelf) before.running state.collection goal (Marked count) aimed (λ idle. runs_some idle) (unfresh_none (Some before.running));
     damage = λ objects told. tt;
+    needed = λ s told. tt;
     count = marks.reads.count;
     left = refl;
     runs = ap Some marks.turned;
@@ -198,6 +201,9 @@ module _ {S : Type 0} (contents : S → Option Contents) (may_give : S → Slot 
             (subst (λ (i : Index). MayTurn i (may_give new.shelf) (Some before.running) state.collection goal (Refused (walk_refusal fails.fault) [])) fails.reads.kept.index
             (walked_cause new.index (may_give new.shelf) fails.fault fails.reads.cause)) (unfresh_none (Some before.running));
         damage = λ objects told. walk_not_damaged objects None fails.fault (due objects told);
+        needed = λ s is.
+            let at = mapped_at (running_library state (Some before.running) (faults store.shelf)) (objects_of contents store) s is in
+            subst (λ (t : State). IsToldNeeded t (Refused (walk_refusal fails.fault) [])) at.gives (needed at.value at.is);
         count = counts;
         left = refl;
         runs = ap Some fails.same;
@@ -213,6 +219,12 @@ module _ {S : Type 0} (contents : S → Option Contents) (may_give : S → Slot 
           subst (λ o. IsDue objects o fails.fault)
           (none_first objects before.marks.commits (whole (library_at objects) before.running before.marks (sound_at objects told) (collects_at objects told)))
           (fails.cause objects told (collects_at objects told).exact)
+
+      needed : (objects : Objects) → objects_of contents store ≡ Some objects → IsToldNeeded (library_at objects) (Refused (walk_refusal fails.fault) [])
+      needed objects told =
+          let collects = collects_at objects told in
+          walk_needed (library_at objects) [] before.marks.commits fails.fault (needed_kept objects state.kept before.marks.commits collects.commits)
+          (fails.needed objects told collects.exact (whole (library_at objects) before.running before.marks (sound_at objects told) collects))
 
       counts : Counts (faults store.shelf) (faults new.shelf) (reply.Refused (walk_refusal fails.fault))
       counts =
@@ -232,6 +244,7 @@ module _ {S : Type 0} (contents : S → Option Contents) (may_give : S → Slot 
     });
     may_come = as_due store.index (may_give store.shelf) before.running state.collection goal (Ended state.collection) aimed refl (unfresh_none (Some before.running));
     damage = λ objects told. tt;
+    needed = λ s told. tt;
     count = refl;
     left = refl;
     runs = refl;

@@ -7,7 +7,7 @@ use Rattle.ids.specs.FaultCount.{Rose}
 use Rattle.ids.specs.Key.{Objects}
 use Rattle.ids.specs.declared.key.Key.{Key}
 use Rattle.library_rules.specs.CollectionSteps.{IsClean}
-use Rattle.library_rules.specs.LibraryState.{Running, State, is_stored, kept_commits, last_number}
+use Rattle.library_rules.specs.LibraryState.{Running, State, is_needed, is_stored, kept_commits, last_number}
 use Rattle.library_rules.specs.Turns.{IsRefusedTurn, TakesStep}
 use Rattle.library_rules.specs.declared.entry.Entry.{Entry}
 use Rattle.library_rules.specs.declared.entry.Step.TheVariants as step
@@ -21,13 +21,14 @@ use Rattle.library_state.specs.declared.state.LibState.{LibState}
 use Rattle.library_state.specs.declared.token.Token.{Token}
 use Rattle.object_graph.specs.Traversal.{is_in}
 use Rattle.object_store.specs.Shelf.{Contents}
-use Rattle.object_store.specs.Store.{is_free}
+use Rattle.object_store.specs.Store.{is_free, damage_at}
 use Rattle.object_store.specs.StoreView.{Index, StoreView, objects_of, status_of}
 use Rattle.object_store.specs.declared.shelf.Slot.{Slot as ShelfSlot}
 use Rattle.object_store.specs.declared.error.StoreFault.{StoreFault}
+use Rattle.object_store.specs.declared.error.StoreFault.TheVariants as store_fault
 use Rattle.depot.specs.Answering.{MayRefuseTree, is_free_refusal}
-use Rattle.collector.specs.Marking.{HasMarked, IsMarkFault, MarksMany, MarksUpTo}
-use Rattle.collector.specs.Marks.{AreFirst, AreMarks, HasTheSameMarks, IsExact, is_candidate}
+use Rattle.collector.specs.Marking.{HasMarked, IsMarkFault, MarksMany, MarksUpTo, IsDamageOfNeeded}
+use Rattle.collector.specs.Marks.{AreFirst, AreMarks, HasTheSameMarks, IsExact, is_candidate, AreCompleteCommits}
 use Rattle.collector.specs.Sweeping.{CountsSwept, StraysAtEnd, StraysIf, Took}
 use Rattle.tree_walk.specs.Reading.{Reads}
 use Rattle.tree_walk.specs.declared.fault.WalkFault.{WalkFault}
@@ -136,6 +137,12 @@ abbrev pub IsToldDamageIn : Objects → Turn → Type 0
 IsToldDamageIn objects (Refused why keys) = IsToldDamageOf objects why
 IsToldDamageIn objects other = ⊤
 
+-- and of one that a kept commit needs
+abbrev pub IsToldNeeded : State → Turn → Type 0
+IsToldNeeded s (Refused (refusal.Damaged want got) keys) =
+    (key : Key) × (damage_at s.objects key ≡ Some (store_fault.Damaged want got)) × (is_needed s.objects s.state.kept key ≡ true)
+IsToldNeeded s other = ⊤
+
 -- whether a turn was refused by a failure that the shelf counts; only then the count rose
 abbrev pub is_counted_turn : Turn → Bool
 is_counted_turn (Refused why keys) = is_of_store why
@@ -192,6 +199,7 @@ pub record TakesTurn {S : Type 0} (contents : S → Option Contents) (may_give :
   pub told : (s : State) → state_of contents faults old ≡ Some s → TurnsBySome s goal moment at_most turn (state_of contents faults new)
   pub may_come : TurnsAsDue old.store.index (may_give new.store.shelf) old.running old.state.collection goal turn
   pub damage : (objects : Objects) → objects_of contents old.store ≡ Some objects → IsToldDamageIn objects turn
+  pub needed : (s : State) → state_of contents faults old ≡ Some s → IsToldNeeded s turn
   pub count : CountsTurn (faults old.store.shelf) (faults new.store.shelf) turn
   pub left : new.state ≡ state_after_turn old.state moment turn
   pub runs : new.running ≡ running_after_turn (map.len old.store.index) old.running turn
@@ -239,6 +247,8 @@ module _ {S : Type 0} (contents : S → Option Contents) (may_give : S → Shelf
     pub refusal : why ≡ walk_refusal fault
     pub reads : Reads {T = ℕ} contents may_give texts faults old new (Err fault)
     pub cause : (objects : Objects) → objects_of contents old ≡ Some objects → IsExact objects before.marks → IsMarkFault objects before.marks.commits fault
+    pub needed : (objects : Objects) → objects_of contents old ≡ Some objects → IsExact objects before.marks → AreCompleteCommits objects before.marks.commits
+        → IsDamageOfNeeded objects before.marks.commits fault
     pub marks : (objects : Objects) → objects_of contents old ≡ Some objects → MarksUpTo objects before.marks after.marks
     pub left : HasMarked before.marks after.marks
     pub good : AreMarks after.marks

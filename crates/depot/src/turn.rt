@@ -13,7 +13,7 @@ ghost use Rattle.object_store.specs.Store.{CountsShelf};
 ghost use Rattle.object_graph.specs.Traversal.{is_in};
 ghost use Rattle.object_store.specs.StoreView.{AddsNoStray, objects_of, status_of};
 ghost use Rattle.collector.specs.Sweeping.{StraysIf};
-ghost use Rattle.depot.specs.CollectionTurns.{BeginsOver, BeginsSo, CountsTurn, IsAimed, IsToldDamageIn, MarksSo, MayLayIn, SettlesBefore, SweepsSo, TakesTurn, TurnSlotSo, TurnsAsDue, TurnsBySome, is_begin, is_counted_turn, is_end, is_owner, missed, permits_collection, removed_in, running_after, running_after_turn, state_after_turn};
+ghost use Rattle.depot.specs.CollectionTurns.{BeginsOver, BeginsSo, CountsTurn, IsAimed, IsToldDamageIn, MarksSo, MayLayIn, SettlesBefore, SweepsSo, TakesTurn, TurnSlotSo, TurnsAsDue, TurnsBySome, is_begin, is_counted_turn, is_end, is_owner, missed, permits_collection, removed_in, running_after, running_after_turn, state_after_turn, IsToldNeeded};
 ghost use Rattle.depot.specs.DepotView.{IsGood, IsKept, KnowsCandidates, state_of};
 ghost use Rattle.depot.specs.Giving.{GivesBy, IsOfSweep, IsOwnText};
 ghost use Rattle.depot.specs.NextState.{with_begin};
@@ -88,6 +88,7 @@ impl<S: Shelf> Depot<S> {
         // Of every shelf: which turn it may be, that no fresh key leaves, and the cause of each fault.
         ensures cause { TurnsAsDue self.old.store.index (S.may_give self.new.store.shelf) self.old.running self.old.state.collection goal result }
         ensures damaged { (objects : Objects) → objects_of S.contents self.old.store ≡ Some objects → IsToldDamageIn objects result }
+        ensures needed { (s : State) → state_of S.contents S.faults self.old ≡ Some s → IsToldNeeded s result }
         ensures faults { CountsTurn (S.faults self.old.store.shelf) (S.faults self.new.store.shelf) result }
         ensures gives { GivesBy (MayLayIn self.old.state.lib result) (S.may_give self.old.store.shelf) (S.may_give self.new.store.shelf) }
 

@@ -27,6 +27,9 @@ returns-clause-cause g c = c.take_turn.ensures.value.may_come
 pub returns-clause-damaged : goal.returns-clause-damaged
 returns-clause-damaged g c = c.take_turn.ensures.value.damage
 
+pub returns-clause-needed : goal.returns-clause-needed
+returns-clause-needed g c = c.take_turn.ensures.value.needed
+
 pub returns-clause-faults : goal.returns-clause-faults
 returns-clause-faults g c = c.take_turn.ensures.value.count
 

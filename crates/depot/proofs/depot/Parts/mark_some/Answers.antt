@@ -16,4 +16,5 @@ pub returns-in-Err-clause-value : goal.returns-in-Err-clause-value
 returns-in-Err-clause-value g c =
     fails_some g.S.Shelf.contents g.S.Shelf.may_give g.S.Shelf.texts g.S.Shelf.faults c.args.self.now.store c.mark.new.store c.running.inside.marks c.mark.new.self c.running.inside.fresh c.running.inside.stored
     c.running.inside.turned.count c.args.running.now c.running.view_is c.args.at_most c.in-Err.fault c.walk_refusal.result c.new.result c.walk_refusal.ensures.value c.new.ensures.value
-    c.in-Err.ensures.stays (λ objects told exact. c.in-Err.ensures.cause objects told exact) (λ objects told. c.in-Err.ensures.err objects told) c.in-Err.ensures.left c.in-Err.ensures.good
+    c.in-Err.ensures.stays (λ objects told exact. c.in-Err.ensures.cause objects told exact)
+    (λ objects told exact complete. c.in-Err.ensures.damaged objects told exact complete) (λ objects told. c.in-Err.ensures.err objects told) c.in-Err.ensures.left c.in-Err.ensures.good
