@@ -1,9 +1,13 @@
 //! The first of several files and directories that are asked for one after another.
-ghost use Rattle.std.specs.Prelude.{true, false, ◌≡◌, ◌<◌, ◌∷◌, nat_le};
+ghost use Rattle.std.specs.Prelude.{true, false, ◌≡◌, ◌<◌, ◌∷◌, Some, nat_le};
 ghost use Rattle.library_rules.specs.Calls.{token_of};
+ghost use Rattle.library_rules.specs.Files.{KeepsKept};
+ghost use Rattle.library_rules.specs.LateUpdates.{TakesUploaded};
+ghost use Rattle.library_rules.specs.LibraryState.{State};
+ghost use Rattle.library_rules.specs.Uploads.{KeepsSafe, TellsSafe};
 ghost use Rattle.object_store.specs.Shelf.{GivesNoMore};
 ghost use Rattle.depot.specs.Answering.{Serves, permits};
-ghost use Rattle.depot.specs.DepotView.{IsGood};
+ghost use Rattle.depot.specs.DepotView.{IsGood, state_of};
 ghost use Rattle.depot.specs.FirstGet.{fs_call, fs_get, size_of, sizes_of};
 
 use crate::answering::permitted_place;
@@ -28,6 +32,9 @@ impl<S: Shelf> Depot<S> {
         ensures serves { Serves S.contents S.may_give S.texts S.faults self.old (fs_call secret.now id) moment result self.new }
         ensures gives { GivesNoMore (S.may_give self.old.store.shelf) (S.may_give self.new.store.shelf) }
         ensures stands { IsGood S.contents S.faults self.new }
+        ensures files { (s : State) → (t : State) → state_of S.contents S.faults self.old ≡ Some s → state_of S.contents S.faults self.new ≡ Some t → KeepsKept s t }
+        ensures safe { (s : State) → (t : State) → state_of S.contents S.faults self.old ≡ Some s → state_of S.contents S.faults self.new ≡ Some t
+            → KeepsSafe s t × TellsSafe (fs_get id) result t × TakesUploaded s (fs_call secret.now id) result }
         ensures denied { permits (token_of self.old.state.tokens secret.now) (fs_get id) ≡ false → result ≡ Reply.Refused Refusal.Denied }
         ensures bound { permits (token_of self.old.state.tokens secret.now) (fs_get id) ≡ true → most < sizes_of self.old.store.index (id ∷ more.now)
             → result ≡ Reply.Refused Refusal.NoMemory }

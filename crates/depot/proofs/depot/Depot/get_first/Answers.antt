@@ -7,9 +7,10 @@ use Rattle.library_state.specs.declared.refusal.Refusal.TheVariants as refusal
 use Rattle.library_state.specs.declared.reply.Reply.TheVariants as reply
 use Rattle.library_state.specs.declared.token.Token.{Token}
 use Rattle.depot.specs.Answering.{Serves, permits}
-use Rattle.depot.specs.DepotView.{DepotView, running_of}
+use Rattle.depot.specs.DepotView.{DepotView, IsGood, running_of}
 use Rattle.depot.specs.FirstGet.{fs_call, fs_get}
 use Rattle.depot.proofs.ActLemmas.{get_serves}
+use Rattle.depot.proofs.AnswerLawLemmas.{answered_files, answered_safe}
 use Rattle.depot.proofs.GivingLemmas.{no_more_by}
 use Rattle.depot.proofs.KeptLemmas.{serves_same}
 use Rattle.depot.proofs.ServingLemmas.{denied_serves}
@@ -37,3 +38,33 @@ returns-then-not-fit-clause-serves g c =
 
 pub returns-clause-gives : goal.returns-clause-gives
 returns-clause-gives g c = no_more_by c.answer_permitted-reply.ensures.gives
+
+pub returns-in-None-clause-files : goal.returns-in-None-clause-files
+returns-in-None-clause-files g c =
+    answered_files g.S.Shelf.contents g.S.Shelf.faults c.args.self.now c.args.self.now (fs_call c.args.secret.now c.args.id) c.args.moment (reply.Refused refusal.Denied)
+    (subst (IsGood g.S.Shelf.contents g.S.Shelf.faults) c.self.view_is c.self.invariant.good) (returns-in-None-clause-serves g c).told
+
+pub returns-in-None-clause-safe : goal.returns-in-None-clause-safe
+returns-in-None-clause-safe g c =
+    answered_safe g.S.Shelf.contents g.S.Shelf.faults c.args.self.now c.args.self.now (fs_call c.args.secret.now c.args.id) c.args.moment (reply.Refused refusal.Denied)
+    (subst (IsGood g.S.Shelf.contents g.S.Shelf.faults) c.self.view_is c.self.invariant.good) (returns-in-None-clause-serves g c).told
+
+pub returns-then-not-fit-clause-files : goal.returns-then-not-fit-clause-files
+returns-then-not-fit-clause-files g c =
+    answered_files g.S.Shelf.contents g.S.Shelf.faults c.args.self.now c.args.self.now (fs_call c.args.secret.now c.args.id) c.args.moment (reply.Refused refusal.NoMemory)
+    (subst (IsGood g.S.Shelf.contents g.S.Shelf.faults) c.self.view_is c.self.invariant.good) (returns-then-not-fit-clause-serves g c).told
+
+pub returns-then-not-fit-clause-safe : goal.returns-then-not-fit-clause-safe
+returns-then-not-fit-clause-safe g c =
+    answered_safe g.S.Shelf.contents g.S.Shelf.faults c.args.self.now c.args.self.now (fs_call c.args.secret.now c.args.id) c.args.moment (reply.Refused refusal.NoMemory)
+    (subst (IsGood g.S.Shelf.contents g.S.Shelf.faults) c.self.view_is c.self.invariant.good) (returns-then-not-fit-clause-serves g c).told
+
+pub returns-clause-files : goal.returns-clause-files
+returns-clause-files g c =
+    answered_files g.S.Shelf.contents g.S.Shelf.faults c.args.self.now c.answer_permitted-reply.new.self (fs_call c.args.secret.now c.args.id) c.args.moment c.answer_permitted-reply.result
+    (subst (IsGood g.S.Shelf.contents g.S.Shelf.faults) c.self.view_is c.self.invariant.good) c.answer_permitted-reply.ensures.value.told
+
+pub returns-clause-safe : goal.returns-clause-safe
+returns-clause-safe g c =
+    answered_safe g.S.Shelf.contents g.S.Shelf.faults c.args.self.now c.answer_permitted-reply.new.self (fs_call c.args.secret.now c.args.id) c.args.moment c.answer_permitted-reply.result
+    (subst (IsGood g.S.Shelf.contents g.S.Shelf.faults) c.self.view_is c.self.invariant.good) c.answer_permitted-reply.ensures.value.told
