@@ -2,6 +2,7 @@ pub mod CheckingLemmas
 pub mod ContentsLemmas
 pub mod ExtentLemmas
 pub mod FileLemmas
+pub mod KeptTreesLemmas
 pub mod KnownLemmas
 pub mod KnownTreesLemmas
 pub mod LimitLemmas

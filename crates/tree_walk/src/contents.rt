@@ -79,7 +79,7 @@ pub fn same_file<S: Shelf>(
 }
 
 /// Whether two lists have the same ids in the same order.
-fn are_one(left: &[ObjId], right: &[ObjId]) -> bool
+pub(crate) fn are_one(left: &[ObjId], right: &[ObjId]) -> bool
     ensures value { IsTrue result ↔ (left.now ≡ right.now) }
 {
     left == right

@@ -5,7 +5,7 @@ use Rattle.tree_walk.specs.Listings.{listed_from}
 use Rattle.tree_walk.specs.Trail.{names_of}
 use Rattle.tree_walk.proofs.CheckingLemmas.{Counts, counted, counts_end, has_counted, within_next, counts_next, counts_stop, directory_counted, directory_nil, entry_bad, entry_counted, entry_deep, entry_stops, entry_whole}
 use Rattle.tree_walk.proofs.ExtentLemmas.{becomes_known, stands_known}
-use Rattle.tree_walk.proofs.KnownTreesLemmas.{learned}
+use Rattle.tree_walk.proofs.KnownTreesLemmas.{learned, right_directory}
 use Rattle.tree_walk.proofs.ReadsLemmas.{nothing_left, other_id, read_ok, reads_done, reads_then, told_after, told_before}
 use Rattle.tree_walk.proofs.StepsLemmas.{next_entry, step_unread}
 use Rattle.tree_walk.proofs.checking.+checking.Goals as goal
@@ -17,7 +17,7 @@ check_directory-returns-then-is_nil-clause-value g t c = λ objects told.
 pub check_directory-returns-in-Some-clause-value : goal.check_directory-returns-in-Some-clause-value
 check_directory-returns-in-Some-clause-value g t c = λ objects told.
     stands_known objects c.args.room c.args.paths (names_of c.args.trail.now) c.args.id.now c.in-Some.extent
-    ((c.requires.known objects told).directories c.args.id.now c.in-Some.extent c.in-Some.ensures.value) c.in-Some.ensures.bound
+    (right_directory objects c.args.known.now c.args.id.now c.in-Some.extent (c.requires.known objects told) c.in-Some.ensures.value) c.in-Some.ensures.bound
 
 pub check_directory-returns-in-Err-clause-value : goal.check_directory-returns-in-Err-clause-value
 check_directory-returns-in-Err-clause-value g t c = λ objects told.

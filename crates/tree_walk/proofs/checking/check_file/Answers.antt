@@ -1,5 +1,5 @@
 use Rattle.std.proofs.Common.{sym, ◌∙◌}
-use Rattle.tree_walk.proofs.KnownTreesLemmas.{learned_file}
+use Rattle.tree_walk.proofs.KnownTreesLemmas.{learned_file, whole_file}
 use Rattle.tree_walk.proofs.checking.check_file.Goals as goal
 
 pub returns-in-Ok-clause-known : goal.returns-in-Ok-clause-known
@@ -8,4 +8,4 @@ returns-in-Ok-clause-known g c = λ objects told.
 
 pub returns-then-has_file-clause-value : goal.returns-then-has_file-clause-value
 returns-then-has_file-clause-value g c = λ objects told.
-    ((c.requires.known objects told).files c.args.id.now (sym c.has_file.ensures.value ∙ c.if-has_file.true), tt)
+    (whole_file objects c.args.known.now c.args.id.now (c.requires.known objects told) (sym c.has_file.ensures.value ∙ c.if-has_file.true), tt)
