@@ -1,5 +1,5 @@
 //! What a collection has marked, and what it may remove.
-ghost use Rattle.std.specs.Prelude.{◌≡◌, ◌&&◌, [], is_some, not, IfOk, Some, map as map_list};
+ghost use Rattle.std.specs.Prelude.{◌≡◌, ◌&&◌, [], is_some, not, IfOk, Some, map as map_list, ◌++◌};
 ghost use Rattle.ids.specs.Key.{Objects};
 ghost use Rattle.ids.specs.declared.key.Key.{Key};
 ghost use Rattle.std.specs.FinMap as map;
@@ -102,6 +102,20 @@ impl Marks {
         } else {
             Phase::Sweeping
         }
+    }
+
+    /// The commits for which the collection began. It takes no memory.
+    pub fn commits(&self) -> &[ObjId]
+        ensures value { result.now ≡ self.now.commits }
+    {
+        self.commits.slice()
+    }
+
+    /// The keys that were met: those that are marked, and then those that wait. It takes no memory.
+    pub fn met(&self) -> &[Key]
+        ensures value { result.now ≡ self.now.marked ++ self.now.pending }
+    {
+        self.work.keys()
     }
 }
 

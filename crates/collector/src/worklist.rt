@@ -113,6 +113,13 @@ impl Worklist {
         Ok(())
     }
 
+    /// The keys that were met, in the order in which they were. It takes no memory.
+    pub fn keys(&self) -> &[Key]
+        ensures value { result.now ≡ all_met self.now }
+    {
+        self.order.slice()
+    }
+
     /// The keys that were met, in the order in which they were.
     pub fn into_keys(self) -> KeyList
         ensures value { result ≡ all_met self }
