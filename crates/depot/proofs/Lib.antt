@@ -35,6 +35,7 @@ pub mod BeginTurnLemmas
 pub mod ClosingLemmas
 pub mod AnswerLawLemmas
 pub mod FitsLemmas
+pub mod KnownLemmas
 pub mod ServingLemmas
 pub mod TextLemmas
 pub mod MissingLemmas

@@ -27,10 +27,10 @@ use Rattle.collector.specs.Marks.{MarksView, is_candidate}
 use Rattle.collector.specs.Sweeping.{StraysIf, Took}
 use Rattle.collector.proofs.GoesOnLemmas.{stops_collect, sweeps_collect}
 use Rattle.collector.proofs.StoredCandidatesLemmas.{taken_stored}
-use Rattle.tree_walk.specs.KnownTrees.{Fits, KnownView, nothing_known}
+use Rattle.tree_walk.specs.KnownTrees.{Fits, KnownView}
 use Rattle.depot.specs.Answering.{MayRefuseTree}
 use Rattle.depot.specs.CollectionTurns.{IsAimed, IsToldNeeded, SettlesBefore, SweepsSo, TakesTurn, TurnSlotSo, removed_in, running_after, turned_once}
-use Rattle.depot.specs.DepotView.{CollectionView, FitsIn, Holds, IsKept, library, running_library, state_of}
+use Rattle.depot.specs.DepotView.{CollectionView, FitsIn, Holds, IsKept, library, running_library, state_of, KeepsMet}
 use Rattle.depot.specs.Giving.{GivesBy, IsOfSweep}
 use Rattle.depot.specs.ObjectCalls.{Counts, IsToldRefusal, is_of_store}
 use Rattle.depot.specs.Refusals.{store_refusal}
@@ -39,8 +39,8 @@ use Rattle.depot.specs.declared.turn.Turn.{Turn}
 use Rattle.depot.specs.declared.turn.Turn.TheVariants.{Swept, Refused}
 use Rattle.depot.proofs.AnsweringLemmas.{fault_of}
 use Rattle.depot.proofs.CollectsLemmas.{collects_state}
-use Rattle.depot.proofs.FitsLemmas.{fits_empty}
 use Rattle.depot.proofs.RefusalsLemmas.{counted_same, free_needed, free_told, told_damage}
+use Rattle.depot.proofs.KnownLemmas.{fits_swept}
 use Rattle.depot.proofs.TakesTurnLemmas.{as_due, collects_at, depot_of, library_at, sound_at, told_by}
 use Rattle.depot.proofs.ToldLemmas.{mapped_at}
 use Rattle.depot.proofs.TurnLemmas.{fails_sweeping, refused_turn, swept_turn, turn_sound}
@@ -217,8 +217,11 @@ module _ {S : Type 0} (contents : S → Option Contents) (may_give : S → Shelf
         let was = there_before now told in
         subst₂ (λ (f : Bool) (o : Objects). Holds f state o status) (sym same_flag) (sym (was.2 ∙ ap (without was.0) none)) (kept.good.text was.0 status was.1 (sym same_slot ∙ is))
 
-    fits_after : (later : KnownView) → ((later ≡ known) × (keys ≡ [])) ⊎ (later ≡ nothing_known) → FitsIn contents new later
-    fits_after later (inr forgot) now told = fits_empty contents new later forgot now told
+    fits_after : (later : KnownView) → ((later ≡ known) × (keys ≡ [])) ⊎ KeepsMet before.marks known later → FitsIn contents new later
+    fits_after later (inr met) now told =
+        let was = there_before now told in
+        subst (λ (o : Objects). Fits o later) (sym was.2)
+        (fits_swept (at was.0) before.running before.marks keys known later (sound_there was.0 was.1) (collects_there was.0 was.1) none_waits took.each (kept.fits was.0 was.1) met)
     fits_after later (inl (same, none)) now told =
         let was = there_before now told in
         subst₂ (λ (o : Objects) (k : KnownView). Fits o k) (sym (was.2 ∙ ap (without was.0) none)) (sym same) (kept.fits was.0 was.1)
@@ -227,7 +230,7 @@ module _ {S : Type 0} (contents : S → Option Contents) (may_give : S → Shelf
     fresh_apart : (key : Key) → set.contains before.running.fresh key ≡ true → is_in keys key ≡ false
     fresh_apart key is = false_from_ne_true (is_in keys key) (λ among. true≢false (sym is ∙ kept.apart key (took.each key among)))
 
-    swept_kept : (later : KnownView) → ((later ≡ known) × (keys ≡ [])) ⊎ (later ≡ nothing_known) → SettlesBefore unsettled state (status_of contents store) still (status_of contents new) keys
+    swept_kept : (later : KnownView) → ((later ≡ known) × (keys ≡ [])) ⊎ KeepsMet before.marks known later → SettlesBefore unsettled state (status_of contents store) still (status_of contents new) keys
         → ((key : Key) → set.contains after.running.fresh key ≡ set.contains before.running.fresh key)
         → ((there : Objects) → objects_of contents store ≡ Some there → Collects (running_library state (Some after.running) (faults new.shelf) (without there keys)) after.running after.marks)
         → ((t : State) → state_of contents faults (depot_of new state still (Some after.running)) ≡ Some t → IsSound t) → IsKept contents faults (depot_of new state still (Some after.running)) later (Some after)
@@ -269,14 +272,14 @@ module _ {S : Type 0} (contents : S → Option Contents) (may_give : S → Shelf
   pub sweep_stands : (at_most : ℕ) (turn : Turn) (later : LibState) (knows : KnownView) → 1 ≤ at_most → map.len before.marks.candidates ≢ 0 → SweepsSo contents may_give texts faults store before at_most turn new after
       → later ≡ state → GivesBy (IsOfSweep state.lib) (may_give store.shelf) (may_give new.shelf)
       → ((moment : ℕ) → TurnSlotSo moment turn unsettled state (status_of contents store) still (status_of contents new) (texts store.shelf) (texts new.shelf))
-      → SettlesBefore unsettled state (status_of contents store) still (status_of contents new) (removed_in turn) → ((knows ≡ known) × (removed_in turn ≡ [])) ⊎ (knows ≡ nothing_known)
+      → SettlesBefore unsettled state (status_of contents store) still (status_of contents new) (removed_in turn) → ((knows ≡ known) × (removed_in turn ≡ [])) ⊎ KeepsMet before.marks known knows
       → IsKept contents faults (depot_of new later still (Some after.running)) knows (Some after)
   sweep_stands at_most turn later knows least left so same gives slot settles knows_so =
       subst (λ (l : LibState). IsKept contents faults (depot_of new l still (Some after.running)) knows (Some after)) (sym same) (by turn so (slot 0) settles knows_so)
     where
       by : (t : Turn) → SweepsSo contents may_give texts faults store before at_most t new after
           → TurnSlotSo 0 t unsettled state (status_of contents store) still (status_of contents new) (texts store.shelf) (texts new.shelf)
-          → SettlesBefore unsettled state (status_of contents store) still (status_of contents new) (removed_in t) → ((knows ≡ known) × (removed_in t ≡ [])) ⊎ (knows ≡ nothing_known)
+          → SettlesBefore unsettled state (status_of contents store) still (status_of contents new) (removed_in t) → ((knows ≡ known) × (removed_in t ≡ [])) ⊎ KeepsMet before.marks known knows
           → IsKept contents faults (depot_of new state still (Some after.running)) knows (Some after)
       by (Swept keys) (size, sweeps) slot_so settles_so knows_it =
           let are = took_are before.marks after.marks sweeps.took in

@@ -1,6 +1,6 @@
 -- What a depot is: a store, the library that its state text tells, whether the last write of that text failed, and the
 -- collection that runs. Our own. Read DepotView and state_of first, then IsGood and IsKept.
-use Rattle.std.specs.Prelude.{◌≡◌, ◌≢◌, ◌⊎◌, ℕ, Bool, true, false, List, [], Option, None, Some, is_some, option_map, Ok, ⊤, refl}
+use Rattle.std.specs.Prelude.{◌≡◌, ◌≢◌, ◌⊎◌, ◌++◌, ℕ, Bool, true, false, List, [], Option, None, Some, is_some, option_map, Ok, ⊤, refl}
 use Rattle.std.specs.Coded.{Coded, code_by, coded×, coded_bool, coded_option, coded_ℕ}
 use Rattle.std.specs.FinMap as map
 use Rattle.std.specs.FinSet as set
@@ -17,7 +17,7 @@ use Rattle.object_store.specs.StoreView.{Index, StoreView, store_code, objects_o
 use Rattle.collector.specs.Collecting.{Collects}
 use Rattle.collector.specs.Marks.{MarksView, is_candidate, marks_code}
 use Rattle.collector.specs.StoredCandidates.{AreStoredIn}
-use Rattle.tree_walk.specs.KnownTrees.{Fits, KnownView}
+use Rattle.tree_walk.specs.KnownTrees.{Fits, KnownView, KeepsFor, nothing_known}
 use Rattle.depot.specs.NextState.{Follows}
 use Rattle.depot.specs.Writing.{ReadsBack}
 
@@ -129,8 +129,12 @@ abbrev pub AreApart : Option CollectionView → Type 0
 AreApart None = ⊤
 AreApart (Some collection) = (key : Key) → is_candidate collection.marks key ≡ true → set.contains collection.running.fresh key ≡ false
 
+-- what is known is kept for what the marks met; or nothing is known, where there was no memory for that
+abbrev pub KeepsMet : MarksView → KnownView → KnownView → Type 0
+KeepsMet marks old new = KeepsFor marks.commits (marks.marked ++ marks.pending) old new ⊎ (new ≡ nothing_known)
+
 -- a depot is good, what it knows is so over its store as it stands, and its marks are those of the collection that runs. Objects that come leave that right; before one of
--- them leaves it has to be forgotten
+-- them leaves it has to be forgotten, or kept for what is marked
 pub record IsKept {S : Type 0} (contents : S → Option Contents) (faults : S → ℕ) (depot : DepotView S) (known : KnownView) (collection : Option CollectionView)
     : Type 0 where
   pub good : IsGood contents faults depot

@@ -24,7 +24,7 @@ use tree_walk::Known;
 #[derive(Drop)]
 pub struct Depot<S: Shelf> {
     pub(crate) parts: Parts<S>,
-    /// What was found whole. It is to be forgotten before an object leaves the store.
+    /// What was found whole. It is to be forgotten, or kept for what is marked, before an object leaves the store.
     pub(crate) known: Known,
     /// The collection that runs, if one does. It lives as long as the process.
     pub(crate) running: Option<Collection>,

@@ -14,11 +14,10 @@ ghost use Rattle.object_graph.specs.Traversal.{is_in};
 ghost use Rattle.object_store.specs.StoreView.{AddsNoStray, objects_of, status_of};
 ghost use Rattle.collector.specs.Sweeping.{StraysIf};
 ghost use Rattle.depot.specs.CollectionTurns.{BeginsOver, BeginsSo, CountsTurn, IsAimed, IsToldDamageIn, MarksSo, MayLayIn, SettlesBefore, SweepsSo, TakesTurn, TurnSlotSo, TurnsAsDue, TurnsBySome, is_begin, is_counted_turn, is_end, is_owner, missed, permits_collection, removed_in, running_after, running_after_turn, state_after_turn, IsToldNeeded};
-ghost use Rattle.depot.specs.DepotView.{IsGood, IsKept, KnowsCandidates, state_of};
+ghost use Rattle.depot.specs.DepotView.{IsGood, IsKept, KnowsCandidates, state_of, KeepsMet};
 ghost use Rattle.depot.specs.Giving.{GivesBy, IsOfSweep, IsOwnText};
 ghost use Rattle.depot.specs.NextState.{with_begin};
 ghost use Rattle.depot.specs.Writing.{IsWritten, LeftBy, ReadsBack, settled};
-ghost use Rattle.tree_walk.specs.KnownTrees.{nothing_known};
 
 use crate::answering::place_of;
 use crate::collection::Collection;
@@ -234,7 +233,7 @@ impl<S: Shelf> Parts<S> {
     }
 
     /// Gives up candidates. The present text is written first, where it is open whether it stands: no object leaves that a
-    /// text which may stand needs.
+    /// text which may stand needs. What is known is kept of what is marked.
     fn sweep_some(&mut self, known: &mut Known, running: &mut Collection, at_most: u64) -> Turn
         requires some { (1 ≤ at_most) × (running.old.marks.pending ≡ []) }
         requires stored { KnowsCandidates self.old.store.index (Some running.old) }
@@ -244,13 +243,13 @@ impl<S: Shelf> Parts<S> {
         ensures stays { self.new.state ≡ self.old.state }
         ensures gives { GivesBy (IsOfSweep self.old.state.lib) (S.may_give self.old.store.shelf) (S.may_give self.new.store.shelf) }
         ensures settled { SettlesBefore self.old.unsettled self.old.state (status_of S.contents self.old.store) self.new.unsettled (status_of S.contents self.new.store) (removed_in result) }
-        ensures known { (known.new ≡ known.old) × (removed_in result ≡ []) ⊎ (known.new ≡ nothing_known) }
+        ensures known { (known.new ≡ known.old) × (removed_in result ≡ []) ⊎ KeepsMet running.old.marks known.old known.new }
     {
         match self.settle() {
             Ok(()) => {}
             Err(fault) => return Turn::Refused(store_refusal(fault), KeyList::new(self.alloc)),
         }
-        known.forget();
+        known.keep(running.marks.commits(), running.marks.met());
         let Swept { removed, fault } = running.marks.sweep(&mut self.store, at_most);
         match fault {
             Some(fault) => Turn::Refused(store_refusal(fault), removed),

@@ -1,9 +1,10 @@
--- The slot is settled first; then candidates leave, and what was known is forgotten.
+-- The slot is settled first; then candidates leave, and what is known is kept of what is marked.
 use Rattle.std.proofs.Common.{ap, inl, inr, is_some, refl, sym, ◌∙◌}
 use Rattle.std.specs.FinMap as map
 use Rattle.object_store.specs.StoreView.{Index, status_of}
 use Rattle.depot.specs.DepotView.{CollectionView}
 use Rattle.depot.specs.NextState.{with_begin}
+use Rattle.depot.proofs.KnownLemmas.{kept_met}
 use Rattle.depot.proofs.SweepPartLemmas.{settle_kept, settle_left, settled_slot, stops_early, sweep_gives, swept_stopped, swept_turned, text_gives}
 use Rattle.depot.proofs.depot.Parts.sweep_some.Goals as goal
 
@@ -70,7 +71,9 @@ returns-in-Some-clause-gives g c =
     c.sweep-removed.ensures.gives
 
 pub returns-in-Some-clause-known : goal.returns-in-Some-clause-known
-returns-in-Some-clause-known g c = inr c.forget.ensures.value
+returns-in-Some-clause-known g c =
+    inr (kept_met c.running.inside.marks c.args.running.now.marks c.commits.result.now c.met.result.now c.args.known.now c.keep.new.self (ap (λ (a : CollectionView). a.marks) c.running.view_is)
+    c.commits.ensures.value c.met.ensures.value c.keep.ensures.value)
 
 -- ---- some left
 
@@ -98,4 +101,6 @@ returns-in-None-clause-gives g c =
     c.sweep-removed.ensures.gives
 
 pub returns-in-None-clause-known : goal.returns-in-None-clause-known
-returns-in-None-clause-known g c = inr c.forget.ensures.value
+returns-in-None-clause-known g c =
+    inr (kept_met c.running.inside.marks c.args.running.now.marks c.commits.result.now c.met.result.now c.args.known.now c.keep.new.self (ap (λ (a : CollectionView). a.marks) c.running.view_is)
+    c.commits.ensures.value c.met.ensures.value c.keep.ensures.value)
