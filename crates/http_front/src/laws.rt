@@ -1,9 +1,9 @@
 //! Theorems about the stream of requests and the table of calls.
-ghost use Rattle.std.specs.Prelude.{◌≡◌, ◌+◌, ◌^◌, ◌<◌, ◌≤◌, ◌⊎◌, ℕ, List, [], length, Option, Result, Ok, Some};
+ghost use Rattle.std.specs.Prelude.{◌≡◌, ◌+◌, ◌^◌, ◌<◌, ◌≤◌, ◌⊎◌, ℕ, ℤ, unsigned_abs, List, [], length, Option, Result, Ok, Some};
 ghost use Rattle.ids.specs.declared.key.Kind.{Kind};
 ghost use Rattle.library_state.specs.declared.call.Op.{Op};
 ghost use Rattle.library_state.specs.declared.refusal.Refusal.{Refusal};
-ghost use Rattle.http_front.specs.CallQuery.{IsClient, IsObjectId, check_query, ids_query, update_query};
+ghost use Rattle.http_front.specs.CallQuery.{IsClient, IsObjectId, check_query, days_query, ids_query, update_query};
 ghost use Rattle.http_front.specs.Limits.{body_limit, field_limit, head_limit, piece_limit, row_front, row_limit};
 ghost use Rattle.http_front.specs.Order.{IsOrder, asked_of};
 ghost use Rattle.http_front.specs.Query.{query_of};
@@ -95,6 +95,14 @@ pub fn an_update_is_asked_for_by_its_own_query()
         → path_of target ≡ path_in (Route.Update lib) → query_of target ≡ update_query commit
         → IsOrder (method_in (Route.Update lib)) target secret body due
         → due ≡ Ok (asked_of lib secret (What.Update commit)) }
+{}
+
+/// For how many days history is kept is set by that path and query, where the number has at most 18 digits.
+pub fn a_limit_is_asked_for_by_its_own_query()
+    ensures { (target lib : List ℕ) (days : ℤ) (secret : Option (List ℕ)) (body : List ℕ) (due : Result Order Refusal) → IsLibrary lib → unsigned_abs days < 10 ^ 18
+        → path_of target ≡ path_in (Route.Limit lib) → query_of target ≡ days_query days
+        → IsOrder (method_in (Route.Limit lib)) target secret body due
+        → due ≡ Ok (asked_of lib secret (What.Limit days)) }
 {}
 
 /// What one commit needs, and another that may be left out does not, is asked for by that path and query.
