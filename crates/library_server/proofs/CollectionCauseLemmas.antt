@@ -7,7 +7,7 @@ use Rattle.std.specs.Str.{bytes_eq}
 use Rattle.std.proofs.lemmas.Slice.Eq.{bytes_eq-Decides}
 use Rattle.ids.specs.declared.key.Key.{Key}
 use Rattle.ids.proofs.BasicLemmas.{AllByRecursion-middle}
-use Rattle.depot.specs.Answering.{is_free_refusal}
+use Rattle.depot.specs.Answering.{MayRefuseTree, is_free_refusal}
 use Rattle.depot.specs.CollectionTurns.{MayLayIn, MayTurn, permits_collection}
 use Rattle.depot.specs.DepotView.{DepotView}
 use Rattle.depot.specs.Giving.{GivesBy, IsNothing}
@@ -27,7 +27,7 @@ use Rattle.object_store.specs.declared.shelf.Slot.TheVariants.{Object}
 use Rattle.worker_server.specs.Calls.{Told, Ran, call_asked, collection_asked, rules_at}
 use Rattle.worker_server.specs.declared.host.Collected.{Collected}
 use Rattle.worker_server.specs.declared.host.Collected.TheVariants as collected
-use Rattle.library_server.specs.Answering.{AnswersOn, AreCaused, AsksTooMuch, IsCaused, IsCausedEnd, OrNothing}
+use Rattle.library_server.specs.Answering.{AnswersOn, AreCaused, AsksTooMuch, IsCaused, IsCausedEnd, OrNothing, after_collection}
 use Rattle.library_server.specs.Collecting.{CollectsOn, EndsAs, TellsTurns, TurnsOn, ended, endless, number_running, told_removed}
 use Rattle.library_server.proofs.CauseLemmas.{Harmless, call_caused, no_text, refused_caused, reply_back}
 
@@ -57,22 +57,46 @@ turn_harmless gives mid now lib turn harmless more key given is = by (more (Obje
     by (inl was) = harmless key given was
     by (inr laid) = inl (inr (turn_laid lib turn key given laid))
 
+-- a refusal that a turn may have: who asks and which library are looked at before
+abbrev IsOfTurn : Refusal → Type 0
+IsOfTurn refusal.Denied = ⊥
+IsOfTurn refusal.NoLibrary = ⊥
+IsOfTurn other = ⊤
+
 -- why a turn is refused
 abbrev IsCausedTurn : (Slot → Option (List ℕ) → Type 0) → Turn → Type 0
-IsCausedTurn gives (Refused why keys) = IsCaused gives why
+IsCausedTurn gives (Refused why keys) = IsCaused gives why × IsOfTurn why
 IsCausedTurn gives other = ⊤
 
-free_refusal : (gives : Slot → Option (List ℕ) → Type 0) (why : Refusal) → IsTrue (is_free_refusal why) → IsCaused gives why
+free_refusal : (gives : Slot → Option (List ℕ) → Type 0) (why : Refusal) → IsTrue (is_free_refusal why) → IsCaused gives why × IsOfTurn why
 free_refusal gives (refusal.Damaged want got) free = absurd (true≢false (sym free))
-free_refusal gives other free = tt
+free_refusal gives refusal.Denied free = absurd (true≢false (sym free))
+free_refusal gives refusal.NoLibrary free = absurd (true≢false (sym free))
+free_refusal gives other free = (tt, tt)
+
+tree_refusal : (index : Index) (gives : Slot → Option (List ℕ) → Type 0) (why : Refusal) → MayRefuseTree index gives why → IsOfTurn why
+tree_refusal index gives refusal.Denied may = may
+tree_refusal index gives refusal.NoLibrary may = may
+tree_refusal index gives other may = tt
 
 turn_caused : (gives now : Slot → Option (List ℕ) → Type 0) → Harmless gives now → (index : Index) (running : Option Running) (collection : ℕ) (goal : Option ℕ) (turn : Turn)
     → MayTurn index now running collection goal turn → IsCausedTurn gives turn
-turn_caused gives now harmless index None collection goal (Refused refusal.Spent keys) may = tt
+turn_caused gives now harmless index None collection goal (Refused refusal.Spent keys) may = (tt, tt)
 turn_caused gives now harmless index None collection goal (Refused why keys) may = free_refusal gives why may
 turn_caused gives now harmless index (Some running) collection goal (Refused why keys) may =
-    reply_back gives now harmless (reply.Refused why) (refused_caused now index (act.Ids [] None) why may)
+    (reply_back gives now harmless (reply.Refused why) (refused_caused now index (act.Ids [] None) why may), tree_refusal index now why may)
 turn_caused gives now harmless index running collection goal other may = tt
+
+-- the end of turns, and not the refusal of who asks or of a library
+abbrev IsEndOfTurns : Collected → Type 0
+IsEndOfTurns (collected.Refused why) = IsOfTurn why
+IsEndOfTurns (collected.Done number removed) = ⊤
+
+after_turns : (gives now : Slot → Option (List ℕ) → Type 0) (ends : Collected) → IsEndOfTurns ends → Harmless (OrNothing gives) now → Harmless (after_collection ends gives) now
+after_turns gives now (collected.Refused refusal.Denied) none harmless = absurd none
+after_turns gives now (collected.Refused refusal.NoLibrary) none harmless = absurd none
+after_turns gives now (collected.Refused other) of_turn harmless = harmless
+after_turns gives now (collected.Done number removed) of_turn harmless = harmless
 
 module _ {S : Type 0} (contents : S → Option Contents) (may_give : S → Slot → Option (List ℕ) → Type 0) (texts faults : S → ℕ) (shows : ℕ → Type 0) where
   turns_caused : (gives : Slot → Option (List ℕ) → Type 0) (u : DepotView S) (goal : Option ℕ) (turns : List Turn) (v : DepotView S) → Harmless (OrNothing gives) (may_give u.store.shelf)
@@ -86,40 +110,42 @@ module _ {S : Type 0} (contents : S → Option Contents) (may_give : S → Slot 
       )
 
   -- the end of some turns is that of the last one
-  end_caused : (gives : Slot → Option (List ℕ) → Type 0) (turns : List Turn) (ends : Collected) → TellsTurns turns ends → AllByRecursion (IsCausedTurn gives) turns → IsCausedEnd gives ends
-  end_caused gives turns ends (endless goes long is) all = subst (IsCausedEnd gives) (sym is) tt
+  end_caused : (gives : Slot → Option (List ℕ) → Type 0) (turns : List Turn) (ends : Collected) → TellsTurns turns ends → AllByRecursion (IsCausedTurn gives) turns
+      → IsCausedEnd gives ends × IsEndOfTurns ends
+  end_caused gives turns ends (endless goes long is) all = subst (λ (e : Collected). IsCausedEnd gives e × IsEndOfTurns e) (sym is) (tt, tt)
   end_caused gives turns ends (ended before last is goes tells) all =
       by last (AllByRecursion-middle (IsCausedTurn gives) before last [] (subst (AllByRecursion (IsCausedTurn gives)) is all)) tells
     where
-      by : (turn : Turn) → IsCausedTurn gives turn → EndsAs turn (told_removed turns) ends → IsCausedEnd gives ends
+      by : (turn : Turn) → IsCausedTurn gives turn → EndsAs turn (told_removed turns) ends → IsCausedEnd gives ends × IsEndOfTurns ends
       by (Began number) caused tells = absurd tells
       by (Marked count) caused tells = absurd tells
       by (Swept keys) caused tells = absurd tells
-      by (Ended number) caused tells = subst (IsCausedEnd gives) (sym tells) tt
+      by (Ended number) caused tells = subst (λ (e : Collected). IsCausedEnd gives e × IsEndOfTurns e) (sym tells) (tt, tt)
       by (Over number) caused tells = absurd tells
-      by (Refused why keys) caused tells = subst (IsCausedEnd gives) (sym tells) caused
+      by (Refused why keys) caused tells = subst (λ (e : Collected). IsCausedEnd gives e × IsEndOfTurns e) (sym tells) caused
 
   collection_caused : (gives : Slot → Option (List ℕ) → Type 0) (u : DepotView S) (lib : List ℕ) (secret : Option (List ℕ)) (ends : Collected) (lines : List ⊤) (v : DepotView S)
       → Harmless gives (may_give u.store.shelf) → CollectsOn contents may_give texts faults shows u lib secret ends lines v
-      → IsCausedEnd (OrNothing gives) ends × Harmless (OrNothing gives) (may_give v.store.shelf)
+      → IsCausedEnd (OrNothing gives) ends × Harmless (after_collection ends gives) (may_give v.store.shelf)
   collection_caused gives u lib secret ends lines v harmless collects = by (bytes_eq lib u.state.lib) (permits_collection (token_of u.state.tokens secret)) refl refl
     where
-      later : Harmless (OrNothing gives) (may_give u.store.shelf)
-      later = nothing_more gives (may_give u.store.shelf) harmless
-
-      refused : (why : Refusal) → IsCaused (OrNothing gives) why → (ends ≡ collected.Refused why) × (v ≡ u) → IsCausedEnd (OrNothing gives) ends × Harmless (OrNothing gives) (may_give v.store.shelf)
-      refused why caused (is, same) = (
+      refused : (why : Refusal) → IsCaused (OrNothing gives) why → Harmless (after_collection (collected.Refused why) gives) (may_give u.store.shelf)
+          → (ends ≡ collected.Refused why) × (v ≡ u) → IsCausedEnd (OrNothing gives) ends × Harmless (after_collection ends gives) (may_give v.store.shelf)
+      refused why caused untaken (is, same) = (
         subst (IsCausedEnd (OrNothing gives)) (sym is) caused,
-        subst (λ (w : DepotView S). Harmless (OrNothing gives) (may_give w.store.shelf)) (sym same) later,
+        subst (λ (w : DepotView S). Harmless (after_collection ends gives) (may_give w.store.shelf)) (sym same)
+            (subst (λ (e : Collected). Harmless (after_collection e gives) (may_give u.store.shelf)) (sym is) untaken),
       )
 
-      by : (here may : Bool) → bytes_eq lib u.state.lib ≡ here → permits_collection (token_of u.state.tokens secret) ≡ may → IsCausedEnd (OrNothing gives) ends × Harmless (OrNothing gives) (may_give v.store.shelf)
+      by : (here may : Bool) → bytes_eq lib u.state.lib ≡ here → permits_collection (token_of u.state.tokens secret) ≡ may
+          → IsCausedEnd (OrNothing gives) ends × Harmless (after_collection ends gives) (may_give v.store.shelf)
       by true true same is =
           let takes = collects.here ((bytes_eq-Decides lib u.state.lib).0 same) is in
-          let each = turns_caused gives u None takes.0 v later takes.1 in
-          (end_caused (OrNothing gives) takes.0 ends takes.2 each.0, each.1)
-      by true false same is = refused refusal.Denied tt (collects.denied ((bytes_eq-Decides lib u.state.lib).0 same) is)
-      by false may other is = refused refusal.NoLibrary tt (collects.elsewhere (λ same. true≢false (sym ((bytes_eq-Decides lib u.state.lib).1 same) ∙ other)))
+          let each = turns_caused gives u None takes.0 v (nothing_more gives (may_give u.store.shelf) harmless) takes.1 in
+          let end = end_caused (OrNothing gives) takes.0 ends takes.2 each.0 in
+          (end.0, after_turns gives (may_give v.store.shelf) ends end.1 each.1)
+      by true false same is = refused refusal.Denied tt harmless (collects.denied ((bytes_eq-Decides lib u.state.lib).0 same) is)
+      by false may other is = refused refusal.NoLibrary tt harmless (collects.elsewhere (λ same. true≢false (sym ((bytes_eq-Decides lib u.state.lib).1 same) ∙ other)))
 
   -- ---- all of a connection
 
@@ -131,4 +157,4 @@ module _ {S : Type 0} (contents : S → Option Contents) (may_give : S → Slot 
       (first.0, calls_caused gives mid ts v first.1 more)
   calls_caused gives u (collection_asked lib secret ends operations ∷ ts) v harmless (mid, collects, more) =
       let first = collection_caused gives u lib secret ends operations mid harmless collects in
-      (first.0, calls_caused (OrNothing gives) mid ts v first.1 more)
+      (first.0, calls_caused (after_collection ends gives) mid ts v first.1 more)

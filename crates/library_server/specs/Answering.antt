@@ -50,11 +50,18 @@ IsCausedEnd gives (collected.Done number removed) = ⊤
 abbrev pub OrNothing : (Slot → Option (List ℕ) → Type 0) → Slot → Option (List ℕ) → Type 0
 OrNothing gives slot given = gives slot given ⊎ IsNothing slot given
 
--- the same of the reply to each of some calls; since a collection was asked for, whose objects left, nothing may be given for any key
+-- what may be given after a collection that was asked for and ended so: nothing for any key too, unless none was taken
+abbrev pub after_collection : Collected → (Slot → Option (List ℕ) → Type 0) → Slot → Option (List ℕ) → Type 0
+after_collection (collected.Refused refusal.Denied) gives = gives
+after_collection (collected.Refused refusal.NoLibrary) gives = gives
+after_collection (collected.Refused other) gives = OrNothing gives
+after_collection (collected.Done number removed) gives = OrNothing gives
+
+-- the same of the reply to each of some calls; since a collection was taken, whose objects left, nothing may be given for any key
 abbrev pub AreCaused : (Slot → Option (List ℕ) → Type 0) → List (Told ⊤) → Type 0
 AreCaused gives [] = ⊤
 AreCaused gives (call_asked lib call answer operations ∷ calls) = IsCausedReply gives answer.reply × AreCaused gives calls
-AreCaused gives (collection_asked lib secret ends operations ∷ calls) = IsCausedEnd (OrNothing gives) ends × AreCaused (OrNothing gives) calls
+AreCaused gives (collection_asked lib secret ends operations ∷ calls) = IsCausedEnd (OrNothing gives) ends × AreCaused (after_collection ends gives) calls
 
 -- ---- storage that never fails
 
