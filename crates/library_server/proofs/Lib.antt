@@ -10,3 +10,5 @@ pub mod CollectingLemmas
 pub mod WholeLemmas
 pub mod CollectingWholeLemmas
 pub mod RunLemmas
+pub mod CollectedLemmas
+pub mod FewTurnsLemmas

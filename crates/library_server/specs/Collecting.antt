@@ -1,12 +1,14 @@
 -- What a collection that is asked for does: turn after turn, up to the end of its collection or a refusal. Our own. Read
 -- TurnsOn and TellsTurns first, then CollectsOn.
-use Rattle.std.specs.Prelude.{◌≡◌, ◌≢◌, ◌+◌, ℕ, Bool, true, false, List, [], ◌∷◌, ◌++◌, length, min, sum_by, Option, None, option_map, ⊤}
+use Rattle.std.specs.Prelude.{◌≡◌, ◌≢◌, ◌+◌, ℕ, Bool, true, false, List, [], ◌∷◌, ◌++◌, length, min, sum_by, Option, None, Some, option_map, ⊤}
+use Rattle.std.specs.FinMap as map
 use Rattle.std.specs.List.{AllByRecursion}
 use Rattle.depot.specs.CollectionTurns.{TakesTurn, permits_collection, removed_in}
 use Rattle.depot.specs.DepotView.{DepotView, IsGood}
 use Rattle.depot.specs.declared.turn.Turn.{Turn}
 use Rattle.depot.specs.declared.turn.Turn.TheVariants.{Began, Marked, Swept, Ended, Over, Refused}
 use Rattle.library_rules.specs.Calls.{token_of}
+use Rattle.library_rules.specs.LibraryState.{Running}
 use Rattle.library_state.specs.declared.refusal.Refusal.TheVariants as refusal
 use Rattle.object_store.specs.Shelf.{Contents}
 use Rattle.object_store.specs.declared.shelf.Slot.{Slot}
@@ -69,11 +71,26 @@ pub data TellsTurns (turns : List Turn) (ends : Collected) : Type 0 where
   endless : AllByRecursion (λ turn. goes_on turn ≡ true) turns → length turns ≡ 18446744073709551615 → ends ≡ collected.Refused refusal.NoMemory
       → TellsTurns turns ends
 
+-- some turn is the last of these, and tells this end
+pub record IsLastOf (turns : List Turn) (ends : Collected) : Type 0 where
+  pub before : List Turn
+  pub last : Turn
+  pub is : turns ≡ before ++ last ∷ []
+  pub tells : EndsAs last (told_removed turns) ends
+
 -- turns that tell this were taken
 abbrev pub TakesTurns : {S : Type 0} → (S → Option Contents) → (S → Slot → Option (List ℕ) → Type 0) → (texts faults : S → ℕ) → (ℕ → Type 0)
     → DepotView S → Collected → DepotView S → Type 0
 TakesTurns contents may_give texts faults shows old ends new =
     (turns : List Turn) × TurnsOn contents may_give texts faults shows old None turns new × TellsTurns turns ends
+
+-- how many objects were known as the collection began that runs, or are where none does
+abbrev pub known_as_begun : ℕ → Option Running → ℕ
+known_as_begun known None = known
+known_as_begun known (Some running) = running.stored
+
+abbrev pub begun_over : {S : Type 0} → DepotView S → ℕ
+begun_over depot = known_as_begun (map.len depot.store.index) depot.running
 
 -- a refusal by the storage
 abbrev pub is_storage_end : Collected → Bool

@@ -9,6 +9,7 @@ mod adding;
 mod collecting;
 mod creating;
 mod inetd;
+pub mod laws;
 mod making;
 mod not_done;
 mod running;
