@@ -6,8 +6,7 @@ use depot::{Depot, Turn};
 use ids::ObjId;
 use library_state::{Act, Op};
 use object_store::{FuseShelf, MemoryShelf};
-use std::alloc::Global;
-use std::test::Fail;
+use std::alloc::{AllocError, Global};
 
 /// The names of the files of a small library, and of a larger one.
 const FEW: &[&str] = &["a", "b", "c"];
@@ -18,13 +17,13 @@ const MANY: &[&str] = &[
 ];
 
 /// The shelf of a library of these files, with all objects of an update that changes the first one, and that update's commit.
-fn pushed(alloc: Global, names: &[&str]) -> Result<(MemoryShelf, ObjId), Fail> {
+fn pushed(alloc: Global, names: &[&str]) -> Result<(MemoryShelf, ObjId), AllocError> {
     let mut depot = library_on(alloc, &[])?;
     let first = depot.head();
     let root = put_root(alloc, &mut depot, names, "a")?;
     let old = put_commit_of(alloc, &mut depot, 0x11, &first, &root)?;
     if !is_updated(&mut depot, &old) {
-        return Err(Fail::from("update"));
+        return Err(AllocError);
     }
     let root = put_root(alloc, &mut depot, names, "z")?;
     let new = put_commit_of(alloc, &mut depot, 0x22, &old, &root)?;
@@ -49,7 +48,7 @@ fn is_enough(
     turns: u64,
     updates: bool,
     calls: u64,
-) -> Result<bool, Fail> {
+) -> Result<bool, AllocError> {
     let (shelf, commit) = pushed(alloc, names)?;
     let mut depot = match opened(alloc, shelf, calls, false) {
         Ok(depot) => depot,
@@ -65,25 +64,32 @@ fn is_enough(
     Ok(is_updated(&mut depot, &commit))
 }
 
-/// How many calls are enough.
-fn calls_of(alloc: Global, names: &[&str], turns: u64, updates: bool) -> Result<u64, Fail> {
-    for calls in 0..1000 {
-        if is_enough(alloc, names, turns, updates, calls)? {
-            return Ok(calls);
+/// The greatest number of calls below 1,024 that isn't enough.
+fn calls_short(
+    alloc: Global,
+    names: &[&str],
+    turns: u64,
+    updates: bool,
+) -> Result<u64, AllocError> {
+    let mut short: u64 = 0;
+    for step in [512, 256, 128, 64, 32, 16, 8, 4, 2, 1] {
+        let calls = short.saturating_add(step);
+        if !is_enough(alloc, names, turns, updates, calls)? {
+            short = calls;
         }
     }
-    Err(Fail::from("calls"))
+    Ok(short)
 }
 
 /// How many calls the update takes after so many turns.
-fn cost(alloc: Global, names: &[&str], turns: u64) -> Result<u64, Fail> {
-    let without = calls_of(alloc, names, turns, false)?;
-    let with = calls_of(alloc, names, turns, true)?;
+fn cost(alloc: Global, names: &[&str], turns: u64) -> Result<u64, AllocError> {
+    let without = calls_short(alloc, names, turns, false)?;
+    let with = calls_short(alloc, names, turns, true)?;
     Ok(with.saturating_sub(without))
 }
 
 /// Whether it takes as many in both libraries, and fewer than the larger one has files.
-fn is_flat(alloc: Global, turns: u64) -> Result<bool, Fail> {
+fn is_flat(alloc: Global, turns: u64) -> Result<bool, AllocError> {
     let few = cost(alloc, FEW, turns)?;
     let many = cost(alloc, MANY, turns)?;
     Ok(few == many && many > 0 && many < 24)
@@ -92,7 +98,7 @@ fn is_flat(alloc: Global, turns: u64) -> Result<bool, Fail> {
 #[test]
 fn an_update_beside_a_collection_that_marks_costs_what_it_changes(
     rt: HostRuntime,
-) -> Result<(), Fail> {
+) -> Result<(), AllocError> {
     for turns in 1..4 {
         assert!(rt; is_flat(rt.alloc(), turns)?, "{turns}");
     }

@@ -2,8 +2,7 @@
 use crate::objects::{Kept, MOMENT, updated_thrice};
 use crate::stop_tests::is_whole;
 use depot::Turn;
-use std::alloc::Global;
-use std::test::Fail;
+use std::alloc::{AllocError, Global};
 
 /// Takes turns until the collection ended, over those that are refused, and tells how many were; nothing where it doesn't end in a
 /// hundred turns.
@@ -36,7 +35,7 @@ enum Came {
 }
 
 /// What the collection of this library comes to.
-fn came(alloc: Global, depot: Kept) -> Came {
+fn came_of(alloc: Global, depot: Kept) -> Came {
     let mut depot = depot;
     let head = depot.head().digits();
     match refused_till_end(&mut depot) {
@@ -53,7 +52,7 @@ fn came(alloc: Global, depot: Kept) -> Came {
 /// The same of a library whose shelf fails at the call of this number.
 fn came_at(alloc: Global, call: u64) -> Came {
     match updated_thrice(alloc, &[call]) {
-        Ok(depot) => came(alloc, depot),
+        Ok(depot) => came_of(alloc, depot),
         Err(_) => Came::Unmade,
     }
 }
@@ -74,7 +73,7 @@ fn outlived(alloc: Global) -> Option<u64> {
 
 // The text of the begin, three objects that are read, and nine that are removed.
 #[test]
-fn a_collection_outlives_a_fault_at_each_of_its_calls(rt: HostRuntime) -> Result<(), Fail> {
+fn a_collection_outlives_a_fault_at_each_of_its_calls(rt: HostRuntime) -> Result<(), AllocError> {
     let calls = outlived(rt.alloc());
     assert!(rt; calls == Some(13), "{calls:?}");
     Ok(())

@@ -1,11 +1,10 @@
-//! Objects that are put into a library by calls of its owner, and updates to them.
+//! Objects that are put into a library by calls of its owner, and updates to them. Each refusal is told as want of memory.
 use crate::library::library_on;
 use depot::Depot;
 use ids::{Bytes, Key, Kind, ObjId};
 use library_state::{Act, Call, Reply, Secret};
 use object_store::{MemoryShelf, Shelf};
 use std::alloc::{AllocError, Global};
-use std::test::Fail;
 
 /// When the library is made, and when turns are taken.
 pub(crate) const MOMENT: u64 = 7;
@@ -33,18 +32,23 @@ fn push_id(text: &mut String, id: &ObjId) -> Result<(), AllocError> {
 }
 
 /// Puts an object of this text under its own name.
-pub(crate) fn put(alloc: Global, depot: &mut Kept, kind: Kind, text: &str) -> Result<ObjId, Fail> {
+pub(crate) fn put(
+    alloc: Global,
+    depot: &mut Kept,
+    kind: Kind,
+    text: &str,
+) -> Result<ObjId, AllocError> {
     let id = ObjId::of(text.as_bytes());
     let id = &id;
     let bytes = Bytes::copy(alloc, text.as_bytes())?;
     match asked(depot, Act::Put(Key { kind, id: *id }, bytes)) {
         Reply::Stored(_) => Ok(*id),
-        _ => Err(Fail::from("put")),
+        _ => Err(AllocError),
     }
 }
 
 /// Puts a file of one block of this letter.
-fn put_file(alloc: Global, depot: &mut Kept, letter: &str) -> Result<ObjId, Fail> {
+fn put_file(alloc: Global, depot: &mut Kept, letter: &str) -> Result<ObjId, AllocError> {
     let block = put(alloc, depot, Kind::Block, letter)?;
     let mut text = String::from_str(alloc, "{\"block_ids\":[\"")?;
     push_id(&mut text, &block)?;
@@ -67,7 +71,7 @@ pub(crate) fn put_root(
     depot: &mut Kept,
     names: &[&str],
     first: &str,
-) -> Result<ObjId, Fail> {
+) -> Result<ObjId, AllocError> {
     let mut text = String::from_str(alloc, "{\"dirents\":[")?;
     let mut between = "";
     for name in names {
@@ -107,7 +111,7 @@ pub(crate) fn put_commit_of(
     byte: u8,
     parent: &ObjId,
     root: &ObjId,
-) -> Result<ObjId, Fail> {
+) -> Result<ObjId, AllocError> {
     let id = ObjId::from_bytes([byte; 20]);
     let id = &id;
     let text = commit_text(alloc, id, parent, root)?;
@@ -118,7 +122,7 @@ pub(crate) fn put_commit_of(
     };
     match asked(depot, Act::Put(key, bytes)) {
         Reply::Stored(_) => Ok(*id),
-        _ => Err(Fail::from("commit")),
+        _ => Err(AllocError),
     }
 }
 
@@ -129,7 +133,7 @@ pub(crate) fn put_commit(
     byte: u8,
     parent: &ObjId,
     letter: &str,
-) -> Result<ObjId, Fail> {
+) -> Result<ObjId, AllocError> {
     let root = put_root(alloc, depot, &["a"], letter)?;
     put_commit_of(alloc, depot, byte, parent, &root)
 }
@@ -144,19 +148,19 @@ pub(crate) fn is_updated<S: Shelf>(depot: &mut Depot<S>, commit: &ObjId) -> bool
 
 /// The library after three updates, each of which replaced one file, over a shelf whose calls of these numbers fail; no days of
 /// history are kept. Where one of those calls makes the library, there is none.
-pub(crate) fn updated_thrice(alloc: Global, fails: &[u64]) -> Result<Kept, Fail> {
+pub(crate) fn updated_thrice(alloc: Global, fails: &[u64]) -> Result<Kept, AllocError> {
     let mut depot = library_on(alloc, fails)?;
     let mut parent = depot.head();
     for (byte, letter) in [(0x11, "1"), (0x22, "2"), (0x33, "3")] {
         let commit = put_commit(alloc, &mut depot, byte, &parent, letter)?;
         if !is_updated(&mut depot, &commit) {
-            return Err(Fail::from("update"));
+            return Err(AllocError);
         }
         parent = commit;
     }
     match asked(&mut depot, Act::Limit(0)) {
         Reply::Limited => Ok(depot),
-        _ => Err(Fail::from("limit")),
+        _ => Err(AllocError),
     }
 }
 

@@ -3,8 +3,7 @@
 use crate::objects::updated_thrice;
 use depot::{Depot, Turn};
 use object_store::{FuseShelf, MemoryShelf, Shelf, Store};
-use std::alloc::Global;
-use std::test::Fail;
+use std::alloc::{AllocError, Global};
 
 /// A library over a shelf that passes so many calls, from the opening of the store on; none where it doesn't open.
 pub(crate) fn opened(
@@ -67,7 +66,7 @@ pub(crate) fn is_whole(alloc: Global, shelf: MemoryShelf, head: &[u8]) -> bool {
 }
 
 /// Whether that is so for each number of calls, and how many calls a collection takes.
-fn stops(alloc: Global, late: bool) -> Result<Option<u64>, Fail> {
+fn stops(alloc: Global, late: bool) -> Result<Option<u64>, AllocError> {
     for passes in 0..200 {
         let depot = updated_thrice(alloc, &[])?;
         let head = depot.head().digits();
@@ -84,7 +83,9 @@ fn stops(alloc: Global, late: bool) -> Result<Option<u64>, Fail> {
 
 // Early and late a collection takes as many calls, the opening among them.
 #[test]
-fn a_stop_at_any_call_of_a_collection_leaves_a_whole_library(rt: HostRuntime) -> Result<(), Fail> {
+fn a_stop_at_any_call_of_a_collection_leaves_a_whole_library(
+    rt: HostRuntime,
+) -> Result<(), AllocError> {
     let early = stops(rt.alloc(), false)?;
     let late = stops(rt.alloc(), true)?;
     assert!(rt; early.is_some() && early == late, "{early:?} {late:?}");

@@ -5,7 +5,6 @@ use depot::{Depot, Turn};
 use ids::{IdList, Kind, ObjId};
 use library_state::{Act, Op, Reply};
 use std::alloc::{AllocError, Global};
-use std::test::Fail;
 
 /// One turn of one object, as a letter; `?` where it is none of these, or takes another number of objects.
 fn letter_of(turn: &Turn) -> char {
@@ -32,12 +31,49 @@ fn turns(alloc: Global, depot: &mut Kept, count: u64) -> Result<String, AllocErr
 }
 
 #[test]
-fn a_collection_takes_one_step_a_turn(rt: HostRuntime) -> Result<(), Fail> {
+fn a_collection_takes_one_step_a_turn(rt: HostRuntime) -> Result<(), AllocError> {
     let mut depot = updated_thrice(rt.alloc(), &[])?;
     let letters = turns(rt.alloc(), &mut depot, 16)?;
     assert_eq!(rt; letters.as_str(), "bmmmmssssssssseo");
     assert!(rt; depot.running().is_none());
     assert!(rt; depot.close().count() == 4);
+    Ok(())
+}
+
+/// How many objects a turn took, at most three of them, as a digit; `b` where it began a collection, `e` where it ended one,
+/// and `?` where it is none of these.
+fn taken_by(turn: &Turn) -> char {
+    let count = match turn {
+        Turn::Began(_) => return 'b',
+        Turn::Marked(count) => *count,
+        Turn::Swept(keys) => keys.len() as u64,
+        Turn::Ended(_) => return 'e',
+        _ => return '?',
+    };
+    match count {
+        1 => '1',
+        2 => '2',
+        3 => '3',
+        _ => '?',
+    }
+}
+
+/// What so many turns of at most three objects took.
+fn taken(alloc: Global, depot: &mut Kept, count: u64) -> Result<String, AllocError> {
+    let mut digits = String::new(alloc);
+    for _ in 0..count {
+        let turn = depot.turn_of_collection(None, MOMENT, 3);
+        digits.push(taken_by(&turn))?;
+    }
+    Ok(digits)
+}
+
+// Four objects are needed, and nine are not.
+#[test]
+fn a_turn_tells_how_many_objects_it_took(rt: HostRuntime) -> Result<(), AllocError> {
+    let mut depot = updated_thrice(rt.alloc(), &[])?;
+    let digits = taken(rt.alloc(), &mut depot, 7)?;
+    assert_eq!(rt; digits.as_str(), "b31333e");
     Ok(())
 }
 
@@ -69,7 +105,7 @@ fn is_present(alloc: Global, depot: &mut Kept, letter: &str) -> Result<bool, All
 }
 
 #[test]
-fn what_was_told_present_stays_through_a_collection(rt: HostRuntime) -> Result<(), Fail> {
+fn what_was_told_present_stays_through_a_collection(rt: HostRuntime) -> Result<(), AllocError> {
     let mut depot = library_on(rt.alloc(), &[])?;
     let _ = put(rt.alloc(), &mut depot, Kind::Block, "a")?;
     let _ = put(rt.alloc(), &mut depot, Kind::Block, "b")?;
@@ -86,7 +122,7 @@ fn what_was_told_present_stays_through_a_collection(rt: HostRuntime) -> Result<(
 
 /// Whether an update beside a collection keeps what it needs, when it comes after so many turns of one object: its objects lay
 /// there unneeded before the collection began, and nobody asked for them since.
-fn keeps_what_it_needs(alloc: Global, before: u64) -> Result<bool, Fail> {
+fn keeps_what_it_needs(alloc: Global, before: u64) -> Result<bool, AllocError> {
     let mut depot = library_on(alloc, &[])?;
     let head = depot.head();
     let commit = put_commit(alloc, &mut depot, 0x44, &head, "d")?;
@@ -104,7 +140,7 @@ fn keeps_what_it_needs(alloc: Global, before: u64) -> Result<bool, Fail> {
 #[test]
 fn an_update_keeps_what_it_needs_from_the_collection_that_runs(
     rt: HostRuntime,
-) -> Result<(), Fail> {
+) -> Result<(), AllocError> {
     for before in 1..3 {
         assert!(rt; keeps_what_it_needs(rt.alloc(), before)?, "{before}");
     }
@@ -112,7 +148,7 @@ fn an_update_keeps_what_it_needs_from_the_collection_that_runs(
 }
 
 /// Whether a merged update beside a collection leaves a whole library.
-fn merges_beside(alloc: Global) -> Result<bool, Fail> {
+fn merges_beside(alloc: Global) -> Result<bool, AllocError> {
     let mut depot = library_on(alloc, &[])?;
     let base = depot.head();
     let one = put_commit(alloc, &mut depot, 0x11, &base, "1")?;
@@ -136,7 +172,7 @@ fn merges_beside(alloc: Global) -> Result<bool, Fail> {
 #[test]
 fn a_merged_update_keeps_what_it_needs_from_the_collection_that_runs(
     rt: HostRuntime,
-) -> Result<(), Fail> {
+) -> Result<(), AllocError> {
     assert!(rt; merges_beside(rt.alloc())?);
     Ok(())
 }
