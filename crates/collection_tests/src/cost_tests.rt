@@ -1,8 +1,9 @@
 //! What an update costs beside a collection that marks, in calls of the shelf: what it changes, and not the library.
+use crate::calls::{Step, asked, turned};
 use crate::library::library_on;
-use crate::objects::{MOMENT, asked, is_updated, put_commit_of, put_root};
+use crate::objects::{Kept, is_updated, put_commit, update_to};
 use crate::stop_tests::opened;
-use depot::{Depot, Turn};
+use depot::Depot;
 use ids::ObjId;
 use library_state::{Act, Op};
 use object_store::{FuseShelf, MemoryShelf};
@@ -16,32 +17,45 @@ const MANY: &[&str] = &[
     "t", "u", "v", "w", "x",
 ];
 
-/// The shelf of a library of these files, with all objects of an update that changes the first one, and that update's commit.
+/// Updates a library to these files, and puts all objects of an update that changes the first one: its commit.
+fn push(alloc: Global, depot: &mut Kept, names: &[&str]) -> Result<ObjId, AllocError> {
+    let first = depot.head();
+    let old = update_to(alloc, depot, 0x11, &first, names, "a")?;
+    put_commit(alloc, depot, 0x22, &old, names, "z")
+}
+
+/// The shelf of such a library, and the commit.
 fn pushed(alloc: Global, names: &[&str]) -> Result<(MemoryShelf, ObjId), AllocError> {
     let mut depot = library_on(alloc, &[])?;
-    let first = depot.head();
-    let root = put_root(alloc, &mut depot, names, "a")?;
-    let old = put_commit_of(alloc, &mut depot, 0x11, &first, &root)?;
-    if !is_updated(&mut depot, &old) {
-        return Err(AllocError);
-    }
-    let root = put_root(alloc, &mut depot, names, "z")?;
-    let new = put_commit_of(alloc, &mut depot, 0x22, &old, &root)?;
-    Ok((depot.close().end(), new))
+    let commit = push(alloc, &mut depot, names)?;
+    Ok((depot.close().end(), commit))
 }
 
 /// Takes so many turns of one object, if none is refused.
-fn turned(depot: &mut Depot<FuseShelf>, turns: u64) -> bool {
+fn takes_turns(depot: &mut Depot<FuseShelf>, turns: u64) -> bool {
     for _ in 0..turns {
-        match depot.turn_of_collection(None, MOMENT, 1) {
-            Turn::Refused(_, _) => return false,
+        match turned(depot, None, 1) {
+            Step::Failed => return false,
+            Step::Refused => return false,
             _ => {}
         }
     }
     true
 }
 
-/// Whether so many calls of the shelf are enough to open the library and take the turns, and for the update, where it is asked.
+/// Whether the turns are taken, and the update, where it is asked for.
+fn takes_all(depot: &mut Depot<FuseShelf>, turns: u64, commit: &ObjId, updates: bool) -> bool {
+    if !takes_turns(depot, turns) {
+        return false;
+    }
+    if !updates {
+        return true;
+    }
+    let _ = asked(depot, Act::Check(Op::Upload));
+    is_updated(depot, commit)
+}
+
+/// Whether so many calls of the shelf are enough to open the library and take the turns, and for the update, where it is asked for.
 fn is_enough(
     alloc: Global,
     names: &[&str],
@@ -50,18 +64,13 @@ fn is_enough(
     calls: u64,
 ) -> Result<bool, AllocError> {
     let (shelf, commit) = pushed(alloc, names)?;
-    let mut depot = match opened(alloc, shelf, calls, false) {
-        Ok(depot) => depot,
-        Err(_) => return Ok(false),
-    };
-    if !turned(&mut depot, turns) {
-        return Ok(false);
+    match opened(alloc, shelf, calls, false) {
+        Ok(depot) => {
+            let mut depot = depot;
+            Ok(takes_all(&mut depot, turns, &commit, updates))
+        }
+        Err(_) => Ok(false),
     }
-    if !updates {
-        return Ok(true);
-    }
-    let _ = asked(&mut depot, Act::Check(Op::Upload));
-    Ok(is_updated(&mut depot, &commit))
 }
 
 /// The greatest number of calls below 1,024 that isn't enough.

@@ -1,25 +1,8 @@
 //! A collection over a shelf that fails once: whatever the call, the collection goes on after it and ends, and the library is whole.
-use crate::objects::{Kept, MOMENT, updated_thrice};
+use crate::calls::run_to_end;
+use crate::objects::{Kept, updated_thrice};
 use crate::stop_tests::is_whole;
-use depot::Turn;
 use std::alloc::{AllocError, Global};
-
-/// Takes turns until the collection ended, over those that are refused, and tells how many were; nothing where it doesn't end in a
-/// hundred turns.
-fn refused_till_end(depot: &mut Kept) -> Option<u64> {
-    let mut refused: u64 = 0;
-    for _ in 0..100 {
-        match depot.turn_of_collection(None, MOMENT, 3) {
-            Turn::Ended(_) => return Some(refused),
-            Turn::Refused(_, _) => refused = refused.saturating_add(1),
-            Turn::Over(_) => return None,
-            Turn::Began(_) => {}
-            Turn::Marked(_) => {}
-            Turn::Swept(_) => {}
-        }
-    }
-    None
-}
 
 /// What a collection comes to over a shelf that fails at one call.
 #[derive(Clone, Copy)]
@@ -28,7 +11,7 @@ enum Came {
     Unmade,
     /// No turn was refused: the call comes after the collection.
     Untouched,
-    /// One turn was refused. The collection ended, and the library is whole.
+    /// One turn was refused, as the shelf failed. The collection ended, and the library is whole.
     Outlived,
     /// None of these.
     Lost,
@@ -37,15 +20,16 @@ enum Came {
 /// What the collection of this library comes to.
 fn came_of(alloc: Global, depot: Kept) -> Came {
     let mut depot = depot;
-    let head = depot.head().digits();
-    match refused_till_end(&mut depot) {
-        Some(0) => Came::Untouched,
-        Some(1) => if is_whole(alloc, depot.close().end(), head.as_slice()) {
-            Came::Outlived
-        } else {
-            Came::Lost
+    let head = depot.head();
+    let ended = run_to_end(&mut depot, 3);
+    let whole = is_whole(alloc, depot.close().end(), &head);
+    match ended {
+        Some(collected) => match collected.failures {
+            0 => Came::Untouched,
+            1 => if whole { Came::Outlived } else { Came::Lost },
+            _ => Came::Lost,
         },
-        _ => Came::Lost,
+        None => Came::Lost,
     }
 }
 
@@ -73,8 +57,7 @@ fn outlived(alloc: Global) -> Option<u64> {
 
 // The text of the begin, three objects that are read, and nine that are removed.
 #[test]
-fn a_collection_outlives_a_fault_at_each_of_its_calls(rt: HostRuntime) -> Result<(), AllocError> {
+fn a_collection_outlives_a_fault_at_each_of_its_calls(rt: HostRuntime) {
     let calls = outlived(rt.alloc());
     assert!(rt; calls == Some(13), "{calls:?}");
-    Ok(())
 }

@@ -4,6 +4,8 @@
 #![tactic(auto)]
 
 #[cfg(test)]
+mod calls;
+#[cfg(test)]
 mod cost_tests;
 #[cfg(test)]
 mod fault_tests;

@@ -1,88 +1,116 @@
 //! Objects that are put into a library by calls of its owner, and updates to them. Each refusal is told as want of memory.
+use crate::calls::{Said, asked};
 use crate::library::library_on;
 use depot::Depot;
-use ids::{Bytes, Key, Kind, ObjId};
-use library_state::{Act, Call, Reply, Secret};
+use ids::{Bytes, IdList, Key, Kind, ObjId};
+use library_state::Act;
 use object_store::{MemoryShelf, Shelf};
 use std::alloc::{AllocError, Global};
 
-/// When the library is made, and when turns are taken.
-pub(crate) const MOMENT: u64 = 7;
-
-/// The id of the library as text.
-const LIB: &str = "11111111-2222-4333-8444-555555555555";
-
 pub(crate) type Kept = Depot<MemoryShelf>;
 
-/// What its owner is answered.
-pub(crate) fn asked<S: Shelf>(depot: &mut Depot<S>, act: Act) -> Reply {
-    let call = Call {
-        secret: Some(Secret::from_bytes([0xaa; 20])),
-        act,
-    };
-    depot.answer(&call, 9)
-}
-
-/// An id as text.
-fn push_id(text: &mut String, id: &ObjId) -> Result<(), AllocError> {
-    for digit in id.digits() {
-        text.push(digit as char)?;
+/// Appends these parts to a text.
+fn push_all(text: &mut Vec<u8>, parts: &[&[u8]]) -> Result<(), AllocError> {
+    for part in parts {
+        text.extend_from_slice(part)?;
     }
     Ok(())
 }
 
-/// Puts an object of this text under its own name.
-pub(crate) fn put(
-    alloc: Global,
-    depot: &mut Kept,
-    kind: Kind,
-    text: &str,
-) -> Result<ObjId, AllocError> {
-    let id = ObjId::of(text.as_bytes());
-    let id = &id;
-    let bytes = Bytes::copy(alloc, text.as_bytes())?;
-    match asked(depot, Act::Put(Key { kind, id: *id }, bytes)) {
-        Reply::Stored(_) => Ok(*id),
+/// Puts bytes under a key.
+fn put_at(depot: &mut Kept, key: Key, bytes: Bytes) -> Result<(), AllocError> {
+    match asked(depot, Act::Put(key, bytes)) {
+        Said::Stored => Ok(()),
         _ => Err(AllocError),
     }
 }
 
+/// Puts an object of this text under its own name.
+fn put(depot: &mut Kept, kind: Kind, text: Vec<u8>) -> Result<ObjId, AllocError> {
+    let id = ObjId::of(text.as_slice());
+    let key = Key { kind, id };
+    put_at(depot, key, Bytes::from_vec(text))?;
+    Ok(id)
+}
+
+/// Puts a block of this text.
+pub(crate) fn put_block(alloc: Global, depot: &mut Kept, text: &str) -> Result<ObjId, AllocError> {
+    let text = Vec::from_slice(alloc, text.as_bytes())?;
+    put(depot, Kind::Block, text)
+}
+
+/// The text of a file of this one block, of one byte.
+fn file_text(alloc: Global, block: &ObjId) -> Result<Vec<u8>, AllocError> {
+    let id = block.digits();
+    let mut text = Vec::new(alloc);
+    push_all(
+        &mut text,
+        &[
+            b"{\"block_ids\":[\"",
+            id.as_slice(),
+            b"\"],\"size\":1,\"type\":1,\"version\":1}",
+        ],
+    )?;
+    Ok(text)
+}
+
 /// Puts a file of one block of this letter.
 fn put_file(alloc: Global, depot: &mut Kept, letter: &str) -> Result<ObjId, AllocError> {
-    let block = put(alloc, depot, Kind::Block, letter)?;
-    let mut text = String::from_str(alloc, "{\"block_ids\":[\"")?;
-    push_id(&mut text, &block)?;
-    text.push_str("\"],\"size\":1,\"type\":1,\"version\":1}")?;
-    put(alloc, depot, Kind::Fs, text.as_str())
+    let block = put_block(alloc, depot, letter)?;
+    let text = file_text(alloc, &block)?;
+    put(depot, Kind::Fs, text)
 }
 
-/// Appends the entry of a file of one byte.
-fn push_entry(text: &mut String, name: &str, file: &ObjId) -> Result<(), AllocError> {
-    text.push_str("{\"id\":\"")?;
-    push_id(text, file)?;
-    text.push_str("\",\"mode\":33188,\"modifier\":\"me\",\"mtime\":7,\"name\":\"")?;
-    text.push_str(name)?;
-    text.push_str("\",\"size\":1}")
+/// Appends the entry of a file of one byte, with what stands before it.
+fn push_entry(
+    text: &mut Vec<u8>,
+    between: &[u8],
+    name: &str,
+    file: &ObjId,
+) -> Result<(), AllocError> {
+    let id = file.digits();
+    push_all(
+        text,
+        &[
+            between,
+            b"{\"id\":\"",
+            id.as_slice(),
+            b"\",\"mode\":33188,\"modifier\":\"me\",\"mtime\":7,\"name\":\"",
+            name.as_bytes(),
+            b"\",\"size\":1}",
+        ],
+    )
 }
 
-/// Puts a directory of files with these letters as names, each of one block of its letter, but the first one of this letter.
-pub(crate) fn put_root(
+/// Puts the files of a directory with these letters as names, each of one block of its letter, but the first one of this letter;
+/// and tells the directory's text.
+fn put_files(
+    alloc: Global,
+    depot: &mut Kept,
+    names: &[&str],
+    first: &str,
+) -> Result<Vec<u8>, AllocError> {
+    let mut text = Vec::from_slice(alloc, b"{\"dirents\":[")?;
+    let mut between = b"".as_slice();
+    for name in names {
+        let letter = if between.is_empty() { first } else { *name };
+        let file = put_file(alloc, depot, letter)?;
+        push_entry(&mut text, between, *name, &file)?;
+        between = b",";
+    }
+    text.extend_from_slice(b"],\"type\":3,\"version\":1}")?;
+    Ok(text)
+}
+
+/// Puts that directory, and its files.
+fn put_root(
     alloc: Global,
     depot: &mut Kept,
     names: &[&str],
     first: &str,
 ) -> Result<ObjId, AllocError> {
-    let mut text = String::from_str(alloc, "{\"dirents\":[")?;
-    let mut between = "";
-    for name in names {
-        let letter = if between.is_empty() { first } else { *name };
-        let file = put_file(alloc, depot, letter)?;
-        text.push_str(between)?;
-        push_entry(&mut text, *name, &file)?;
-        between = ",";
-    }
-    text.push_str("],\"type\":3,\"version\":1}")?;
-    put(alloc, depot, Kind::Fs, text.as_str())
+    let text = put_files(alloc, depot, names, first)?;
+    put(depot, Kind::Fs, text)
 }
 
 /// The text of a commit of this name, parent and root.
@@ -91,21 +119,28 @@ fn commit_text(
     id: &ObjId,
     parent: &ObjId,
     root: &ObjId,
-) -> Result<String, AllocError> {
-    let mut text = String::from_str(alloc, "{\"commit_id\":\"")?;
-    push_id(&mut text, id)?;
-    text.push_str("\",\"ctime\":1,\"parent_id\":\"")?;
-    push_id(&mut text, parent)?;
-    text.push_str("\",\"repo_id\":\"")?;
-    text.push_str(LIB)?;
-    text.push_str("\",\"root_id\":\"")?;
-    push_id(&mut text, root)?;
-    text.push_str("\"}")?;
+) -> Result<Vec<u8>, AllocError> {
+    let id = id.digits();
+    let parent = parent.digits();
+    let root = root.digits();
+    let mut text = Vec::new(alloc);
+    push_all(
+        &mut text,
+        &[
+            b"{\"commit_id\":\"",
+            id.as_slice(),
+            b"\",\"ctime\":1,\"parent_id\":\"",
+            parent.as_slice(),
+            b"\",\"repo_id\":\"11111111-2222-4333-8444-555555555555\",\"root_id\":\"",
+            root.as_slice(),
+            b"\"}",
+        ],
+    )?;
     Ok(text)
 }
 
 /// Puts a commit of forty digits of this byte, with this root, on a parent.
-pub(crate) fn put_commit_of(
+fn put_commit_of(
     alloc: Global,
     depot: &mut Kept,
     byte: u8,
@@ -113,36 +148,65 @@ pub(crate) fn put_commit_of(
     root: &ObjId,
 ) -> Result<ObjId, AllocError> {
     let id = ObjId::from_bytes([byte; 20]);
-    let id = &id;
-    let text = commit_text(alloc, id, parent, root)?;
-    let bytes = Bytes::copy(alloc, text.as_bytes())?;
+    let text = commit_text(alloc, &id, parent, root)?;
     let key = Key {
         kind: Kind::Commit,
-        id: *id,
+        id,
     };
-    match asked(depot, Act::Put(key, bytes)) {
-        Reply::Stored(_) => Ok(*id),
-        _ => Err(AllocError),
-    }
+    put_at(depot, key, Bytes::from_vec(text))?;
+    Ok(id)
 }
 
-/// The same with one file of one letter, as `a`.
+/// The same with that directory of files as its root.
 pub(crate) fn put_commit(
     alloc: Global,
     depot: &mut Kept,
     byte: u8,
     parent: &ObjId,
-    letter: &str,
+    names: &[&str],
+    first: &str,
 ) -> Result<ObjId, AllocError> {
-    let root = put_root(alloc, depot, &["a"], letter)?;
+    let root = put_root(alloc, depot, names, first)?;
     put_commit_of(alloc, depot, byte, parent, &root)
 }
 
 /// Whether an update of the commit makes this the head.
 pub(crate) fn is_updated<S: Shelf>(depot: &mut Depot<S>, commit: &ObjId) -> bool {
     match asked(depot, Act::Update(*commit)) {
-        Reply::Updated(head) => head == *commit,
+        Said::Updated(head) => head == *commit,
         _ => false,
+    }
+}
+
+/// Puts that commit, and updates to it.
+pub(crate) fn update_to(
+    alloc: Global,
+    depot: &mut Kept,
+    byte: u8,
+    parent: &ObjId,
+    names: &[&str],
+    first: &str,
+) -> Result<ObjId, AllocError> {
+    let commit = put_commit(alloc, depot, byte, parent, names, first)?;
+    if is_updated(depot, &commit) {
+        Ok(commit)
+    } else {
+        Err(AllocError)
+    }
+}
+
+/// The name of the one file of a small library.
+pub(crate) const ONE: &[&str] = &["a"];
+
+/// Updates a library three times, each time to another file, and keeps no days of history.
+fn update_thrice(alloc: Global, depot: &mut Kept) -> Result<(), AllocError> {
+    let first = depot.head();
+    let one = update_to(alloc, depot, 0x11, &first, ONE, "1")?;
+    let two = update_to(alloc, depot, 0x22, &one, ONE, "2")?;
+    update_to(alloc, depot, 0x33, &two, ONE, "3")?;
+    match asked(depot, Act::Limit(0)) {
+        Said::Limited => Ok(()),
+        _ => Err(AllocError),
     }
 }
 
@@ -150,28 +214,31 @@ pub(crate) fn is_updated<S: Shelf>(depot: &mut Depot<S>, commit: &ObjId) -> bool
 /// history are kept. Where one of those calls makes the library, there is none.
 pub(crate) fn updated_thrice(alloc: Global, fails: &[u64]) -> Result<Kept, AllocError> {
     let mut depot = library_on(alloc, fails)?;
-    let mut parent = depot.head();
-    for (byte, letter) in [(0x11, "1"), (0x22, "2"), (0x33, "3")] {
-        let commit = put_commit(alloc, &mut depot, byte, &parent, letter)?;
-        if !is_updated(&mut depot, &commit) {
-            return Err(AllocError);
-        }
-        parent = commit;
-    }
-    match asked(&mut depot, Act::Limit(0)) {
-        Reply::Limited => Ok(depot),
-        _ => Err(AllocError),
+    update_thrice(alloc, &mut depot)?;
+    Ok(depot)
+}
+
+/// The key of the block of this text.
+fn block_key(text: &str) -> Key {
+    Key {
+        kind: Kind::Block,
+        id: ObjId::of(text.as_bytes()),
     }
 }
 
-/// Whether the block of this letter is given.
-pub(crate) fn has_block(depot: &mut Kept, letter: &str) -> bool {
-    let key = Key {
-        kind: Kind::Block,
-        id: ObjId::of(letter.as_bytes()),
-    };
-    match asked(depot, Act::Get(key)) {
-        Reply::Got(bytes) => bytes.slice() == letter.as_bytes(),
+/// Whether the block of this text is given.
+pub(crate) fn has_block(depot: &mut Kept, text: &str) -> bool {
+    match asked(depot, Act::Get(block_key(text))) {
+        Said::Got(id) => id == ObjId::of(text.as_bytes()),
         _ => false,
+    }
+}
+
+/// Whether the block of this text is told to be there.
+pub(crate) fn is_present(alloc: Global, depot: &mut Kept, text: &str) -> Result<bool, AllocError> {
+    let ids = IdList::copy(alloc, &[ObjId::of(text.as_bytes())])?;
+    match asked(depot, Act::Missing(Kind::Block, ids)) {
+        Said::Absent(count) => Ok(count == 0),
+        _ => Ok(false),
     }
 }

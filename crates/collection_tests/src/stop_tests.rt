@@ -1,11 +1,13 @@
 //! A collection over a shelf that stops: whatever the call at which it does, the library opens again with its last commit, and
 //! the next collection ends.
+use crate::calls::removed_by;
 use crate::objects::updated_thrice;
-use depot::{Depot, Turn};
-use object_store::{FuseShelf, MemoryShelf, Shelf, Store};
+use depot::Depot;
+use ids::ObjId;
+use object_store::{FuseShelf, MemoryShelf, Store};
 use std::alloc::{AllocError, Global};
 
-/// A library over a shelf that passes so many calls, from the opening of the store on; none where it doesn't open.
+/// A library over a shelf that passes so many calls, from the opening of the store on; the shelf where it doesn't open.
 pub(crate) fn opened(
     alloc: Global,
     shelf: MemoryShelf,
@@ -22,27 +24,12 @@ pub(crate) fn opened(
     }
 }
 
-/// Takes turns until the collection ended, or so many.
-fn collect<S: Shelf>(depot: &mut Depot<S>, turns: u64) -> bool {
-    for _ in 0..turns {
-        match depot.turn_of_collection(None, 7, 3) {
-            Turn::Ended(_) => return true,
-            Turn::Over(_) => return false,
-            Turn::Refused(_, _) => return false,
-            Turn::Began(_) => {}
-            Turn::Marked(_) => {}
-            Turn::Swept(_) => {}
-        }
-    }
-    false
-}
-
 /// The shelf, as the collection that the stop cut off left it; and whether it ended.
 fn stopped(alloc: Global, shelf: MemoryShelf, passes: u64, late: bool) -> (MemoryShelf, bool) {
     match opened(alloc, shelf, passes, late) {
         Ok(depot) => {
             let mut depot = depot;
-            let ended = collect(&mut depot, 100);
+            let ended = removed_by(&mut depot, 3).is_some();
             (depot.close().end().into_inner(), ended)
         }
         Err(shelf) => (shelf, false),
@@ -50,32 +37,47 @@ fn stopped(alloc: Global, shelf: MemoryShelf, passes: u64, late: bool) -> (Memor
 }
 
 /// Whether a library opens from the shelf with this head, and a collection then leaves four objects.
-pub(crate) fn is_whole(alloc: Global, shelf: MemoryShelf, head: &[u8]) -> bool {
-    let store = match Store::start(alloc, shelf) {
-        Ok(store) => store,
-        Err(_) => return false,
-    };
-    match Depot::start(alloc, store) {
+pub(crate) fn is_whole(alloc: Global, shelf: MemoryShelf, head: &ObjId) -> bool {
+    match opened(alloc, shelf, 1_000_000, false) {
         Ok(depot) => {
             let mut depot = depot;
-            let same = depot.head().digits().as_slice() == head;
-            same && collect(&mut depot, 100) && depot.close().count() == 4
+            let same = depot.head() == *head;
+            let ended = removed_by(&mut depot, 3).is_some();
+            depot.close().count() == 4 && same && ended
         }
         Err(_) => false,
     }
 }
 
-/// Whether that is so for each number of calls, and how many calls a collection takes.
+/// A library that stops after so many calls.
+#[derive(Clone, Copy)]
+enum Stop {
+    /// It isn't whole afterwards.
+    Torn,
+    /// It is, and its collection was cut off.
+    CutOff,
+    /// It is, and its collection ended.
+    Ended,
+}
+
+/// What comes of a stop after so many calls.
+fn stop_at(alloc: Global, passes: u64, late: bool) -> Result<Stop, AllocError> {
+    let depot = updated_thrice(alloc, &[])?;
+    let head = depot.head();
+    let (shelf, ended) = stopped(alloc, depot.close().end(), passes, late);
+    if !is_whole(alloc, shelf, &head) {
+        return Ok(Stop::Torn);
+    }
+    Ok(if ended { Stop::Ended } else { Stop::CutOff })
+}
+
+/// How many calls a collection takes, if the library is whole after each number of them.
 fn stops(alloc: Global, late: bool) -> Result<Option<u64>, AllocError> {
     for passes in 0..200 {
-        let depot = updated_thrice(alloc, &[])?;
-        let head = depot.head().digits();
-        let (shelf, ended) = stopped(alloc, depot.close().end(), passes, late);
-        if !is_whole(alloc, shelf, head.as_slice()) {
-            return Ok(None);
-        }
-        if ended {
-            return Ok(Some(passes));
+        match stop_at(alloc, passes, late)? {
+            Stop::Torn => return Ok(None),
+            Stop::CutOff => {}
+            Stop::Ended => return Ok(Some(passes)),
         }
     }
     Ok(None)

@@ -1,20 +1,25 @@
 //! A collection of a library in turns, and calls between them: what no request of one connection shows.
+use crate::calls::{Said, Step, asked, removed_by, turned};
 use crate::library::library_on;
-use crate::objects::{Kept, MOMENT, asked, has_block, is_updated, put, put_commit, updated_thrice};
-use depot::{Depot, Turn};
-use ids::{IdList, Kind, ObjId};
-use library_state::{Act, Op, Reply};
+use crate::objects::{
+    Kept, ONE, has_block, is_present, is_updated, put_block, put_commit, updated_thrice,
+};
+use depot::Depot;
+use ids::ObjId;
+use library_state::{Act, Op};
 use std::alloc::{AllocError, Global};
 
-/// One turn of one object, as a letter; `?` where it is none of these, or takes another number of objects.
-fn letter_of(turn: &Turn) -> char {
-    match turn {
-        Turn::Began(number) => if *number == 1 { 'b' } else { '?' },
-        Turn::Marked(count) => if *count == 1 { 'm' } else { '?' },
-        Turn::Swept(keys) => if keys.len() == 1 { 's' } else { '?' },
-        Turn::Ended(number) => if *number == 1 { 'e' } else { '?' },
-        Turn::Over(number) => if *number == 1 { 'o' } else { '?' },
-        Turn::Refused(_, _) => 'r',
+/// A turn of one object of the first collection as a letter; `?` where it is of another one, or takes another number of objects.
+fn letter_of(step: Step) -> char {
+    match step {
+        Step::Began(1) => 'b',
+        Step::Marked(1) => 'm',
+        Step::Swept(1) => 's',
+        Step::Ended(1) => 'e',
+        Step::Over(1) => 'o',
+        Step::Failed => 'f',
+        Step::Refused => 'r',
+        _ => '?',
     }
 }
 
@@ -23,33 +28,46 @@ fn turns(alloc: Global, depot: &mut Kept, count: u64) -> Result<String, AllocErr
     let mut letters = String::new(alloc);
     let mut goal = None;
     for _ in 0..count {
-        let turn = depot.turn_of_collection(goal, MOMENT, 1);
-        letters.push(letter_of(&turn))?;
+        letters.push(letter_of(turned(depot, goal, 1)))?;
         goal = Some(1);
     }
     Ok(letters)
 }
 
+/// Whether no collection runs, and four objects are left.
+fn is_over(depot: Kept) -> bool {
+    let runs = depot.running().is_some();
+    depot.close().count() == 4 && !runs
+}
+
+/// The turns of the library of three updates, and whether they are over.
+fn turns_of_three(alloc: Global) -> Result<(String, bool), AllocError> {
+    let mut depot = updated_thrice(alloc, &[])?;
+    let letters = turns(alloc, &mut depot, 16)?;
+    Ok((letters, is_over(depot)))
+}
+
 #[test]
 fn a_collection_takes_one_step_a_turn(rt: HostRuntime) -> Result<(), AllocError> {
-    let mut depot = updated_thrice(rt.alloc(), &[])?;
-    let letters = turns(rt.alloc(), &mut depot, 16)?;
+    let (letters, over) = turns_of_three(rt.alloc())?;
     assert_eq!(rt; letters.as_str(), "bmmmmssssssssseo");
-    assert!(rt; depot.running().is_none());
-    assert!(rt; depot.close().count() == 4);
+    assert!(rt; over);
     Ok(())
 }
 
-/// How many objects a turn took, at most three of them, as a digit; `b` where it began a collection, `e` where it ended one,
-/// and `?` where it is none of these.
-fn taken_by(turn: &Turn) -> char {
-    let count = match turn {
-        Turn::Began(_) => return 'b',
-        Turn::Marked(count) => *count,
-        Turn::Swept(keys) => keys.len() as u64,
-        Turn::Ended(_) => return 'e',
-        _ => return '?',
-    };
+/// How many objects a turn took, three at most, as a digit; `b` where it began a collection, `e` where it ended one, and `?`
+/// where it is none of these.
+fn taken_by(step: Step) -> char {
+    match step {
+        Step::Began(_) => 'b',
+        Step::Marked(count) => digit_of(count),
+        Step::Swept(count) => digit_of(count),
+        Step::Ended(_) => 'e',
+        _ => '?',
+    }
+}
+
+fn digit_of(count: u64) -> char {
     match count {
         1 => '1',
         2 => '2',
@@ -62,79 +80,90 @@ fn taken_by(turn: &Turn) -> char {
 fn taken(alloc: Global, depot: &mut Kept, count: u64) -> Result<String, AllocError> {
     let mut digits = String::new(alloc);
     for _ in 0..count {
-        let turn = depot.turn_of_collection(None, MOMENT, 3);
-        digits.push(taken_by(&turn))?;
+        digits.push(taken_by(turned(depot, None, 3)))?;
     }
     Ok(digits)
+}
+
+/// What the turns of the library of three updates took.
+fn taken_of_three(alloc: Global) -> Result<String, AllocError> {
+    let mut depot = updated_thrice(alloc, &[])?;
+    taken(alloc, &mut depot, 7)
 }
 
 // Four objects are needed, and nine are not.
 #[test]
 fn a_turn_tells_how_many_objects_it_took(rt: HostRuntime) -> Result<(), AllocError> {
-    let mut depot = updated_thrice(rt.alloc(), &[])?;
-    let digits = taken(rt.alloc(), &mut depot, 7)?;
+    let digits = taken_of_three(rt.alloc())?;
     assert_eq!(rt; digits.as_str(), "b31333e");
     Ok(())
 }
 
-/// Runs the collection that runs to its end, or begins one and does; and tells how many keys it removed, unless a turn is
-/// refused.
-fn collected(depot: &mut Kept) -> Option<u64> {
-    let mut removed: u64 = 0;
-    for _ in 0..100 {
-        match depot.turn_of_collection(None, MOMENT, 1000) {
-            Turn::Swept(keys) => removed = removed.saturating_add(keys.len() as u64),
-            Turn::Ended(_) => return Some(removed),
-            Turn::Began(_) => {}
-            Turn::Marked(_) => {}
-            Turn::Over(_) => return None,
-            Turn::Refused(_, _) => return None,
-        }
-    }
-    None
+fn is_checked(depot: &mut Kept) -> bool {
+    matches!(asked(depot, Act::Check(Op::Upload)), Said::Checked)
 }
 
-/// Whether none of the blocks of these letters is missing.
-fn is_present(alloc: Global, depot: &mut Kept, letter: &str) -> Result<bool, AllocError> {
-    let mut ids = IdList::new(alloc);
-    ids.push(ObjId::of(letter.as_bytes()))?;
-    match asked(depot, Act::Missing(Kind::Block, ids)) {
-        Reply::Absent(ids) => Ok(ids.is_empty()),
-        _ => Ok(false),
-    }
+fn is_begun(depot: &mut Kept) -> bool {
+    matches!(turned(depot, None, 1000), Step::Began(1))
+}
+
+/// Whether an upload is checked and told that block `a` is there, once a collection began.
+fn is_told_present(alloc: Global, depot: &mut Kept) -> Result<bool, AllocError> {
+    let begun = is_begun(depot) && is_checked(depot);
+    Ok(is_present(alloc, depot, "a")? && begun)
+}
+
+/// Whether the collection takes the other block alone.
+fn keeps_first(depot: &mut Kept) -> bool {
+    removed_by(depot, 1000) == Some(1) && has_block(depot, "a") && !has_block(depot, "b")
+}
+
+/// Whether an update that needs this block is then taken.
+fn takes_update(alloc: Global, depot: &mut Kept, letter: &str) -> Result<bool, AllocError> {
+    let head = depot.head();
+    let commit = put_commit(alloc, depot, 0x44, &head, ONE, letter)?;
+    Ok(is_updated(depot, &commit))
+}
+
+/// Whether of two blocks that nothing needs the one that was told to be there stays, and is needed then.
+fn stays(alloc: Global, depot: &mut Kept) -> Result<bool, AllocError> {
+    put_block(alloc, depot, "a")?;
+    put_block(alloc, depot, "b")?;
+    Ok(is_told_present(alloc, depot)? && keeps_first(depot) && takes_update(alloc, depot, "a")?)
 }
 
 #[test]
 fn what_was_told_present_stays_through_a_collection(rt: HostRuntime) -> Result<(), AllocError> {
     let mut depot = library_on(rt.alloc(), &[])?;
-    let _ = put(rt.alloc(), &mut depot, Kind::Block, "a")?;
-    let _ = put(rt.alloc(), &mut depot, Kind::Block, "b")?;
-    assert!(rt; matches!(depot.turn_of_collection(None, MOMENT, 1000), Turn::Began(1)));
-    assert!(rt; matches!(asked(&mut depot, Act::Check(Op::Upload)), Reply::Checked));
-    assert!(rt; is_present(rt.alloc(), &mut depot, "a")?);
-    assert!(rt; collected(&mut depot) == Some(1));
-    assert!(rt; has_block(&mut depot, "a") && !has_block(&mut depot, "b"));
-    let head = depot.head();
-    let commit = put_commit(rt.alloc(), &mut depot, 0x44, &head, "a")?;
-    assert!(rt; is_updated(&mut depot, &commit));
+    assert!(rt; stays(rt.alloc(), &mut depot)?);
     Ok(())
+}
+
+/// Puts all objects of an update, which it doesn't ask for, and a block that nothing needs: the update's commit.
+fn put_unasked(alloc: Global, depot: &mut Kept) -> Result<ObjId, AllocError> {
+    let head = depot.head();
+    put_block(alloc, depot, "x")?;
+    put_commit(alloc, depot, 0x44, &head, ONE, "d")
+}
+
+/// Whether the update is taken after so many turns of one object, and the collection then takes one object alone.
+fn takes_beside(depot: &mut Kept, commit: &ObjId, before: u64) -> bool {
+    for _ in 0..before {
+        let _ = turned(depot, None, 1);
+    }
+    is_checked(depot)
+        && is_updated(depot, commit)
+        && removed_by(depot, 1000) == Some(1)
+        && has_block(depot, "d")
 }
 
 /// Whether an update beside a collection keeps what it needs, when it comes after so many turns of one object: its objects lay
 /// there unneeded before the collection began, and nobody asked for them since.
 fn keeps_what_it_needs(alloc: Global, before: u64) -> Result<bool, AllocError> {
     let mut depot = library_on(alloc, &[])?;
-    let head = depot.head();
-    let commit = put_commit(alloc, &mut depot, 0x44, &head, "d")?;
-    let _ = put(alloc, &mut depot, Kind::Block, "x")?;
-    for _ in 0..before {
-        let _ = depot.turn_of_collection(None, MOMENT, 1);
-    }
-    let _ = asked(&mut depot, Act::Check(Op::Upload));
-    if !is_updated(&mut depot, &commit) {
-        return Ok(false);
-    }
-    Ok(collected(&mut depot) == Some(1) && has_block(&mut depot, "d") && depot.close().count() == 5)
+    let commit = put_unasked(alloc, &mut depot)?;
+    let taken = takes_beside(&mut depot, &commit, before);
+    Ok(depot.close().count() == 5 && taken)
 }
 
 #[test]
@@ -147,26 +176,36 @@ fn an_update_keeps_what_it_needs_from_the_collection_that_runs(
     Ok(())
 }
 
+/// Whether an update is taken in, and made the head or merged with it.
+fn is_merged(depot: &mut Kept, commit: &ObjId) -> bool {
+    matches!(asked(depot, Act::Update(*commit)), Said::Updated(_))
+}
+
+/// Puts all objects of two updates of the head: their commits.
+fn put_two(alloc: Global, depot: &mut Kept) -> Result<(ObjId, ObjId), AllocError> {
+    let base = depot.head();
+    let one = put_commit(alloc, depot, 0x11, &base, ONE, "1")?;
+    let two = put_commit(alloc, depot, 0x22, &base, ONE, "2")?;
+    Ok((one, two))
+}
+
+/// Whether both are taken beside a collection, which then takes nothing.
+fn takes_both_beside(depot: &mut Kept, one: &ObjId, two: &ObjId) -> bool {
+    let _ = turned(depot, None, 1);
+    is_checked(depot)
+        && is_updated(depot, one)
+        && is_merged(depot, two)
+        && removed_by(depot, 1000) == Some(0)
+        && has_block(depot, "1")
+        && has_block(depot, "2")
+}
+
 /// Whether a merged update beside a collection leaves a whole library.
 fn merges_beside(alloc: Global) -> Result<bool, AllocError> {
     let mut depot = library_on(alloc, &[])?;
-    let base = depot.head();
-    let one = put_commit(alloc, &mut depot, 0x11, &base, "1")?;
-    let two = put_commit(alloc, &mut depot, 0x22, &base, "2")?;
-    let _ = depot.turn_of_collection(None, MOMENT, 1);
-    let _ = asked(&mut depot, Act::Check(Op::Upload));
-    if !is_updated(&mut depot, &one) {
-        return Ok(false);
-    }
-    match asked(&mut depot, Act::Update(two)) {
-        Reply::Updated(_) => {}
-        _ => return Ok(false),
-    }
-    if collected(&mut depot) != Some(0) {
-        return Ok(false);
-    }
-    let both = has_block(&mut depot, "1") && has_block(&mut depot, "2");
-    Ok(both && Depot::start(alloc, depot.close()).is_ok())
+    let (one, two) = put_two(alloc, &mut depot)?;
+    let taken = takes_both_beside(&mut depot, &one, &two);
+    Ok(Depot::start(alloc, depot.close()).is_ok() && taken)
 }
 
 #[test]
