@@ -127,6 +127,16 @@ pub(crate) fn byte_digits(byte: u8) -> [u8; 2]
 pub(crate) fn push_ascii(path: &mut String, bytes: &[u8]) -> Result<(), AllocError>
     ensures ok { OnOk result (All (λ byte. byte < 128) bytes.now → string_bytes path.new ≡ string_bytes path.old ++ bytes.now) }
 {
+    match str::from_utf8(bytes) {
+        Ok(text) => path.push_str(text),
+        Err(_) => push_each(path, bytes),
+    }
+}
+
+/// The same one by one.
+fn push_each(path: &mut String, bytes: &[u8]) -> Result<(), AllocError>
+    ensures ok { OnOk result (All (λ byte. byte < 128) bytes.now → string_bytes path.new ≡ string_bytes path.old ++ bytes.now) }
+{
     for byte in bytes {
         path.push(char::from(*byte))?;
     }

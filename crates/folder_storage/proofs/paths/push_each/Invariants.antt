@@ -1,6 +1,6 @@
 use Rattle.std.proofs.Common.{◌≡◌, ◌<◌, ◌++◌, All, take}
 use Rattle.std.specs.String.{string_bytes}
-use Rattle.folder_storage.proofs.paths.push_ascii.Given as goal
+use Rattle.folder_storage.proofs.paths.push_each.Given as goal
 
 -- what was passed is appended
 abbrev pub invariant-loop-byte : goal.invariant-loop-byte
