@@ -1,7 +1,9 @@
 """Kills a server on a folder at random moments of a load, and opens it again: kill.py SERVER FOLDER COUNT SECONDS SEED.
 
-After each kill every update that was answered 200 must be there, with every object that was answered 200, and the tree
-of the head must be read whole, as the last update left it. An update that was sent and not answered may be there or not.
+After every fifth update there is a collection; a block that no commit needs is put before each update, so that it has something to
+remove. After each kill every update that was answered 200 must be there, with every object that it needs: the trees of all commits
+that are kept, each head and each pushed one, are read whole, and that of the head is as the last update left it. An update that was
+sent and not answered may be there or not.
 """
 import json
 import os
@@ -27,8 +29,8 @@ class Load:
         self.head, self.files = None, {}
         self.before = None              # an older head that was answered, and its files
         self.sent = None                # an update that is sent and not answered: commit, parent, files after it
-        self.updated, self.stored = [], {"commit": set(), "fs": set(), "block": set()}
-        self.merges = 0
+        self.updated, self.is_due = [], False       # is_due: a collection comes before the next update
+        self.merges, self.collected, self.removed = 0, 0, 0
 
     def tree(self, files):
         """The objects of a tree: the root's name, the fs objects by name, the blocks by name."""
@@ -50,6 +52,9 @@ class Load:
 
     def push(self, connection):
         """Changes one file and pushes it, on the head or on an older head, so that the server merges."""
+        if self.is_due:
+            self.collect(connection)
+        connection.need("GET", "/permission-check?op=upload")
         self.moment += 1
         place = self.chance.randrange(FOLDERS * FILES)
         path = f"d{place % FOLDERS}/f{place // FOLDERS}"
@@ -58,22 +63,25 @@ class Load:
         if self.before and self.chance.random() < 0.3 and self.before[1].get(path) == self.files.get(path):
             base, files = self.before
         root, objects, blocks = self.tree({**files, path: data})
+        connection.put_block(self.chance.randbytes(100))
         self.store(connection, objects, blocks)
         name, text = commit_object(LIBRARY, root, base, path, self.moment)
         connection.put_commit(name, text)
-        self.stored["commit"].add(name)
         self.sent = (name, base, {**self.files, path: data})
         head = connection.update(name)
         self.updated.append(name)
+        self.is_due = len(self.updated) % 5 == 0
         self.take(connection, head)
 
     def store(self, connection, objects, blocks):
         for name in connection.absent("check-blocks", sorted(blocks)):
             connection.put_block(blocks[name])
-            self.stored["block"].add(name)
         wanted = connection.absent("check-fs", sorted(objects))
         connection.put_fs([(name, objects[name]) for name in wanted])
-        self.stored["fs"].update(wanted)
+
+    def collect(self, connection):
+        told = json.loads(connection.need("POST", "/collect", b""))
+        self.collected, self.removed, self.is_due = self.collected + 1, self.removed + told["removed"], False
 
     def take(self, connection, head):
         """Takes in that the update that was sent is the head, or was merged into it."""
@@ -95,29 +103,41 @@ class Load:
                 raise Odd(f"the head is {head}, and {self.head} was answered")
             self.take(connection, head)
         self.sent = None
-        for call, kind in (("check-blocks", "block"), ("check-fs", "fs")):
-            lost = connection.absent(call, sorted(self.stored[kind]))
-            if lost:
-                raise Odd(f"{len(lost)} objects are lost: {kind} {lost[0]}")
-        for name in self.updated[-8:]:
-            connection.commit(name)
+        self.check_kept(connection)
         if files_of(connection, self.head) != self.files:
             raise Odd(f"the tree of {self.head} is not the one that was pushed")
 
-    def check_history(self, connection):
-        """Every update that was answered is reached from the head."""
-        reached, ways = set(), [self.head]
+    def check_kept(self, connection):
+        """Every update that was answered is reached from the head, and the trees of all that are reached are whole."""
+        reached, ways = {}, [self.head]
         while ways:
             name = ways.pop()
             if name and name not in reached:
-                reached.add(name)
-                commit = connection.commit(name)
-                ways += [commit["parent_id"], commit["second_parent_id"]]
+                reached[name] = connection.commit(name)
+                ways += [reached[name]["parent_id"], reached[name]["second_parent_id"]]
         lost = [name for name in self.updated if name not in reached]
         if lost:
             raise Odd(f"{len(lost)} updates are lost: {lost[0]}")
-        for name in sorted(self.stored["commit"]):
-            connection.commit(name)
+        read, blocks, wanted = set(), set(), {commit["root_id"] for commit in reached.values()} - {NIL}
+        while wanted:
+            below = set()
+            for name, data in self.given(connection, sorted(wanted)):
+                value = json.loads(data)
+                blocks.update(value.get("block_ids", ()))
+                below.update(entry["id"] for entry in value.get("dirents", ()))
+            read |= wanted
+            wanted = below - read - {NIL}
+        for name in sorted(blocks):
+            if name_of(connection.block(name)) != name:
+                raise Odd(f"the block {name} is not its own")
+
+    def given(self, connection, names):
+        for at in range(0, len(names), 500):
+            objects = connection.fs_objects(names[at:at + 500])
+            wrong = [name for name in names[at:at + 500] if name not in objects or name_of(objects[name]) != name]
+            if wrong:
+                raise Odd(f"{len(wrong)} files and directories are not given: {wrong[0]}")
+            yield from objects.items()
 
 
 def cut_round(load, server, folder, startup, push):
@@ -217,9 +237,9 @@ def main(server, folder, count, seconds, seed):
     is_taken(server, folder)
     connection = Connection(server, folder, LIBRARY, TOKEN)
     load.check(connection)
-    load.check_history(connection)
     connection.end()
-    print(f"{kills} kills, {pushes} pushes answered between them ({load.merges} merged in all), none lost")
+    print(f"{kills} kills, {pushes} pushes answered between them ({load.merges} merged in all), none lost; "
+          f"{load.collected} collections answered, which removed {load.removed} objects")
     print("asked when it was killed:", ", ".join(f"{what} {n}" for what, n in sorted(asked.items())))
     made = kill_creates(server, folder, load.chance, 20, 3 * startup)
     print("create after a kill of create:", ", ".join(f"{what} {n}" for what, n in sorted(made.items())))

@@ -1,7 +1,7 @@
 #!/usr/bin/env bash
-# Kills the server on a folder by SIGKILL at COUNT random moments of a load of updates (some merged), opens it again
-# after each, and looks whether every update that was answered 200 is there. It talks over pipes alone, and kills only
-# what it has started itself.
+# Kills the server on a folder by SIGKILL at COUNT random moments of a load of updates (some merged) and collections,
+# opens it again after each, and looks whether every update that was answered 200 is there, with all that the commits
+# that are kept need. It talks over pipes alone, and kills only what it has started itself.
 #   bench/kill/run.sh SERVER [COUNT [SECONDS [SEED]]]      SERVER is the built seaf-server; at most SECONDS (600)
 set -eu
 here=$(cd "$(dirname "$0")" && pwd)

@@ -1,6 +1,8 @@
 #!/usr/bin/env bash
 # A trial, no measure: each allocation of the connections of some rows is refused in turn.
 #   bench/refused/run.sh SERVER [ROW..]      TMPDIR says where: in memory (/dev/shm) if left out, as each run would wait for the disk
+#   bench/refused/run.sh SERVER history_of_no_days_leaves_the_last_commit_alone an_upload_from_before_a_served_collection_is_put_again
+#                                               two rows with collections
 set -eu
 here=$(cd "$(dirname "$0")" && pwd)
 server=$(realpath "$1")
