@@ -1,14 +1,15 @@
 """What does a collection cost, beside the removal of the same files by the system and the hashing of what it must read?
 
-collect.py SERVER FOLDER ALL GARBAGE [ENTRIES]
+collect.py SERVER FOLDER ALL GARBAGE ENTRIES ROUNDS
     A library of ALL objects, of which GARBAGE blocks are needed by no commit; the others are the blocks, files, directories and
-    commits of its head. They are collected over one connection: the server's processor time, and how far its memory rose
-    above what it held. Beside it, in the same run:
+    commits of its head. They are collected over one connection that has opened the library: the server's processor time, user and
+    system, and how far its memory rose above what it held. ROUNDS times, over new garbage each; the least counts, since other
+    programs on the processors only add to it. Beside it, in the same run:
       rm      the processor time of `rm` over a copy of the files that went, handed to it by `xargs`
       read    that of Python's reading and hashing (SHA-1) of the files, directories and commits that are needed, each from its own
               file, which a collection has to read; it reads no block
     and, where it is there, of `restic prune` over a repository of the same files that has forgotten those of the garbage.
-    With ENTRIES the head has a directory of so many empty ones beside its files: 750,000 of them are one object of 66 MB, nearly
+    With ENTRIES above 0 the head has a directory of so many empty ones beside its files: 750,000 of them are one object of 66 MB, nearly
     the longest that a library takes, which is marked in a turn with others. Then two objects more are needed: that one and its root.
 FOLDER in memory (/dev/shm) spares the disk: what is measured is processor time. There a file takes 5 kB, and the garbage stands
 twice, once for `rm`: for a million objects a folder on a disk.
@@ -27,11 +28,11 @@ from flat import MOMENT, Library, Tree, forget_peak, memory, spent
 from pipe_client import NIL, commit_object, compact, directory_entry, directory_object, name_of
 
 
-def lay_garbage(folder, count):
+def lay_garbage(folder, count, mark):
     """Blocks as a server would have left them; their paths."""
     paths = []
     for number in range(count):
-        data = b"garbage %d" % number
+        data = b"garbage %d of %d" % (number, mark)
         name = name_of(data)
         os.makedirs(f"{folder}/blocks/{name[:2]}", mode=0o700, exist_ok=True)
         paths.append(f"{folder}/blocks/{name[:2]}/{name[2:]}")
@@ -116,9 +117,25 @@ def snapshots(words, tag):
     return [one["id"] for one in json.loads(told)]
 
 
+def collected(library):
+    """What one collection of the library takes, in seconds of processor time, MiB above what was held, and its reply. The opening,
+    which reads each name in the folder, comes before."""
+    library.open()  # (it makes what was laid durable)
+    library.connection.head()
+    library.open()
+    library.connection.head()
+    forget_peak(library.connection)
+    held, before = memory(library.connection, "VmRSS"), spent(library.connection)
+    told = library.connection.need("POST", "/collect", b"")
+    took, rose = spent(library.connection) - before, memory(library.connection, "VmHWM") - held
+    assert library.connection.end() == 0
+    library.connection = None
+    return took, rose, json.loads(told)
+
+
 def main():
     server, folder, count, garbage = sys.argv[1], sys.argv[2], int(sys.argv[3]), int(sys.argv[4])
-    entries = int(sys.argv[5]) if len(sys.argv) > 5 else 0
+    entries, rounds = int(sys.argv[5]), int(sys.argv[6])
     files = (count - garbage) * 100 // 203
     flat.CONTENTS = files
     library = Library(server, folder, 1, Tree(files))
@@ -126,27 +143,27 @@ def main():
     if entries:
         push_wide(library, entries)
     library.connection.end()
+    library.connection = None
     at = f"{folder}/{library.library}"
     kept = objects_of(at)
-    paths = lay_garbage(at, garbage)
-    read = read_by_python([path for path in kept if "/blocks/" not in path])
-    removed = removed_by_rm(folder, paths, at)
-    pruned = pruned_by_restic(folder, kept, paths) if paths else None
-    library.connection = None
-    library.open()  # (it makes what was laid durable)
-    library.open()
-    forget_peak(library.connection)
-    held, before = memory(library.connection, "VmRSS"), spent(library.connection)
-    told = library.connection.need("POST", "/collect", b"")
-    took, rose = spent(library.connection) - before, memory(library.connection, "VmHWM") - held
-    assert library.connection.end() == 0
-    left = objects_of(at)
-    assert sorted(left) == sorted(kept), (len(left), len(kept))
+    to_read = [path for path in kept if "/blocks/" not in path]
+    removed, read, took, rose = [], [], [], []
+    for number in range(rounds):
+        paths = lay_garbage(at, garbage, number)
+        if number == 0:
+            pruned = pruned_by_restic(folder, kept, paths) if paths else None
+        removed.append(removed_by_rm(folder, paths, at))
+        read.append(read_by_python(to_read))
+        one, above, told = collected(library)
+        took.append(one)
+        rose.append(above)
+        assert told["removed"] == garbage, told
+        assert sorted(objects_of(at)) == sorted(kept)
     wide = f", one of {max(map(os.path.getsize, kept)) / 1e6:.1f} MB" if entries else ""
-    print(f"{len(kept) + garbage} objects{wide}, {garbage} of them garbage: {told.decode()}")
-    print(f"collect {took * 1e3:.0f} ms, {took / (removed + read):.2f} times rm and read; {rose:.1f} MiB above, "
-          f"{rose * 1048576 / (len(kept) + garbage):.0f} bytes an object")
-    print(f"rm {removed * 1e3:.0f} ms, read {read * 1e3:.0f} ms" + ("" if pruned is None else f", restic prune {pruned * 1e3:.0f} ms"))
+    print(f"{len(kept) + garbage} objects{wide}, {garbage} of them garbage, {rounds} collections; the least of each:")
+    print(f"collect {min(took) * 1e3:.0f} ms, {min(took) / (min(removed) + min(read)):.2f} times rm and read; {max(rose):.2f} MiB above at most, "
+          f"{max(rose) * 1048576 / (len(kept) + garbage):.0f} bytes an object")
+    print(f"rm {min(removed) * 1e3:.0f} ms, read {min(read) * 1e3:.0f} ms" + ("" if pruned is None else f", restic prune {pruned * 1e3:.0f} ms"))
 
 
 main()
