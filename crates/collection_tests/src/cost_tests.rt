@@ -10,9 +10,9 @@ use object_store::{FuseShelf, MemoryShelf};
 use std::alloc::{AllocError, Global};
 
 /// The names of the files of a small library, and of a larger one.
-const FEW: &[&str] = &["a", "b", "c"];
+pub(crate) const FEW: &[&str] = &["a", "b", "c"];
 
-const MANY: &[&str] = &[
+pub(crate) const MANY: &[&str] = &[
     "a", "b", "c", "d", "e", "f", "g", "h", "i", "j", "k", "l", "m", "n", "o", "p", "q", "r", "s",
     "t", "u", "v", "w", "x",
 ];

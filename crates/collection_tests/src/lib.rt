@@ -16,4 +16,6 @@ mod objects;
 #[cfg(test)]
 mod stop_tests;
 #[cfg(test)]
+mod sweep_cost_tests;
+#[cfg(test)]
 mod turn_tests;

@@ -18,7 +18,7 @@ fn push_all(text: &mut Vec<u8>, parts: &[&[u8]]) -> Result<(), AllocError> {
 }
 
 /// Puts bytes under a key.
-fn put_at(depot: &mut Kept, key: Key, bytes: Bytes) -> Result<(), AllocError> {
+fn put_at<S: Shelf>(depot: &mut Depot<S>, key: Key, bytes: Bytes) -> Result<(), AllocError> {
     match asked(depot, Act::Put(key, bytes)) {
         Said::Stored => Ok(()),
         _ => Err(AllocError),
@@ -26,7 +26,7 @@ fn put_at(depot: &mut Kept, key: Key, bytes: Bytes) -> Result<(), AllocError> {
 }
 
 /// Puts an object of this text under its own name.
-fn put(depot: &mut Kept, kind: Kind, text: Vec<u8>) -> Result<ObjId, AllocError> {
+fn put<S: Shelf>(depot: &mut Depot<S>, kind: Kind, text: Vec<u8>) -> Result<ObjId, AllocError> {
     let id = ObjId::of(text.as_slice());
     let key = Key { kind, id };
     put_at(depot, key, Bytes::from_vec(text))?;
@@ -34,7 +34,11 @@ fn put(depot: &mut Kept, kind: Kind, text: Vec<u8>) -> Result<ObjId, AllocError>
 }
 
 /// Puts a block of this text.
-pub(crate) fn put_block(alloc: Global, depot: &mut Kept, text: &str) -> Result<ObjId, AllocError> {
+pub(crate) fn put_block<S: Shelf>(
+    alloc: Global,
+    depot: &mut Depot<S>,
+    text: &str,
+) -> Result<ObjId, AllocError> {
     let text = Vec::from_slice(alloc, text.as_bytes())?;
     put(depot, Kind::Block, text)
 }
@@ -55,38 +59,42 @@ fn file_text(alloc: Global, block: &ObjId) -> Result<Vec<u8>, AllocError> {
 }
 
 /// Puts a file of one block of this letter.
-fn put_file(alloc: Global, depot: &mut Kept, letter: &str) -> Result<ObjId, AllocError> {
+fn put_file<S: Shelf>(
+    alloc: Global,
+    depot: &mut Depot<S>,
+    letter: &str,
+) -> Result<ObjId, AllocError> {
     let block = put_block(alloc, depot, letter)?;
     let text = file_text(alloc, &block)?;
     put(depot, Kind::Fs, text)
 }
 
-/// Appends the entry of a file of one byte, with what stands before it.
+/// Appends an entry of this mode and size, with what stands before it.
 fn push_entry(
     text: &mut Vec<u8>,
     between: &[u8],
     name: &str,
-    file: &ObjId,
+    mode: &[u8],
+    size: &[u8],
+    id: &ObjId,
 ) -> Result<(), AllocError> {
-    let id = file.digits();
-    push_all(
-        text,
-        &[
-            between,
-            b"{\"id\":\"",
-            id.as_slice(),
-            b"\",\"mode\":33188,\"modifier\":\"me\",\"mtime\":7,\"name\":\"",
-            name.as_bytes(),
-            b"\",\"size\":1}",
-        ],
-    )
+    text.extend_from_slice(between)?;
+    text.extend_from_slice(b"{\"id\":\"")?;
+    text.extend_from_slice(id.digits().as_slice())?;
+    text.extend_from_slice(b"\",\"mode\":")?;
+    text.extend_from_slice(mode)?;
+    text.extend_from_slice(b",\"modifier\":\"me\",\"mtime\":7,\"name\":\"")?;
+    text.extend_from_slice(name.as_bytes())?;
+    text.extend_from_slice(b"\",\"size\":")?;
+    text.extend_from_slice(size)?;
+    text.extend_from_slice(b"}")
 }
 
 /// Puts the files of a directory with these letters as names, each of one block of its letter, but the first one of this letter;
 /// and tells the directory's text.
-fn put_files(
+fn put_files<S: Shelf>(
     alloc: Global,
-    depot: &mut Kept,
+    depot: &mut Depot<S>,
     names: &[&str],
     first: &str,
 ) -> Result<Vec<u8>, AllocError> {
@@ -95,7 +103,7 @@ fn put_files(
     for name in names {
         let letter = if between.is_empty() { first } else { *name };
         let file = put_file(alloc, depot, letter)?;
-        push_entry(&mut text, between, *name, &file)?;
+        push_entry(&mut text, between, *name, b"33188", b"1", &file)?;
         between = b",";
     }
     text.extend_from_slice(b"],\"type\":3,\"version\":1}")?;
@@ -103,13 +111,32 @@ fn put_files(
 }
 
 /// Puts that directory, and its files.
-fn put_root(
+fn put_root<S: Shelf>(
     alloc: Global,
-    depot: &mut Kept,
+    depot: &mut Depot<S>,
     names: &[&str],
     first: &str,
 ) -> Result<ObjId, AllocError> {
     let text = put_files(alloc, depot, names, first)?;
+    put(depot, Kind::Fs, text)
+}
+
+/// Puts a directory that has a directory of each of these names, with one file of that name in each.
+fn put_directories<S: Shelf>(
+    alloc: Global,
+    depot: &mut Depot<S>,
+    names: &[&str],
+    first: &str,
+) -> Result<ObjId, AllocError> {
+    let mut text = Vec::from_slice(alloc, b"{\"dirents\":[")?;
+    let mut between = b"".as_slice();
+    for name in names {
+        let letter = if between.is_empty() { first } else { *name };
+        let directory = put_root(alloc, depot, &[*name], letter)?;
+        push_entry(&mut text, between, *name, b"16384", b"0", &directory)?;
+        between = b",";
+    }
+    text.extend_from_slice(b"],\"type\":3,\"version\":1}")?;
     put(depot, Kind::Fs, text)
 }
 
@@ -140,9 +167,9 @@ fn commit_text(
 }
 
 /// Puts a commit of forty digits of this byte, with this root, on a parent.
-fn put_commit_of(
+fn put_commit_of<S: Shelf>(
     alloc: Global,
-    depot: &mut Kept,
+    depot: &mut Depot<S>,
     byte: u8,
     parent: &ObjId,
     root: &ObjId,
@@ -158,15 +185,28 @@ fn put_commit_of(
 }
 
 /// The same with that directory of files as its root.
-pub(crate) fn put_commit(
+pub(crate) fn put_commit<S: Shelf>(
     alloc: Global,
-    depot: &mut Kept,
+    depot: &mut Depot<S>,
     byte: u8,
     parent: &ObjId,
     names: &[&str],
     first: &str,
 ) -> Result<ObjId, AllocError> {
     let root = put_root(alloc, depot, names, first)?;
+    put_commit_of(alloc, depot, byte, parent, &root)
+}
+
+/// The same with a directory for each file.
+pub(crate) fn put_deep_commit<S: Shelf>(
+    alloc: Global,
+    depot: &mut Depot<S>,
+    byte: u8,
+    parent: &ObjId,
+    names: &[&str],
+    first: &str,
+) -> Result<ObjId, AllocError> {
+    let root = put_directories(alloc, depot, names, first)?;
     put_commit_of(alloc, depot, byte, parent, &root)
 }
 
