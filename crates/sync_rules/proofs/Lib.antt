@@ -1,0 +1,4 @@
+pub mod AgreedLemmas
+pub mod NameLemmas
+pub mod OverLemmas
+pub mod PlanLemmas

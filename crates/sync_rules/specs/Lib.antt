@@ -1,0 +1,5 @@
+pub mod Named
+pub mod Offer
+pub mod Premises
+pub mod Checkout
+pub mod Synced

@@ -1,0 +1,309 @@
+-- What one sync leaves, and the cause of each fault. Our own. Read IsSynced first, then IsStopped and SyncsSo, then CausedBy and
+-- CausedOver.
+use Rattle.std.specs.Prelude.{ℕ, ◌≡◌, ◌≢◌, ◌≤◌, ◌⊎◌, ℤ, Bool, true, false, All, List, [], ◌∷◌, ◌++◌, length, Option, None, Some, IsSome, is_some, Result, Ok, Err, if◌then◌else◌, ⊤}
+use Rattle.std.specs.FinMap as fin
+use Rattle.std.specs.List.{Contains, filter_map, flat_map}
+use Rattle.std.specs.Option.{option_or}
+use Rattle.sha1.specs.Sha1.{sha1}
+use Rattle.ids.specs.FaultCount.{FailsBy}
+use Rattle.ids.specs.Key.{Objects}
+use Rattle.ids.specs.ObjectId.{nil}
+use Rattle.ids.specs.declared.key.Key.{Key}
+use Rattle.ids.specs.declared.key.Kind.TheVariants as kind
+use Rattle.tree_model.specs.Path.{PathV}
+use Rattle.tree_model.specs.Tree.{Tree}
+use Rattle.block_chunker.specs.declared.cuts.Cuts.{Cuts}
+use Rattle.commit_objects.specs.Commit.{commit_of}
+use Rattle.commit_objects.specs.declared.commit.Commit.{Commit}
+use Rattle.fs_objects.specs.declared.file_object.FileObject.{FileObject}
+use Rattle.fs_objects.specs.declared.fs_object.FsObject.TheVariants as fs
+use Rattle.library_state.specs.declared.call.Op.TheVariants as op
+use Rattle.library_state.specs.declared.refusal.Refusal.{Refusal}
+use Rattle.library_state.specs.declared.refusal.Refusal.TheVariants as refusal
+use Rattle.library_state.specs.declared.reply.Reply.TheVariants as reply
+use Rattle.library_state.specs.declared.tag.Tag.{Tag}
+use Rattle.object_graph.specs.Objects.{IsTreeOf, commit_at, commit_key, entry_below, fs_at, joined}
+use Rattle.object_graph.specs.Traversal.{start, walk_root}
+use Rattle.object_graph.specs.declared.entry.Entry.TheVariants as entry
+use Rattle.tree_walk.specs.Reading.{IsDue}
+use Rattle.tree_walk.specs.declared.fault.WalkFault.{WalkFault}
+use Rattle.tree_walk.specs.declared.fault.WalkFault.TheVariants as walk
+use Rattle.folder_side.specs.Folder.{Contents, at}
+use Rattle.folder_side.specs.ScanReport.{IsPastLimit, skipped_path}
+use Rattle.folder_side.specs.WorkingTree.{HoldsLeft, held_at, held_list}
+use Rattle.local_index.specs.declared.index.Index.{Index}
+use Rattle.http_front.specs.declared.order.Order.{Order}
+use Rattle.http_front.specs.declared.order.What.{What}
+use Rattle.http_front.specs.declared.order.What.TheVariants as what
+use Rattle.http_front.specs.declared.outcome.Outcome.TheVariants.{Plain, Refused}
+use Rattle.remote_calls.specs.Sends.{Ending, Sent}
+use Rattle.sync_rules.specs.Checkout.{Front, IsPlan, MayHold, Step, first_blocked, is_alone, run}
+use Rattle.sync_rules.specs.Named.{IsHad, asked_after, asked_head, got_in, last_head}
+use Rattle.sync_rules.specs.Offer.{Agrees, IsOfferOf, offer_words}
+use Rattle.sync_rules.specs.Premises.{KnowsRoot, NamesFiles, Over, Stands}
+use Rattle.sync_rules.specs.declared.fault.SyncFault.{SyncFault}
+use Rattle.sync_rules.specs.declared.fault.SyncFault.TheVariants as fault
+use Rattle.sync_rules.specs.declared.synced.Synced.{Synced}
+
+-- ---- success
+
+-- whether a merge that made a head had a conflict: it is another commit than the one that was pushed, and says so
+abbrev pub IsConflict : Option (List ℕ) → List ℕ → Commit → Bool → Type 0
+IsConflict None head commit told = told ≡ false
+IsConflict (Some pushed) head commit told = ((told ≡ true) × (head ≢ pushed) × (commit.conflict ≡ true)) ⊎ ((told ≡ false) × ((head ≡ pushed) ⊎ (commit.conflict ≡ false)))
+
+abbrev pub removed_by : Step → Bool
+removed_by (Step.Removed path) = true
+removed_by _ = false
+
+abbrev pub written_by : Step → Bool
+written_by (Step.Wrote path bytes) = true
+written_by _ = false
+
+abbrev pub count_of : (Step → Bool) → List Step → ℕ
+count_of test steps = length (filter_map (λ step. if test step then Some step else None) steps)
+
+-- a folder that held `c` holds the head's tree `t`, but for what it can't carry, and the index stands for it with that head as base.
+-- Nothing was done to it but the steps of a plan, so what is neither a file nor a directory is as it was
+pub record IsSynced (objects : Objects) (cuts : Cuts) (c d : Contents) (i j : Index) (t : Tree) (moment : ℕ) (user : List ℕ) (more : List Sent) (s : Synced) : Type 0 where
+  pub named : last_head more None ≡ Some (s.head, s.pushed)
+  pub pushed : IsOfferOf objects cuts c i moment user (asked_head more None) s.pushed
+  pub commit : Commit
+  pub stored : commit_at objects s.head ≡ Ok commit
+  pub is_tree : IsTreeOf objects commit.root t
+  pub left : HoldsLeft t c d
+  pub stands : Stands cuts j t
+  pub names : NamesFiles objects j t
+  pub knows : KnowsRoot objects commit.root j
+  pub base : j.base ≡ Some s.head
+  pub lib : j.lib ≡ i.lib
+  pub conflict : IsConflict s.pushed s.head commit s.conflict
+  pub steps : List Step
+  pub is_plan : IsPlan t c (λ path. is_alone cuts (at c path) (fin.get i.entries path) (entry_below objects path commit.root) (is_some s.pushed)) steps
+  pub done : d ≡ run steps c
+  pub removed : s.removed ≡ count_of removed_by steps
+  pub written : s.written ≡ count_of written_by steps
+  pub skipped : s.skipped ≡ filter_map skipped_path (fin.entries c.paths)
+  pub held : s.held ≡ held_list t c
+
+-- ---- refusals
+
+-- a refusal that comes before the folder is touched
+abbrev pub is_early : SyncFault → Bool
+is_early fault.NotEmpty = true
+is_early (fault.Blocked path) = true
+is_early (fault.Scan why) = true
+is_early (fault.Stale count) = true
+is_early (fault.BadTree (walk.WrongSize id)) = false
+is_early (fault.BadTree why) = true
+is_early _ = false
+
+-- the head that the last reply named has this tree
+pub record IsHeadTree (objects : Objects) (more : List Sent) (tree : Tree) : Type 0 where
+  pub head : List ℕ
+  pub pushed : Option (List ℕ)
+  pub named : last_head more None ≡ Some (head, pushed)
+  pub commit : Commit
+  pub stored : commit_at objects head ≡ Ok commit
+  pub is_tree : IsTreeOf objects commit.root tree
+
+-- what the folder differed in was pushed before, and the whole tree of the head was got, in which nothing is wrong and no path
+-- blocked. Since then a front of a plan was done: each path holds its old contents, those of the tree, or nothing, where the tree has
+-- nothing or another kind
+pub record IsStopped (objects : Objects) (cuts : Cuts) (c d : Contents) (i : Index) (user : List ℕ) (more : List Sent) (shows : ℕ → Type 0) : Type 0 where
+  pub tree : Tree
+  pub heads : IsHeadTree objects more tree
+  pub moment : ℕ
+  pub shown : shows moment
+  pub offered : IsOfferOf objects cuts c i moment user (asked_head more None) heads.pushed
+  pub whole : (walk_root false objects heads.commit.root start).fault ≡ None
+  pub free : first_blocked c (fin.entries tree) ≡ None
+  pub steps : List Step
+  pub is_plan : IsPlan tree c (λ path. is_alone cuts (at c path) (fin.get i.entries path) (entry_below objects path heads.commit.root) (is_some heads.pushed)) steps
+  pub went : Front steps c d
+  pub holds : (path : PathV) → MayHold tree c d path
+  pub nameless : d.nameless ≡ c.nameless
+
+-- ---- the cause of each fault
+
+-- the last send of the call
+abbrev pub IsLast : List Sent → Order → Ending → Type 0
+IsLast more order ending = (before : List Sent) × (more ≡ before ++ (order, ending) ∷ [])
+
+-- an order that was refused so, however its reply tells it
+abbrev pub IsRefusedBy : Ending → Refusal → Type 0
+IsRefusedBy (Ok (Plain (reply.Refused why) tag)) r = why ≡ r
+IsRefusedBy (Ok (Refused why)) r = why ≡ r
+IsRefusedBy _ r = ⊥
+
+-- a refusal that ends a sync: not that an update came too late, nor that an upload is denied
+abbrev pub ends_sync : What → Refusal → Bool
+ends_sync asked (refusal.Stale last now) = false
+ends_sync (what.Check op.Upload) refusal.Denied = false
+ends_sync _ _ = true
+
+abbrev pub DeniesUpload : List Sent → Type 0
+DeniesUpload more = (order : Order) × (ending : Ending) × Contains more (order, ending) × (order.what ≡ what.Check op.Upload) × IsRefusedBy ending refusal.Denied
+
+-- an update that came too late
+abbrev pub is_stale : Ending → Bool
+is_stale (Ok (Plain (reply.Refused (refusal.Stale last now)) tag)) = true
+is_stale (Ok (Refused (refusal.Stale last now))) = true
+is_stale _ = false
+
+-- how many updates came too late
+abbrev pub stale_count : List Sent → ℕ
+stale_count sends = length (filter_map (λ sent. if is_stale sent.1 then Some sent else None) sends)
+
+-- the bytes that were got last for a commit spell none of its name
+abbrev pub IsBadCommit : List Sent → WalkFault → Type 0
+IsBadCommit more (walk.Unreadable key) = (order : Order) × (bytes : List ℕ) × (tag : Tag) × IsLast more order (Ok (Plain (reply.Got bytes) tag))
+    × (order.what ≡ what.Get key) × (key.kind ≡ kind.Commit) × ((commit : Commit) → commit_of bytes ≡ Ok commit → commit.id ≡ key.id → ⊥)
+IsBadCommit more why = ⊥
+
+-- the last two sends asked for the head and got its commit, whose root isn't forty zeros
+pub record FindsSome (more : List Sent) : Type 0 where
+  pub before : List Sent
+  pub asked : Order
+  pub head : List ℕ
+  pub tag : Tag
+  pub asks : asked.what ≡ what.Head
+  pub got : Order
+  pub bytes : List ℕ
+  pub later : Tag
+  pub gets : got.what ≡ what.Get (commit_key head)
+  pub is : more ≡ before ++ ((asked, Ok (Plain (reply.HeadIs head) tag)) ∷ (got, Ok (Plain (reply.Got bytes) later)) ∷ [])
+  pub commit : Commit
+  pub spells : commit_of bytes ≡ Ok commit
+  pub named : commit.id ≡ head
+  pub some : commit.root ≢ nil
+
+-- what is so of the sends alone, over any folder, and what else has to be so here
+abbrev pub CausedBy : (here : SyncFault → Type 0) → List Sent → SyncFault → Type 0
+CausedBy here more (fault.Remote f) = (order : Order) × IsLast more order (Err f)
+CausedBy here more (fault.Refused r) =
+    ((order : Order) × (ending : Ending) × IsLast more order ending × IsRefusedBy ending r × (ends_sync order.what r ≡ true))
+    ⊎ ((r ≡ refusal.Denied) × DeniesUpload more × here (fault.Refused r))
+CausedBy here more (fault.Damaged want got) = (key : Key) × (bytes : List ℕ) × (key.id ≡ want) × (got ≡ sha1 bytes) × (got ≢ want)
+    × (key.kind ≢ kind.Commit) × Contains (flat_map got_in more) (key, Some bytes)
+CausedBy here more (fault.Stale now) =
+    (order : Order) × (ending : Ending) × (last : ℕ) × IsLast more order ending × IsRefusedBy ending (refusal.Stale last now)
+    × (stale_count more ≡ 3)
+CausedBy here more fault.NotEmpty = FindsSome more × here fault.NotEmpty
+CausedBy here more (fault.BadTree why) = IsBadCommit more why ⊎ here (fault.BadTree why)
+CausedBy here more fault.NoMemory = ⊤
+CausedBy here more f = here f
+
+-- the folder visibly has something
+abbrev pub HasPath : Contents → Type 0
+HasPath c = (path : PathV) × IsSome (held_at c path)
+
+-- a folder, where it tells what it holds, and its index: that they differ, what is too much for a scan, that nothing was synced yet and
+-- the folder has something. A folder that tells what it holds never changes meanwhile
+abbrev pub IsSoHere : Cuts → Option Contents → Index → SyncFault → Type 0
+IsSoHere cuts told index (fault.Refused r) = (c : Contents) → told ≡ Some c → Agrees cuts c index → ⊥
+IsSoHere cuts told index (fault.Scan why) = (c : Contents) → told ≡ Some c → IsPastLimit c why
+IsSoHere cuts told index (fault.Changed path) = (c : Contents) → told ≡ Some c → ⊥
+IsSoHere cuts told index fault.NotEmpty = (index.base ≡ None) × ((c : Contents) → told ≡ Some c → HasPath c)
+IsSoHere cuts told index f = ⊤
+
+-- what is wrong with the tree of a root: the blocks of a file have another size than it tells, or the first fault of the traversal
+-- that looks at no block
+abbrev pub IsWrongTree : Objects → (root : List ℕ) → WalkFault → Type 0
+IsWrongTree objects root (walk.WrongSize id) = (path : PathV) × (mode : ℕ) × (mtime : ℤ) × (modifier : List ℕ) × (size : ℕ)
+    × (entry_below objects path root ≡ Some (entry.File id mode mtime modifier size)) × (file : FileObject) × (fs_at objects id ≡ Ok (fs.File file))
+    × (file.size ≢ length (joined objects file.blocks))
+IsWrongTree objects root why = IsDue objects (walk_root false objects root start).fault why
+
+-- what is so over a folder that tells what it holds, and the head's tree
+abbrev pub CausedOver : Objects → Contents → List Sent → SyncFault → Type 0
+CausedOver objects c more (fault.Blocked path) = (tree : Tree) × IsHeadTree objects more tree × (first_blocked c (fin.entries tree) ≡ Some path)
+CausedOver objects c more (fault.BadTree why) = IsBadCommit more why
+    ⊎ ((head : List ℕ) × (pushed : Option (List ℕ)) × (last_head more None ≡ Some (head, pushed)) × (commit : Commit) × (commit_at objects head ≡ Ok commit)
+    × IsWrongTree objects commit.root why)
+CausedOver objects c more _ = ⊤
+
+-- ---- all of it
+
+-- a fault whose cause no tree tells
+abbrev pub NeedsNoTree : List Sent → SyncFault → Type 0
+NeedsNoTree more (fault.Blocked path) = ⊥
+NeedsNoTree more (fault.BadTree why) = IsBadCommit more why
+NeedsNoTree more _ = ⊤
+
+-- of a folder that tells what it holds: over any objects that have what the call named. Where nothing of the head's tree was fetched
+-- the folder is as it was
+abbrev pub SyncsSo : Cuts → Contents → Option Contents → Index → Index → (user : List ℕ) → List Sent → (ℕ → Type 0) → Result Synced SyncFault → Type 0
+SyncsSo cuts c told i j user more shows (Ok s) = (d : Contents) × (told ≡ Some d) × (had : List (Key × List ℕ)) × IsHad more had
+    × ((objects : Objects) (base : Tree) → Over objects cuts c i base had → (t : Tree) × (moment : ℕ) × shows moment × IsSynced objects cuts c d i j t moment user more s)
+SyncsSo cuts c told i j user more shows (Err f) = (d : Contents) × (told ≡ Some d) × (is_early f ≡ true → d ≡ c)
+    × (((d ≡ c) × NeedsNoTree more f) ⊎ ((had : List (Key × List ℕ)) × IsHad more had
+    × ((objects : Objects) (base : Tree) → Over objects cuts c i base had → CausedOver objects c more f × ((d ≡ c) ⊎ IsStopped objects cuts c d i user more shows))))
+
+-- ---- of every folder and remote
+
+-- the count of the folder's faults rose where it failed, and else stayed
+abbrev pub is_folder_fault : SyncFault → Bool
+is_folder_fault fault.Folder = true
+is_folder_fault _ = false
+
+abbrev pub FolderRose : ℕ → ℕ → Result Synced SyncFault → Type 0
+FolderRose before now result = FailsBy is_folder_fault before now result
+
+-- each fault has its cause in the sends of the call
+abbrev pub CausesOf : Cuts → Option Contents → Index → List Sent → List Sent → Result Synced SyncFault → Type 0
+CausesOf cuts told index old new (Ok s) = ⊤
+CausesOf cuts told index old new (Err f) = (more : List Sent) × (new ≡ old ++ more) × CausedBy (IsSoHere cuts told index) more f
+
+-- an order of a sync: of its library, with its secret, and nothing but what a sync asks
+abbrev pub is_sync_what : What → Bool
+is_sync_what (what.Check op) = true
+is_sync_what what.Head = true
+is_sync_what (what.Get key) = true
+is_sync_what (what.GetFs ids) = true
+is_sync_what (what.Missing kind ids) = true
+is_sync_what (what.Put key bytes) = true
+is_sync_what (what.PutFs rows) = true
+is_sync_what (what.Update commit) = true
+is_sync_what _ = false
+
+-- no list of ids has more than this
+abbrev pub most_asked : ℕ
+most_asked = 10000
+
+abbrev pub AsksFew : What → Type 0
+AsksFew (what.GetFs ids) = length ids ≤ most_asked
+AsksFew (what.Missing kind ids) = length ids ≤ most_asked
+AsksFew _ = ⊤
+
+abbrev pub IsSyncOrder : List ℕ → List ℕ → Sent → Type 0
+IsSyncOrder lib secret sent = (sent.0.lib ≡ Some lib) × (sent.0.secret ≡ Some secret) × (is_sync_what sent.0.what ≡ true) × AsksFew sent.0.what
+
+-- what was sent are orders of a sync
+abbrev pub AsksAll : (lib secret : List ℕ) → List Sent → List Sent → Type 0
+AsksAll lib secret old new = (more : List Sent) × (new ≡ old ++ more) × All (IsSyncOrder lib secret) more
+
+-- a commit that a sync makes: of this library, on this parent, by this user
+pub record IsSyncCommit (lib user : List ℕ) (parent : Option (List ℕ)) (id bytes : List ℕ) : Type 0 where
+  pub commit : Commit
+  pub reads : commit_of bytes ≡ Ok commit
+  pub named : commit.id ≡ id
+  pub of_lib : commit.lib ≡ lib
+  pub parent_is : commit.parent ≡ parent
+  pub no_second : commit.second_parent ≡ None
+  pub by : commit.creator_name ≡ user
+  pub words : commit.description ≡ offer_words
+  pub conflict : commit.conflict ≡ false
+
+-- a library is asked to stand at a commit just behind the order that puts it
+abbrev pub StandsAtPut : (lib user : List ℕ) → (parent : Option (List ℕ)) → (before asked : What) → Type 0
+StandsAtPut lib user parent (what.Put key bytes) (what.Update id) = (key ≡ commit_key id) × IsSyncCommit lib user parent id bytes
+StandsAtPut lib user parent before (what.Update id) = ⊥
+StandsAtPut lib user parent before asked = ⊤
+
+-- each commit that it is asked to stand at was made so, on the index's base, or on the head that was asked in the round where there was
+-- none; `before` is the order before these
+abbrev pub MadeSo : (lib user : List ℕ) → (base asked : Option (List ℕ)) → (before : What) → List Sent → Type 0
+MadeSo lib user base asked before [] = ⊤
+MadeSo lib user base asked before (sent ∷ more) =
+    StandsAtPut lib user (option_or base asked) before sent.0.what × MadeSo lib user base (asked_after sent.0.what sent.1 asked) sent.0.what more

@@ -1,0 +1,47 @@
+//! Theorems about what a sync leaves.
+ghost use Rattle.std.specs.Prelude.{ℕ, ◌≡◌, ◌++◌, Bool, List, [], Some};
+ghost use Rattle.ids.specs.Key.{Objects};
+ghost use Rattle.ids.specs.declared.key.Key.{Key};
+ghost use Rattle.block_chunker.specs.declared.cuts.Cuts.{Cuts};
+ghost use Rattle.std.specs.FinMap as fin;
+ghost use Rattle.folder_side.specs.Folder.{Contents, at};
+ghost use Rattle.folder_side.specs.declared.holding.Holding.TheVariants as holding;
+ghost use Rattle.tree_model.specs.declared.node.FileVersion.{FileVersion};
+ghost use Rattle.tree_model.specs.declared.node.Node.TheVariants as node;
+ghost use Rattle.sync_rules.specs.Offer.{Agrees, own_of};
+ghost use Rattle.folder_side.specs.WorkingTree.{HoldsLeft, held_list};
+ghost use Rattle.local_index.specs.declared.index.Index.{Index};
+ghost use Rattle.tree_model.specs.Path.{PathV};
+ghost use Rattle.tree_model.specs.Tree.{Tree};
+ghost use Rattle.sync_rules.specs.Checkout.{Front, IsPlan, MayHold, Step, run};
+ghost use Rattle.sync_rules.specs.Premises.{Over};
+
+/// Whoever does all steps of a plan leaves the tree with the stuck directories beside it.
+pub fn a_plan_that_is_done_leaves_the_tree()
+    ensures { (tree : Tree) (c : Contents) (alone : PathV → Bool) (steps : List Step) → IsPlan tree c alone steps → HoldsLeft tree c (run steps c) }
+{}
+
+/// Wherever a plan stops, each path holds its old contents, those of the tree, or nothing, where the tree has nothing or another
+/// kind there.
+pub fn wherever_a_plan_stops_nothing_else_stands()
+    ensures { (tree : Tree) (c d : Contents) (alone : PathV → Bool) (steps : List Step) → IsPlan tree c alone steps → Front steps c d → (path : PathV) → MayHold tree c d path }
+{}
+
+/// What a whole call had for what it named, a part of it had for its part.
+pub fn what_a_call_had_its_parts_had()
+    ensures { (objects : Objects) (cuts : Cuts) (c : Contents) (index : Index) (base : Tree) (first later : List (Key × List ℕ))
+        → Over objects cuts c index base (first ++ later) → Over objects cuts c index base first × Over objects cuts c index base later }
+{}
+
+/// A file of the folder with the own id of a file of the index has its bytes.
+pub fn files_with_one_own_id_have_the_same_bytes()
+    ensures { (objects : Objects) (cuts : Cuts) (c : Contents) (index : Index) (base : Tree) (had : List (Key × List ℕ)) → Over objects cuts c index base had
+        → (path other : PathV) (bytes : List ℕ) (file : FileVersion) → at c path ≡ Some (holding.File bytes) → fin.get base other ≡ Some (node.File file)
+        → own_of cuts bytes ≡ own_of cuts file.bytes → bytes ≡ file.bytes }
+{}
+
+/// A folder that agrees with an index holds the tree for which that stands, and beside it nothing that would be held.
+pub fn a_folder_that_agrees_holds_the_tree()
+    ensures { (objects : Objects) (cuts : Cuts) (c : Contents) (index : Index) (base : Tree) (had : List (Key × List ℕ)) → Over objects cuts c index base had
+        → Agrees cuts c index → HoldsLeft base c c × ([] ≡ held_list base c) }
+{}
