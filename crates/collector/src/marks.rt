@@ -69,8 +69,8 @@ impl Marks {
             → IfOk result (λ marks. (key : Key) → is_candidate marks key ≡ is_some (map.get objects key)) }
     {
         let commits = IdList::copy(alloc, kept.slice())?;
-        let work = waiting(alloc, kept.slice())?;
         let candidates = store.keys(alloc)?;
+        let work = waiting(alloc, kept.slice(), candidates.len())?;
         Ok(Marks {
             alloc,
             commits,
@@ -119,11 +119,11 @@ impl Marks {
     }
 }
 
-/// The keys of commits, each once, of which none is opened.
-fn waiting(alloc: Global, commits: &[ObjId]) -> Result<Worklist, AllocError>
+/// The keys of commits, each once, of which none is opened, with room for so many keys.
+fn waiting(alloc: Global, commits: &[ObjId], room: usize) -> Result<Worklist, AllocError>
     ensures value { IfOk result (λ work. work ≡ record { opened = []; waiting = distinct_from [] (map_list commit_key commits.now) }) }
 {
-    let mut work = Worklist::new(alloc);
+    let mut work = Worklist::with_room(alloc, room)?;
     for commit in commits {
         work.meet(&Key {
             kind: Kind::Commit,

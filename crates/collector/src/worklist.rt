@@ -8,7 +8,7 @@ use std::marker::Model;
 
 /// Keys that were met, each once. Those before a place were opened; the others wait, in the order in which they were met.
 ///
-/// Nothing is taken out: one list and one table, some 57 bytes a key, and 78 while the list grows.
+/// Nothing is taken out: one list and one table, some 57 bytes a key, and 78 while the list grows beyond its room.
 #[derive(Drop)]
 pub(crate) struct Worklist {
     order: KeyList,
@@ -30,7 +30,7 @@ impl Model for Worklist {
 }
 
 impl Worklist {
-    ghost use Rattle.std.specs.Prelude.{◌≡◌, ◌≢◌, ◌++◌, ◌==◌, [], length, OnErr, OnOk};
+    ghost use Rattle.std.specs.Prelude.{◌≡◌, ◌≢◌, ◌++◌, ◌==◌, [], length, IfOk, OnErr, OnOk};
     ghost use Rattle.object_graph.specs.Traversal.{distinct_from, is_in};
     ghost use Rattle.collector.specs.Worklist.{MeetsFront, Opens, all_met, first_of, no_keys, with_met};
 
@@ -40,6 +40,26 @@ impl Worklist {
     {
         Worklist {
             order: KeyList::new(alloc),
+            met: KeyTable::new(alloc),
+            next: 0,
+        }
+    }
+
+    /// No key, with room for so many in the list.
+    pub fn with_room(alloc: Global, room: usize) -> Result<Worklist, AllocError>
+        ensures value { IfOk result (λ work. work ≡ no_keys) }
+    {
+        let order = Vec::with_capacity(alloc, room)?;
+        Ok(Worklist::over(alloc, KeyList::from_vec(order)))
+    }
+
+    /// No key, over an empty list.
+    fn over(alloc: Global, order: KeyList) -> Worklist
+        requires none { order ≡ [] }
+        ensures value { result ≡ no_keys }
+    {
+        Worklist {
+            order,
             met: KeyTable::new(alloc),
             next: 0,
         }

@@ -11,7 +11,7 @@ loop-commit-preserved c =
     ∙ waits_next c.args.commits.now c.loop-commit.commit-index c.commit-item.result c.loop-commit-test.true c.commit-item.is
 
 pub loop-commit-init : goal.loop-commit-init
-loop-commit-init c = c.new-work.ensures.value
+loop-commit-init c = c.in_ok-work.ensures.value
 
 pub returns : goal.returns
 returns c = record { value = c.loop-commit.invariant ∙ waits_all c.args.commits.now c.loop-commit.commit-index (omega arith) }
