@@ -22,8 +22,17 @@ pub(crate) enum Said {
     Absent(usize),
     /// The library stands at this commit.
     Updated(ObjId),
+    /// A collection began since an upload was last allowed.
+    Stale,
     /// Any other reply.
     Other,
+}
+
+fn said_of_refusal(why: &Refusal) -> Said {
+    match why {
+        Refusal::Stale { .. } => Said::Stale,
+        _ => Said::Other,
+    }
 }
 
 fn said_by(reply: &Reply) -> Said {
@@ -34,6 +43,7 @@ fn said_by(reply: &Reply) -> Said {
         Reply::Got(bytes) => Said::Got(ObjId::of(bytes.slice())),
         Reply::Absent(ids) => Said::Absent(ids.len()),
         Reply::Updated(head) => Said::Updated(*head),
+        Reply::Refused(why) => said_of_refusal(why),
         _ => Said::Other,
     }
 }

@@ -2,7 +2,7 @@
 use crate::calls::{Said, Step, asked, removed_by, turned};
 use crate::library::library_on;
 use crate::objects::{
-    Kept, ONE, has_block, is_present, is_updated, put_block, put_commit, updated_thrice,
+    Kept, ONE, has_block, is_present, is_updated, put_block, put_commit, update_to, updated_thrice,
 };
 use depot::Depot;
 use ids::ObjId;
@@ -213,5 +213,49 @@ fn a_merged_update_keeps_what_it_needs_from_the_collection_that_runs(
     rt: HostRuntime,
 ) -> Result<(), AllocError> {
     assert!(rt; merges_beside(rt.alloc())?);
+    Ok(())
+}
+
+/// Whether an update that was answered is answered with its commit again, once a collection ended that takes nothing.
+fn is_known_after(alloc: Global) -> Result<bool, AllocError> {
+    let mut depot = library_on(alloc, &[])?;
+    let first = depot.head();
+    let commit = update_to(alloc, &mut depot, 0x11, &first, ONE, "1")?;
+    Ok(removed_by(&mut depot, 1000) == Some(0) && is_updated(&mut depot, &commit))
+}
+
+#[test]
+fn an_update_that_was_answered_is_known_after_a_collection(
+    rt: HostRuntime,
+) -> Result<(), AllocError> {
+    assert!(rt; is_known_after(rt.alloc())?);
+    Ok(())
+}
+
+/// Whether an update is refused, as a collection began since an upload was last allowed.
+fn is_stale(depot: &mut Kept, commit: &ObjId) -> bool {
+    matches!(asked(depot, Act::Update(*commit)), Said::Stale)
+}
+
+/// Whether a collection takes the four objects of an update that wasn't made, which is then stale, and of which its block isn't
+/// there any more.
+fn is_taken(alloc: Global, depot: &mut Kept, commit: &ObjId) -> Result<bool, AllocError> {
+    let taken = removed_by(depot, 1000) == Some(4) && is_stale(depot, commit) && is_checked(depot);
+    Ok(!is_present(alloc, depot, "1")? && taken)
+}
+
+/// Whether a collection takes an upload, whose update is made once it was put again.
+fn is_put_again(alloc: Global) -> Result<bool, AllocError> {
+    let mut depot = library_on(alloc, &[])?;
+    let first = depot.head();
+    let commit = put_commit(alloc, &mut depot, 0x11, &first, ONE, "1")?;
+    let taken = is_taken(alloc, &mut depot, &commit)?;
+    let again = put_commit(alloc, &mut depot, 0x11, &first, ONE, "1")?;
+    Ok(taken && is_updated(&mut depot, &again))
+}
+
+#[test]
+fn an_upload_that_a_collection_took_is_put_again(rt: HostRuntime) -> Result<(), AllocError> {
+    assert!(rt; is_put_again(rt.alloc())?);
     Ok(())
 }
