@@ -27,7 +27,7 @@ use Rattle.object_store.specs.declared.error.StoreFault.{StoreFault}
 use Rattle.object_store.specs.declared.shelf.Slot.{Slot as ShelfSlot}
 use Rattle.depot.specs.Answering.{MayAnswer, MayGet, MayTell, Serves, act_decided, decided, ids_decided, next_by, permits, put_decided}
 use Rattle.depot.specs.Changing.{TextSo}
-use Rattle.depot.specs.DepotView.{at_rest, DepotView, library, IsGood}
+use Rattle.depot.specs.DepotView.{at_rest, DepotView, depot_of, library, IsGood}
 use Rattle.depot.specs.FreshKeys.{told_there}
 use Rattle.depot.specs.NextState.{answered}
 use Rattle.depot.specs.ObjectCalls.{Counts, DoneSo, IsToldDamage, SaysOr, is_counted}
@@ -48,7 +48,7 @@ module _ {S : Type 0} (contents : S → Option Contents) (may_give : S → Shelf
   Told P = (objects : Objects) → objects_of contents old.store ≡ Some objects → P objects
 
   abbrev Left : Reply → StoreView S → Type 0
-  Left r store = Serves contents may_give texts faults (at_rest old) call moment r (record { store = store; state = old.state; unsettled = old.unsettled; running = None })
+  Left r store = Serves contents may_give texts faults (at_rest old) call moment r (depot_of store old.state old.unsettled None)
 
   decided_by : (a : Act) → call.act ≡ a → (o : Option Reply) → ((token : Token) → act_decided old.state token a ≡ o) → decided old.state call ≡ o
   decided_by a is o each = decided_is old.state call right o (λ token known. ap (act_decided old.state token) is ∙ each token)
@@ -153,7 +153,7 @@ module _ {S : Type 0} (contents : S → Option Contents) (may_give : S → Shelf
       → TextSo old.unsettled old.state (record old.state { tokens = tokens }) (status_of contents old.store) still (status_of contents store) result
       (texts old.store.shelf) (texts store.shelf)
       → CountsShelf (faults old.store.shelf) (faults store.shelf) result
-      → Serves contents may_give texts faults (at_rest old) call moment (answer_of reply.Checked result) (record { store = store; state = state; unsettled = still; running = None })
+      → Serves contents may_give texts faults (at_rest old) call moment (answer_of reply.Checked result) (depot_of store state still None)
   upload_serves tokens is seen store state still kept lying =
       serves_changed contents may_give texts faults old call moment reply.Checked (record old.state { tokens = tokens }) refl
       (decided_by (act.Check op.Upload) is (Some reply.Checked) (λ token. refl))
@@ -169,7 +169,7 @@ module _ {S : Type 0} (contents : S → Option Contents) (may_give : S → Shelf
       → TextSo old.unsettled old.state (record old.state { days = days }) (status_of contents old.store) still (status_of contents store) result
       (texts old.store.shelf) (texts store.shelf)
       → CountsShelf (faults old.store.shelf) (faults store.shelf) result
-      → Serves contents may_give texts faults (at_rest old) call moment (answer_of reply.Limited result) (record { store = store; state = state; unsettled = still; running = None })
+      → Serves contents may_give texts faults (at_rest old) call moment (answer_of reply.Limited result) (depot_of store state still None)
   limit_serves days is fits store state still kept lying =
       serves_changed contents may_give texts faults old call moment reply.Limited (record old.state { days = days }) refl
       (decided_by (act.Limit days) is (Some reply.Limited) (λ token. ap (λ b. Some (if b then reply.Limited else reply.Refused (refusal.BadDays days))) fits))
@@ -185,7 +185,7 @@ module _ {S : Type 0} (contents : S → Option Contents) (texts faults : S → �
       → (store : StoreView S) (state : LibState) (still : Bool) (result : Result ⊤ StoreFault) → OnOk result (state ≡ record old.state { tokens = tokens }) → OnErr result (state ≡ old.state)
       → TextSo old.unsettled old.state (record old.state { tokens = tokens }) (status_of contents old.store) still (status_of contents store) result
       (texts old.store.shelf) (texts store.shelf)
-      → objects_of contents store ≡ objects_of contents old.store → IsGood contents faults (record { store = store; state = state; unsettled = still; running = None })
+      → objects_of contents store ≡ objects_of contents old.store → IsGood contents faults (depot_of store state still None)
   upload_good secret tokens seen =
       good_changed contents texts faults old (record old.state { tokens = tokens }) good
       (answered (record { secret = secret; act = act.Check op.Upload }) 0 reply.Checked refl (ap (λ ts. record old.state { tokens = ts }) seen)) good.head
@@ -196,7 +196,7 @@ module _ {S : Type 0} (contents : S → Option Contents) (texts faults : S → �
       → (store : StoreView S) (state : LibState) (still : Bool) (result : Result ⊤ StoreFault) → OnOk result (state ≡ record old.state { days = days }) → OnErr result (state ≡ old.state)
       → TextSo old.unsettled old.state (record old.state { days = days }) (status_of contents old.store) still (status_of contents store) result
       (texts old.store.shelf) (texts store.shelf)
-      → objects_of contents store ≡ objects_of contents old.store → IsGood contents faults (record { store = store; state = state; unsettled = still; running = None })
+      → objects_of contents store ≡ objects_of contents old.store → IsGood contents faults (depot_of store state still None)
   limit_good days fits =
       good_changed contents texts faults old (record old.state { days = days }) good
       (answered (record { secret = None; act = act.Limit days }) 0 reply.Limited refl refl) good.head (λ objects count told. limited objects count (sound_at contents faults old good objects count told))

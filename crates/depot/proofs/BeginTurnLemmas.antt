@@ -34,7 +34,7 @@ use Rattle.collector.proofs.StoredCandidatesLemmas.{first_stored}
 use Rattle.tree_walk.specs.KnownTrees.{KnownView}
 use Rattle.depot.specs.Answering.{is_free_refusal}
 use Rattle.depot.specs.CollectionTurns.{BeginsOver, BeginsSo, MayRefuseTurn, TakesTurn, TurnsBySome, with_begin}
-use Rattle.depot.specs.DepotView.{CollectionView, IsKept, library, running_library, state_of}
+use Rattle.depot.specs.DepotView.{CollectionView, IsKept, depot_of, library, running_library, state_of}
 use Rattle.depot.specs.Giving.{GivesBy, IsOfSweep, IsOwnText}
 use Rattle.depot.specs.NextState.{collection_began}
 use Rattle.depot.specs.ObjectCalls.{Counts, is_of_store}
@@ -47,7 +47,6 @@ use Rattle.depot.proofs.BesideLemmas.{sound_fresh}
 use Rattle.depot.proofs.CollectsLemmas.{collects_state}
 use Rattle.depot.proofs.RefusalsLemmas.{counted_same, free_told, told_damage, free_needed}
 use Rattle.depot.proofs.StrayLemmas.{strays_none}
-use Rattle.depot.proofs.TakesTurnLemmas.{depot_of}
 use Rattle.depot.proofs.ToldLemmas.{mapped_at}
 use Rattle.depot.proofs.TurnLemmas.{begun_turn, idle_turn}
 use Rattle.depot.proofs.WritingLemmas.{holds_after, written_at}
@@ -116,16 +115,16 @@ module _ {S : Type 0} (contents : S → Option Contents) (may_give : S → Shelf
         begins.runs ∙ ap (λ (n : ℕ). record { fresh = set.empty; stored = n; turned = 0 }) (sym (ap (λ (r : Running). r.stored) begins.runs) ∙ (over objects told).stored)
 
     left_begun : (now : ℕ) (objects : Objects) → objects_of contents store ≡ Some objects → faults new.shelf ≡ now
-        → state_of contents faults (depot_of new (with_begin moment state) false (Some collection.running)) ≡ Some (counted now (begun moment (idle_at objects)))
+        → state_of contents faults (depot_of new (with_begin moment state) false (Some collection)) ≡ Some (counted now (begun moment (idle_at objects)))
     left_begun now objects told same =
         ap (option_map (running_library (with_begin moment state) (Some collection.running) (faults new.shelf))) (stays ∙ told)
         ∙ ap (λ (n : ℕ). Some (running_library (with_begin moment state) (Some collection.running) n objects)) same
         ∙ ap (λ (r : Running). Some (running_library (with_begin moment state) (Some r) now objects)) (runs_over objects told)
 
     pub begins_takes : (at_most : ℕ) → faults new.shelf ≡ faults store.shelf → AddsNoStray contents store new → GivesBy (IsOwnText state.lib) (may_give store.shelf) (may_give new.shelf)
-        → TakesTurn contents may_give texts faults (depot_of store state unsettled None) None moment at_most (Began (state.collection + 1)) (depot_of new (with_begin moment state) false (Some collection.running))
+        → TakesTurn contents may_give texts faults (depot_of store state unsettled None) None moment at_most (Began (state.collection + 1)) (depot_of new (with_begin moment state) false (Some collection))
     begins_takes at_most counts lying gives = record {
-      told = idle_told None moment at_most (Began (state.collection + 1)) (state_of contents faults (depot_of new (with_begin moment state) false (Some collection.running))) (λ objects told. record {
+      told = idle_told None moment at_most (Began (state.collection + 1)) (state_of contents faults (depot_of new (with_begin moment state) false (Some collection))) (λ objects told. record {
         state = begun moment (idle_at objects);
         entries = lone (idle_at objects) step.Began moment reply.Checked ∷ [];
         left = left_begun (faults store.shelf) objects told counts;
@@ -137,6 +136,7 @@ module _ {S : Type 0} (contents : S → Option Contents) (may_give : S → Shelf
       count = counts;
       left = refl;
       runs = ap Some begins.runs;
+      marked = ap length begins.marks.marked;
       index = λ key. ap (λ (i : Index). map.get i key) held;
       number = same_size held;
       lying = lying;
@@ -147,7 +147,7 @@ module _ {S : Type 0} (contents : S → Option Contents) (may_give : S → Shelf
     none_fresh : (key : Key) → set.contains collection.running.fresh key ≡ false
     none_fresh key = ap (λ (r : Running). set.contains r.fresh key) begins.runs ∙ set.contains-empty key_cmp key
 
-    pub begins_kept : faults new.shelf ≡ faults store.shelf → IsKept contents faults (depot_of new (with_begin moment state) false (Some collection.running)) known (Some collection)
+    pub begins_kept : faults new.shelf ≡ faults store.shelf → IsKept contents faults (depot_of new (with_begin moment state) false (Some collection)) known (Some collection)
     begins_kept counts = record {
       good = record {
         head = cut_some state.days moment state.kept kept.good.head;
@@ -208,6 +208,7 @@ module _ {S : Type 0} (contents : S → Option Contents) (may_give : S → Shelf
     count = refl;
     left = refl;
     runs = refl;
+    marked = omega arith;
     index = λ key. refl;
     number = (let size : map.len store.index + 0 ≡ map.len store.index = omega arith in size);
     lying = λ key stray. stray;
@@ -263,6 +264,7 @@ module _ {S : Type 0} (contents : S → Option Contents) (may_give : S → Shelf
           count = counts;
           left = refl;
           runs = refl;
+          marked = omega arith;
           index = λ key. ap (λ (i : Index). map.get i key) held;
           number = same_size held;
           lying = strays_none contents (is_of_store (store_refusal fault)) store new [] lying;

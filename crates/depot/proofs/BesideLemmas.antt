@@ -103,8 +103,8 @@ module _ {S : Type 0} (contents : S → Option Contents) (faults : S → ℕ) (o
 
   module _ (may_give : S → ShelfSlot → Option (List ℕ) → Type 0) (texts : S → ℕ) where
     -- what is served where no collection runs is served beside one
-    pub serves_beside : Serves contents may_give texts faults (at_rest old) call moment r (at_rest new) → Serves contents may_give texts faults old call moment r new
-    serves_beside rest = record {
+    pub serves_beside : new.marked ≡ old.marked → Serves contents may_give texts faults (at_rest old) call moment r (at_rest new) → Serves contents may_give texts faults old call moment r new
+    serves_beside marks rest = record {
       told = λ s is.
           let at = mapped_at (running_library old.state old.running (faults old.store.shelf)) (objects_of contents old.store) s is in
           subst (λ (u : State). AnswersBySome u call moment r (state_of contents faults new)) at.gives
@@ -114,6 +114,7 @@ module _ {S : Type 0} (contents : S → Option Contents) (faults : S → ℕ) (o
       count = rest.count;
       left = rest.left;
       fresh = runs;
+      marked = marks;
       lying = rest.lying;
       slot = slot_beside contents faults old call moment r old.unsettled old.state (status_of contents old.store) new.unsettled new.state (status_of contents new.store)
           (texts old.store.shelf) (texts new.store.shelf) rest.slot;

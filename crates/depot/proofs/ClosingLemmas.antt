@@ -21,8 +21,8 @@ use Rattle.object_store.specs.declared.error.StoreFault.{StoreFault}
 use Rattle.object_store.specs.declared.shelf.Slot.{Slot as ShelfSlot}
 use Rattle.tree_walk.specs.KnownTrees.{KnownView}
 use Rattle.depot.specs.Changing.{IsPlaceOf}
-use Rattle.depot.specs.CollectionTurns.{BeginsOver, BeginsSo, IsAimed, IsRunning, TakesTurn, is_begin, is_end, is_owner, missed, permits_collection, running_after, with_begin}
-use Rattle.depot.specs.DepotView.{CollectionView, DepotView, IsGood, IsKept, running_library, running_of, state_of}
+use Rattle.depot.specs.CollectionTurns.{BeginsOver, BeginsSo, IsAimed, IsRunning, TakesTurn, is_begin, is_end, is_owner, missed, permits_collection, collection_after, with_begin}
+use Rattle.depot.specs.DepotView.{CollectionView, DepotView, IsGood, IsKept, depot_of, running_library, running_of, state_of}
 use Rattle.depot.specs.Giving.{GivesBy, IsOwnText}
 use Rattle.depot.specs.Refusals.{store_refusal}
 use Rattle.depot.specs.Writing.{IsWritten, LeftBy, settled}
@@ -31,7 +31,7 @@ use Rattle.depot.specs.declared.turn.Turn.TheVariants.{Began, Ended, Over, Refus
 use Rattle.depot.proofs.BeginTurnLemmas.{begins_kept, begins_takes, spent_takes, stops_beginning, stops_kept}
 use Rattle.depot.proofs.BesideLemmas.{good_rest}
 use Rattle.depot.proofs.PlaceLemmas.{place_token}
-use Rattle.depot.proofs.TakesTurnLemmas.{depot_of, unfresh_none}
+use Rattle.depot.proofs.TakesTurnLemmas.{unfresh_none}
 use Rattle.depot.proofs.ToldLemmas.{mapped_at}
 use Rattle.depot.proofs.TurnLemmas.{turn_files, turn_safe}
 
@@ -110,6 +110,7 @@ module _ {S : Type 0} (contents : S → Option Contents) (may_give : S → Shelf
     count = refl;
     left = refl;
     runs = refl;
+    marked = refl;
     index = λ key. refl;
     number = (let size : map.len old.store.index + 0 ≡ map.len old.store.index = omega arith in size);
     lying = λ key stray. stray;
@@ -125,8 +126,8 @@ module _ {S : Type 0} (contents : S → Option Contents) (may_give : S → Shelf
 
   -- ---- where none runs
 
-  module _ (store : StoreView S) (state : LibState) (unsettled : Bool) (known : KnownView) (o : Option CollectionView) (kept : IsKept contents faults (depot_of store state unsettled (running_of o)) known o)
-      (old : DepotView S) (is : depot_of store state unsettled (running_of o) ≡ old) (idle : old.running ≡ None) where
+  module _ (store : StoreView S) (state : LibState) (unsettled : Bool) (known : KnownView) (o : Option CollectionView) (kept : IsKept contents faults (depot_of store state unsettled o) known o)
+      (old : DepotView S) (is : depot_of store state unsettled o ≡ old) (idle : old.running ≡ None) where
     none : o ≡ None
     none = by o (ap (λ (d : DepotView S). d.running) is ∙ idle)
       where
@@ -135,10 +136,10 @@ module _ {S : Type 0} (contents : S → Option Contents) (may_give : S → Shelf
         by (Some c) e = cc e
 
     rest_kept : IsKept contents faults (depot_of store state unsettled None) known None
-    rest_kept = subst (λ (p : Option CollectionView). IsKept contents faults (depot_of store state unsettled (running_of p)) known p) none kept
+    rest_kept = subst (λ (p : Option CollectionView). IsKept contents faults (depot_of store state unsettled p) known p) none kept
 
     is_rest : depot_of store state unsettled None ≡ old
-    is_rest = subst (λ (p : Option CollectionView). depot_of store state unsettled (running_of p) ≡ old) none is
+    is_rest = subst (λ (p : Option CollectionView). depot_of store state unsettled p ≡ old) none is
 
     pub spent_idle : (moment at_most : ℕ) (keys : List Key) → keys ≡ [] → last_number ≤ state.collection → TakesTurn contents may_give texts faults old None moment at_most (Refused refusal.Spent keys) old
     spent_idle moment at_most keys empty last =
@@ -150,57 +151,57 @@ module _ {S : Type 0} (contents : S → Option Contents) (may_give : S → Shelf
       pub begins_idle : (at_most : ℕ) (collection : CollectionView) → BeginsSo store.index (with_begin moment state).kept collection
           → ((objects : Objects) → objects_of contents store ≡ Some objects → BeginsOver objects collection)
           → (later ≡ with_begin moment state) × (still ≡ false) × IsWritten (with_begin moment state) (settled unsettled state (status_of contents store)) (status_of contents new)
-          → faults new.shelf ≡ faults store.shelf → TakesTurn contents may_give texts faults old None moment at_most (Began later.collection) (depot_of new later still (Some collection.running))
+          → faults new.shelf ≡ faults store.shelf → TakesTurn contents may_give texts faults old None moment at_most (Began later.collection) (depot_of new later still (Some collection))
       begins_idle at_most collection begins over (same, settles, written) counts =
-          subst (λ (d : DepotView S). TakesTurn contents may_give texts faults d None moment at_most (Began later.collection) (depot_of new later still (Some collection.running))) is_rest
-          (subst₂ (λ (l : LibState) (f : Bool). TakesTurn contents may_give texts faults (depot_of store state unsettled None) None moment at_most (Began l.collection) (depot_of new l f (Some collection.running)))
+          subst (λ (d : DepotView S). TakesTurn contents may_give texts faults d None moment at_most (Began later.collection) (depot_of new later still (Some collection))) is_rest
+          (subst₂ (λ (l : LibState) (f : Bool). TakesTurn contents may_give texts faults (depot_of store state unsettled None) None moment at_most (Began l.collection) (depot_of new l f (Some collection)))
           (sym same) (sym settles)
           (begins_takes contents may_give texts faults store new state unsettled known rest_kept moment next collection begins over stays held written at_most counts lying gives))
 
       pub begins_idle_kept : (collection : CollectionView) → BeginsSo store.index (with_begin moment state).kept collection
           → ((objects : Objects) → objects_of contents store ≡ Some objects → BeginsOver objects collection)
           → (later ≡ with_begin moment state) × (still ≡ false) × IsWritten (with_begin moment state) (settled unsettled state (status_of contents store)) (status_of contents new)
-          → faults new.shelf ≡ faults store.shelf → IsKept contents faults (depot_of new later still (Some collection.running)) known (Some collection)
+          → faults new.shelf ≡ faults store.shelf → IsKept contents faults (depot_of new later still (Some collection)) known (Some collection)
       begins_idle_kept collection begins over (same, settles, written) counts =
-          subst₂ (λ (l : LibState) (f : Bool). IsKept contents faults (depot_of new l f (Some collection.running)) known (Some collection)) (sym same) (sym settles)
+          subst₂ (λ (l : LibState) (f : Bool). IsKept contents faults (depot_of new l f (Some collection)) known (Some collection)) (sym same) (sym settles)
           (begins_kept contents may_give texts faults store new state unsettled known rest_kept moment next collection begins over stays held written counts)
 
       pub stops_idle : (at_most : ℕ) (fault : StoreFault) (why : Refusal) (keys : List Key) → why ≡ store_refusal fault → keys ≡ [] → later ≡ state
           → LeftBy fault unsettled state (with_begin moment state) (status_of contents store) still (status_of contents new) → CountsShelf {T = ⊤} (faults store.shelf) (faults new.shelf) (Err fault)
-          → TakesTurn contents may_give texts faults old None moment at_most (Refused why keys) (depot_of new later still (running_of o))
+          → TakesTurn contents may_give texts faults old None moment at_most (Refused why keys) (depot_of new later still o)
       stops_idle at_most fault why keys refusal empty same left_by count =
-          subst (λ (p : Option CollectionView). TakesTurn contents may_give texts faults old None moment at_most (Refused why keys) (depot_of new later still (running_of p))) (sym none)
+          subst (λ (p : Option CollectionView). TakesTurn contents may_give texts faults old None moment at_most (Refused why keys) (depot_of new later still p)) (sym none)
           (subst₂ (λ (d : DepotView S) (t : Turn). TakesTurn contents may_give texts faults d None moment at_most t (depot_of new later still None)) is_rest (sym (ap₂ Refused refusal empty))
           (stops_beginning contents may_give texts faults store new state unsettled known rest_kept moment next fault still later same left_by stays held at_most lying gives count))
 
       pub stops_idle_kept : (fault : StoreFault) → later ≡ state → LeftBy fault unsettled state (with_begin moment state) (status_of contents store) still (status_of contents new)
-          → IsKept contents faults (depot_of new later still (running_of o)) known o
+          → IsKept contents faults (depot_of new later still o) known o
       stops_idle_kept fault same left_by =
-          subst (λ (p : Option CollectionView). IsKept contents faults (depot_of new later still (running_of p)) known p) (sym none)
+          subst (λ (p : Option CollectionView). IsKept contents faults (depot_of new later still p) known p) (sym none)
           (stops_kept contents may_give texts faults store new state unsettled known rest_kept moment next fault still later same left_by stays held)
 
   -- ---- where one runs
 
-  ends_as : (turn : Turn) (collection : CollectionView) → running_of (if is_end turn then None else Some collection) ≡ running_after turn collection
+  ends_as : (turn : Turn) (collection : CollectionView) → (if is_end turn then None else Some collection) ≡ collection_after turn collection
   ends_as (Ended number) collection = refl
   ends_as other collection = refl
 
   pub closes_takes : (old : DepotView S) (store : StoreView S) (state : LibState) (unsettled : Bool) (goal : Option ℕ) (moment at_most : ℕ) (turn : Turn) (collection : CollectionView) (o : Option CollectionView)
-      → o ≡ (if is_end turn then None else Some collection) → TakesTurn contents may_give texts faults old goal moment at_most turn (depot_of store state unsettled (running_after turn collection))
-      → TakesTurn contents may_give texts faults old goal moment at_most turn (depot_of store state unsettled (running_of o))
+      → o ≡ (if is_end turn then None else Some collection) → TakesTurn contents may_give texts faults old goal moment at_most turn (depot_of store state unsettled (collection_after turn collection))
+      → TakesTurn contents may_give texts faults old goal moment at_most turn (depot_of store state unsettled o)
   closes_takes old store state unsettled goal moment at_most turn collection o is takes =
-      subst (λ (r : Option Running). TakesTurn contents may_give texts faults old goal moment at_most turn (depot_of store state unsettled r)) (sym (ap running_of is ∙ ends_as turn collection)) takes
+      subst (λ (p : Option CollectionView). TakesTurn contents may_give texts faults old goal moment at_most turn (depot_of store state unsettled p)) (sym (is ∙ ends_as turn collection)) takes
 
   pub closes_kept : (store : StoreView S) (state : LibState) (unsettled : Bool) (known : KnownView) (turn : Turn) (collection : CollectionView) (o : Option CollectionView)
-      → o ≡ (if is_end turn then None else Some collection) → IsKept contents faults (depot_of store state unsettled (Some collection.running)) known (Some collection)
-      → IsKept contents faults (depot_of store state unsettled (running_of o)) known o
+      → o ≡ (if is_end turn then None else Some collection) → IsKept contents faults (depot_of store state unsettled (Some collection)) known (Some collection)
+      → IsKept contents faults (depot_of store state unsettled o) known o
   closes_kept store state unsettled known turn collection o is kept =
-      subst (λ (p : Option CollectionView). IsKept contents faults (depot_of store state unsettled (running_of p)) known p) (sym is) (by (is_end turn))
+      subst (λ (p : Option CollectionView). IsKept contents faults (depot_of store state unsettled p) known p) (sym is) (by (is_end turn))
     where
-      by : (b : Bool) → IsKept contents faults (depot_of store state unsettled (running_of (if b then None else Some collection))) known (if b then None else Some collection)
+      by : (b : Bool) → IsKept contents faults (depot_of store state unsettled (if b then None else Some collection)) known (if b then None else Some collection)
       by false = kept
       by true = record {
-        good = good_rest contents faults (depot_of store state unsettled (Some collection.running)) kept.good;
+        good = good_rest contents faults (depot_of store state unsettled (Some collection)) kept.good;
         fits = kept.fits;
         collects = λ t is_t. tt;
         candidates = tt;

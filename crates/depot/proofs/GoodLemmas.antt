@@ -15,7 +15,7 @@ use Rattle.library_state.specs.declared.token.Token.{Token}
 use Rattle.object_store.specs.Shelf.{Contents}
 use Rattle.object_store.specs.StoreView.{StoreView, objects_of, status_of}
 use Rattle.object_store.specs.declared.error.StoreFault.{StoreFault}
-use Rattle.depot.specs.DepotView.{at_rest, DepotView, library, state_of, Holds, IsGood}
+use Rattle.depot.specs.DepotView.{at_rest, DepotView, depot_of, library, state_of, Holds, IsGood}
 use Rattle.depot.specs.NextState.{Follows, token_added}
 use Rattle.depot.specs.Writing.{ReadsBack, RewritesSo}
 use Rattle.depot.proofs.ToldLemmas.{mapped_at}
@@ -45,12 +45,12 @@ module _ {S : Type 0} (contents : S → Option Contents) (faults : S → ℕ) wh
     -- the state of the call, or the present one
     pub good_rewritten : (store : StoreView S) (state : LibState) (still : Bool) (result : Result ⊤ StoreFault) → OnOk result (state ≡ next) → OnErr result (state ≡ old.state)
         → RewritesSo old.unsettled old.state next (status_of contents old.store) still (status_of contents store) result
-        → objects_of contents store ≡ objects_of contents old.store → IsGood contents faults (record { store = store; state = state; unsettled = still; running = None })
+        → objects_of contents store ≡ objects_of contents old.store → IsGood contents faults (depot_of store state still None)
     good_rewritten store state still (Ok done) ok err writes kept = record {
       head = subst (λ (st : LibState). st.kept ≢ []) (sym ok) some_kept;
       reads = subst ReadsBack (sym ok) writes.1.reads;
       fresh = none_fresh store;
-      sound = sound_told (record { store = store; state = state; unsettled = still; running = None })
+      sound = sound_told (depot_of store state still None)
           (λ objects told. subst (λ st. IsSound (library st (faults store.shelf) objects)) (sym ok) (sound objects (faults store.shelf) (sym kept ∙ told)));
       text = λ objects status told at. subst (λ st. Holds still st objects status) (sym ok)
           (holds_next old.unsettled old.state next objects (status_of contents old.store) (status_of contents store) still status writes at);
@@ -59,7 +59,7 @@ module _ {S : Type 0} (contents : S → Option Contents) (faults : S → ℕ) wh
       head = subst (λ (st : LibState). st.kept ≢ []) (sym err) good.head;
       reads = subst ReadsBack (sym err) good.reads;
       fresh = none_fresh store;
-      sound = sound_told (record { store = store; state = state; unsettled = still; running = None })
+      sound = sound_told (depot_of store state still None)
           (λ objects told. subst (λ st. IsSound (library st (faults store.shelf) objects)) (sym err) (sound_at old good objects (faults store.shelf) (sym kept ∙ told)));
       text = λ objects status told at. subst (λ st. Holds still st objects status) (sym err)
           (holds_after old.unsettled old.state next objects (status_of contents old.store) (λ given. good.text objects given (sym kept ∙ told))
@@ -73,7 +73,7 @@ module _ {S : Type 0} (contents : S → Option Contents) (faults : S → ℕ) wh
       → (store : StoreView S) (state : LibState) (still : Bool) (result : Result ⊤ StoreFault)
       → OnOk result (state ≡ record old.state { tokens = old.state.tokens ++ token ∷ [] }) → OnErr result (state ≡ old.state)
       → RewritesSo old.unsettled old.state (record old.state { tokens = old.state.tokens ++ token ∷ [] }) (status_of contents old.store) still (status_of contents store) result
-      → objects_of contents store ≡ objects_of contents old.store → IsGood contents faults (record { store = store; state = state; unsettled = still; running = None })
+      → objects_of contents store ≡ objects_of contents old.store → IsGood contents faults (depot_of store state still None)
   good_with_token old good user secret right token is free room some_user fits =
       good_rewritten old good (record old.state { tokens = old.state.tokens ++ token ∷ [] })
       (token_added user secret right (ap (λ (t : Token). record old.state { tokens = old.state.tokens ++ t ∷ [] }) (sym is))) good.head

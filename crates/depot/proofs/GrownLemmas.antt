@@ -9,7 +9,7 @@ use Rattle.library_rules.proofs.SoundLemmas.{sound_moved}
 use Rattle.library_state.specs.declared.state.LibState.{LibState}
 use Rattle.object_store.specs.Shelf.{Contents}
 use Rattle.object_store.specs.StoreView.{Keeps, StoreView, objects_of, status_of}
-use Rattle.depot.specs.DepotView.{at_rest, DepotView, library, Holds, IsGood}
+use Rattle.depot.specs.DepotView.{at_rest, DepotView, depot_of, library, Holds, IsGood}
 use Rattle.depot.specs.Writing.{with_stored}
 use Rattle.depot.proofs.GoodLemmas.{none_fresh, sound_at, sound_told}
 use Rattle.depot.proofs.ToldLemmas.{mapped_at}
@@ -37,23 +37,23 @@ kept_status contents old new keeps = ap (option_map (λ (held : Contents). held.
 module _ {S : Type 0} (contents : S → Option Contents) (faults : S → ℕ) (old : DepotView S) (good : IsGood contents faults (at_rest old)) (store : StoreView S)
     (text_kept : status_of contents store ≡ status_of contents old.store) where
   -- the same objects, and the same text
-  pub good_kept : objects_of contents store ≡ objects_of contents old.store → IsGood contents faults (record { store = store; state = old.state; unsettled = old.unsettled; running = None })
+  pub good_kept : objects_of contents store ≡ objects_of contents old.store → IsGood contents faults (depot_of store old.state old.unsettled None)
   good_kept kept = record {
     head = good.head;
     reads = good.reads;
     fresh = none_fresh contents faults store;
-    sound = sound_told contents faults (record { store = store; state = old.state; unsettled = old.unsettled; running = None })
+    sound = sound_told contents faults (depot_of store old.state old.unsettled None)
         (λ objects told. sound_at contents faults old good objects (faults store.shelf) (sym kept ∙ told));
     text = λ objects status told at. good.text objects status (sym kept ∙ told) (sym text_kept ∙ at);
   }
 
   -- an object more, and the same text
-  good_grown : (x : Stored) → objects_of contents store ≡ with_stored x (objects_of contents old.store) → IsGood contents faults (record { store = store; state = old.state; unsettled = old.unsettled; running = None })
+  good_grown : (x : Stored) → objects_of contents store ≡ with_stored x (objects_of contents old.store) → IsGood contents faults (depot_of store old.state old.unsettled None)
   good_grown x grown = record {
     head = good.head;
     reads = good.reads;
     fresh = none_fresh contents faults store;
-    sound = sound_told contents faults (record { store = store; state = old.state; unsettled = old.unsettled; running = None }) (λ objects told.
+    sound = sound_told contents faults (depot_of store old.state old.unsettled None) (λ objects told.
         let before = mapped_at (λ (o : Objects). put_new o x) (objects_of contents old.store) objects (sym grown ∙ told) in
         subst (λ o. IsSound (library old.state (faults store.shelf) o)) before.gives
         (sound_grown old.state (faults store.shelf) before.value x (sound_at contents faults old good before.value (faults store.shelf) before.is)));
@@ -64,6 +64,6 @@ module _ {S : Type 0} (contents : S → Option Contents) (faults : S → ℕ) (o
   }
 
   pub good_put : (x : Stored) → (objects_of contents store ≡ objects_of contents old.store) ⊎ (objects_of contents store ≡ with_stored x (objects_of contents old.store))
-      → IsGood contents faults (record { store = store; state = old.state; unsettled = old.unsettled; running = None })
+      → IsGood contents faults (depot_of store old.state old.unsettled None)
   good_put x (inl kept) = good_kept kept
   good_put x (inr grown) = good_grown x grown

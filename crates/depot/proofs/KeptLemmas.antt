@@ -52,14 +52,14 @@ kept_by (Err fault) before next after same ok err = ap (λ (st : LibState). st.k
 module _ {S : Type 0} (contents : S → Option Contents) (faults : S → ℕ) (old new : DepotView S) (same_index : new.store.index ≡ old.store.index)
     (same_objects : objects_of contents new.store ≡ objects_of contents old.store) where
   -- what is served where no collection runs is served beside one that stays as it is
-  pub serves_same : (may_give : S → ShelfSlot → Option (List ℕ) → Type 0) (texts : S → ℕ) (call : Call) (moment : ℕ) (r : Reply) → new.running ≡ old.running
+  pub serves_same : (may_give : S → ShelfSlot → Option (List ℕ) → Type 0) (texts : S → ℕ) (call : Call) (moment : ℕ) (r : Reply) → new.running ≡ old.running → new.marked ≡ old.marked
       → told_there old.store.index call.act r ≡ [] → ((now : Objects) → told_keys now call.act r ≡ []) → Serves contents may_give texts faults (at_rest old) call moment r (at_rest new)
       → Serves contents may_give texts faults old call moment r new
-  serves_same may_give texts call moment r same none_there none_told rest =
+  serves_same may_give texts call moment r same marks none_there none_told rest =
       let runs = subst (λ o. RunsAs as_before old.running o) (sym same) (runs_still_as old.running) in
       serves_beside contents faults old new call moment r
       (same_runs old.store.index new.store.index old.running new.running (told_there old.store.index call.act r) same_index none_there runs)
-      (same_fresh contents old new call.act r same_objects (λ now. untold now call.act r (none_told now)) runs) may_give texts rest
+      (same_fresh contents old new call.act r same_objects (λ now. untold now call.act r (none_told now)) runs) may_give texts marks rest
 
   pub good_same : IsGood contents faults old → new.running ≡ old.running → IsGood contents faults (at_rest new) → IsGood contents faults new
   good_same good same rest = good_beside contents faults new rest

@@ -1,5 +1,5 @@
 -- What is known of what is marked stays right as candidates leave. The key lemmas are kept_met and fits_swept.
-use Rattle.std.proofs.Common.{◌≡◌, ◌⊎◌, inl, inr, ℕ, true, false, List, [], ◌++◌, sym, ap, ◌∙◌, subst, subst₂, true≢false}
+use Rattle.std.proofs.Common.{◌≡◌, ◌⊎◌, inl, inr, ℕ, true, List, [], ◌++◌, sym, ap, ◌∙◌, subst, subst₂, true≢false}
 use Rattle.std.specs.List.{list_any}
 use Rattle.std.proofs.lemmas.Bool.{false_from_ne_true}
 use Rattle.std.specs.FinMap as map

@@ -24,6 +24,7 @@ pub mod PutBesideLemmas
 pub mod UpdateBesideLemmas
 pub mod UpdateKeptLemmas
 pub mod MissingBesideLemmas
+pub mod MarkedLemmas
 pub mod UpdateWholeLemmas
 pub mod ShieldLemmas
 pub mod ShieldStepLemmas

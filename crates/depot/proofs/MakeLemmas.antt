@@ -28,7 +28,7 @@ use Rattle.object_store.specs.declared.error.StoreFault.TheVariants.{Taken, Wron
 use Rattle.object_store.specs.declared.shelf.Slot.{Slot}
 use Rattle.object_store.specs.declared.shelf.Slot.TheVariants.{Object, Status}
 use Rattle.library_rules.specs.declared.entry.Stored.{Stored}
-use Rattle.depot.specs.DepotView.{library, IsGood}
+use Rattle.depot.specs.DepotView.{depot_of, library, IsGood}
 use Rattle.depot.specs.Make.{IsCreated, IsMakeFault, first_state}
 use Rattle.depot.specs.declared.error.MakeFault.{MakeFault}
 use Rattle.depot.specs.declared.error.MakeFault.TheVariants as make
@@ -103,12 +103,12 @@ module _ {before now : Slot → Option (List ℕ) → Type 0} (gives : GivesNoMo
 module _ {S : Type 0} (contents : S → Option Contents) (faults : S → ℕ) where
   pub good_made : (given store : StoreView S) (lib name user secret : List ℕ) (moment : ℕ) (state : LibState)
       → IsCreated contents faults given (opening_commit lib user moment) (first_state lib name user secret (opening_commit lib user moment).id moment) store state
-      → length name ≤ 255 → 1 ≤ length user → length user ≤ 255 → IsGood contents faults (record { store = store; state = state; unsettled = false; running = None })
+      → length name ≤ 255 → 1 ≤ length user → length user ≤ 255 → IsGood contents faults (depot_of store state false None)
   good_made given store lib name user secret moment state created name_fits some_user user_fits = record {
     head = subst (λ (st : LibState). st.kept ≢ []) (sym created.is_first) (cons_some (record { head = commit.id; pushed = commit.id; at = moment }) []);
     reads = subst ReadsBack (sym created.is_first) created.stores.text.reads;
     fresh = none_fresh contents faults store;
-    sound = sound_told contents faults (record { store = store; state = state; unsettled = false; running = None }) (λ objects told.
+    sound = sound_told contents faults (depot_of store state false None) (λ objects told.
         let before = mapped_at (λ (o : Objects). put_new o (opening_object commit)) (objects_of contents given) objects (sym created.stores.objects ∙ told) in
         subst (λ st. IsSound (library st (faults store.shelf) objects)) (sym created.is_first)
         (subst (λ o. IsSound (library first (faults store.shelf) o)) before.gives

@@ -22,7 +22,7 @@ use Rattle.object_store.specs.StoreView.{Index, objects_of}
 use Rattle.tree_walk.specs.KnownTrees.{KnownView}
 use Rattle.collector.specs.Marks.{HasTheSameMarks, MarksView, is_candidate}
 use Rattle.depot.specs.Answering.{MayTell}
-use Rattle.depot.specs.DepotView.{AreApart, CollectionView, CollectsIn, DepotView, IsGood, IsKept, KnowsCandidates, running_library, running_of, state_of}
+use Rattle.depot.specs.DepotView.{AreApart, CollectionView, CollectsIn, DepotView, IsGood, IsKept, KnowsCandidates, marked_of, running_library, running_of, state_of}
 use Rattle.depot.specs.Fresh.{HasFresh, MayHaveFresh, MayKeep, MayShield, stored_told}
 use Rattle.depot.specs.FreshKeys.{RunsOn, told_there}
 use Rattle.depot.proofs.BesideLemmas.{FreshTold, good_beside, good_rest}
@@ -92,7 +92,7 @@ module _ {S : Type 0} (contents : S → Option Contents) (old : DepotView S) (k 
     (o n : Option CollectionView) (is_old : old.running ≡ running_of o)
     (keeps : (objects : Objects) → objects_of contents old.store ≡ Some objects → MayKeep (stored_told objects k ids r) o n) where
   abbrev after_it : DepotView S
-  after_it = record old { running = running_of n }
+  after_it = record old { running = running_of n; marked = marked_of n }
 
   one_told : {was now : Objects} → objects_of contents old.store ≡ Some was → objects_of contents old.store ≡ Some now → was ≡ now
   one_told a b = some_objects (sym a ∙ b)
@@ -119,7 +119,7 @@ module _ {S : Type 0} (contents : S → Option Contents) (faults : S → ℕ) (o
     (known : KnownView) (o n : Option CollectionView) (is_old : old.running ≡ running_of o) (kept : IsKept contents faults old known o)
     (keeps : (objects : Objects) → objects_of contents old.store ≡ Some objects → MayKeep (stored_told objects k ids r) o n) (holds : MayKeep (told_there old.store.index (act.Missing k ids) r) o n) where
   abbrev then : DepotView S
-  then = record old { running = running_of n }
+  then = record old { running = running_of n; marked = marked_of n }
 
   runs : RunsOn old.store.index old.store.index (told_there old.store.index (act.Missing k ids) r) old.running (running_of n)
   runs = subst (λ p. RunsOn old.store.index old.store.index (told_there old.store.index (act.Missing k ids) r) p (running_of n)) (sym is_old) (missing_any_runs k ids r old.store.index o n holds)

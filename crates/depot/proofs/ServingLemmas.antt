@@ -25,7 +25,7 @@ use Rattle.object_graph.specs.Traversal.{is_in}
 use Rattle.object_store.specs.StoreView.{AddsNoStray, Index, StoreView, objects_of, status_of}
 use Rattle.object_store.specs.declared.shelf.Slot.{Slot as ShelfSlot}
 use Rattle.depot.specs.Answering.{AnswersBySome, MayAnswer, Serves, act_decided, decided, next_by, next_state, permits, state_after, token_decided, unwritten}
-use Rattle.depot.specs.DepotView.{DepotView, at_rest, library, running_library, state_of}
+use Rattle.depot.specs.DepotView.{DepotView, at_rest, depot_of, library, running_library, state_of}
 use Rattle.depot.specs.FreshKeys.{RunsOn, came, told_there}
 use Rattle.depot.specs.ObjectCalls.{Counts, DoneSo, IsToldDamage, SaysOr, is_counted}
 use Rattle.depot.proofs.AnsweringLemmas.{denied_answers, due_denies, due_is, fault_answers, is_quiet, quiet_step, said_answers, says_answers, stores_answers, stores_new}
@@ -107,6 +107,7 @@ denied_serves contents may_give texts faults old call moment lacks = record {
   count = refl;
   left = refl;
   fresh = refl;
+  marked = refl;
   lying = λ _ key stray. stray;
   slot = unwritten refl refl refl refl;
 }
@@ -144,6 +145,7 @@ serves_still contents may_give texts faults old call moment r is_due stays is_de
   count = count;
   left = left;
   fresh = runs_still old.store.index (told_there old.store.index call.act r) old.running none;
+  marked = refl;
   lying = λ _ key stray. stray;
   slot = unwritten refl refl refl refl;
 }
@@ -188,8 +190,8 @@ module _ {S : Type 0} (contents : S → Option Contents) (may_give : S → Shelf
       (may_come : MayAnswer old.store.index (may_give store.shelf) call.act (decided old.state call) r)
       (damage : (objects : Objects) → objects_of contents old.store ≡ Some objects → IsToldDamage objects r)
       (count : Counts (faults old.store.shelf) (faults store.shelf) r) (lying : is_counted r ≡ false → AddsNoStray contents old.store store) where
-    serves_by : ((s : State) → state_of contents faults (at_rest old) ≡ Some s → AnswersBySome s call moment r (state_of contents faults (record { store = store; state = old.state; unsettled = old.unsettled; running = None })))
-        → Serves contents may_give texts faults (at_rest old) call moment r (record { store = store; state = old.state; unsettled = old.unsettled; running = None })
+    serves_by : ((s : State) → state_of contents faults (at_rest old) ≡ Some s → AnswersBySome s call moment r (state_of contents faults (depot_of store old.state old.unsettled None)))
+        → Serves contents may_give texts faults (at_rest old) call moment r (depot_of store old.state old.unsettled None)
     serves_by told = record {
       told = told;
       may_come = may_come;
@@ -197,6 +199,7 @@ module _ {S : Type 0} (contents : S → Option Contents) (may_give : S → Shelf
       count = count;
       left = quiet_left old.state call moment r quiet;
       fresh = refl;
+      marked = refl;
       lying = lying;
       slot = unwritten refl refl text_kept written;
     }
@@ -205,8 +208,8 @@ module _ {S : Type 0} (contents : S → Option Contents) (may_give : S → Shelf
     pub serves_said : objects_of contents store ≡ objects_of contents old.store
         → ((objects : Objects) → objects_of contents old.store ≡ Some objects
         → (said : Reply) × (due (library old.state (faults old.store.shelf) objects) call ≡ Says said) × SaysOr objects said r)
-        → Serves contents may_give texts faults (at_rest old) call moment r (record { store = store; state = old.state; unsettled = old.unsettled; running = None })
-    serves_said kept says = serves_by (of_told (λ s. AnswersBySome s call moment r (state_of contents faults (record { store = store; state = old.state; unsettled = old.unsettled; running = None })))
+        → Serves contents may_give texts faults (at_rest old) call moment r (depot_of store old.state old.unsettled None)
+    serves_said kept says = serves_by (of_told (λ s. AnswersBySome s call moment r (state_of contents faults (depot_of store old.state old.unsettled None)))
         (λ objects told.
         let due_says = says objects told in
         let s : State = library old.state (faults old.store.shelf) objects in
@@ -218,8 +221,8 @@ module _ {S : Type 0} (contents : S → Option Contents) (may_give : S → Shelf
         → ((objects : Objects) → objects_of contents old.store ≡ Some objects
         → (due (library old.state (faults old.store.shelf) objects) call ≡ put_due (library old.state (faults old.store.shelf) objects) key bytes)
         × DoneSo objects (put_due (library old.state (faults old.store.shelf) objects) key bytes) r (objects_of contents store))
-        → Serves contents may_give texts faults (at_rest old) call moment r (record { store = store; state = old.state; unsettled = old.unsettled; running = None })
-    serves_put key bytes acts done = serves_by (of_told (λ s. AnswersBySome s call moment r (state_of contents faults (record { store = store; state = old.state; unsettled = old.unsettled; running = None })))
+        → Serves contents may_give texts faults (at_rest old) call moment r (depot_of store old.state old.unsettled None)
+    serves_put key bytes acts done = serves_by (of_told (λ s. AnswersBySome s call moment r (state_of contents faults (depot_of store old.state old.unsettled None)))
         (λ objects told.
         let s : State = library old.state (faults old.store.shelf) objects in
         let both = done objects told in

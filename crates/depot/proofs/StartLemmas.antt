@@ -20,7 +20,7 @@ use Rattle.object_store.specs.declared.error.StoreFault.{StoreFault}
 use Rattle.object_store.specs.declared.shelf.Slot.{Slot}
 use Rattle.object_store.specs.declared.shelf.Slot.TheVariants.{Status}
 use Rattle.object_store.specs.declared.error.StoreFault.TheVariants.{Taken, Wrong, Damaged, Shelf, NoMemory}
-use Rattle.depot.specs.DepotView.{library, IsGood, IsSoundIn}
+use Rattle.depot.specs.DepotView.{depot_of, library, IsGood, IsSoundIn}
 use Rattle.depot.specs.Start.{IsFound, IsOpened, LeftUnopenedBy, GivesBad, IsGiven, IsStartFault, IsStateFault, first_incomplete, next_opening, raised, state_refusal, untouched}
 use Rattle.depot.specs.Writing.{Writes, written}
 use Rattle.depot.specs.declared.error.StartFault.{StartFault}
@@ -113,12 +113,12 @@ opened_over found objects count proper other free =
 -- ---- a library that was opened
 
 pub good_opened : {S : Type 0} (contents : S → Option Contents) (faults : S → ℕ) (given store : StoreView S) (state : LibState)
-    → IsOpened contents faults given store state → state.kept ≢ [] → IsSoundIn contents store state → IsGood contents faults (record { store = store; state = state; unsettled = false; running = None })
+    → IsOpened contents faults given store state → state.kept ≢ [] → IsSoundIn contents store state → IsGood contents faults (depot_of store state false None)
 good_opened contents faults given store state opened some sound = record {
   head = some;
   reads = opened.text.reads;
   fresh = none_fresh contents faults store;
-  sound = sound_told contents faults (record { store = store; state = state; unsettled = false; running = None }) (λ objects told. sound objects (faults store.shelf) told);
+  sound = sound_told contents faults (depot_of store state false None) (λ objects told. sound objects (faults store.shelf) told);
   text = λ objects status told at. written_at state (status_of contents given) (status_of contents store) status opened.text.text at;
 }
 

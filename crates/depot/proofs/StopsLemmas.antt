@@ -1,6 +1,6 @@
 -- A call for which there was no memory to note fresh keys, or that is denied, changes nothing. The key lemmas are
 -- still_running, kept_still, put_stopped, missing_stopped and denied_beside.
-use Rattle.std.proofs.Common.{◌≡◌, inr, ◌++◌, ℕ, false, List, [], ◌∷◌, refl, sym, ap, ◌∙◌, subst, Option, None, Some}
+use Rattle.std.proofs.Common.{◌≡◌, inr, ◌++◌, ℕ, false, List, [], ◌∷◌, refl, sym, ap, ◌∙◌, subst, subst₂, Option, None, Some}
 use Rattle.std.specs.FinSet as set
 use Rattle.ids.specs.Key.{Objects}
 use Rattle.ids.specs.declared.key.Key.{Key}
@@ -21,7 +21,7 @@ use Rattle.object_store.specs.StoreView.{Index, objects_of}
 use Rattle.object_store.specs.declared.shelf.Slot.{Slot as ShelfSlot}
 use Rattle.tree_walk.specs.KnownTrees.{KnownView}
 use Rattle.depot.specs.Answering.{MayAnswer, Serves, ServesAct, permits}
-use Rattle.depot.specs.DepotView.{CollectionView, DepotView, IsKept, at_rest, library, running_of}
+use Rattle.depot.specs.DepotView.{CollectionView, DepotView, IsKept, at_rest, library, marked_of, running_of}
 use Rattle.depot.specs.Fresh.{HasFresh, MayHaveFresh}
 use Rattle.depot.specs.FreshKeys.{told_there}
 use Rattle.depot.specs.ObjectCalls.{DoneSo, IsFault}
@@ -70,8 +70,8 @@ none_told index (act.Ids server client) why = refl
 module _ {S : Type 0} (contents : S → Option Contents) (faults : S → ℕ) where
   -- the invariant stands
   pub kept_still : (depot : DepotView S) (known : KnownView) (o n : Option CollectionView) → MayHaveFresh (λ fresh key. set.contains fresh key) o n
-      → IsKept contents faults (record depot { running = running_of o }) known o → IsKept contents faults (record depot { running = running_of n }) known n
-  kept_still depot known o n same kept = subst (λ c. IsKept contents faults (record depot { running = running_of c }) known c) (sym (still_running o n same)) kept
+      → IsKept contents faults (record depot { running = running_of o; marked = marked_of o }) known o → IsKept contents faults (record depot { running = running_of n; marked = marked_of n }) known n
+  kept_still depot known o n same kept = subst (λ c. IsKept contents faults (record depot { running = running_of c; marked = marked_of c }) known c) (sym (still_running o n same)) kept
 
   module _ (may_give : S → ShelfSlot → Option (List ℕ) → Type 0) (texts : S → ℕ) (old : DepotView S) where
     -- what is refused where no collection runs, and changes nothing, is refused beside one
@@ -80,7 +80,7 @@ module _ {S : Type 0} (contents : S → Option Contents) (faults : S → ℕ) wh
     serves_refused call moment why none rest =
         serves_beside contents faults old old call moment (reply.Refused why)
         (same_runs old.store.index old.store.index old.running old.running (told_there old.store.index call.act (reply.Refused why)) refl none (runs_still_as old.running))
-        (same_fresh contents old old call.act (reply.Refused why) refl (λ now. refl) (runs_still_as old.running)) may_give texts rest
+        (same_fresh contents old old call.act (reply.Refused why) refl (λ now. refl) (runs_still_as old.running)) may_give texts refl rest
 
     -- one who may not ask is denied
     pub denied_beside : (call : Call) (moment : ℕ) → permits (token_of old.state.tokens call.secret) call.act ≡ false
@@ -88,20 +88,20 @@ module _ {S : Type 0} (contents : S → Option Contents) (faults : S → ℕ) wh
     denied_beside call moment lacks =
         serves_refused call moment refusal.Denied (none_told old.store.index call.act refusal.Denied) (denied_serves contents may_give texts faults old call moment lacks)
 
-    pub put_stopped : (running : Option Running) (key : Key) (bytes : List ℕ) → running ≡ old.running
-        → ServesAct contents may_give texts faults old (act.Put key bytes) (reply.Refused refusal.NoMemory) (record old { running = running })
-    put_stopped running key bytes same =
-        subst (λ o. ServesAct contents may_give texts faults old (act.Put key bytes) (reply.Refused refusal.NoMemory) (record old { running = o })) (sym same)
+    pub put_stopped : (running : Option Running) (marked : ℕ) (key : Key) (bytes : List ℕ) → running ≡ old.running → marked ≡ old.marked
+        → ServesAct contents may_give texts faults old (act.Put key bytes) (reply.Refused refusal.NoMemory) (record old { running = running; marked = marked })
+    put_stopped running marked key bytes same marks =
+        subst₂ (λ (o : Option Running) (m : ℕ). ServesAct contents may_give texts faults old (act.Put key bytes) (reply.Refused refusal.NoMemory) (record old { running = o; marked = m })) (sym same) (sym marks)
         (λ call moment right asks.
         serves_refused call moment refusal.NoMemory (ap (λ a. told_there old.store.index a (reply.Refused refusal.NoMemory)) asks)
         (put_serves contents may_give texts faults old call moment right key bytes asks old.store (reply.Refused refusal.NoMemory) refl refl
         (λ objects told. due_fault (library old.state (faults old.store.shelf) objects) key bytes (reply.Refused refusal.NoMemory) (objects_of contents old.store) tt told)
         (free_put old.store.index (may_give old.store.shelf) key bytes (put_decided old.state.lib key bytes)) (λ objects told. tt) refl (λ free k stray. stray)))
 
-    pub missing_stopped : (running : Option Running) (k : Kind) (ids : List (List ℕ)) → running ≡ old.running
-        → ServesAct contents may_give texts faults old (act.Missing k ids) (reply.Refused refusal.NoMemory) (record old { running = running })
-    missing_stopped running k ids same =
-        subst (λ o. ServesAct contents may_give texts faults old (act.Missing k ids) (reply.Refused refusal.NoMemory) (record old { running = o })) (sym same)
+    pub missing_stopped : (running : Option Running) (marked : ℕ) (k : Kind) (ids : List (List ℕ)) → running ≡ old.running → marked ≡ old.marked
+        → ServesAct contents may_give texts faults old (act.Missing k ids) (reply.Refused refusal.NoMemory) (record old { running = running; marked = marked })
+    missing_stopped running marked k ids same marks =
+        subst₂ (λ (o : Option Running) (m : ℕ). ServesAct contents may_give texts faults old (act.Missing k ids) (reply.Refused refusal.NoMemory) (record old { running = o; marked = m })) (sym same) (sym marks)
         (λ call moment right asks.
         serves_refused call moment refusal.NoMemory (ap (λ a. told_there old.store.index a (reply.Refused refusal.NoMemory)) asks)
         (missing_serves contents may_give texts faults old call moment right k ids asks (reply.Refused refusal.NoMemory) (λ objects told. inr tt) refl (λ objects told. tt) refl))

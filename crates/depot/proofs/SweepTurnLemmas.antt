@@ -29,8 +29,8 @@ use Rattle.collector.proofs.GoesOnLemmas.{stops_collect, sweeps_collect}
 use Rattle.collector.proofs.StoredCandidatesLemmas.{taken_stored}
 use Rattle.tree_walk.specs.KnownTrees.{Fits, KnownView}
 use Rattle.depot.specs.Answering.{MayRefuseTree}
-use Rattle.depot.specs.CollectionTurns.{IsAimed, IsToldNeeded, SettlesBefore, SweepsSo, TakesTurn, TurnSlotSo, removed_in, running_after, turned_once}
-use Rattle.depot.specs.DepotView.{CollectionView, FitsIn, Holds, IsKept, library, running_library, state_of, KeepsMet}
+use Rattle.depot.specs.CollectionTurns.{IsAimed, IsToldNeeded, SettlesBefore, SweepsSo, TakesTurn, TurnSlotSo, removed_in, collection_after, turned_once}
+use Rattle.depot.specs.DepotView.{CollectionView, FitsIn, Holds, IsKept, depot_of, library, running_library, state_of, KeepsMet}
 use Rattle.depot.specs.Giving.{GivesBy, IsOfSweep}
 use Rattle.depot.specs.ObjectCalls.{Counts, IsToldRefusal, is_of_store}
 use Rattle.depot.specs.Refusals.{store_refusal}
@@ -41,7 +41,7 @@ use Rattle.depot.proofs.AnsweringLemmas.{fault_of}
 use Rattle.depot.proofs.CollectsLemmas.{collects_state}
 use Rattle.depot.proofs.RefusalsLemmas.{counted_same, free_needed, free_told, told_damage}
 use Rattle.depot.proofs.KnownLemmas.{fits_swept}
-use Rattle.depot.proofs.TakesTurnLemmas.{as_due, collects_at, depot_of, library_at, sound_at, told_by}
+use Rattle.depot.proofs.TakesTurnLemmas.{as_due, collects_at, library_at, sound_at, told_by}
 use Rattle.depot.proofs.ToldLemmas.{mapped_at}
 use Rattle.depot.proofs.TurnLemmas.{fails_sweeping, refused_turn, swept_turn, turn_sound}
 
@@ -60,7 +60,7 @@ free_cause index gives store_fault.NoMemory free = tt
 free_cause index gives other free = absurd (true≢false (sym free))
 
 module _ {S : Type 0} (contents : S → Option Contents) (may_give : S → ShelfSlot → Option (List ℕ) → Type 0) (texts faults : S → ℕ) (store new : StoreView S) (state : LibState) (unsettled still : Bool)
-    (before after : CollectionView) (known : KnownView) (kept : IsKept contents faults (depot_of store state unsettled (Some before.running)) known (Some before))
+    (before after : CollectionView) (known : KnownView) (kept : IsKept contents faults (depot_of store state unsettled (Some before)) known (Some before))
     (none_waits : before.marks.pending ≡ []) where
   abbrev rest_at : Objects → State
   rest_at objects = library state (faults store.shelf) objects
@@ -75,7 +75,7 @@ module _ {S : Type 0} (contents : S → Option Contents) (may_give : S → Shelf
   collects_there = collects_at contents may_give texts faults store new state unsettled before after known kept
 
   left_as : (keys : List Key) (running : Running) (now : ℕ) (objects : Objects) → Took contents store new before.marks.candidates after.marks.candidates keys → objects_of contents store ≡ Some objects
-      → after.running ≡ running → faults new.shelf ≡ now → state_of contents faults (depot_of new state still (Some after.running)) ≡ Some (running_library state (Some running) now (without objects keys))
+      → after.running ≡ running → faults new.shelf ≡ now → state_of contents faults (depot_of new state still (Some after)) ≡ Some (running_library state (Some running) now (without objects keys))
   left_as keys running now objects took told runs counts =
       ap (option_map (running_library state (Some after.running) (faults new.shelf))) (took.objects ∙ ap (option_map (λ (o : Objects). without o keys)) told)
       ∙ ap (λ (n : ℕ). Some (running_library state (Some after.running) n (without objects keys))) counts
@@ -86,9 +86,9 @@ module _ {S : Type 0} (contents : S → Option Contents) (may_give : S → Shelf
   sweeps_takes : (goal : Option ℕ) (moment at_most : ℕ) (keys : List Key) → IsAimed goal state.collection → 1 ≤ at_most → map.len before.marks.candidates ≢ 0
       → SweepsSo contents may_give texts faults store before at_most (Swept keys) new after → GivesBy (IsOfSweep state.lib) (may_give store.shelf) (may_give new.shelf)
       → TurnSlotSo moment (Swept keys) unsettled state (status_of contents store) still (status_of contents new) (texts store.shelf) (texts new.shelf)
-      → TakesTurn contents may_give texts faults (depot_of store state unsettled (Some before.running)) goal moment at_most (Swept keys) (depot_of new state still (Some after.running))
+      → TakesTurn contents may_give texts faults (depot_of store state unsettled (Some before)) goal moment at_most (Swept keys) (depot_of new state still (Some after))
   sweeps_takes goal moment at_most keys aimed least left (size, sweeps) gives slot = record {
-    told = told_by contents may_give texts faults store new state unsettled before after known kept goal moment at_most (Swept keys) (state_of contents faults (depot_of new state still (Some after.running))) (λ objects told.
+    told = told_by contents may_give texts faults store new state unsettled before after known kept goal moment at_most (Swept keys) (state_of contents faults (depot_of new state still (Some after))) (λ objects told.
         let are = took_are before.marks after.marks sweeps.took in
         let turn = swept_turn (rest_at objects) before.running before.marks (sound_there objects told) (collects_there objects told) moment none_waits keys are.0
         (some_keys keys at_most (map.len before.marks.candidates) size least left) in
@@ -105,6 +105,7 @@ module _ {S : Type 0} (contents : S → Option Contents) (may_give : S → Shelf
     count = sweeps.count;
     left = refl;
     runs = ap Some sweeps.runs;
+    marked = ap length sweeps.same.marked;
     index = sweeps.took.index;
     number = sweeps.took.held;
     lying = sweeps.lying;
@@ -120,9 +121,9 @@ module _ {S : Type 0} (contents : S → Option Contents) (may_give : S → Shelf
   stops_takes : (goal : Option ℕ) (moment at_most : ℕ) (why : Refusal) (keys : List Key) → IsAimed goal state.collection
       → SweepsSo contents may_give texts faults store before at_most (Refused why keys) new after → GivesBy (IsOfSweep state.lib) (may_give store.shelf) (may_give new.shelf)
       → TurnSlotSo moment (Refused why keys) unsettled state (status_of contents store) still (status_of contents new) (texts store.shelf) (texts new.shelf)
-      → TakesTurn contents may_give texts faults (depot_of store state unsettled (Some before.running)) goal moment at_most (Refused why keys) (depot_of new state still (Some after.running))
+      → TakesTurn contents may_give texts faults (depot_of store state unsettled (Some before)) goal moment at_most (Refused why keys) (depot_of new state still (Some after))
   stops_takes goal moment at_most why keys aimed (few, fault, refusal, free, sweeps) gives slot = record {
-    told = told_by contents may_give texts faults store new state unsettled before after known kept goal moment at_most (Refused why keys) (state_of contents faults (depot_of new state still (Some after.running))) (λ objects told.
+    told = told_by contents may_give texts faults store new state unsettled before after known kept goal moment at_most (Refused why keys) (state_of contents faults (depot_of new state still (Some after))) (λ objects told.
         let are = took_are before.marks after.marks sweeps.took in
         let refused = refused_turn (rest_at objects) before.running before.marks (sound_there objects told) (collects_there objects told) moment why keys (faults new.shelf)
         (fails_sweeping (rest_at objects) before.running before.marks (sound_there objects told) (collects_there objects told) moment why keys (faults new.shelf) none_waits are.0
@@ -141,6 +142,7 @@ module _ {S : Type 0} (contents : S → Option Contents) (may_give : S → Shelf
     count = counts;
     left = refl;
     runs = ap Some sweeps.runs;
+    marked = (let same : length after.marks.marked ≡ length before.marks.marked = ap length sweeps.same.marked in omega (arith, same));
     index = sweeps.took.index;
     number = sweeps.took.held;
     lying = subst (λ (b : Bool). StraysIf b contents store new keys) (counted_same fault ∙ sym (ap is_of_store refusal)) sweeps.lying;
@@ -159,14 +161,14 @@ module _ {S : Type 0} (contents : S → Option Contents) (may_give : S → Shelf
   pub sweep_turn : (goal : Option ℕ) (moment at_most : ℕ) (turn : Turn) (later : LibState) → IsAimed goal state.collection → 1 ≤ at_most → map.len before.marks.candidates ≢ 0
       → SweepsSo contents may_give texts faults store before at_most turn new after → later ≡ state → GivesBy (IsOfSweep state.lib) (may_give store.shelf) (may_give new.shelf)
       → TurnSlotSo moment turn unsettled state (status_of contents store) still (status_of contents new) (texts store.shelf) (texts new.shelf)
-      → TakesTurn contents may_give texts faults (depot_of store state unsettled (Some before.running)) goal moment at_most turn (depot_of new later still (running_after turn after))
+      → TakesTurn contents may_give texts faults (depot_of store state unsettled (Some before)) goal moment at_most turn (depot_of new later still (collection_after turn after))
   sweep_turn goal moment at_most turn later aimed least left so same gives slot =
-      subst (λ (l : LibState). TakesTurn contents may_give texts faults (depot_of store state unsettled (Some before.running)) goal moment at_most turn (depot_of new l still (running_after turn after))) (sym same)
+      subst (λ (l : LibState). TakesTurn contents may_give texts faults (depot_of store state unsettled (Some before)) goal moment at_most turn (depot_of new l still (collection_after turn after))) (sym same)
       (by turn so slot)
     where
       by : (t : Turn) → SweepsSo contents may_give texts faults store before at_most t new after
           → TurnSlotSo moment t unsettled state (status_of contents store) still (status_of contents new) (texts store.shelf) (texts new.shelf)
-          → TakesTurn contents may_give texts faults (depot_of store state unsettled (Some before.running)) goal moment at_most t (depot_of new state still (running_after t after))
+          → TakesTurn contents may_give texts faults (depot_of store state unsettled (Some before)) goal moment at_most t (depot_of new state still (collection_after t after))
       by (Swept keys) sweeps slot_so = sweeps_takes goal moment at_most keys aimed least left sweeps gives slot_so
       by (Refused why keys) stops slot_so = stops_takes goal moment at_most why keys aimed stops gives slot_so
       by other none slot_so = absurd none
@@ -233,7 +235,7 @@ module _ {S : Type 0} (contents : S → Option Contents) (may_give : S → Shelf
     swept_kept : (later : KnownView) → ((later ≡ known) × (keys ≡ [])) ⊎ KeepsMet before.marks known later → SettlesBefore unsettled state (status_of contents store) still (status_of contents new) keys
         → ((key : Key) → set.contains after.running.fresh key ≡ set.contains before.running.fresh key)
         → ((there : Objects) → objects_of contents store ≡ Some there → Collects (running_library state (Some after.running) (faults new.shelf) (without there keys)) after.running after.marks)
-        → ((t : State) → state_of contents faults (depot_of new state still (Some after.running)) ≡ Some t → IsSound t) → IsKept contents faults (depot_of new state still (Some after.running)) later (Some after)
+        → ((t : State) → state_of contents faults (depot_of new state still (Some after)) ≡ Some t → IsSound t) → IsKept contents faults (depot_of new state still (Some after)) later (Some after)
     swept_kept later knows settles fresh collects sound = record {
       good = record {
         head = kept.good.head;
@@ -258,8 +260,8 @@ module _ {S : Type 0} (contents : S → Option Contents) (may_give : S → Shelf
 
   -- a turn leaves a sound library
   sound_after : (goal : Option ℕ) (moment at_most : ℕ) (turn : Turn) (keys : List Key) → Took contents store new before.marks.candidates after.marks.candidates keys
-      → TakesTurn contents may_give texts faults (depot_of store state unsettled (Some before.running)) goal moment at_most turn (depot_of new state still (Some after.running))
-      → (t : State) → state_of contents faults (depot_of new state still (Some after.running)) ≡ Some t → IsSound t
+      → TakesTurn contents may_give texts faults (depot_of store state unsettled (Some before)) goal moment at_most turn (depot_of new state still (Some after))
+      → (t : State) → state_of contents faults (depot_of new state still (Some after)) ≡ Some t → IsSound t
   sound_after goal moment at_most turn keys took takes t is =
       let at_now = mapped_at (running_library state (Some after.running) (faults new.shelf)) (objects_of contents new) t is in
       let was = there_before keys took at_now.value at_now.is in
@@ -273,14 +275,14 @@ module _ {S : Type 0} (contents : S → Option Contents) (may_give : S → Shelf
       → later ≡ state → GivesBy (IsOfSweep state.lib) (may_give store.shelf) (may_give new.shelf)
       → ((moment : ℕ) → TurnSlotSo moment turn unsettled state (status_of contents store) still (status_of contents new) (texts store.shelf) (texts new.shelf))
       → SettlesBefore unsettled state (status_of contents store) still (status_of contents new) (removed_in turn) → ((knows ≡ known) × (removed_in turn ≡ [])) ⊎ KeepsMet before.marks known knows
-      → IsKept contents faults (depot_of new later still (Some after.running)) knows (Some after)
+      → IsKept contents faults (depot_of new later still (Some after)) knows (Some after)
   sweep_stands at_most turn later knows least left so same gives slot settles knows_so =
-      subst (λ (l : LibState). IsKept contents faults (depot_of new l still (Some after.running)) knows (Some after)) (sym same) (by turn so (slot 0) settles knows_so)
+      subst (λ (l : LibState). IsKept contents faults (depot_of new l still (Some after)) knows (Some after)) (sym same) (by turn so (slot 0) settles knows_so)
     where
       by : (t : Turn) → SweepsSo contents may_give texts faults store before at_most t new after
           → TurnSlotSo 0 t unsettled state (status_of contents store) still (status_of contents new) (texts store.shelf) (texts new.shelf)
           → SettlesBefore unsettled state (status_of contents store) still (status_of contents new) (removed_in t) → ((knows ≡ known) × (removed_in t ≡ [])) ⊎ KeepsMet before.marks known knows
-          → IsKept contents faults (depot_of new state still (Some after.running)) knows (Some after)
+          → IsKept contents faults (depot_of new state still (Some after)) knows (Some after)
       by (Swept keys) (size, sweeps) slot_so settles_so knows_it =
           let are = took_are before.marks after.marks sweeps.took in
           swept_kept keys sweeps.took knows knows_it settles_so (λ key. ap (λ (r : Running). set.contains r.fresh key) sweeps.runs)

@@ -8,6 +8,7 @@ use Rattle.std.specs.FinMap as map
 use Rattle.std.specs.FinSet as set
 use Rattle.std.specs.List.{list_any}
 use Rattle.std.proofs.lemmas.Bool.{or_right}
+use Rattle.std.proofs.lemmas.List.{length-append}
 use Rattle.ids.specs.FaultCount.{Rose}
 use Rattle.ids.specs.Key.{Objects, key_cmp}
 use Rattle.ids.specs.declared.key.Key.{Key}
@@ -39,8 +40,8 @@ use Rattle.tree_walk.specs.Files.{first_due}
 use Rattle.tree_walk.specs.KnownTrees.{KnownView}
 use Rattle.tree_walk.specs.Reading.{IsDue, Reads}
 use Rattle.tree_walk.specs.declared.fault.WalkFault.{WalkFault}
-use Rattle.depot.specs.CollectionTurns.{IsAimed, IsRunning, MarksSo, MayTurn, NoneFresh, TakesTurn, TurnsAsDue, TurnsBySome, removed_in, running_after, turned_once, IsToldNeeded}
-use Rattle.depot.specs.DepotView.{CollectionView, DepotView, IsKept, library, running_library, state_of}
+use Rattle.depot.specs.CollectionTurns.{IsAimed, IsRunning, MarksSo, MayTurn, NoneFresh, TakesTurn, TurnsAsDue, TurnsBySome, removed_in, collection_after, turned_once, IsToldNeeded}
+use Rattle.depot.specs.DepotView.{CollectionView, IsKept, depot_of, library, running_library, state_of}
 use Rattle.depot.specs.Fresh.{counted_turn}
 use Rattle.depot.specs.ObjectCalls.{Counts, is_of_store}
 use Rattle.depot.specs.Refusals.{walk_refusal}
@@ -70,7 +71,7 @@ module _ {S : Type 0} (contents : S → Option Contents) (may_give : S → Slot 
   marks_some at_most count after counts some reads many told left good =
       subst (λ (o : CollectionView). MarksSo contents may_give texts faults store o at_most (Marked count) new after) is
       (subst (λ (a : CollectionView). MarksSo contents may_give texts faults store (collection_of marks table stored turned) at_most (Marked count) new a) (sym counts)
-      (told.some some, told.few, record { reads = reads; marks = many; left = left; good = good; turned = refl }))
+      (told.some some, told.few, record { reads = reads; marks = many; left = left; size = told.size; good = good; turned = refl }))
 
   pub fails_some : (at_most : ℕ) (fault : WalkFault) (why : Refusal) (keys : List Key) → why ≡ walk_refusal fault → keys ≡ [] → Reads {T = ℕ} contents may_give texts faults store new (Err fault)
       → ((objects : Objects) → objects_of contents store ≡ Some objects → IsExact objects marks → IsMarkFault objects marks.commits fault)
@@ -80,6 +81,12 @@ module _ {S : Type 0} (contents : S → Option Contents) (may_give : S → Slot 
   fails_some at_most fault why keys refusal none reads cause needed up_to left good =
       subst (λ (o : CollectionView). MarksSo contents may_give texts faults store o at_most (Refused why keys) new (collection_of next table stored turned)) is
       (none, record { fault = fault; refusal = refusal; reads = reads; cause = cause; needed = needed; marks = up_to; left = left; good = good; same = refl })
+
+-- marks are only added
+more_marked : {old new : MarksView} → HasMarked old new → length old.marked ≤ length new.marked
+more_marked {old} {new} left =
+    let more : length new.marked ≡ length old.marked + length left.more = ap length left.marked ∙ length-append old.marked left.more in
+    omega (arith, more)
 
 -- ---- a turn of the collection that runs is neither over nor spent
 
@@ -117,15 +124,12 @@ none_first objects (commit ∷ commits) complete =
 
 -- ---- what is told of the library
 
-abbrev pub depot_of : {S : Type 0} → StoreView S → LibState → Bool → Option Running → DepotView S
-depot_of store state unsettled running = record { store = store; state = state; unsettled = unsettled; running = running }
-
 module _ {S : Type 0} (contents : S → Option Contents) (may_give : S → Slot → Option (List ℕ) → Type 0) (texts faults : S → ℕ) (store new : StoreView S) (state : LibState) (unsettled : Bool)
-    (before after : CollectionView) (known : KnownView) (kept : IsKept contents faults (depot_of store state unsettled (Some before.running)) known (Some before)) where
+    (before after : CollectionView) (known : KnownView) (kept : IsKept contents faults (depot_of store state unsettled (Some before)) known (Some before)) where
   abbrev pub library_at : Objects → State
   library_at objects = running_library state (Some before.running) (faults store.shelf) objects
 
-  told_library : (objects : Objects) → objects_of contents store ≡ Some objects → state_of contents faults (depot_of store state unsettled (Some before.running)) ≡ Some (library_at objects)
+  told_library : (objects : Objects) → objects_of contents store ≡ Some objects → state_of contents faults (depot_of store state unsettled (Some before)) ≡ Some (library_at objects)
   told_library objects told = ap (option_map (running_library state (Some before.running) (faults store.shelf))) told
 
   pub sound_at : (objects : Objects) → objects_of contents store ≡ Some objects → IsSound (library_at objects)
@@ -137,7 +141,7 @@ module _ {S : Type 0} (contents : S → Option Contents) (may_give : S → Slot 
   -- it is enough to tell it by the objects
   pub told_by : (goal : Option ℕ) (moment at_most : ℕ) (turn : Turn) (left : Option State)
       → ((objects : Objects) → objects_of contents store ≡ Some objects → TurnsBySome (library_at objects) goal moment at_most turn left)
-      → (s : State) → state_of contents faults (depot_of store state unsettled (Some before.running)) ≡ Some s → TurnsBySome s goal moment at_most turn left
+      → (s : State) → state_of contents faults (depot_of store state unsettled (Some before)) ≡ Some s → TurnsBySome s goal moment at_most turn left
   told_by goal moment at_most turn left each s is =
       let at = mapped_at (running_library state (Some before.running) (faults store.shelf)) (objects_of contents store) s is in
       subst (λ (t : State). TurnsBySome t goal moment at_most turn left) at.gives (each at.value at.is)
@@ -147,7 +151,7 @@ module _ {S : Type 0} (contents : S → Option Contents) (may_give : S → Slot 
 
   -- what a reading leaves is told as what was there, with this collection and count
   left_as : (running : Running) (now : ℕ) (objects : Objects) → Keeps contents store new → objects_of contents store ≡ Some objects → after.running ≡ running → faults new.shelf ≡ now
-      → state_of contents faults (depot_of new state unsettled (Some after.running)) ≡ Some (running_library state (Some running) now objects)
+      → state_of contents faults (depot_of new state unsettled (Some after)) ≡ Some (running_library state (Some running) now objects)
   left_as running now objects keeps told runs counts =
       ap (option_map (running_library state (Some after.running) (faults new.shelf))) (keeps.objects ∙ told)
       ∙ ap (λ (n : ℕ). Some (running_library state (Some after.running) n objects)) counts
@@ -157,9 +161,9 @@ module _ {S : Type 0} (contents : S → Option Contents) (may_give : S → Slot 
 
   pub marks_takes : (goal : Option ℕ) (moment at_most count : ℕ) → IsAimed goal state.collection → before.marks.pending ≢ []
       → MarksSo contents may_give texts faults store before at_most (Marked count) new after
-      → TakesTurn contents may_give texts faults (depot_of store state unsettled (Some before.running)) goal moment at_most (Marked count) (depot_of new state unsettled (Some after.running))
+      → TakesTurn contents may_give texts faults (depot_of store state unsettled (Some before)) goal moment at_most (Marked count) (depot_of new state unsettled (Some after))
   marks_takes goal moment at_most count aimed some (least, few, marks) = record {
-    told = told_by goal moment at_most (Marked count) (state_of contents faults (depot_of new state unsettled (Some after.running))) (λ objects told. record {
+    told = told_by goal moment at_most (Marked count) (state_of contents faults (depot_of new state unsettled (Some after))) (λ objects told. record {
       state = running_library state (Some (turned_once before.running)) (faults store.shelf) objects;
       entries = lone (library_at objects) step.Swept moment reply.Checked ∷ [];
       left = left_as (turned_once before.running) (faults store.shelf) objects marks.reads.kept told marks.turned marks.reads.count;
@@ -171,6 +175,7 @@ module _ {S : Type 0} (contents : S → Option Contents) (may_give : S → Slot 
     count = marks.reads.count;
     left = refl;
     runs = ap Some marks.turned;
+    marked = marks.size;
     index = λ key. ap (λ (i : Index). map.get i key) marks.reads.kept.index;
     number = same_size store.index new.index marks.reads.kept.index;
     lying = strays_kept contents store new marks.reads.kept.index marks.reads.kept.shelf;
@@ -181,11 +186,11 @@ module _ {S : Type 0} (contents : S → Option Contents) (may_give : S → Slot 
   -- an object can't be marked: over told objects the commits are complete, so it is a fault of the store
   pub fails_takes : (goal : Option ℕ) (moment at_most : ℕ) (why : Refusal) (keys : List Key) → IsAimed goal state.collection
       → MarksSo contents may_give texts faults store before at_most (Refused why keys) new after
-      → TakesTurn contents may_give texts faults (depot_of store state unsettled (Some before.running)) goal moment at_most (Refused why keys) (depot_of new state unsettled (Some after.running))
-  fails_takes goal moment at_most why keys aimed (none, fails) = subst (λ (ks : List Key). TakesTurn contents may_give texts faults (depot_of store state unsettled (Some before.running)) goal moment at_most (Refused why ks)
-      (depot_of new state unsettled (Some after.running))) (sym none) (subst (λ (w : Refusal). TakesTurn contents may_give texts faults (depot_of store state unsettled (Some before.running)) goal moment at_most (Refused w [])
-      (depot_of new state unsettled (Some after.running))) (sym fails.refusal) (record {
-        told = told_by goal moment at_most (Refused (walk_refusal fails.fault) []) (state_of contents faults (depot_of new state unsettled (Some after.running))) (λ objects told.
+      → TakesTurn contents may_give texts faults (depot_of store state unsettled (Some before)) goal moment at_most (Refused why keys) (depot_of new state unsettled (Some after))
+  fails_takes goal moment at_most why keys aimed (none, fails) = subst (λ (ks : List Key). TakesTurn contents may_give texts faults (depot_of store state unsettled (Some before)) goal moment at_most (Refused why ks)
+      (depot_of new state unsettled (Some after))) (sym none) (subst (λ (w : Refusal). TakesTurn contents may_give texts faults (depot_of store state unsettled (Some before)) goal moment at_most (Refused w [])
+      (depot_of new state unsettled (Some after))) (sym fails.refusal) (record {
+        told = told_by goal moment at_most (Refused (walk_refusal fails.fault) []) (state_of contents faults (depot_of new state unsettled (Some after))) (λ objects told.
             let rest : State = library state (faults store.shelf) objects in
             let refused = refused_turn rest before.running before.marks (sound_at objects told) (collects_at objects told) moment (walk_refusal fails.fault) [] (faults new.shelf)
             (fails_marking rest before.running before.marks (sound_at objects told) (collects_at objects told) moment (walk_refusal fails.fault) [] (faults new.shelf) refl
@@ -207,6 +212,7 @@ module _ {S : Type 0} (contents : S → Option Contents) (may_give : S → Slot 
         count = counts;
         left = refl;
         runs = ap Some fails.same;
+        marked = more_marked fails.left;
         index = λ key. ap (λ (i : Index). map.get i key) fails.reads.kept.index;
         number = same_size store.index new.index fails.reads.kept.index;
         lying = strays_none contents (is_of_store (walk_refusal fails.fault)) store new [] (strays_kept contents store new fails.reads.kept.index fails.reads.kept.shelf);
@@ -234,7 +240,7 @@ module _ {S : Type 0} (contents : S → Option Contents) (may_give : S → Slot 
   -- ---- the end
 
   pub ends_takes : (goal : Option ℕ) (moment at_most : ℕ) → IsAimed goal state.collection → ((objects : Objects) → objects_of contents store ≡ Some objects → IsClean (library_at objects))
-      → TakesTurn contents may_give texts faults (depot_of store state unsettled (Some before.running)) goal moment at_most (Ended state.collection) (depot_of store state unsettled None)
+      → TakesTurn contents may_give texts faults (depot_of store state unsettled (Some before)) goal moment at_most (Ended state.collection) (depot_of store state unsettled None)
   ends_takes goal moment at_most aimed clean = record {
     told = told_by goal moment at_most (Ended state.collection) (state_of contents faults (depot_of store state unsettled None)) (λ objects told. record {
       state = library state (faults store.shelf) objects;
@@ -248,6 +254,7 @@ module _ {S : Type 0} (contents : S → Option Contents) (may_give : S → Slot 
     count = refl;
     left = refl;
     runs = refl;
+    marked = refl;
     index = λ key. refl;
     number = same_size store.index store.index refl;
     lying = λ key stray. stray;
@@ -260,7 +267,7 @@ module _ {S : Type 0} (contents : S → Option Contents) (may_give : S → Slot 
   pub reads_kept : Keeps contents store new → ((key : Key) → is_fresh (Some after.running) key ≡ is_fresh (Some before.running) key)
       → ((key : Key) → is_candidate after.marks key ≡ true → is_candidate before.marks key ≡ true)
       → ((objects : Objects) → objects_of contents store ≡ Some objects → Collects (running_library state (Some after.running) (faults new.shelf) objects) after.running after.marks)
-      → IsKept contents faults (depot_of new state unsettled (Some after.running)) known (Some after)
+      → IsKept contents faults (depot_of new state unsettled (Some after)) known (Some after)
   reads_kept keeps fresh fewer collects = record {
     good = record {
       head = kept.good.head;
@@ -289,7 +296,7 @@ module _ {S : Type 0} (contents : S → Option Contents) (may_give : S → Slot 
       and_left false b e = e
 
   pub marks_kept : (at_most count : ℕ) → MarksSo contents may_give texts faults store before at_most (Marked count) new after
-      → IsKept contents faults (depot_of new state unsettled (Some after.running)) known (Some after)
+      → IsKept contents faults (depot_of new state unsettled (Some after)) known (Some after)
   marks_kept at_most count (least, few, marks) =
       reads_kept marks.reads.kept (λ key. ap (λ (r : Running). set.contains r.fresh key) marks.turned) (fewer_marked marks.left) (λ objects told. goes objects told count least (marks.marks objects told))
     where
@@ -302,7 +309,7 @@ module _ {S : Type 0} (contents : S → Option Contents) (may_give : S → Slot 
           (marks_collect (library_at objects) before.running before.marks after.marks n (sound_at objects told) (collects_at objects told) many marks.good))
 
   pub fails_kept : (at_most : ℕ) (why : Refusal) (keys : List Key) → MarksSo contents may_give texts faults store before at_most (Refused why keys) new after
-      → IsKept contents faults (depot_of new state unsettled (Some after.running)) known (Some after)
+      → IsKept contents faults (depot_of new state unsettled (Some after)) known (Some after)
   fails_kept at_most why keys (none, fails) =
       reads_kept fails.reads.kept (λ key. ap (λ (r : Running). set.contains r.fresh key) fails.same) (fewer_marked fails.left) goes
     where
@@ -316,23 +323,23 @@ module _ {S : Type 0} (contents : S → Option Contents) (may_give : S → Slot 
 
   pub mark_turn : (goal : Option ℕ) (moment at_most : ℕ) (turn : Turn) (later : LibState) (still : Bool) → IsAimed goal state.collection → before.marks.pending ≢ []
       → MarksSo contents may_give texts faults store before at_most turn new after → later ≡ state → still ≡ unsettled
-      → TakesTurn contents may_give texts faults (depot_of store state unsettled (Some before.running)) goal moment at_most turn (depot_of new later still (running_after turn after))
+      → TakesTurn contents may_give texts faults (depot_of store state unsettled (Some before)) goal moment at_most turn (depot_of new later still (collection_after turn after))
   mark_turn goal moment at_most turn later still aimed some so same_state same_flag =
-      subst₂ (λ (l : LibState) (f : Bool). TakesTurn contents may_give texts faults (depot_of store state unsettled (Some before.running)) goal moment at_most turn (depot_of new l f (running_after turn after)))
+      subst₂ (λ (l : LibState) (f : Bool). TakesTurn contents may_give texts faults (depot_of store state unsettled (Some before)) goal moment at_most turn (depot_of new l f (collection_after turn after)))
       (sym same_state) (sym same_flag) (by turn so)
     where
       by : (t : Turn) → MarksSo contents may_give texts faults store before at_most t new after
-          → TakesTurn contents may_give texts faults (depot_of store state unsettled (Some before.running)) goal moment at_most t (depot_of new state unsettled (running_after t after))
+          → TakesTurn contents may_give texts faults (depot_of store state unsettled (Some before)) goal moment at_most t (depot_of new state unsettled (collection_after t after))
       by (Marked count) marks = marks_takes goal moment at_most count aimed some marks
       by (Refused why keys) fails = fails_takes goal moment at_most why keys aimed fails
       by other none = absurd none
 
   pub mark_stands : (at_most : ℕ) (turn : Turn) (later : LibState) (still : Bool) → MarksSo contents may_give texts faults store before at_most turn new after → later ≡ state → still ≡ unsettled
-      → IsKept contents faults (depot_of new later still (Some after.running)) known (Some after)
+      → IsKept contents faults (depot_of new later still (Some after)) known (Some after)
   mark_stands at_most turn later still so same_state same_flag =
-      subst₂ (λ (l : LibState) (f : Bool). IsKept contents faults (depot_of new l f (Some after.running)) known (Some after)) (sym same_state) (sym same_flag) (by turn so)
+      subst₂ (λ (l : LibState) (f : Bool). IsKept contents faults (depot_of new l f (Some after)) known (Some after)) (sym same_state) (sym same_flag) (by turn so)
     where
-      by : (t : Turn) → MarksSo contents may_give texts faults store before at_most t new after → IsKept contents faults (depot_of new state unsettled (Some after.running)) known (Some after)
+      by : (t : Turn) → MarksSo contents may_give texts faults store before at_most t new after → IsKept contents faults (depot_of new state unsettled (Some after)) known (Some after)
       by (Marked count) marks = marks_kept at_most count marks
       by (Refused why keys) fails = fails_kept at_most why keys fails
       by other none = absurd none

@@ -23,7 +23,7 @@ use Rattle.object_store.specs.declared.error.StoreFault.TheVariants.{Taken, Wron
 use Rattle.object_store.specs.declared.shelf.Slot.{Slot as ShelfSlot}
 use Rattle.depot.specs.Answering.{AnswersBySome, MayAnswer, MayAnswerSo, Serves, SlotSo, Would, decided, is_free_reply, next_state, refused, rewritten, unwritten}
 use Rattle.depot.specs.Changing.{TextSo, same, changed}
-use Rattle.depot.specs.DepotView.{at_rest, DepotView, library, state_of, IsGood}
+use Rattle.depot.specs.DepotView.{at_rest, DepotView, depot_of, library, state_of, IsGood}
 use Rattle.depot.specs.ObjectCalls.{Counts, IsFault, IsToldDamage, is_counted}
 use Rattle.depot.specs.NextState.{Follows}
 use Rattle.depot.specs.Writing.{IsWritten, LeftBy, settled}
@@ -78,30 +78,30 @@ module _ {S : Type 0} (contents : S → Option Contents) (may_give : S → Shelf
     (store : StoreView S) (state : LibState) (still : Bool) (kept : objects_of contents store ≡ objects_of contents old.store) (lying : AddsNoStray contents old.store store) where
   -- the library that is left
   left_is : (st : LibState) → state ≡ st → (objects : Objects) → objects_of contents old.store ≡ Some objects
-      → state_of contents faults (record { store = store; state = state; unsettled = still; running = None }) ≡ Some (library st (faults store.shelf) objects)
+      → state_of contents faults (depot_of store state still None) ≡ Some (library st (faults store.shelf) objects)
   left_is st is objects told = ap (λ (p : LibState). option_map (library p (faults store.shelf)) (objects_of contents store)) is ∙ ap (option_map (library st (faults store.shelf))) (kept ∙ told)
 
   refused_by : (fault : StoreFault) → (is_free : (objects : Objects) → IsFault objects (answer_of said (Err fault)))
       → Counts (faults old.store.shelf) (faults store.shelf) (answer_of said (Err fault)) → state ≡ old.state
-      → (s : State) → state_of contents faults (at_rest old) ≡ Some s → AnswersBySome s call moment (answer_of said (Err fault)) (state_of contents faults (record { store = store; state = state; unsettled = still; running = None }))
+      → (s : State) → state_of contents faults (at_rest old) ≡ Some s → AnswersBySome s call moment (answer_of said (Err fault)) (state_of contents faults (depot_of store state still None))
   refused_by fault is_free count stays = of_told contents may_give texts faults old call moment
-      (λ s. AnswersBySome s call moment (answer_of said (Err fault)) (state_of contents faults (record { store = store; state = state; unsettled = still; running = None }))) (λ objects told.
+      (λ s. AnswersBySome s call moment (answer_of said (Err fault)) (state_of contents faults (depot_of store state still None))) (λ objects told.
       subst (AnswersBySome (library old.state (faults old.store.shelf) objects) call moment (answer_of said (Err fault))) (sym (left_is old.state stays objects told))
       (fault_answers (library old.state (faults old.store.shelf) objects) call moment (λ e. says_not_denied said (sym (is_due objects) ∙ e))
       (answer_of said (Err fault)) (faults store.shelf) (is_free objects) count))
 
   read_by : next ≡ old.state → faults store.shelf ≡ faults old.store.shelf → state ≡ next
-      → (s : State) → state_of contents faults (at_rest old) ≡ Some s → AnswersBySome s call moment said (state_of contents faults (record { store = store; state = state; unsettled = still; running = None }))
+      → (s : State) → state_of contents faults (at_rest old) ≡ Some s → AnswersBySome s call moment said (state_of contents faults (depot_of store state still None))
   read_by is count ok = of_told contents may_give texts faults old call moment
-      (λ s. AnswersBySome s call moment said (state_of contents faults (record { store = store; state = state; unsettled = still; running = None }))) (λ objects told.
+      (λ s. AnswersBySome s call moment said (state_of contents faults (depot_of store state still None))) (λ objects told.
       subst (AnswersBySome (library old.state (faults old.store.shelf) objects) call moment said)
       (sym (left_is old.state (ok ∙ is) objects told ∙ ap (λ n. Some (library old.state n objects)) count))
       (says_answers (library old.state (faults old.store.shelf) objects) call moment said (is_due objects) (makes objects ∙ ap (λ st. library st (faults old.store.shelf) objects) is)))
 
   entered_by : next ≢ old.state → faults store.shelf ≡ faults old.store.shelf → state ≡ next
-      → (s : State) → state_of contents faults (at_rest old) ≡ Some s → AnswersBySome s call moment said (state_of contents faults (record { store = store; state = state; unsettled = still; running = None }))
+      → (s : State) → state_of contents faults (at_rest old) ≡ Some s → AnswersBySome s call moment said (state_of contents faults (depot_of store state still None))
   entered_by apart count ok = of_told contents may_give texts faults old call moment
-      (λ s. AnswersBySome s call moment said (state_of contents faults (record { store = store; state = state; unsettled = still; running = None }))) (λ objects told.
+      (λ s. AnswersBySome s call moment said (state_of contents faults (depot_of store state still None))) (λ objects told.
       subst (AnswersBySome (library old.state (faults old.store.shelf) objects) call moment said)
       (sym (left_is next ok objects told ∙ ap (λ n. Some (library next n objects)) count))
       (entered (library old.state (faults old.store.shelf) objects) (library next (faults old.store.shelf) objects) call moment said (is_due objects) (makes objects)
@@ -129,7 +129,7 @@ module _ {S : Type 0} (contents : S → Option Contents) (may_give : S → Shelf
   unwritten_changed : (fault : StoreFault) → ((objects : Objects) → IsFault objects (answer_of said (Err fault))) → IsTrue (is_free_reply (answer_of said (Err fault)))
       → ((objects : Objects) → IsToldDamage objects (answer_of said (Err fault))) → Counts (faults old.store.shelf) (faults store.shelf) (answer_of said (Err fault))
       → state ≡ old.state → next ≢ old.state → LeftBy fault old.unsettled old.state next (status_of contents old.store) still (status_of contents store)
-      → Serves contents may_give texts faults (at_rest old) call moment (answer_of said (Err fault)) (record { store = store; state = state; unsettled = still; running = None })
+      → Serves contents may_give texts faults (at_rest old) call moment (answer_of said (Err fault)) (depot_of store state still None)
   unwritten_changed fault is_fault free damage count stays apart writes = record {
     told = refused_by fault is_fault count stays;
     may_come = subst (λ o. MayAnswer old.store.index (may_give store.shelf) call.act o (answer_of said (Err fault))) (sym is_decided) (inr free);
@@ -137,16 +137,17 @@ module _ {S : Type 0} (contents : S → Option Contents) (may_give : S → Shelf
     count = count;
     left = stays;
     fresh = refl;
+    marked = refl;
     lying = λ _. lying;
     slot = refused fault refl said plain would (λ same. apart (sym is_next ∙ same)) (subst (λ st. LeftBy fault old.unsettled old.state st (status_of contents old.store) still (status_of contents store)) (sym is_next) writes);
   }
 
   -- an answer that is no refusal, where it and the slot are told so
   served : state ≡ next → faults store.shelf ≡ faults old.store.shelf
-      → ((s : State) → state_of contents faults (at_rest old) ≡ Some s → AnswersBySome s call moment said (state_of contents faults (record { store = store; state = state; unsettled = still; running = None })))
+      → ((s : State) → state_of contents faults (at_rest old) ≡ Some s → AnswersBySome s call moment said (state_of contents faults (depot_of store state still None)))
       → SlotSo (Would contents faults (at_rest old) call moment) call moment said old.unsettled old.state (status_of contents old.store) still state (status_of contents store)
       (texts old.store.shelf) (texts store.shelf)
-      → Serves contents may_give texts faults (at_rest old) call moment said (record { store = store; state = state; unsettled = still; running = None })
+      → Serves contents may_give texts faults (at_rest old) call moment said (depot_of store state still None)
   served ok count answers slot = record {
     told = answers;
     may_come = subst (λ o. MayAnswer old.store.index (may_give store.shelf) call.act o said) (sym is_decided) (inl refl);
@@ -154,6 +155,7 @@ module _ {S : Type 0} (contents : S → Option Contents) (may_give : S → Shelf
     count = ok_counts count;
     left = ok_left ok;
     fresh = refl;
+    marked = refl;
     lying = λ _. lying;
     slot = slot;
   }
@@ -163,7 +165,7 @@ module _ {S : Type 0} (contents : S → Option Contents) (may_give : S → Shelf
       → TextSo old.unsettled old.state next (status_of contents old.store) still (status_of contents store) result
       (texts old.store.shelf) (texts store.shelf)
       → CountsShelf (faults old.store.shelf) (faults store.shelf) result
-      → Serves contents may_give texts faults (at_rest old) call moment (answer_of said result) (record { store = store; state = state; unsettled = still; running = None })
+      → Serves contents may_give texts faults (at_rest old) call moment (answer_of said result) (depot_of store state still None)
   serves_changed (Ok done) ok err (same is settles text written good) count = served ok count (read_by is count ok) (unwritten (ok ∙ is) settles text written)
   serves_changed (Ok done) ok err (changed apart writes) count =
       served ok count (entered_by apart count ok)
@@ -186,11 +188,11 @@ pub good_changed : {S : Type 0} (contents : S → Option Contents) (texts faults
     → (store : StoreView S) (state : LibState) (still : Bool) (result : Result ⊤ StoreFault) → OnOk result (state ≡ next) → OnErr result (state ≡ old.state)
     → TextSo old.unsettled old.state next (status_of contents old.store) still (status_of contents store) result
     (texts old.store.shelf) (texts store.shelf)
-    → objects_of contents store ≡ objects_of contents old.store → IsGood contents faults (record { store = store; state = state; unsettled = still; running = None })
+    → objects_of contents store ≡ objects_of contents old.store → IsGood contents faults (depot_of store state still None)
 good_changed contents texts faults old next good follows some sound store state still result ok err (changed apart writes) kept =
     good_rewritten contents faults old good next follows some sound store state still result ok err writes kept
 good_changed contents texts faults old next good follows some sound store state still (Ok done) ok err (same is settles text written fine) kept =
-    subst (λ (d : DepotView _). IsGood contents faults d) (sym (ap (λ st. record { store = store; state = st; unsettled = still; running = None }) (ok ∙ is)
-    ∙ ap (λ b. record { store = store; state = old.state; unsettled = b; running = None }) settles))
+    subst (λ (d : DepotView _). IsGood contents faults d) (sym (ap (λ st. depot_of store st still None) (ok ∙ is)
+    ∙ ap (λ b. depot_of store old.state b None) settles))
     (good_kept contents faults old good store text kept)
 good_changed contents texts faults old next good follows some sound store state still (Err fault) ok err (same is settles text written fine) kept = cc

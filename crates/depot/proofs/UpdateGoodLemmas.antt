@@ -26,7 +26,7 @@ use Rattle.object_store.proofs.StrayLemmas.{strays_kept}
 use Rattle.object_store.specs.declared.error.StoreFault.{StoreFault}
 use Rattle.object_store.specs.declared.shelf.Slot.{Slot as ShelfSlot}
 use Rattle.depot.specs.Answering.{AnswersBySome, MayAnswer, MayAnswerSo, Serves, SlotSo, Would, decided, next_by, next_state, refused, rewritten, unwritten, with_install}
-use Rattle.depot.specs.DepotView.{at_rest, DepotView, library, state_of, Holds, IsGood}
+use Rattle.depot.specs.DepotView.{at_rest, DepotView, depot_of, library, state_of, Holds, IsGood}
 use Rattle.depot.specs.ObjectCalls.{Counts, IsToldDamageOf}
 use Rattle.depot.specs.UpdateInstall.{IsCarriedOut, IsWriteFault, LeftBehind, StoresPart, held_in, stopped, unsure, with_all}
 use Rattle.depot.specs.Plan.{objects_in}
@@ -126,7 +126,7 @@ module _ {S : Type 0} (contents : S → Option Contents) (may_give : S → Shelf
 
   module _ (store : StoreView S) (keeps : Keeps contents old.store store) (written : texts store.shelf ≡ texts old.store.shelf) where
     abbrev unmoved : DepotView S
-    unmoved = record { store = store; state = old.state; unsettled = old.unsettled; running = None }
+    unmoved = depot_of store old.state old.unsettled None
 
     nothing_stored : objects_of contents store ≡ with_all [] (objects_of contents old.store)
     nothing_stored = keeps.objects ∙ by (objects_of contents old.store)
@@ -148,6 +148,7 @@ module _ {S : Type 0} (contents : S → Option Contents) (may_give : S → Shelf
       count = count;
       left = refl;
       fresh = refl;
+      marked = refl;
       lying = λ _. strays_kept contents old.store store keeps.index keeps.shelf;
       slot = unwritten refl refl (kept_status contents old.store store keeps) written;
     }
@@ -164,6 +165,7 @@ module _ {S : Type 0} (contents : S → Option Contents) (may_give : S → Shelf
       count = count;
       left = sym (next_same old.state call moment pushed (head_of old.state.kept) updates kept);
       fresh = refl;
+      marked = refl;
       lying = λ _. strays_kept contents old.store store keeps.index keeps.shelf;
       slot = unwritten refl refl (kept_status contents old.store store keeps) written;
     }
@@ -182,7 +184,7 @@ module _ {S : Type 0} (contents : S → Option Contents) (may_give : S → Shelf
 
     module _ (store : StoreView S) (state : LibState) (still : Bool) where
       abbrev new : DepotView S
-      new = record { store = store; state = state; unsettled = still; running = None }
+      new = depot_of store state still None
 
       module _ (done : IsCarriedOut old.unsettled old.state next (objects_in plan) (held_in contents texts old.store) still (held_in contents texts store)) (same : state ≡ next) where
         pub serves_done : faults store.shelf ≡ faults old.store.shelf → AddsNoStray contents old.store store → Serves contents may_give texts faults (at_rest old) call moment (reply.Updated plan.head) new
@@ -195,6 +197,7 @@ module _ {S : Type 0} (contents : S → Option Contents) (may_give : S → Shelf
           count = count;
           left = same ∙ sym (next_is old.state call moment pushed plan.head updates new_commit);
           fresh = refl;
+          marked = refl;
           lying = λ _. lying;
           slot = rewritten refl (λ stays. install_apart old.state plan.head pushed moment (sym same ∙ stays)) done.settles
               (subst (λ st. IsWritten st (settled old.unsettled old.state (status_of contents old.store)) (status_of contents store)) (sym same) done.text);
@@ -245,6 +248,7 @@ module _ {S : Type 0} (contents : S → Option Contents) (may_give : S → Shelf
             count = fault_counts (faults old.store.shelf) (faults store.shelf) fault count;
             left = same;
             fresh = refl;
+            marked = refl;
             lying = λ free. lying (counted_same fault ∙ free);
             slot = by behind;
           }

@@ -215,6 +215,7 @@ pub record Serves {S : Type 0} (contents : S → Option Contents) (may_give : S 
   pub count : Counts (faults old.store.shelf) (faults new.store.shelf) r
   pub left : new.state ≡ state_after old.state call moment r
   pub fresh : RunsOn old.store.index new.store.index (told_there old.store.index call.act r) old.running new.running
+  pub marked : new.marked ≡ old.marked
   pub lying : is_counted r ≡ false → AddsNoStray contents old.store new.store
   pub slot : SlotSo (Would contents faults old call moment) call moment r old.unsettled old.state (status_of contents old.store) new.unsettled new.state (status_of contents new.store)
       (texts old.store.shelf) (texts new.store.shelf)

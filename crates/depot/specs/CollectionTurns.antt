@@ -99,6 +99,16 @@ running_after_turn stored running (Ended number) = None
 running_after_turn stored running (Over number) = running
 running_after_turn stored running (Refused why keys) = running
 
+-- how many objects are marked after a turn: none where a collection began or ended, and so many more where the turn tells
+-- them; a turn that is refused may have marked some before its fault, and any other leaves them
+abbrev pub CountsMarked : Turn → (before now : ℕ) → Type 0
+CountsMarked (Began number) before now = now ≡ 0
+CountsMarked (Marked count) before now = now ≡ before + count
+CountsMarked (Swept keys) before now = now ≡ before
+CountsMarked (Ended number) before now = now ≡ 0
+CountsMarked (Over number) before now = now ≡ before
+CountsMarked (Refused why keys) before now = before ≤ now
+
 -- the collection of this number runs
 abbrev pub IsRunning : Option Running → ℕ → ℕ → Type 0
 IsRunning None collection number = ⊥
@@ -203,6 +213,7 @@ pub record TakesTurn {S : Type 0} (contents : S → Option Contents) (may_give :
   pub count : CountsTurn (faults old.store.shelf) (faults new.store.shelf) turn
   pub left : new.state ≡ state_after_turn old.state moment turn
   pub runs : new.running ≡ running_after_turn (map.len old.store.index) old.running turn
+  pub marked : CountsMarked turn old.marked new.marked
   pub index : (key : Key) → map.get new.store.index key ≡ (if is_in (removed_in turn) key then None else map.get old.store.index key)
   pub number : map.len new.store.index + length (removed_in turn) ≡ map.len old.store.index
   pub lying : StraysIf (is_counted_turn turn) contents old.store new.store (removed_in turn)
@@ -228,9 +239,9 @@ is_end (Ended number) = true
 is_end other = false
 
 -- the collection after a turn that goes on with it
-abbrev pub running_after : Turn → CollectionView → Option Running
-running_after (Ended number) collection = None
-running_after other collection = Some collection.running
+abbrev pub collection_after : Turn → CollectionView → Option CollectionView
+collection_after (Ended number) collection = None
+collection_after other collection = Some collection
 
 -- the present text stands before an object leaves: the slot was settled; or no object left, and the slot has that text or what it held
 abbrev pub SettlesBefore : (unsettled : Bool) (present : LibState) (old : Slot) (still : Bool) (new : Slot) (removed : List Key) → Type 0
@@ -259,6 +270,7 @@ module _ {S : Type 0} (contents : S → Option Contents) (may_give : S → Shelf
     pub reads : Reads {T = ℕ} contents may_give texts faults old new (Ok count)
     pub marks : (objects : Objects) → objects_of contents old ≡ Some objects → MarksMany objects before.marks after.marks count
     pub left : HasMarked before.marks after.marks
+    pub size : length after.marks.marked ≡ length before.marks.marked + count
     pub good : AreMarks after.marks
     pub turned : after.running ≡ turned_once before.running
 

@@ -1,6 +1,6 @@
 -- What a depot is: a store, the library that its state text tells, whether the last write of that text failed, and the
 -- collection that runs. Our own. Read DepotView and state_of first, then IsGood and IsKept.
-use Rattle.std.specs.Prelude.{◌≡◌, ◌≢◌, ◌⊎◌, ◌++◌, ℕ, Bool, true, false, List, [], Option, None, Some, is_some, option_map, Ok, ⊤, refl}
+use Rattle.std.specs.Prelude.{◌≡◌, ◌≢◌, ◌⊎◌, ◌++◌, ℕ, Bool, true, false, List, [], Option, None, Some, is_some, length, option_map, Ok, ⊤, refl}
 use Rattle.std.specs.Coded.{Coded, code_by, coded×, coded_bool, coded_option, coded_ℕ}
 use Rattle.std.specs.FinMap as map
 use Rattle.std.specs.FinSet as set
@@ -22,12 +22,14 @@ use Rattle.depot.specs.NextState.{Follows}
 use Rattle.depot.specs.Writing.{ReadsBack}
 
 -- a depot as contracts see it. It is unsettled after a write of the state text that failed: then the slot may hold the
--- text of a state that some call makes of this one
+-- text of a state that some call makes of this one. So many objects are marked by the collection that runs; where none
+-- runs, none
 pub record DepotView (S : Type 0) : Type 0 where
   pub store : StoreView S
   pub state : LibState
   pub unsettled : Bool
   pub running : Option Running
+  pub marked : ℕ
 
 -- a collection that runs is stored as its fields
 abbrev pub running_code : Coded Running
@@ -36,10 +38,10 @@ running_code = code_by (set.FinSet key_cmp × (ℕ × ℕ)) (coded× (set.code k
 
 -- a depot is stored as its fields
 abbrev pub depot_code : {S : Type 0} → Coded S → Coded (DepotView S)
-depot_code {S} shelf = code_by (StoreView S × (LibState × (Bool × Option Running)))
-    (coded× (store_code shelf) (coded× state_contracts.the_row.coded (coded× coded_bool (coded_option running_code))))
-    (λ depot. (depot.store, (depot.state, (depot.unsettled, depot.running))))
-    (λ parts. record { store = parts.0; state = parts.1.0; unsettled = parts.1.1.0; running = parts.1.1.1 }) (λ _. refl)
+depot_code {S} shelf = code_by (StoreView S × (LibState × (Bool × (Option Running × ℕ))))
+    (coded× (store_code shelf) (coded× state_contracts.the_row.coded (coded× coded_bool (coded× (coded_option running_code) coded_ℕ))))
+    (λ depot. (depot.store, (depot.state, (depot.unsettled, (depot.running, depot.marked)))))
+    (λ parts. record { store = parts.0; state = parts.1.0; unsettled = parts.1.1.0; running = parts.1.1.1.0; marked = parts.1.1.1.1 }) (λ _. refl)
 
 -- the library of a state text, with these objects, no collection running, and this count of faults
 abbrev pub library : LibState → ℕ → Objects → State
@@ -63,7 +65,7 @@ state_of contents faults depot = option_map (running_library depot.state depot.r
 
 -- a depot in which no collection runs
 abbrev pub at_rest : {S : Type 0} → DepotView S → DepotView S
-at_rest depot = record depot { running = None }
+at_rest depot = record depot { running = None; marked = 0 }
 
 -- ---- what the slot holds
 
@@ -113,6 +115,15 @@ collection_code = code_by (MarksView × Running) (coded× marks_code running_cod
 
 abbrev pub running_of : Option CollectionView → Option Running
 running_of collection = option_map (λ c. c.running) collection
+
+-- how many objects are marked
+abbrev pub marked_of : Option CollectionView → ℕ
+marked_of None = 0
+marked_of (Some collection) = length collection.marks.marked
+
+-- the depot of a store, with this state, and the collection that runs
+abbrev pub depot_of : {S : Type 0} → StoreView S → LibState → Bool → Option CollectionView → DepotView S
+depot_of store state unsettled collection = record { store = store; state = state; unsettled = unsettled; running = running_of collection; marked = marked_of collection }
 
 -- the marks are those of the collection that runs in the library
 abbrev pub CollectsIn : State → Option CollectionView → Type 0

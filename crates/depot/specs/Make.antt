@@ -71,6 +71,7 @@ pub record IsMade {S : Type 0} (contents : S → Option Contents) (faults : S �
   pub state : depot.state ≡ first
   pub settled : depot.unsettled ≡ false
   pub idle : depot.running ≡ None
+  pub marked : depot.marked ≡ 0
   pub objects : objects_of contents depot.store ≡ with_stored x (objects_of contents given)
   pub text : IsWritten first (status_of contents given) (status_of contents depot.store)
   pub count : faults depot.store.shelf ≡ faults given.shelf

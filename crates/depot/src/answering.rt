@@ -49,6 +49,7 @@ impl<S: Shelf> Depot<S> {
         ensures lying { is_counted result ≡ false → AddsNoStray S.contents self.old.store self.new.store }
         ensures stays { self.new.state.lib ≡ self.old.state.lib }
         ensures running { RunsOn self.old.store.index self.new.store.index (told_there self.old.store.index call.now.act result) self.old.running self.new.running }
+        ensures marked { self.new.marked ≡ self.old.marked }
         ensures text { SlotSo (Would S.contents S.faults self.old call.now moment) call.now moment result self.old.unsettled self.old.state (status_of S.contents self.old.store)
             self.new.unsettled self.new.state (status_of S.contents self.new.store) (S.texts self.old.store.shelf) (S.texts self.new.store.shelf) }
     {

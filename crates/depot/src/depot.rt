@@ -41,15 +41,15 @@ pub(crate) struct Parts<S: Shelf> {
 }
 
 impl<S: Shelf> Model for Depot<S> {
-    ghost use Rattle.depot.specs.DepotView.{DepotView, IsKept, depot_code, running_of};
+    ghost use Rattle.depot.specs.DepotView.{DepotView, IsKept, depot_code, marked_of, running_of};
 
     ghost Value = { DepotView S };
 
     ghost coded = { depot_code S.code };
 
-    ghost view = { λ a. record { store = a.parts.store; state = a.parts.state; unsettled = a.parts.unsettled; running = running_of a.running } };
+    ghost view = { λ a. record { store = a.parts.store; state = a.parts.state; unsettled = a.parts.unsettled; running = running_of a.running; marked = marked_of a.running } };
 
-    ghost invariant = { λ a. IsKept S.contents S.faults (record { store = a.parts.store; state = a.parts.state; unsettled = a.parts.unsettled; running = running_of a.running }) a.known a.running };
+    ghost invariant = { λ a. IsKept S.contents S.faults (record { store = a.parts.store; state = a.parts.state; unsettled = a.parts.unsettled; running = running_of a.running; marked = marked_of a.running }) a.known a.running };
 }
 
 impl<S: Shelf> Depot<S> {

@@ -36,6 +36,7 @@ impl<S: Shelf> Depot<S> {
         ensures any { IfOk result (λ depot. IsNextOf (S.may_give store.shelf) depot.state) }
         ensures gives { IfOk result (λ depot. GivesAlso (S.may_give store.shelf) (S.may_give depot.store.shelf) slots.Status (Some (text_of depot.state))) }
         ensures idle { IfOk result (λ depot. depot.running ≡ None) }
+        ensures marked { IfOk result (λ depot. depot.marked ≡ 0) }
         ensures err { IfErr result (λ refused. LeftUnopenedBy S.contents store refused.0 refused.1) }
         ensures stays { IfErr result (λ refused. objects_of S.contents refused.0 ≡ objects_of S.contents store) }
 

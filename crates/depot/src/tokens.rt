@@ -36,6 +36,7 @@ impl<S: Shelf> Depot<S> {
         ensures stands { IsGood S.contents S.faults self.new }
         ensures lying { AddsNoStray S.contents self.old.store self.new.store }
         ensures running { self.new.running ≡ self.old.running }
+        ensures marked { self.new.marked ≡ self.old.marked }
 
         // What the slot holds, where the store was asked.
         ensures text { IfSome (store_answer result) (RewritesSo self.old.unsettled self.old.state (with_new_token user.now secret right self.old.state)

@@ -13,8 +13,8 @@ ghost use Rattle.object_store.specs.Store.{CountsShelf};
 ghost use Rattle.object_graph.specs.Traversal.{is_in};
 ghost use Rattle.object_store.specs.StoreView.{AddsNoStray, objects_of, status_of};
 ghost use Rattle.collector.specs.Sweeping.{StraysIf};
-ghost use Rattle.depot.specs.CollectionTurns.{BeginsOver, BeginsSo, CountsTurn, IsAimed, IsToldDamageIn, MarksSo, MayLayIn, SettlesBefore, SweepsSo, TakesTurn, TurnSlotSo, TurnsAsDue, TurnsBySome, is_begin, is_counted_turn, is_end, is_owner, missed, permits_collection, removed_in, running_after, running_after_turn, state_after_turn, IsToldNeeded};
-ghost use Rattle.depot.specs.DepotView.{IsGood, IsKept, KnowsCandidates, state_of, KeepsMet};
+ghost use Rattle.depot.specs.CollectionTurns.{BeginsOver, BeginsSo, CountsMarked, CountsTurn, IsAimed, IsToldDamageIn, MarksSo, MayLayIn, SettlesBefore, SweepsSo, TakesTurn, TurnSlotSo, TurnsAsDue, TurnsBySome, collection_after, is_begin, is_counted_turn, is_end, is_owner, missed, permits_collection, removed_in, running_after_turn, state_after_turn, IsToldNeeded};
+ghost use Rattle.depot.specs.DepotView.{IsGood, IsKept, KnowsCandidates, depot_of, state_of, KeepsMet};
 ghost use Rattle.depot.specs.Giving.{GivesBy, IsOfSweep, IsOwnText};
 ghost use Rattle.depot.specs.NextState.{with_begin};
 ghost use Rattle.depot.specs.Writing.{IsWritten, LeftBy, ReadsBack, settled};
@@ -45,7 +45,7 @@ pub enum Turn {
     /// The collection of this number, which is the goal, doesn't run, and nothing was done.
     Over(u64),
     /// Why not, and the keys that left all the same. Where the shelf failed, the bytes of the last of them, and nothing else,
-    /// may come to lie beside the library. A collection that ran goes on.
+    /// may come to lie beside the library. A collection that ran goes on, and some objects may be marked.
     Refused(Refusal, KeyList),
 }
 
@@ -94,6 +94,7 @@ impl<S: Shelf> Depot<S> {
         // What is left, and what the slot holds.
         ensures left { self.new.state ≡ state_after_turn self.old.state moment result }
         ensures running { self.new.running ≡ running_after_turn (map.len self.old.store.index) self.old.running result }
+        ensures marked { CountsMarked result self.old.marked self.new.marked }
         ensures held { (key : Key) → map.get self.new.store.index key
             ≡ (if is_in (removed_in result) key then None else map.get self.old.store.index key) }
         ensures size { map.len self.new.store.index + length (removed_in result) ≡ map.len self.old.store.index }
@@ -204,11 +205,11 @@ impl<S: Shelf> Parts<S> {
     /// Goes on with the collection that runs. Where nothing is left to do it is at its end.
     fn go_on(&mut self, known: &mut Known, running: &mut Collection, at_most: u64) -> Turn
         requires some { 1 ≤ at_most }
-        requires good { IsKept S.contents S.faults (record { store = self.old.store; state = self.old.state; unsettled = self.old.unsettled; running = Some running.old.running }) known.old (Some running.old) }
+        requires good { IsKept S.contents S.faults (depot_of self.old.store self.old.state self.old.unsettled (Some running.old)) known.old (Some running.old) }
         ensures value { (goal : Option ℕ) → (moment : ℕ) → IsAimed goal self.old.state.collection → TakesTurn S.contents S.may_give S.texts S.faults
-            (record { store = self.old.store; state = self.old.state; unsettled = self.old.unsettled; running = Some running.old.running }) goal moment at_most result
-            (record { store = self.new.store; state = self.new.state; unsettled = self.new.unsettled; running = running_after result running.new }) }
-        ensures stands { IsKept S.contents S.faults (record { store = self.new.store; state = self.new.state; unsettled = self.new.unsettled; running = Some running.new.running }) known.new (Some running.new) }
+            (depot_of self.old.store self.old.state self.old.unsettled (Some running.old)) goal moment at_most result
+            (depot_of self.new.store self.new.state self.new.unsettled (collection_after result running.new)) }
+        ensures stands { IsKept S.contents S.faults (depot_of self.new.store self.new.state self.new.unsettled (Some running.new)) known.new (Some running.new) }
     {
         match running.phase() {
             Phase::Marking => self.mark_some(running, at_most),

@@ -2,7 +2,7 @@
 ghost use Rattle.std.specs.Prelude.{ℕ, List, Option};
 ghost use Rattle.library_state.specs.declared.call.Act.TheVariants as act;
 ghost use Rattle.depot.specs.Answering.{MayAsk, ServesAt};
-ghost use Rattle.depot.specs.DepotView.{IsKept, running_of};
+ghost use Rattle.depot.specs.DepotView.{IsKept, depot_of};
 ghost use Rattle.depot.specs.Giving.{GivesBy, IsOfUpdate};
 
 use crate::collection::Collection;
@@ -43,11 +43,11 @@ impl<S: Shelf> Parts<S> {
         moment: u64,
     ) -> Reply
         requires who { (secret : Option (List ℕ)) × MayAsk self.old.state.tokens secret (act.Update pushed) place }
-        requires good { IsKept S.contents S.faults (record { store = self.old.store; state = self.old.state; unsettled = self.old.unsettled; running = running_of running.old }) known.old running.old }
-        ensures value { ServesAt S.contents S.may_give S.texts S.faults (record { store = self.old.store; state = self.old.state; unsettled = self.old.unsettled; running = running_of running.old })
-            place (act.Update pushed) moment result (record { store = self.new.store; state = self.new.state; unsettled = self.new.unsettled; running = running_of running.new }) }
+        requires good { IsKept S.contents S.faults (depot_of self.old.store self.old.state self.old.unsettled running.old) known.old running.old }
+        ensures value { ServesAt S.contents S.may_give S.texts S.faults (depot_of self.old.store self.old.state self.old.unsettled running.old)
+            place (act.Update pushed) moment result (depot_of self.new.store self.new.state self.new.unsettled running.new) }
         ensures gives { GivesBy (IsOfUpdate self.old.state.lib) (S.may_give self.old.store.shelf) (S.may_give self.new.store.shelf) }
-        ensures stands { IsKept S.contents S.faults (record { store = self.new.store; state = self.new.state; unsettled = self.new.unsettled; running = running_of running.new }) known.new running.new }
+        ensures stands { IsKept S.contents S.faults (depot_of self.new.store self.new.state self.new.unsettled running.new) known.new running.new }
     {
         let plan = match plan_of(
             self.alloc,

@@ -4,7 +4,7 @@ use Rattle.library_state.specs.Tokens.{is_taken}
 use Rattle.depot.proofs.GoodLemmas.{good_with_token}
 use Rattle.std.proofs.Common.{subst}
 use Rattle.object_store.specs.StoreView.{AddsNoStray}
-use Rattle.depot.specs.DepotView.{DepotView, running_of}
+use Rattle.depot.specs.DepotView.{DepotView, depot_of}
 use Rattle.depot.proofs.BesideLemmas.{good_rest}
 use Rattle.depot.proofs.FitsLemmas.{fits_same}
 use Rattle.depot.proofs.KeptLemmas.{good_same, kept_by, kept_same}
@@ -13,8 +13,8 @@ use Rattle.depot.proofs.depot.Depot.add_token.Goals as goal
 pub invariant_of-self : goal.invariant_of-self
 invariant_of-self g c =
     let room : length c.self.inside.parts.state.tokens < 1000 = omega arith in
-    let old : DepotView g.row.S.Denot = record { store = c.self.inside.parts.store; state = c.self.inside.parts.state; unsettled = c.self.inside.parts.unsettled; running = running_of c.self.inside.running } in
-    let new : DepotView g.row.S.Denot = record { store = c.write_token.new.self.store; state = c.write_token.new.self.state; unsettled = c.write_token.new.self.unsettled; running = running_of c.self.inside.running } in
+    let old : DepotView g.row.S.Denot = depot_of c.self.inside.parts.store c.self.inside.parts.state c.self.inside.parts.unsettled c.self.inside.running in
+    let new : DepotView g.row.S.Denot = depot_of c.write_token.new.self.store c.write_token.new.self.state c.write_token.new.self.unsettled c.self.inside.running in
     let good = good_same g.S.Shelf.contents g.S.Shelf.faults old new c.write_token.ensures.held c.write_token.ensures.stays c.self.invariant.good refl
     (good_with_token g.S.Shelf.contents g.S.Shelf.faults old (good_rest g.S.Shelf.contents g.S.Shelf.faults old c.self.invariant.good)
     c.args.user.now c.args.secret c.args.right c.in-Ok.token c.in-Ok.ensures.value
@@ -30,8 +30,8 @@ invariant_of-self g c =
 pub returns-clause-stands : goal.returns-clause-stands
 returns-clause-stands g c =
     let room : length c.self.inside.parts.state.tokens < 1000 = omega arith in
-    let old : DepotView g.row.S.Denot = record { store = c.self.inside.parts.store; state = c.self.inside.parts.state; unsettled = c.self.inside.parts.unsettled; running = running_of c.self.inside.running } in
-    let new : DepotView g.row.S.Denot = record { store = c.write_token.new.self.store; state = c.write_token.new.self.state; unsettled = c.write_token.new.self.unsettled; running = running_of c.self.inside.running } in
+    let old : DepotView g.row.S.Denot = depot_of c.self.inside.parts.store c.self.inside.parts.state c.self.inside.parts.unsettled c.self.inside.running in
+    let new : DepotView g.row.S.Denot = depot_of c.write_token.new.self.store c.write_token.new.self.state c.write_token.new.self.unsettled c.self.inside.running in
     let good = good_same g.S.Shelf.contents g.S.Shelf.faults old new c.write_token.ensures.held c.write_token.ensures.stays c.self.invariant.good refl
     (good_with_token g.S.Shelf.contents g.S.Shelf.faults old (good_rest g.S.Shelf.contents g.S.Shelf.faults old c.self.invariant.good)
     c.args.user.now c.args.secret c.args.right c.in-Ok.token c.in-Ok.ensures.value

@@ -6,14 +6,14 @@ use Rattle.library_state.specs.declared.refusal.Refusal.TheVariants as refusal
 use Rattle.library_state.specs.declared.reply.Reply.TheVariants as reply
 use Rattle.library_state.specs.declared.token.Token.{Token}
 use Rattle.depot.specs.Answering.{Serves, permits}
-use Rattle.depot.specs.DepotView.{DepotView, IsGood, running_of}
+use Rattle.depot.specs.DepotView.{DepotView, IsGood, depot_of}
 use Rattle.depot.proofs.AnswerLawLemmas.{answered_files, answered_safe}
 use Rattle.depot.proofs.StopsLemmas.{denied_beside}
 use Rattle.depot.proofs.depot.Depot.answer_own.Goals as goal
 
 pub returns-in-None-clause-serves : goal.returns-in-None-clause-serves
 returns-in-None-clause-serves g c =
-    let inside : DepotView g.row.S.Denot = record { store = c.self.inside.parts.store; state = c.self.inside.parts.state; unsettled = c.self.inside.parts.unsettled; running = running_of c.self.inside.running } in
+    let inside : DepotView g.row.S.Denot = depot_of c.self.inside.parts.store c.self.inside.parts.state c.self.inside.parts.unsettled c.self.inside.running in
     subst (λ (d : DepotView g.row.S.Denot). Serves g.S.Shelf.contents g.S.Shelf.may_give g.S.Shelf.texts g.S.Shelf.faults d c.args.call c.args.moment (reply.Refused refusal.Denied) d)
     c.self.view_is
     (denied_beside g.S.Shelf.contents g.S.Shelf.faults g.S.Shelf.may_give g.S.Shelf.texts inside c.args.call c.args.moment

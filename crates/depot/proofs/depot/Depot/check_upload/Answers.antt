@@ -7,7 +7,7 @@ use Rattle.library_state.specs.declared.reply.Reply.{Reply}
 use Rattle.library_state.specs.declared.reply.Reply.TheVariants as reply
 use Rattle.depot.specs.Answering.{MayAsk, Serves, ServesAt}
 use Rattle.depot.specs.Changing.{marked}
-use Rattle.depot.specs.DepotView.{DepotView, running_of}
+use Rattle.depot.specs.DepotView.{DepotView, depot_of}
 use Rattle.depot.specs.FreshKeys.{told_there}
 use Rattle.depot.specs.Giving.{GivesBy, IsOwnText}
 use Rattle.depot.specs.Refusals.{answer_of}
@@ -20,8 +20,8 @@ use Rattle.depot.proofs.depot.Depot.check_upload.Goals as goal
 
 pub invariant_of-self : goal.invariant_of-self
 invariant_of-self g c =
-    let old : DepotView g.row.S.Denot = record { store = c.self.inside.parts.store; state = c.self.inside.parts.state; unsettled = c.self.inside.parts.unsettled; running = running_of c.self.inside.running } in
-    let new : DepotView g.row.S.Denot = record { store = c.see_collection-seen.new.self.store; state = c.see_collection-seen.new.self.state; unsettled = c.see_collection-seen.new.self.unsettled; running = running_of c.self.inside.running } in
+    let old : DepotView g.row.S.Denot = depot_of c.self.inside.parts.store c.self.inside.parts.state c.self.inside.parts.unsettled c.self.inside.running in
+    let new : DepotView g.row.S.Denot = depot_of c.see_collection-seen.new.self.store c.see_collection-seen.new.self.state c.see_collection-seen.new.self.unsettled c.self.inside.running in
     kept_same g.S.Shelf.contents g.S.Shelf.faults old new c.see_collection-seen.ensures.held c.see_collection-seen.ensures.stays c.self.inside.known c.self.inside.known c.self.inside.running c.self.invariant
     (good_same g.S.Shelf.contents g.S.Shelf.faults old new c.see_collection-seen.ensures.held c.see_collection-seen.ensures.stays c.self.invariant.good refl
     (upload_good g.S.Shelf.contents g.S.Shelf.texts g.S.Shelf.faults old (good_rest g.S.Shelf.contents g.S.Shelf.faults old c.self.invariant.good) c.requires.who.0
@@ -36,15 +36,15 @@ invariant_of-self g c =
 
 pub returns : goal.returns
 returns g c =
-    let old : DepotView g.row.S.Denot = record { store = c.self.inside.parts.store; state = c.self.inside.parts.state; unsettled = c.self.inside.parts.unsettled; running = running_of c.self.inside.running } in
-    let new : DepotView g.row.S.Denot = record { store = c.see_collection-seen.new.self.store; state = c.see_collection-seen.new.self.state; unsettled = c.see_collection-seen.new.self.unsettled; running = running_of c.self.inside.running } in
+    let old : DepotView g.row.S.Denot = depot_of c.self.inside.parts.store c.self.inside.parts.state c.self.inside.parts.unsettled c.self.inside.running in
+    let new : DepotView g.row.S.Denot = depot_of c.see_collection-seen.new.self.store c.see_collection-seen.new.self.state c.see_collection-seen.new.self.unsettled c.self.inside.running in
     let said : Reply = answer_of reply.Checked c.see_collection-seen.result in
     record {
       value = λ moment.
           subst (λ (before : DepotView g.row.S.Denot). ServesAt g.S.Shelf.contents g.S.Shelf.may_give g.S.Shelf.texts g.S.Shelf.faults before c.args.place (act.Check op.Upload) moment c.answer_of.result new)
           c.self.view_is
           (λ call who asks. subst (λ r. Serves g.S.Shelf.contents g.S.Shelf.may_give g.S.Shelf.texts g.S.Shelf.faults old call moment r new) (sym c.answer_of.ensures.value)
-          (serves_same g.S.Shelf.contents g.S.Shelf.faults old new c.see_collection-seen.ensures.held c.see_collection-seen.ensures.stays g.S.Shelf.may_give g.S.Shelf.texts call moment said refl
+          (serves_same g.S.Shelf.contents g.S.Shelf.faults old new c.see_collection-seen.ensures.held c.see_collection-seen.ensures.stays g.S.Shelf.may_give g.S.Shelf.texts call moment said refl refl
           (ap (λ a. told_there old.store.index a said) asks) (λ now. ap (λ a. told_keys now a said) asks)
           (upload_serves g.S.Shelf.contents g.S.Shelf.may_give g.S.Shelf.texts g.S.Shelf.faults old call moment who.right
           (marked c.args.place c.self.inside.parts.state.collection c.self.inside.parts.state.tokens no_token) asks

@@ -3,7 +3,7 @@ use Rattle.std.proofs.Common.{ap, refl, subst}
 use Rattle.library_rules.proofs.BesideStepLemmas.{told_keys}
 use Rattle.library_state.specs.declared.call.Act.TheVariants as act
 use Rattle.depot.specs.Answering.{ServesAct}
-use Rattle.depot.specs.DepotView.{DepotView, running_of}
+use Rattle.depot.specs.DepotView.{DepotView, depot_of}
 use Rattle.depot.specs.FreshKeys.{told_there}
 use Rattle.object_store.specs.Shelf.{GivesNoMore}
 use Rattle.depot.proofs.ActLemmas.{get_serves}
@@ -15,7 +15,7 @@ use Rattle.depot.proofs.depot.Depot.get.Goals as goal
 
 pub invariant_of-self : goal.invariant_of-self
 invariant_of-self g c =
-    let old : DepotView g.row.S.Denot = record { store = c.self.inside.parts.store; state = c.self.inside.parts.state; unsettled = c.self.inside.parts.unsettled; running = running_of c.self.inside.running } in
+    let old : DepotView g.row.S.Denot = depot_of c.self.inside.parts.store c.self.inside.parts.state c.self.inside.parts.unsettled c.self.inside.running in
     let new : DepotView g.row.S.Denot = record old { store = c.get_object.new.store } in
     let stays = c.get_object.ensures.stays in
     kept_same g.S.Shelf.contents g.S.Shelf.faults old new stays.index stays.objects c.self.inside.known c.self.inside.known c.self.inside.running c.self.invariant
@@ -26,13 +26,13 @@ invariant_of-self g c =
 
 pub returns : goal.returns
 returns g c =
-    let old : DepotView g.row.S.Denot = record { store = c.self.inside.parts.store; state = c.self.inside.parts.state; unsettled = c.self.inside.parts.unsettled; running = running_of c.self.inside.running } in
+    let old : DepotView g.row.S.Denot = depot_of c.self.inside.parts.store c.self.inside.parts.state c.self.inside.parts.unsettled c.self.inside.running in
     let new : DepotView g.row.S.Denot = record old { store = c.get_object.new.store } in
     let stays = c.get_object.ensures.stays in
     record {
       value = subst (λ (before : DepotView g.row.S.Denot). ServesAct g.S.Shelf.contents g.S.Shelf.may_give g.S.Shelf.texts g.S.Shelf.faults before (act.Get c.args.key.now) c.get_object.result new)
           c.self.view_is
-          (λ call moment right asks. serves_same g.S.Shelf.contents g.S.Shelf.faults old new stays.index stays.objects g.S.Shelf.may_give g.S.Shelf.texts call moment c.get_object.result refl
+          (λ call moment right asks. serves_same g.S.Shelf.contents g.S.Shelf.faults old new stays.index stays.objects g.S.Shelf.may_give g.S.Shelf.texts call moment c.get_object.result refl refl
           (ap (λ a. told_there old.store.index a c.get_object.result) asks) (λ now. ap (λ a. told_keys now a c.get_object.result) asks)
           (get_serves g.S.Shelf.contents g.S.Shelf.may_give g.S.Shelf.texts g.S.Shelf.faults old call moment right c.args.key.now asks
           c.get_object.new.store c.get_object.result stays c.get_object.ensures.written c.get_object.ensures.value c.get_object.ensures.cause c.get_object.ensures.damaged c.get_object.ensures.faults));

@@ -7,7 +7,7 @@ use Rattle.library_state.specs.declared.refusal.Refusal.TheVariants as refusal
 use Rattle.library_state.specs.declared.reply.Reply.TheVariants as reply
 use Rattle.library_state.specs.declared.token.Token.{Token}
 use Rattle.depot.specs.Answering.{Serves, permits}
-use Rattle.depot.specs.DepotView.{DepotView, IsGood, running_of}
+use Rattle.depot.specs.DepotView.{DepotView, IsGood, depot_of}
 use Rattle.depot.specs.FirstGet.{fs_call, fs_get}
 use Rattle.depot.proofs.ActLemmas.{get_serves}
 use Rattle.depot.proofs.AnswerLawLemmas.{answered_files, answered_safe}
@@ -18,19 +18,19 @@ use Rattle.depot.proofs.depot.Depot.get_first.Goals as goal
 
 pub returns-in-None-clause-serves : goal.returns-in-None-clause-serves
 returns-in-None-clause-serves g c =
-    let inside : DepotView g.row.S.Denot = record { store = c.self.inside.parts.store; state = c.self.inside.parts.state; unsettled = c.self.inside.parts.unsettled; running = running_of c.self.inside.running } in
+    let inside : DepotView g.row.S.Denot = depot_of c.self.inside.parts.store c.self.inside.parts.state c.self.inside.parts.unsettled c.self.inside.running in
     subst (λ (d : DepotView g.row.S.Denot). Serves g.S.Shelf.contents g.S.Shelf.may_give g.S.Shelf.texts g.S.Shelf.faults d (fs_call c.args.secret.now c.args.id) c.args.moment (reply.Refused refusal.Denied) d)
     c.self.view_is
-    (serves_same g.S.Shelf.contents g.S.Shelf.faults inside inside refl refl g.S.Shelf.may_give g.S.Shelf.texts (fs_call c.args.secret.now c.args.id) c.args.moment (reply.Refused refusal.Denied) refl refl (λ now. refl)
+    (serves_same g.S.Shelf.contents g.S.Shelf.faults inside inside refl refl g.S.Shelf.may_give g.S.Shelf.texts (fs_call c.args.secret.now c.args.id) c.args.moment (reply.Refused refusal.Denied) refl refl refl (λ now. refl)
     (denied_serves g.S.Shelf.contents g.S.Shelf.may_give g.S.Shelf.texts g.S.Shelf.faults inside (fs_call c.args.secret.now c.args.id) c.args.moment
     (ap (λ (tokens : List Token). permits (token_of tokens c.args.secret.now) (fs_get c.args.id)) (sym c.slice.ensures.value) ∙ c.in-None.ensures.absent)))
 
 pub returns-then-not-fit-clause-serves : goal.returns-then-not-fit-clause-serves
 returns-then-not-fit-clause-serves g c =
-    let inside : DepotView g.row.S.Denot = record { store = c.self.inside.parts.store; state = c.self.inside.parts.state; unsettled = c.self.inside.parts.unsettled; running = running_of c.self.inside.running } in
+    let inside : DepotView g.row.S.Denot = depot_of c.self.inside.parts.store c.self.inside.parts.state c.self.inside.parts.unsettled c.self.inside.running in
     subst (λ (d : DepotView g.row.S.Denot). Serves g.S.Shelf.contents g.S.Shelf.may_give g.S.Shelf.texts g.S.Shelf.faults d (fs_call c.args.secret.now c.args.id) c.args.moment (reply.Refused refusal.NoMemory) d)
     c.self.view_is
-    (serves_same g.S.Shelf.contents g.S.Shelf.faults inside inside refl refl g.S.Shelf.may_give g.S.Shelf.texts (fs_call c.args.secret.now c.args.id) c.args.moment (reply.Refused refusal.NoMemory) refl refl (λ now. refl)
+    (serves_same g.S.Shelf.contents g.S.Shelf.faults inside inside refl refl g.S.Shelf.may_give g.S.Shelf.texts (fs_call c.args.secret.now c.args.id) c.args.moment (reply.Refused refusal.NoMemory) refl refl refl (λ now. refl)
     (get_serves g.S.Shelf.contents g.S.Shelf.may_give g.S.Shelf.texts g.S.Shelf.faults inside (fs_call c.args.secret.now c.args.id) c.args.moment
     (ap (λ (tokens : List Token). permits (token_of tokens c.args.secret.now) (fs_get c.args.id)) (sym c.slice.ensures.value) ∙ c.in-Some.ensures.found.right)
     (record { kind = Fs; id = c.args.id }) refl

@@ -6,7 +6,7 @@ use Rattle.library_state.specs.declared.refusal.Refusal.TheVariants as refusal
 use Rattle.library_state.specs.declared.reply.Reply.{Reply}
 use Rattle.library_state.specs.declared.reply.Reply.TheVariants as reply
 use Rattle.depot.specs.Answering.{Serves, ServesAct}
-use Rattle.depot.specs.DepotView.{DepotView, running_of}
+use Rattle.depot.specs.DepotView.{DepotView, depot_of}
 use Rattle.depot.specs.FreshKeys.{told_there}
 use Rattle.depot.specs.Giving.{GivesBy, IsOwnText}
 use Rattle.depot.specs.Refusals.{answer_of}
@@ -28,8 +28,8 @@ returns-then-not-is_day_count g c = record {
 
 pub invariant_of-self : goal.invariant_of-self
 invariant_of-self g c =
-    let old : DepotView g.row.S.Denot = record { store = c.self.inside.parts.store; state = c.self.inside.parts.state; unsettled = c.self.inside.parts.unsettled; running = running_of c.self.inside.running } in
-    let new : DepotView g.row.S.Denot = record { store = c.set_days-set.new.self.store; state = c.set_days-set.new.self.state; unsettled = c.set_days-set.new.self.unsettled; running = running_of c.self.inside.running } in
+    let old : DepotView g.row.S.Denot = depot_of c.self.inside.parts.store c.self.inside.parts.state c.self.inside.parts.unsettled c.self.inside.running in
+    let new : DepotView g.row.S.Denot = depot_of c.set_days-set.new.self.store c.set_days-set.new.self.state c.set_days-set.new.self.unsettled c.self.inside.running in
     kept_same g.S.Shelf.contents g.S.Shelf.faults old new c.set_days-set.ensures.held c.set_days-set.ensures.stays c.self.inside.known c.self.inside.known c.self.inside.running c.self.invariant
     (good_same g.S.Shelf.contents g.S.Shelf.faults old new c.set_days-set.ensures.held c.set_days-set.ensures.stays c.self.invariant.good refl
     (limit_good g.S.Shelf.contents g.S.Shelf.texts g.S.Shelf.faults old (good_rest g.S.Shelf.contents g.S.Shelf.faults old c.self.invariant.good) c.args.days
@@ -42,14 +42,14 @@ invariant_of-self g c =
 
 pub returns : goal.returns
 returns g c =
-    let old : DepotView g.row.S.Denot = record { store = c.self.inside.parts.store; state = c.self.inside.parts.state; unsettled = c.self.inside.parts.unsettled; running = running_of c.self.inside.running } in
-    let new : DepotView g.row.S.Denot = record { store = c.set_days-set.new.self.store; state = c.set_days-set.new.self.state; unsettled = c.set_days-set.new.self.unsettled; running = running_of c.self.inside.running } in
+    let old : DepotView g.row.S.Denot = depot_of c.self.inside.parts.store c.self.inside.parts.state c.self.inside.parts.unsettled c.self.inside.running in
+    let new : DepotView g.row.S.Denot = depot_of c.set_days-set.new.self.store c.set_days-set.new.self.state c.set_days-set.new.self.unsettled c.self.inside.running in
     let said : Reply = answer_of reply.Limited c.set_days-set.result in
     record {
       value = subst (λ (before : DepotView g.row.S.Denot). ServesAct g.S.Shelf.contents g.S.Shelf.may_give g.S.Shelf.texts g.S.Shelf.faults before (act.Limit c.args.days) c.answer_of.result new)
           c.self.view_is
           (λ call moment right asks. subst (λ r. Serves g.S.Shelf.contents g.S.Shelf.may_give g.S.Shelf.texts g.S.Shelf.faults old call moment r new) (sym c.answer_of.ensures.value)
-          (serves_same g.S.Shelf.contents g.S.Shelf.faults old new c.set_days-set.ensures.held c.set_days-set.ensures.stays g.S.Shelf.may_give g.S.Shelf.texts call moment said refl
+          (serves_same g.S.Shelf.contents g.S.Shelf.faults old new c.set_days-set.ensures.held c.set_days-set.ensures.stays g.S.Shelf.may_give g.S.Shelf.texts call moment said refl refl
           (ap (λ a. told_there old.store.index a said) asks) (λ now. ap (λ a. told_keys now a said) asks)
           (limit_serves g.S.Shelf.contents g.S.Shelf.may_give g.S.Shelf.texts g.S.Shelf.faults old call moment right c.args.days asks
           (sym (simp (to_z-of_z, c.ranges.days) at c.is_day_count.ensures.value) ∙ c.if-not-is_day_count.false)

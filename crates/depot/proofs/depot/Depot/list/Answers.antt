@@ -5,7 +5,7 @@ use Rattle.library_state.specs.declared.call.Act.TheVariants as act
 use Rattle.library_state.specs.declared.history.Install.{Install}
 use Rattle.std.specs.Prelude.{List}
 use Rattle.depot.specs.Answering.{MayAnswer, ServesAct, ids_decided}
-use Rattle.depot.specs.DepotView.{DepotView, library, running_of}
+use Rattle.depot.specs.DepotView.{DepotView, depot_of, library}
 use Rattle.depot.specs.FreshKeys.{told_there}
 use Rattle.object_store.specs.Shelf.{GivesNoMore}
 use Rattle.depot.proofs.ActLemmas.{list_serves}
@@ -18,7 +18,7 @@ use Rattle.depot.proofs.depot.Depot.list.Goals as goal
 
 pub invariant_of-self : goal.invariant_of-self
 invariant_of-self g c =
-    let old : DepotView g.row.S.Denot = record { store = c.self.inside.parts.store; state = c.self.inside.parts.state; unsettled = c.self.inside.parts.unsettled; running = running_of c.self.inside.running } in
+    let old : DepotView g.row.S.Denot = depot_of c.self.inside.parts.store c.self.inside.parts.state c.self.inside.parts.unsettled c.self.inside.running in
     let new : DepotView g.row.S.Denot = record old { store = c.list_ids.new.store } in
     let stays = c.list_ids.ensures.stays in
     kept_same g.S.Shelf.contents g.S.Shelf.faults old new stays.index stays.objects c.self.inside.known c.list_ids.new.known c.self.inside.running c.self.invariant
@@ -29,13 +29,13 @@ invariant_of-self g c =
 
 pub returns : goal.returns
 returns g c =
-    let old : DepotView g.row.S.Denot = record { store = c.self.inside.parts.store; state = c.self.inside.parts.state; unsettled = c.self.inside.parts.unsettled; running = running_of c.self.inside.running } in
+    let old : DepotView g.row.S.Denot = depot_of c.self.inside.parts.store c.self.inside.parts.state c.self.inside.parts.unsettled c.self.inside.running in
     let new : DepotView g.row.S.Denot = record old { store = c.list_ids.new.store } in
     let stays = c.list_ids.ensures.stays in
     record {
       value = subst (λ (before : DepotView g.row.S.Denot). ServesAct g.S.Shelf.contents g.S.Shelf.may_give g.S.Shelf.texts g.S.Shelf.faults before (act.Ids c.args.server.now c.args.client.now) c.list_ids.result new)
           c.self.view_is
-          (λ call moment right asks. serves_same g.S.Shelf.contents g.S.Shelf.faults old new stays.index stays.objects g.S.Shelf.may_give g.S.Shelf.texts call moment c.list_ids.result refl
+          (λ call moment right asks. serves_same g.S.Shelf.contents g.S.Shelf.faults old new stays.index stays.objects g.S.Shelf.may_give g.S.Shelf.texts call moment c.list_ids.result refl refl
           (ap (λ a. told_there old.store.index a c.list_ids.result) asks) (λ now. ap (λ a. told_keys now a c.list_ids.result) asks)
           (list_serves g.S.Shelf.contents g.S.Shelf.may_give g.S.Shelf.texts g.S.Shelf.faults old call moment right c.args.server.now c.args.client.now asks
           c.list_ids.new.store c.list_ids.result stays c.list_ids.ensures.written

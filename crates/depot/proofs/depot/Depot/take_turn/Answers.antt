@@ -1,9 +1,8 @@
 -- A goal that doesn't run is over; else the collection that runs goes on, or one begins.
 use Rattle.std.proofs.Common.{Option, ℕ, ap, subst, sym, ◌∙◌, option_map}
 use Rattle.library_rules.specs.LibraryState.{Running}
-use Rattle.depot.specs.CollectionTurns.{TakesTurn, missed, running_after}
-use Rattle.depot.specs.DepotView.{CollectionView, DepotView, IsGood, IsKept, running_of}
-use Rattle.depot.proofs.TakesTurnLemmas.{depot_of}
+use Rattle.depot.specs.CollectionTurns.{TakesTurn, missed, collection_after}
+use Rattle.depot.specs.DepotView.{CollectionView, DepotView, IsGood, IsKept, depot_of, running_of}
 use Rattle.depot.proofs.ClosingLemmas.{aimed_at, closes_kept, closes_takes, no_goal, over_takes}
 use Rattle.depot.proofs.depot.Depot.take_turn.Goals as goal
 
@@ -16,7 +15,7 @@ go_on-turn-requires g c = record {
   good =
       subst
       (λ (o : Option CollectionView).
-      IsKept g.S.Shelf.contents g.S.Shelf.faults (depot_of c.self.inside.parts.store c.self.inside.parts.state c.self.inside.parts.unsettled (running_of o)) c.self.inside.known o)
+      IsKept g.S.Shelf.contents g.S.Shelf.faults (depot_of c.self.inside.parts.store c.self.inside.parts.state c.self.inside.parts.unsettled o) c.self.inside.known o)
       c.in-Some-running.is c.self.invariant;
 }
 
@@ -41,7 +40,7 @@ returns-in-None-running-clause-value g c =
     c.self.view_is
     (subst
     (λ (goal : Option ℕ).
-    TakesTurn g.S.Shelf.contents g.S.Shelf.may_give g.S.Shelf.texts g.S.Shelf.faults (depot_of c.self.inside.parts.store c.self.inside.parts.state c.self.inside.parts.unsettled (running_of c.self.inside.running)) goal c.args.moment
+    TakesTurn g.S.Shelf.contents g.S.Shelf.may_give g.S.Shelf.texts g.S.Shelf.faults (depot_of c.self.inside.parts.store c.self.inside.parts.state c.self.inside.parts.unsettled c.self.inside.running) goal c.args.moment
     c.args.at_most c.begin_collection.result c.begin_collection.new.self)
     (sym (no_goal (option_map (λ (r : Running). c.args.self.now.state.collection) c.args.self.now.running) c.args.goal
     (ap (λ (r : Option ℕ). missed r c.args.goal) (sym c.running.ensures.value) ∙ sym c.missed.ensures.value ∙ c.in-None.is)
@@ -70,8 +69,8 @@ returns-clause-value g c =
     (subst
     (λ (d : DepotView g.row.S.Denot).
     TakesTurn g.S.Shelf.contents g.S.Shelf.may_give g.S.Shelf.texts g.S.Shelf.faults d c.args.goal c.args.moment c.args.at_most c.go_on-turn.result
-    (depot_of c.go_on-turn.new.self.store c.go_on-turn.new.self.state c.go_on-turn.new.self.unsettled (running_after c.go_on-turn.result c.go_on-turn.new.running)))
-    (ap (λ (o : Option CollectionView). depot_of c.self.inside.parts.store c.self.inside.parts.state c.self.inside.parts.unsettled (running_of o)) (sym c.in-Some-running.is) ∙ c.self.view_is)
+    (depot_of c.go_on-turn.new.self.store c.go_on-turn.new.self.state c.go_on-turn.new.self.unsettled (collection_after c.go_on-turn.result c.go_on-turn.new.running)))
+    (ap (λ (o : Option CollectionView). depot_of c.self.inside.parts.store c.self.inside.parts.state c.self.inside.parts.unsettled o) (sym c.in-Some-running.is) ∙ c.self.view_is)
     (c.go_on-turn.ensures.value c.args.goal c.args.moment
     (aimed_at (option_map (λ (r : Running). c.args.self.now.state.collection) c.args.self.now.running) c.args.goal c.self.inside.parts.state.collection
     (ap (λ (r : Option ℕ). missed r c.args.goal) (sym c.running.ensures.value) ∙ sym c.missed.ensures.value ∙ c.in-None.is)

@@ -42,6 +42,9 @@ returns-clause-left g c = c.take_turn.ensures.value.left
 pub returns-clause-running : goal.returns-clause-running
 returns-clause-running g c = c.take_turn.ensures.value.runs
 
+pub returns-clause-marked : goal.returns-clause-marked
+returns-clause-marked g c = c.take_turn.ensures.value.marked
+
 pub returns-clause-held : goal.returns-clause-held
 returns-clause-held g c = c.take_turn.ensures.value.index
 

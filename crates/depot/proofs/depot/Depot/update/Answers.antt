@@ -2,7 +2,7 @@
 use Rattle.std.proofs.Common.{subst}
 use Rattle.library_state.specs.declared.call.Act.TheVariants as act
 use Rattle.depot.specs.Answering.{ServesAt}
-use Rattle.depot.specs.DepotView.{DepotView, running_of}
+use Rattle.depot.specs.DepotView.{DepotView, depot_of}
 use Rattle.depot.specs.Giving.{GivesBy, IsOfUpdate}
 use Rattle.depot.proofs.depot.Depot.update.Goals as goal
 
@@ -12,7 +12,7 @@ invariant_of-self g c = c.update_library.ensures.stands
 pub returns : goal.returns
 returns g c = record {
   value = subst (λ (old : DepotView g.row.S.Denot). ServesAt g.S.Shelf.contents g.S.Shelf.may_give g.S.Shelf.texts g.S.Shelf.faults old c.args.place (act.Update c.args.pushed) c.args.moment c.update_library.result
-      (record { store = c.update_library.new.self.store; state = c.update_library.new.self.state; unsettled = c.update_library.new.self.unsettled; running = running_of c.update_library.new.running }))
+      (depot_of c.update_library.new.self.store c.update_library.new.self.state c.update_library.new.self.unsettled c.update_library.new.running))
       c.self.view_is c.update_library.ensures.value;
   gives = subst (λ (old : DepotView g.row.S.Denot). GivesBy (IsOfUpdate old.state.lib) (g.S.Shelf.may_give old.store.shelf) (g.S.Shelf.may_give c.update_library.new.self.store.shelf)) c.self.view_is c.update_library.ensures.gives;
 }

@@ -27,7 +27,7 @@ use Rattle.object_store.specs.Store.{CountsShelf}
 use Rattle.depot.specs.Answering.{MayAnswer, Serves, with_install}
 use Rattle.depot.specs.ObjectCalls.{Counts}
 use Rattle.depot.specs.Refusals.{store_refusal}
-use Rattle.depot.specs.DepotView.{DepotView, library, running_of}
+use Rattle.depot.specs.DepotView.{DepotView, depot_of, library, marked_of, running_of}
 use Rattle.depot.specs.FreshKeys.{RunsOn, told_there}
 use Rattle.depot.specs.UpdateInstall.{CarriesSo, held_in}
 use Rattle.depot.specs.Plan.{objects_in}
@@ -41,6 +41,7 @@ use Rattle.depot.proofs.UpdateKeptLemmas.{added_keeps, fresh_goes, fresh_none, k
 use Rattle.depot.proofs.UpdateWholeLemmas.{plan_fault, plan_whole, whole_due}
 use Rattle.depot.proofs.GrownLemmas.{good_kept, kept_status}
 use Rattle.depot.proofs.KeptLemmas.{kept_read, serves_same}
+use Rattle.depot.proofs.MarkedLemmas.{marked_fresh, marked_shielded}
 use Rattle.depot.proofs.RefusalsLemmas.{told_damage}
 use Rattle.depot.proofs.UpdateGoodLemmas.{good_done, good_failed, held_kept, serves_done, serves_failed, serves_kept, serves_refused}
 use Rattle.depot.proofs.UpdatePlanLemmas.{decides_at, plan_puttable, plans_at}
@@ -52,7 +53,7 @@ plan_of-requires-clause-within g c = c.requires.who.1.at.within
 
 pub plan_of-requires-clause-ready : goal.plan_of-requires-clause-ready
 plan_of-requires-clause-ready g c =
-    let old : DepotView g.row.S.Denot = record { store = c.args.self.now.store; state = c.args.self.now.state; unsettled = c.args.self.now.unsettled; running = running_of c.args.running.now } in
+    let old : DepotView g.row.S.Denot = depot_of c.args.self.now.store c.args.self.now.state c.args.self.now.unsettled c.args.running.now in
     record {
       sound = λ objects count told. sound_at g.S.Shelf.contents g.S.Shelf.faults old (good_rest g.S.Shelf.contents g.S.Shelf.faults old c.requires.good.good) objects count told;
       known = c.requires.good.fits;
@@ -63,10 +64,10 @@ plan_of-requires-clause-ready g c =
 
 pub returns-in-Err-clause-value : goal.returns-in-Err-clause-value
 returns-in-Err-clause-value g c = λ call asks updates.
-    let old : DepotView g.row.S.Denot = record { store = c.args.self.now.store; state = c.args.self.now.state; unsettled = c.args.self.now.unsettled; running = running_of c.args.running.now } in
+    let old : DepotView g.row.S.Denot = depot_of c.args.self.now.store c.args.self.now.state c.args.self.now.unsettled c.args.running.now in
     let new : DepotView g.row.S.Denot = record old { store = c.plan_of.new.store } in
     let keeps = c.in-Err.ensures.stays.kept in
-    serves_same g.S.Shelf.contents g.S.Shelf.faults old new keeps.index keeps.objects g.S.Shelf.may_give g.S.Shelf.texts call c.args.moment (reply.Refused c.in-Err.why) refl
+    serves_same g.S.Shelf.contents g.S.Shelf.faults old new keeps.index keeps.objects g.S.Shelf.may_give g.S.Shelf.texts call c.args.moment (reply.Refused c.in-Err.why) refl refl
     (ap (λ a. told_there old.store.index a (reply.Refused c.in-Err.why)) updates) (λ now. ap (λ a. told_keys now a (reply.Refused c.in-Err.why)) updates)
     (serves_refused g.S.Shelf.contents g.S.Shelf.may_give g.S.Shelf.texts g.S.Shelf.faults old
     call c.args.moment c.args.pushed updates c.plan_of.new.store keeps c.in-Err.ensures.stays.written c.in-Err.why
@@ -75,7 +76,7 @@ returns-in-Err-clause-value g c = λ call asks updates.
 
 pub returns-in-Err-clause-stands : goal.returns-in-Err-clause-stands
 returns-in-Err-clause-stands g c =
-    let old : DepotView g.row.S.Denot = record { store = c.args.self.now.store; state = c.args.self.now.state; unsettled = c.args.self.now.unsettled; running = running_of c.args.running.now } in
+    let old : DepotView g.row.S.Denot = depot_of c.args.self.now.store c.args.self.now.state c.args.self.now.unsettled c.args.running.now in
     kept_read g.S.Shelf.contents g.S.Shelf.faults old c.plan_of.new.store c.in-Err.ensures.stays.kept c.args.known.now c.plan_of.new.known c.args.running.now c.requires.good c.in-Err.ensures.known
 
 pub head_of-requires : goal.head_of-requires
@@ -83,12 +84,12 @@ head_of-requires g c = record { some = λ none. c.requires.good.good.head (sym c
 
 pub returns-in-None-clause-value : goal.returns-in-None-clause-value
 returns-in-None-clause-value g c = λ call asks updates.
-    let old : DepotView g.row.S.Denot = record { store = c.args.self.now.store; state = c.args.self.now.state; unsettled = c.args.self.now.unsettled; running = running_of c.args.running.now } in
+    let old : DepotView g.row.S.Denot = depot_of c.args.self.now.store c.args.self.now.state c.args.self.now.unsettled c.args.running.now in
     let new : DepotView g.row.S.Denot = record old { store = c.plan_of.new.store } in
     let keeps = c.in-Ok.ensures.stays.kept in
     let decides = decides_at c.args.self.now.state call c.args.pushed c.plan_of.new.store.index (g.S.Shelf.may_give c.plan_of.new.store.shelf) c.in-Ok.plan None c.in-None.is (c.in-Ok.ensures.any call asks updates) in
     subst (λ id. Serves g.S.Shelf.contents g.S.Shelf.may_give g.S.Shelf.texts g.S.Shelf.faults old call c.args.moment (reply.Updated id) new) (sym (c.head_of.ensures.value ∙ ap head_of c.slice.ensures.value))
-    (serves_same g.S.Shelf.contents g.S.Shelf.faults old new keeps.index keeps.objects g.S.Shelf.may_give g.S.Shelf.texts call c.args.moment (reply.Updated (head_of old.state.kept)) refl
+    (serves_same g.S.Shelf.contents g.S.Shelf.faults old new keeps.index keeps.objects g.S.Shelf.may_give g.S.Shelf.texts call c.args.moment (reply.Updated (head_of old.state.kept)) refl refl
     (ap (λ a. told_there old.store.index a (reply.Updated (head_of old.state.kept))) updates) (λ now. ap (λ a. told_keys now a (reply.Updated (head_of old.state.kept))) updates)
     (serves_kept g.S.Shelf.contents g.S.Shelf.may_give g.S.Shelf.texts g.S.Shelf.faults old call c.args.moment c.args.pushed updates c.plan_of.new.store keeps c.in-Ok.ensures.stays.written decides.0
     (λ objects told. (plans_at (library c.args.self.now.state (g.S.Shelf.faults c.args.self.now.store.shelf) objects) c.args.moment c.args.pushed
@@ -98,7 +99,7 @@ returns-in-None-clause-value g c = λ call asks updates.
 
 pub returns-in-None-clause-stands : goal.returns-in-None-clause-stands
 returns-in-None-clause-stands g c =
-    let old : DepotView g.row.S.Denot = record { store = c.args.self.now.store; state = c.args.self.now.state; unsettled = c.args.self.now.unsettled; running = running_of c.args.running.now } in
+    let old : DepotView g.row.S.Denot = depot_of c.args.self.now.store c.args.self.now.state c.args.self.now.unsettled c.args.running.now in
     kept_read g.S.Shelf.contents g.S.Shelf.faults old c.plan_of.new.store c.in-Ok.ensures.stays.kept c.args.known.now c.plan_of.new.known c.args.running.now c.requires.good c.in-Ok.ensures.known
 
 -- ---- carried out, or stopped: the rest as where no collection runs, and then beside one
@@ -121,8 +122,8 @@ carry_out-requires-clause-ready g c = λ objects told.
 
 pub returns-in-Err-prepare-clause-value : goal.returns-in-Err-prepare-clause-value
 returns-in-Err-prepare-clause-value g c = λ call asks updates.
-    let old : DepotView g.row.S.Denot = record { store = c.args.self.now.store; state = c.args.self.now.state; unsettled = c.args.self.now.unsettled; running = running_of c.args.running.now } in
-    let new : DepotView g.row.S.Denot = record old { store = c.prepare.new.store; running = running_of c.prepare.new.running } in
+    let old : DepotView g.row.S.Denot = depot_of c.args.self.now.store c.args.self.now.state c.args.self.now.unsettled c.args.running.now in
+    let new : DepotView g.row.S.Denot = record old { store = c.prepare.new.store; running = running_of c.prepare.new.running; marked = marked_of c.prepare.new.running } in
     let planned = c.in-Ok.ensures.stays in
     let prepared = c.in-Err-prepare.ensures.stays in
     let kept : Keeps g.S.Shelf.contents c.args.self.now.store c.prepare.new.store
@@ -141,6 +142,7 @@ returns-in-Err-prepare-clause-value g c = λ call asks updates.
     serves_beside g.S.Shelf.contents g.S.Shelf.faults old new call c.args.moment (reply.Refused c.in-Err-prepare.why)
     (same_runs old.store.index new.store.index old.running new.running (told_there old.store.index call.act (reply.Refused c.in-Err-prepare.why)) kept.index (ap (λ a. told_there old.store.index a (reply.Refused c.in-Err-prepare.why)) updates) runs)
     (same_fresh g.S.Shelf.contents old new call.act (reply.Refused c.in-Err-prepare.why) kept.objects (λ now. refl) runs) g.S.Shelf.may_give g.S.Shelf.texts
+    (marked_fresh (λ fresh k. set.contains fresh k) c.args.running.now c.prepare.new.running c.in-Err-prepare.ensures.err)
     (serves_refused g.S.Shelf.contents g.S.Shelf.may_give g.S.Shelf.texts g.S.Shelf.faults old call c.args.moment c.args.pushed updates c.prepare.new.store kept (prepared.written ∙ planned.written) c.in-Err-prepare.why
     (λ objects told. plan_fault (library old.state (g.S.Shelf.faults old.store.shelf) objects) c.args.pushed c.args.moment (due (library old.state (g.S.Shelf.faults old.store.shelf) objects) call) c.in-Some.plan c.in-Err-prepare.why
     ((plans_at (library c.args.self.now.state (g.S.Shelf.faults c.args.self.now.store.shelf) objects) c.args.moment c.args.pushed
@@ -152,8 +154,8 @@ returns-in-Err-prepare-clause-value g c = λ call asks updates.
 
 pub returns-in-Err-prepare-clause-stands : goal.returns-in-Err-prepare-clause-stands
 returns-in-Err-prepare-clause-stands g c =
-    let old : DepotView g.row.S.Denot = record { store = c.args.self.now.store; state = c.args.self.now.state; unsettled = c.args.self.now.unsettled; running = running_of c.args.running.now } in
-    let new : DepotView g.row.S.Denot = record old { store = c.prepare.new.store; running = running_of c.prepare.new.running } in
+    let old : DepotView g.row.S.Denot = depot_of c.args.self.now.store c.args.self.now.state c.args.self.now.unsettled c.args.running.now in
+    let new : DepotView g.row.S.Denot = record old { store = c.prepare.new.store; running = running_of c.prepare.new.running; marked = marked_of c.prepare.new.running } in
     let r : Reply = reply.Refused c.in-Err-prepare.why in
     let planned = c.in-Ok.ensures.stays in
     let prepared = c.in-Err-prepare.ensures.stays in
@@ -179,8 +181,8 @@ returns-in-Err-prepare-clause-gives g c = read_by c.in-Ok.ensures.stays.gives (n
 
 pub returns-in-Ok-carry_out-clause-value : goal.returns-in-Ok-carry_out-clause-value
 returns-in-Ok-carry_out-clause-value g c = λ call asks updates.
-    let old : DepotView g.row.S.Denot = record { store = c.args.self.now.store; state = c.args.self.now.state; unsettled = c.args.self.now.unsettled; running = running_of c.args.running.now } in
-    let new : DepotView g.row.S.Denot = record { store = c.carry_out.new.self.store; state = c.carry_out.new.self.state; unsettled = c.carry_out.new.self.unsettled; running = running_of c.shield.new.running } in
+    let old : DepotView g.row.S.Denot = depot_of c.args.self.now.store c.args.self.now.state c.args.self.now.unsettled c.args.running.now in
+    let new : DepotView g.row.S.Denot = depot_of c.carry_out.new.self.store c.carry_out.new.self.state c.carry_out.new.self.unsettled c.shield.new.running in
     let planned = c.in-Ok.ensures.stays in
     let prepared = c.in-Ok-prepare.ensures.stays in
     let kept : Keeps g.S.Shelf.contents old.store c.prepare.new.store
@@ -204,6 +206,8 @@ returns-in-Ok-carry_out-clause-value g c = λ call asks updates.
     serves_beside g.S.Shelf.contents g.S.Shelf.faults old new call c.args.moment (reply.Updated c.in-Some.plan.head)
     (subst (λ a. RunsOn old.store.index new.store.index (told_there old.store.index a (reply.Updated c.in-Some.plan.head)) old.running new.running) (sym updates) runs)
     (subst (λ a. FreshTold g.S.Shelf.contents old new a (reply.Updated c.in-Some.plan.head)) (sym updates) fresh) g.S.Shelf.may_give g.S.Shelf.texts
+    (marked_shielded c.in-Ok-prepare.shields.needed c.prepare.new.running c.shield.new.running c.shield.ensures.value
+    ∙ marked_fresh (λ fresh k. set.contains fresh k || is_in (lacking c.plan_of.new.store.index keys) k) c.args.running.now c.prepare.new.running c.in-Ok-prepare.ensures.ok)
     (serves_done g.S.Shelf.contents g.S.Shelf.may_give g.S.Shelf.texts g.S.Shelf.faults old call c.args.moment c.args.pushed updates c.in-Some.plan decides.0
     (λ objects told. (plans_at (library c.args.self.now.state (g.S.Shelf.faults c.args.self.now.store.shelf) objects) c.args.moment c.args.pushed
     (due (library c.args.self.now.state (g.S.Shelf.faults c.args.self.now.store.shelf) objects) call) c.in-Ok.plan (Some c.in-Some.plan) c.in-Some.is
@@ -217,8 +221,8 @@ returns-in-Ok-carry_out-clause-value g c = λ call asks updates.
 
 pub returns-in-Ok-carry_out-clause-stands : goal.returns-in-Ok-carry_out-clause-stands
 returns-in-Ok-carry_out-clause-stands g c =
-    let old : DepotView g.row.S.Denot = record { store = c.args.self.now.store; state = c.args.self.now.state; unsettled = c.args.self.now.unsettled; running = running_of c.args.running.now } in
-    let new : DepotView g.row.S.Denot = record { store = c.carry_out.new.self.store; state = c.carry_out.new.self.state; unsettled = c.carry_out.new.self.unsettled; running = running_of c.shield.new.running } in
+    let old : DepotView g.row.S.Denot = depot_of c.args.self.now.store c.args.self.now.state c.args.self.now.unsettled c.args.running.now in
+    let new : DepotView g.row.S.Denot = depot_of c.carry_out.new.self.store c.carry_out.new.self.state c.carry_out.new.self.unsettled c.shield.new.running in
     let planned = c.in-Ok.ensures.stays in
     let prepared = c.in-Ok-prepare.ensures.stays in
     let kept : Keeps g.S.Shelf.contents old.store c.prepare.new.store
@@ -280,8 +284,8 @@ returns-in-Ok-carry_out-clause-stands g c =
 
 pub returns-clause-value : goal.returns-clause-value
 returns-clause-value g c = λ call asks updates.
-    let old : DepotView g.row.S.Denot = record { store = c.args.self.now.store; state = c.args.self.now.state; unsettled = c.args.self.now.unsettled; running = running_of c.args.running.now } in
-    let new : DepotView g.row.S.Denot = record { store = c.carry_out.new.self.store; state = c.carry_out.new.self.state; unsettled = c.carry_out.new.self.unsettled; running = running_of c.stale_unless_stored.new.running } in
+    let old : DepotView g.row.S.Denot = depot_of c.args.self.now.store c.args.self.now.state c.args.self.now.unsettled c.args.running.now in
+    let new : DepotView g.row.S.Denot = depot_of c.carry_out.new.self.store c.carry_out.new.self.state c.carry_out.new.self.unsettled c.stale_unless_stored.new.running in
     let planned = c.in-Ok.ensures.stays in
     let prepared = c.in-Ok-prepare.ensures.stays in
     let kept : Keeps g.S.Shelf.contents c.args.self.now.store c.prepare.new.store
@@ -310,6 +314,8 @@ returns-clause-value g c = λ call asks updates.
     (serves_beside g.S.Shelf.contents g.S.Shelf.faults old new call c.args.moment (reply.Refused why)
     (subst (λ a. RunsOn old.store.index new.store.index (told_there old.store.index a (reply.Refused why)) old.running new.running) (sym updates) runs)
     (subst (λ a. FreshTold g.S.Shelf.contents old new a (reply.Refused why)) (sym updates) fresh) g.S.Shelf.may_give g.S.Shelf.texts
+    (marked_fresh (λ fresh k. set.contains fresh k && not (is_in c.in-Ok-prepare.shields.made k && not (is_some (map.get new.store.index k)))) c.prepare.new.running c.stale_unless_stored.new.running back
+    ∙ marked_fresh (λ fresh k. set.contains fresh k || is_in (lacking c.plan_of.new.store.index keys) k) c.args.running.now c.prepare.new.running c.in-Ok-prepare.ensures.ok)
     (serves_failed g.S.Shelf.contents g.S.Shelf.may_give g.S.Shelf.texts g.S.Shelf.faults old call c.args.moment c.args.pushed updates c.in-Some.plan decides.0
     (λ objects told. (plans_at (library c.args.self.now.state (g.S.Shelf.faults c.args.self.now.store.shelf) objects) c.args.moment c.args.pushed
     (due (library c.args.self.now.state (g.S.Shelf.faults c.args.self.now.store.shelf) objects) call) c.in-Ok.plan (Some c.in-Some.plan) c.in-Some.is
@@ -326,8 +332,8 @@ returns-clause-value g c = λ call asks updates.
 
 pub returns-clause-stands : goal.returns-clause-stands
 returns-clause-stands g c =
-    let old : DepotView g.row.S.Denot = record { store = c.args.self.now.store; state = c.args.self.now.state; unsettled = c.args.self.now.unsettled; running = running_of c.args.running.now } in
-    let new : DepotView g.row.S.Denot = record { store = c.carry_out.new.self.store; state = c.carry_out.new.self.state; unsettled = c.carry_out.new.self.unsettled; running = running_of c.stale_unless_stored.new.running } in
+    let old : DepotView g.row.S.Denot = depot_of c.args.self.now.store c.args.self.now.state c.args.self.now.unsettled c.args.running.now in
+    let new : DepotView g.row.S.Denot = depot_of c.carry_out.new.self.store c.carry_out.new.self.state c.carry_out.new.self.unsettled c.stale_unless_stored.new.running in
     let planned = c.in-Ok.ensures.stays in
     let prepared = c.in-Ok-prepare.ensures.stays in
     let kept : Keeps g.S.Shelf.contents c.args.self.now.store c.prepare.new.store
