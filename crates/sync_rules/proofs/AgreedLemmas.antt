@@ -1,8 +1,8 @@
 -- A folder that agrees with an index holds the tree for which that stands, and nothing is to be done for it. The key lemmas are
 -- agreed_at, agreed_left, agreed_plan and agreed_held.
-use Rattle.std.proofs.Common.{◌≡◌, ◌&&◌, ◌||◌, ℕ, not, Bool, true, false, List, [], ◌∷◌, ◌++◌, if◌then◌else◌, Option, None, Some, option_and_then, refl, sym, ap, ap₂, subst, ◌∙◌, inl, inr}
+use Rattle.std.proofs.Common.{◌≡◌, ◌&&◌, ℕ, not, Bool, true, false, List, [], ◌∷◌, ◌++◌, if◌then◌else◌, Option, None, Some, option_and_then, refl, sym, ap, ap₂, subst, ◌∙◌, inl, inr}
 use Rattle.std.specs.FinMap as fin
-use Rattle.std.specs.List.{cons_option, filter_map}
+use Rattle.std.specs.List.{IsDistinct, cons_option, filter_map}
 use Rattle.std.specs.Str.{bytes_eq}
 use Rattle.std.proofs.lemmas.Slice.Eq.{bytes_eq-Decides}
 use Rattle.ids.proofs.BasicLemmas.{same_from_bytes_eq}
@@ -142,10 +142,12 @@ module _ (objects : Objects) (cuts : Cuts) (c : Contents) (index : Index) (base 
         (nothing_written es (λ f there. are f (inr there)))
 
     pub agreed_plan : IsPlan base c left_there []
+    unfolding IsDistinct
     agreed_plan = record {
       doomed = [];
       is = sym (nothing_written (fin.entries base) (λ e there. fin.get-entries base e.0 ∙ found_of (fin.entries base) e (Rises-entries base) there));
       deepest = tt;
+      once = tt;
       all = λ path. spared_by (is_stuck c path) (at c path) (fin.get base path) (agreed_at path);
       alike = λ path file bytes there here is. sym (subst (λ (n : Option Node). AreAlike (Some (File bytes)) n) there (subst (λ (o : Option Holding). AreAlike o (fin.get base path)) here (agreed_at path)));
     }

@@ -1,5 +1,5 @@
 -- Files with one own id have one content, where no two contents share a name. The key lemmas are same_own and own_alike.
-use Rattle.std.proofs.Common.{◌≡◌, ◌≢◌, ℕ, zero, suc, ◌+◌, ◌*◌, ◌<◌, ◌==◌, ◌||◌, nat_lt, Bool, true, false, All, List, [], ◌∷◌, ◌++◌, codes, drop, take, length, get_or, map, slice_index, if◌then◌else◌, Some, refl, sym, ap, ap₂, ◌∙◌, append_assoc, length-append, arith}
+use Rattle.std.proofs.Common.{◌≡◌, ℕ, zero, suc, ◌*◌, ◌<◌, ◌==◌, ◌||◌, nat_lt, Bool, true, false, All, List, [], ◌∷◌, ◌++◌, codes, drop, take, length, get_or, map, slice_index, if◌then◌else◌, Some, refl, sym, ap, ap₂, ◌∙◌, append_assoc, length-append, arith}
 use Rattle.std.specs.Int.{bytes_high_first, byte_at, byte_len, w32}
 use Rattle.std.specs.FinMap as fin
 use Rattle.std.specs.List.{AllByRecursion, Contains, concat, list_all}

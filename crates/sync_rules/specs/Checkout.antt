@@ -2,7 +2,7 @@
 -- MayHold.
 use Rattle.std.specs.Prelude.{ℕ, ◌≡◌, ◌&&◌, ◌||◌, not, Bool, true, false, All, List, [], ◌∷◌, ◌++◌, map, Option, None, Some, IsSome, Result, Ok, Err, if◌then◌else◌, ⊤}
 use Rattle.std.specs.FinMap as fin
-use Rattle.std.specs.List.{list_any}
+use Rattle.std.specs.List.{IsDistinct, list_any}
 use Rattle.std.specs.Ordering.{eq_by_cmp}
 use Rattle.std.specs.Str.{bytes_eq}
 use Rattle.tree_model.specs.DirectorySurvival.{is_under, is_within}
@@ -81,12 +81,13 @@ IsDeepestFirst (path ∷ paths) = All (λ later. is_under path later ≡ false) 
 abbrev pub is_one_of : List PathV → PathV → Bool
 is_one_of paths path = list_any (λ other. eq_by_cmp path_cmp path other) paths
 
--- removals first, deepest first, of all that is doomed and nothing else; then what is written, in byte order of path. Only a file
--- that has its bytes already is left alone
+-- removals first, deepest first, of all that is doomed, each path once, and nothing else; then what is written, in byte order of
+-- path. Only a file that has its bytes already is left alone
 pub record IsPlan (tree : Tree) (c : Contents) (alone : PathV → Bool) (steps : List Step) : Type 0 where
   pub doomed : List PathV
   pub is : steps ≡ map Removed doomed ++ writes_of alone c (fin.entries tree)
   pub deepest : IsDeepestFirst doomed
+  pub once : IsDistinct (eq_by_cmp path_cmp) doomed
   pub all : (path : PathV) → is_one_of doomed path ≡ is_doomed tree c path
   pub alike : (path : PathV) (file : FileVersion) (bytes : List ℕ) → fin.get tree path ≡ Some (node.File file) → at c path ≡ Some (File bytes)
       → alone path ≡ true → file.bytes ≡ bytes

@@ -3,3 +3,4 @@ pub mod Offer
 pub mod Premises
 pub mod Checkout
 pub mod Synced
+pub mod Orders

@@ -1,14 +1,17 @@
--- What the sends of a sync name, and the bytes that it had for that. Our own. Read IsHad first, then HasAll; last_head, at the
--- end, is the head that they name.
-use Rattle.std.specs.Prelude.{ℕ, ◌≡◌, List, [], ◌∷◌, ◌++◌, Option, None, Some, Ok, map, ⊤}
+-- What the sends of a sync name, and the bytes that it had for that. Our own. Read has_name and IsHad first, then HasAll; last_head,
+-- at the end, is the head that they name.
+use Rattle.std.specs.Prelude.{ℕ, ◌≡◌, Bool, true, if◌then◌else◌, All, List, [], ◌∷◌, ◌++◌, Option, None, Some, Ok, is_ok, map, ⊤}
 use Rattle.std.specs.FinMap as fin
-use Rattle.std.specs.List.{flat_map}
+use Rattle.std.specs.List.{filter_map, flat_map}
+use Rattle.std.specs.Str.{bytes_eq}
 use Rattle.sha1.specs.Sha1.{sha1}
 use Rattle.ids.specs.Key.{Objects}
 use Rattle.ids.specs.declared.key.Key.{Key}
+use Rattle.ids.specs.declared.key.Kind.{Kind}
+use Rattle.ids.specs.declared.key.Kind.TheVariants as kind
 use Rattle.library_state.specs.declared.call.Op.TheVariants as op
 use Rattle.library_state.specs.declared.reply.Reply.TheVariants as reply
-use Rattle.object_graph.specs.Objects.{fs_key}
+use Rattle.object_graph.specs.Objects.{commit_in, fs_key}
 use Rattle.http_front.specs.declared.order.What.{What}
 use Rattle.http_front.specs.declared.order.What.TheVariants as what
 use Rattle.http_front.specs.declared.outcome.Outcome.TheVariants.{Plain, Packed}
@@ -40,8 +43,30 @@ got_by _ _ = []
 abbrev pub got_in : Sent → List Named
 got_in sent = got_by sent.0.what sent.1
 
+-- whether this is the name of some bytes: the one that a commit tells in them, and of all else their SHA-1
+abbrev pub is_name_of : Kind → (id bytes : List ℕ) → Bool
+is_name_of kind.Commit id bytes = is_ok (commit_in id (Some bytes))
+is_name_of kind.Fs id bytes = bytes_eq (sha1 bytes) id
+is_name_of kind.Block id bytes = bytes_eq (sha1 bytes) id
+
+abbrev pub has_name : Key → List ℕ → Bool
+has_name key bytes = is_name_of key.kind key.id bytes
+
+-- what was sent or got under another name isn't had
+abbrev pub if_named : Named → Option Named
+if_named (key, None) = Some (key, None)
+if_named (key, Some bytes) = if has_name key bytes then Some (key, Some bytes) else None
+
 abbrev pub names_in : Sent → List Named
-names_in sent = named_by sent.0.what ++ got_by sent.0.what sent.1
+names_in sent = filter_map if_named (named_by sent.0.what ++ got_in sent)
+
+-- all that an order was given came under its name
+abbrev pub IsNamedSo : Named → Type 0
+IsNamedSo (key, None) = ⊤
+IsNamedSo (key, Some bytes) = has_name key bytes ≡ true
+
+abbrev pub GetsNamed : Sent → Type 0
+GetsNamed sent = All IsNamedSo (got_in sent)
 
 -- the bytes that the sync had for it: those that were sent or got, and for what was asked for by its name alone some with that
 -- name

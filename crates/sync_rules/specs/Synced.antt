@@ -1,5 +1,5 @@
--- What one sync leaves, and the cause of each fault. Our own. Read IsSynced first, then IsStopped and SyncsSo, then CausedBy and
--- CausedOver.
+-- What one sync leaves, and the cause of each fault. Our own. Read IsSynced first, then IsStopped and SyncsSo, then CausedBy,
+-- CausedOver and CausesOf. Behind it: Orders.
 use Rattle.std.specs.Prelude.{ℕ, ◌≡◌, ◌≢◌, ◌≤◌, ◌⊎◌, ℤ, Bool, true, false, All, List, [], ◌∷◌, ◌++◌, length, Option, None, Some, IsSome, is_some, Result, Ok, Err, if◌then◌else◌, ⊤}
 use Rattle.std.specs.FinMap as fin
 use Rattle.std.specs.List.{Contains, filter_map, flat_map}
@@ -31,6 +31,8 @@ use Rattle.tree_walk.specs.declared.fault.WalkFault.TheVariants as walk
 use Rattle.folder_side.specs.Folder.{Contents, at}
 use Rattle.folder_side.specs.ScanReport.{IsPastLimit, skipped_path}
 use Rattle.folder_side.specs.WorkingTree.{HoldsLeft, held_at, held_list}
+use Rattle.folder_side.specs.declared.error.ScanFault.TheVariants as scan
+use Rattle.folder_side.specs.declared.holding.Holding.TheVariants as holding
 use Rattle.local_index.specs.declared.index.Index.{Index}
 use Rattle.http_front.specs.declared.order.Order.{Order}
 use Rattle.http_front.specs.declared.order.What.{What}
@@ -38,8 +40,8 @@ use Rattle.http_front.specs.declared.order.What.TheVariants as what
 use Rattle.http_front.specs.declared.outcome.Outcome.TheVariants.{Plain, Refused}
 use Rattle.remote_calls.specs.Sends.{Ending, Sent}
 use Rattle.sync_rules.specs.Checkout.{Front, IsPlan, MayHold, Step, first_blocked, is_alone, run}
-use Rattle.sync_rules.specs.Named.{IsHad, asked_after, asked_head, got_in, last_head}
-use Rattle.sync_rules.specs.Offer.{Agrees, IsOfferOf, offer_words}
+use Rattle.sync_rules.specs.Named.{GetsNamed, IsHad, asked_head, got_in, last_head}
+use Rattle.sync_rules.specs.Offer.{Agrees, IsOffer, IsOfferOf}
 use Rattle.sync_rules.specs.Premises.{KnowsRoot, NamesFiles, Over, Stands}
 use Rattle.sync_rules.specs.declared.fault.SyncFault.{SyncFault}
 use Rattle.sync_rules.specs.declared.fault.SyncFault.TheVariants as fault
@@ -63,8 +65,14 @@ written_by _ = false
 abbrev pub count_of : (Step → Bool) → List Step → ℕ
 count_of test steps = length (filter_map (λ step. if test step then Some step else None) steps)
 
+-- what is written has as many bytes as its file object tells
+abbrev pub IsSized : Objects → (root : List ℕ) → PathV → (bytes : List ℕ) → Type 0
+IsSized objects root path bytes = (id modifier : List ℕ) (mode size : ℕ) (mtime : ℤ) (file : FileObject)
+    → entry_below objects path root ≡ Some (entry.File id mode mtime modifier size) → id ≢ nil → fs_at objects id ≡ Ok (fs.File file) → file.size ≡ length bytes
+
 -- a folder that held `c` holds the head's tree `t`, but for what it can't carry, and the index stands for it with that head as base.
--- Nothing was done to it but the steps of a plan, so what is neither a file nor a directory is as it was
+-- Nothing was done to it but the steps of a plan, and no path of the tree was blocked, so what is neither a file nor a directory is as
+-- it was
 pub record IsSynced (objects : Objects) (cuts : Cuts) (c d : Contents) (i j : Index) (t : Tree) (moment : ℕ) (user : List ℕ) (more : List Sent) (s : Synced) : Type 0 where
   pub named : last_head more None ≡ Some (s.head, s.pushed)
   pub pushed : IsOfferOf objects cuts c i moment user (asked_head more None) s.pushed
@@ -81,6 +89,9 @@ pub record IsSynced (objects : Objects) (cuts : Cuts) (c d : Contents) (i j : In
   pub steps : List Step
   pub is_plan : IsPlan t c (λ path. is_alone cuts (at c path) (fin.get i.entries path) (entry_below objects path commit.root) (is_some s.pushed)) steps
   pub done : d ≡ run steps c
+  -- nothing is got where nothing was pushed and the head is the base; else the whole tree was, nothing is wrong in it and no path blocked
+  pub whole : ((s.pushed ≡ None) × (i.base ≡ Some s.head)) ⊎ (((walk_root false objects commit.root start).fault ≡ None) × (first_blocked c (fin.entries t) ≡ None))
+  pub sized : (path : PathV) (bytes : List ℕ) → Contains steps (Step.Wrote path bytes) → IsSized objects commit.root path bytes
   pub removed : s.removed ≡ count_of removed_by steps
   pub written : s.written ≡ count_of written_by steps
   pub skipped : s.skipped ≡ filter_map skipped_path (fin.entries c.paths)
@@ -109,7 +120,7 @@ pub record IsHeadTree (objects : Objects) (more : List Sent) (tree : Tree) : Typ
 
 -- what the folder differed in was pushed before, and the whole tree of the head was got, in which nothing is wrong and no path
 -- blocked. Since then a front of a plan was done: each path holds its old contents, those of the tree, or nothing, where the tree has
--- nothing or another kind
+-- nothing or another kind. What was written has the size that its file object tells
 pub record IsStopped (objects : Objects) (cuts : Cuts) (c d : Contents) (i : Index) (user : List ℕ) (more : List Sent) (shows : ℕ → Type 0) : Type 0 where
   pub tree : Tree
   pub heads : IsHeadTree objects more tree
@@ -122,6 +133,7 @@ pub record IsStopped (objects : Objects) (cuts : Cuts) (c d : Contents) (i : Ind
   pub is_plan : IsPlan tree c (λ path. is_alone cuts (at c path) (fin.get i.entries path) (entry_below objects path heads.commit.root) (is_some heads.pushed)) steps
   pub went : Front steps c d
   pub holds : (path : PathV) → MayHold tree c d path
+  pub sized : (path : PathV) (bytes : List ℕ) → at d path ≡ Some (holding.File bytes) → at c path ≢ Some (holding.File bytes) → IsSized objects heads.commit.root path bytes
   pub nameless : d.nameless ≡ c.nameless
 
 -- ---- the cause of each fault
@@ -199,10 +211,14 @@ abbrev pub HasPath : Contents → Type 0
 HasPath c = (path : PathV) × IsSome (held_at c path)
 
 -- a folder, where it tells what it holds, and its index: that they differ, what is too much for a scan, that nothing was synced yet and
--- the folder has something. A folder that tells what it holds never changes meanwhile
+-- the folder has something. A folder that tells what it holds never changes meanwhile. That the folder failed and that memory was
+-- wanting is told by the sync's own words
 abbrev pub IsSoHere : Cuts → Option Contents → Index → SyncFault → Type 0
 IsSoHere cuts told index (fault.Refused r) = (c : Contents) → told ≡ Some c → Agrees cuts c index → ⊥
+IsSoHere cuts told index (fault.Scan scan.Folder) = ⊥
+IsSoHere cuts told index (fault.Scan scan.NoMemory) = ⊥
 IsSoHere cuts told index (fault.Scan why) = (c : Contents) → told ≡ Some c → IsPastLimit c why
+IsSoHere cuts told index (fault.BadTree (walk.Store why)) = ⊥
 IsSoHere cuts told index (fault.Changed path) = (c : Contents) → told ≡ Some c → ⊥
 IsSoHere cuts told index fault.NotEmpty = (index.base ≡ None) × ((c : Contents) → told ≡ Some c → HasPath c)
 IsSoHere cuts told index f = ⊤
@@ -213,15 +229,62 @@ abbrev pub IsWrongTree : Objects → (root : List ℕ) → WalkFault → Type 0
 IsWrongTree objects root (walk.WrongSize id) = (path : PathV) × (mode : ℕ) × (mtime : ℤ) × (modifier : List ℕ) × (size : ℕ)
     × (entry_below objects path root ≡ Some (entry.File id mode mtime modifier size)) × (file : FileObject) × (fs_at objects id ≡ Ok (fs.File file))
     × (file.size ≢ length (joined objects file.blocks))
+IsWrongTree objects root (walk.Store why) = ⊥
 IsWrongTree objects root why = IsDue objects (walk_root false objects root start).fault why
 
 -- what is so over a folder that tells what it holds, and the head's tree
 abbrev pub CausedOver : Objects → Contents → List Sent → SyncFault → Type 0
-CausedOver objects c more (fault.Blocked path) = (tree : Tree) × IsHeadTree objects more tree × (first_blocked c (fin.entries tree) ≡ Some path)
+CausedOver objects c more (fault.Blocked path) = (tree : Tree) × (heads : IsHeadTree objects more tree)
+    × ((walk_root false objects heads.commit.root start).fault ≡ None) × (first_blocked c (fin.entries tree) ≡ Some path)
 CausedOver objects c more (fault.BadTree why) = IsBadCommit more why
     ⊎ ((head : List ℕ) × (pushed : Option (List ℕ)) × (last_head more None ≡ Some (head, pushed)) × (commit : Commit) × (commit_at objects head ≡ Ok commit)
     × IsWrongTree objects commit.root why)
 CausedOver objects c more _ = ⊤
+
+-- ---- what is uploaded of a folder
+
+-- orders that send something, or ask what is to be sent
+abbrev pub is_upload : What → Bool
+is_upload (what.Missing kind ids) = true
+is_upload (what.Put key bytes) = true
+is_upload (what.PutFs rows) = true
+is_upload (what.Update commit) = true
+is_upload _ = false
+
+-- the head that was asked in the round has no tree: its commit was got, and its root is forty zeros
+pub record IsEmptyHead (before : List Sent) : Type 0 where
+  pub head : List ℕ
+  pub asked : asked_head before None ≡ Some head
+  pub bytes : List ℕ
+  pub got : Contains (flat_map got_in before) (commit_key head, Some bytes)
+  pub commit : Commit
+  pub spells : commit_of bytes ≡ Ok commit
+  pub named : commit.id ≡ head
+  pub none : commit.root ≡ nil
+
+-- nothing is uploaded but on such a head; `before` was sent before these
+abbrev pub UploadsOnEmpty : (before : List Sent) → List Sent → Type 0
+UploadsOnEmpty before [] = ⊤
+UploadsOnEmpty before (sent ∷ more) = (is_upload sent.0.what ≡ true → IsEmptyHead before) × UploadsOnEmpty (before ++ sent ∷ []) more
+
+-- a folder that has something is offered to a library with which it was never synced only where that has nothing
+abbrev pub JoinsSo : Contents → Index → List Sent → Type 0
+JoinsSo c index more = index.base ≡ None → HasPath c → UploadsOnEmpty [] more
+
+-- a library is asked to stand at nothing but what the folder offers, over any objects that have what was named before
+abbrev pub OffersAt : Cuts → Contents → Index → (user : List ℕ) → (ℕ → Type 0) → (before : List Sent) → What → Type 0
+OffersAt cuts c i user shows before (what.Update id) = (had : List (Key × List ℕ)) × IsHad before had
+    × ((objects : Objects) (base : Tree) → Over objects cuts c i base had
+    → (moment : ℕ) × shows moment × IsOffer objects cuts c i moment user (option_or i.base (asked_head before None)) id)
+OffersAt cuts c i user shows before asked = ⊤
+
+abbrev pub OffersEach : Cuts → Contents → Index → (user : List ℕ) → (ℕ → Type 0) → (before : List Sent) → List Sent → Type 0
+OffersEach cuts c i user shows before [] = ⊤
+OffersEach cuts c i user shows before (sent ∷ more) = OffersAt cuts c i user shows before sent.0.what × OffersEach cuts c i user shows (before ++ sent ∷ []) more
+
+pub record UploadsSo (cuts : Cuts) (c : Contents) (i : Index) (user : List ℕ) (more : List Sent) (shows : ℕ → Type 0) : Type 0 where
+  pub joins : JoinsSo c i more
+  pub offers : OffersEach cuts c i user shows [] more
 
 -- ---- all of it
 
@@ -234,9 +297,9 @@ NeedsNoTree more _ = ⊤
 -- of a folder that tells what it holds: over any objects that have what the call named. Where nothing of the head's tree was fetched
 -- the folder is as it was
 abbrev pub SyncsSo : Cuts → Contents → Option Contents → Index → Index → (user : List ℕ) → List Sent → (ℕ → Type 0) → Result Synced SyncFault → Type 0
-SyncsSo cuts c told i j user more shows (Ok s) = (d : Contents) × (told ≡ Some d) × (had : List (Key × List ℕ)) × IsHad more had
+SyncsSo cuts c told i j user more shows (Ok s) = (d : Contents) × (told ≡ Some d) × UploadsSo cuts c i user more shows × (had : List (Key × List ℕ)) × IsHad more had
     × ((objects : Objects) (base : Tree) → Over objects cuts c i base had → (t : Tree) × (moment : ℕ) × shows moment × IsSynced objects cuts c d i j t moment user more s)
-SyncsSo cuts c told i j user more shows (Err f) = (d : Contents) × (told ≡ Some d) × (is_early f ≡ true → d ≡ c)
+SyncsSo cuts c told i j user more shows (Err f) = (d : Contents) × (told ≡ Some d) × UploadsSo cuts c i user more shows × (is_early f ≡ true → d ≡ c)
     × (((d ≡ c) × NeedsNoTree more f) ⊎ ((had : List (Key × List ℕ)) × IsHad more had
     × ((objects : Objects) (base : Tree) → Over objects cuts c i base had → CausedOver objects c more f × ((d ≡ c) ⊎ IsStopped objects cuts c d i user more shows))))
 
@@ -250,60 +313,23 @@ is_folder_fault _ = false
 abbrev pub FolderRose : ℕ → ℕ → Result Synced SyncFault → Type 0
 FolderRose before now result = FailsBy is_folder_fault before now result
 
--- each fault has its cause in the sends of the call
+-- a fault that tells that something came under another name, or that may come in the place of one that does
+abbrev pub is_of_name : SyncFault → Bool
+is_of_name (fault.Damaged want got) = true
+is_of_name (fault.BadTree (walk.Unreadable key)) = true
+is_of_name fault.NoMemory = true
+is_of_name _ = false
+
+-- that three updates came too late
+abbrev pub is_late : SyncFault → Bool
+is_late (fault.Stale now) = true
+is_late _ = false
+
+-- each fault has its cause in the sends of the call, and comes where that is: what came under another name, and the third update that
+-- came too late, end a sync
+abbrev pub EndsSo : (here : SyncFault → Type 0) → List Sent → Result Synced SyncFault → Type 0
+EndsSo here more (Ok s) = All GetsNamed more × (stale_count more ≤ 2)
+EndsSo here more (Err f) = CausedBy here more f × (is_of_name f ≡ false → All GetsNamed more) × (is_late f ≡ false → stale_count more ≤ 2)
+
 abbrev pub CausesOf : Cuts → Option Contents → Index → List Sent → List Sent → Result Synced SyncFault → Type 0
-CausesOf cuts told index old new (Ok s) = ⊤
-CausesOf cuts told index old new (Err f) = (more : List Sent) × (new ≡ old ++ more) × CausedBy (IsSoHere cuts told index) more f
-
--- an order of a sync: of its library, with its secret, and nothing but what a sync asks
-abbrev pub is_sync_what : What → Bool
-is_sync_what (what.Check op) = true
-is_sync_what what.Head = true
-is_sync_what (what.Get key) = true
-is_sync_what (what.GetFs ids) = true
-is_sync_what (what.Missing kind ids) = true
-is_sync_what (what.Put key bytes) = true
-is_sync_what (what.PutFs rows) = true
-is_sync_what (what.Update commit) = true
-is_sync_what _ = false
-
--- no list of ids has more than this
-abbrev pub most_asked : ℕ
-most_asked = 10000
-
-abbrev pub AsksFew : What → Type 0
-AsksFew (what.GetFs ids) = length ids ≤ most_asked
-AsksFew (what.Missing kind ids) = length ids ≤ most_asked
-AsksFew _ = ⊤
-
-abbrev pub IsSyncOrder : List ℕ → List ℕ → Sent → Type 0
-IsSyncOrder lib secret sent = (sent.0.lib ≡ Some lib) × (sent.0.secret ≡ Some secret) × (is_sync_what sent.0.what ≡ true) × AsksFew sent.0.what
-
--- what was sent are orders of a sync
-abbrev pub AsksAll : (lib secret : List ℕ) → List Sent → List Sent → Type 0
-AsksAll lib secret old new = (more : List Sent) × (new ≡ old ++ more) × All (IsSyncOrder lib secret) more
-
--- a commit that a sync makes: of this library, on this parent, by this user
-pub record IsSyncCommit (lib user : List ℕ) (parent : Option (List ℕ)) (id bytes : List ℕ) : Type 0 where
-  pub commit : Commit
-  pub reads : commit_of bytes ≡ Ok commit
-  pub named : commit.id ≡ id
-  pub of_lib : commit.lib ≡ lib
-  pub parent_is : commit.parent ≡ parent
-  pub no_second : commit.second_parent ≡ None
-  pub by : commit.creator_name ≡ user
-  pub words : commit.description ≡ offer_words
-  pub conflict : commit.conflict ≡ false
-
--- a library is asked to stand at a commit just behind the order that puts it
-abbrev pub StandsAtPut : (lib user : List ℕ) → (parent : Option (List ℕ)) → (before asked : What) → Type 0
-StandsAtPut lib user parent (what.Put key bytes) (what.Update id) = (key ≡ commit_key id) × IsSyncCommit lib user parent id bytes
-StandsAtPut lib user parent before (what.Update id) = ⊥
-StandsAtPut lib user parent before asked = ⊤
-
--- each commit that it is asked to stand at was made so, on the index's base, or on the head that was asked in the round where there was
--- none; `before` is the order before these
-abbrev pub MadeSo : (lib user : List ℕ) → (base asked : Option (List ℕ)) → (before : What) → List Sent → Type 0
-MadeSo lib user base asked before [] = ⊤
-MadeSo lib user base asked before (sent ∷ more) =
-    StandsAtPut lib user (option_or base asked) before sent.0.what × MadeSo lib user base (asked_after sent.0.what sent.1 asked) sent.0.what more
+CausesOf cuts told index old new result = (more : List Sent) × (new ≡ old ++ more) × EndsSo (IsSoHere cuts told index) more result

@@ -6,7 +6,7 @@ use remote_calls::RemoteFault;
 use tree_model::Path;
 use tree_walk::WalkFault;
 
-/// Why a folder was not synced. After each of them the index is as it was.
+/// Why a folder was not synced.
 #[derive(Debug, Drop)]
 pub enum SyncFault {
     /// The folder failed: its count of faults rose.
@@ -25,7 +25,7 @@ pub enum SyncFault {
     Blocked(Path),
     /// Nothing was synced yet, and both the folder and the library have something.
     NotEmpty,
-    /// The folder can't be scanned. Never by its `Folder`.
+    /// The folder is past a limit of a scan. Never by its `Folder` or `NoMemory`.
     Scan(ScanFault),
     /// Three updates came too late; the last collection had this number.
     Stale(u64),

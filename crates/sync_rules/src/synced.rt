@@ -9,7 +9,7 @@ pub struct Synced {
     pub head: ObjId,
     /// The commit that was made of the folder, where it had changed.
     pub pushed: Option<ObjId>,
-    /// Whether a merge on the server, of what was pushed, gave a file a conflict name.
+    /// Whether the head is another commit than the one that was pushed, and tells a conflict.
     pub conflict: bool,
     /// How many files were moved in.
     pub written: u64,
