@@ -2,3 +2,4 @@ pub mod AgreedLemmas
 pub mod NameLemmas
 pub mod OverLemmas
 pub mod PlanLemmas
+pub mod StopLemmas

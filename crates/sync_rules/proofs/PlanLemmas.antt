@@ -45,7 +45,7 @@ none_twice true true o = refl
 none_twice true false o = refl
 none_twice false b o = refl
 
-removed_at : (paths : List PathV) (c : Contents) (q : PathV) → at (run (map Step.Removed paths) c) q ≡ cond (is_one_of paths q) None (at c q)
+pub removed_at : (paths : List PathV) (c : Contents) (q : PathV) → at (run (map Step.Removed paths) c) q ≡ cond (is_one_of paths q) None (at c q)
 removed_at [] c q = refl
 removed_at (path ∷ paths) c q =
     removed_at paths (without path c) q ∙ ap (λ (o : Option Holding). cond (is_one_of paths q) None o) (got_without path q c)

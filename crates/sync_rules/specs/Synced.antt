@@ -282,7 +282,14 @@ abbrev pub OffersEach : Cuts → Contents → Index → (user : List ℕ) → (�
 OffersEach cuts c i user shows before [] = ⊤
 OffersEach cuts c i user shows before (sent ∷ more) = OffersAt cuts c i user shows before sent.0.what × OffersEach cuts c i user shows (before ++ sent ∷ []) more
 
+-- nothing is sent, nor asked what is to be sent
+abbrev pub UploadsNone : List Sent → Type 0
+UploadsNone more = All (λ sent. is_upload sent.0.what ≡ false) more
+
+-- what is uploaded of a folder: nothing where it agrees with its index, so no commit is made of a folder in which nothing changed; to a
+-- library with which it was never synced only where one of both is empty; and no commit but what the folder offers
 pub record UploadsSo (cuts : Cuts) (c : Contents) (i : Index) (user : List ℕ) (more : List Sent) (shows : ℕ → Type 0) : Type 0 where
+  pub changed : Agrees cuts c i → UploadsNone more
   pub joins : JoinsSo c i more
   pub offers : OffersEach cuts c i user shows [] more
 

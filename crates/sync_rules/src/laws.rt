@@ -1,5 +1,5 @@
 //! Theorems about what a sync leaves.
-ghost use Rattle.std.specs.Prelude.{ℕ, ◌≡◌, ◌++◌, Bool, List, [], Some};
+ghost use Rattle.std.specs.Prelude.{ℕ, ◌≡◌, ◌⊎◌, ◌++◌, ◌∷◌, Bool, true, List, [], map, None, Some, IsSome};
 ghost use Rattle.ids.specs.Key.{Objects};
 ghost use Rattle.ids.specs.declared.key.Key.{Key};
 ghost use Rattle.block_chunker.specs.declared.cuts.Cuts.{Cuts};
@@ -9,11 +9,12 @@ ghost use Rattle.folder_side.specs.declared.holding.Holding.TheVariants as holdi
 ghost use Rattle.tree_model.specs.declared.node.FileVersion.{FileVersion};
 ghost use Rattle.tree_model.specs.declared.node.Node.TheVariants as node;
 ghost use Rattle.sync_rules.specs.Offer.{Agrees, own_of};
-ghost use Rattle.folder_side.specs.WorkingTree.{HoldsLeft, held_list};
+ghost use Rattle.folder_side.specs.WorkingTree.{HoldsLeft, PlainFile, held_list, plain_at};
+ghost use Rattle.tree_model.specs.DirectorySurvival.{is_under};
 ghost use Rattle.local_index.specs.declared.index.Index.{Index};
 ghost use Rattle.tree_model.specs.Path.{PathV};
 ghost use Rattle.tree_model.specs.Tree.{Tree};
-ghost use Rattle.sync_rules.specs.Checkout.{Front, IsPlan, MayHold, Step, run};
+ghost use Rattle.sync_rules.specs.Checkout.{Front, IsPlan, MayHold, Step, is_doomed, run};
 ghost use Rattle.sync_rules.specs.Premises.{Over};
 
 /// Whoever does all steps of a plan leaves the tree with the stuck directories beside it.
@@ -25,6 +26,24 @@ pub fn a_plan_that_is_done_leaves_the_tree()
 /// kind there.
 pub fn wherever_a_plan_stops_nothing_else_stands()
     ensures { (tree : Tree) (c d : Contents) (alone : PathV → Bool) (steps : List Step) → IsPlan tree c alone steps → Front steps c d → (path : PathV) → MayHold tree c d path }
+{}
+
+/// A file that stands where a plan stopped stood there before, or is the tree's.
+pub fn where_a_plan_stops_each_file_is_an_old_one_or_the_trees()
+    ensures { (tree : Tree) (old new : Contents) (path : PathV) (bytes : List ℕ) → MayHold tree old new path → at new path ≡ Some (holding.File bytes)
+        → (at old path ≡ Some (holding.File bytes)) ⊎ (plain_at tree path ≡ Some (PlainFile bytes)) }
+{}
+
+/// Where folder and tree have a file, one stands there wherever a plan stops: it is replaced at once.
+pub fn wherever_a_plan_stops_a_file_of_both_stands()
+    ensures { (tree : Tree) (old new : Contents) (path : PathV) (bytes : List ℕ) (file : FileVersion) → MayHold tree old new path → at old path ≡ Some (holding.File bytes)
+        → fin.get tree path ≡ Some (node.File file) → IsSome (at new path) }
+{}
+
+/// Before a plan removes a path, all that is doomed under it was removed.
+pub fn a_plan_removes_what_is_under_a_path_before_it()
+    ensures { (tree : Tree) (c : Contents) (alone : PathV → Bool) (steps : List Step) (plan : IsPlan tree c alone steps) (before later : List PathV) (dir path : PathV)
+        → plan.doomed ≡ before ++ dir ∷ later → is_under dir path ≡ true → is_doomed tree c path ≡ true → at (run (map Step.Removed before) c) path ≡ None }
 {}
 
 /// What a whole call had for what it named, a part of it had for its part.
