@@ -1,5 +1,7 @@
 pub mod AgreedLemmas
+pub mod GotLemmas
 pub mod NameLemmas
 pub mod OverLemmas
 pub mod PlanLemmas
 pub mod StopLemmas
+pub mod WentLemmas

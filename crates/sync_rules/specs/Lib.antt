@@ -3,4 +3,7 @@ pub mod Offer
 pub mod Premises
 pub mod Checkout
 pub mod Synced
+pub mod Causes
+pub mod Uploads
 pub mod Orders
+pub mod OneSync

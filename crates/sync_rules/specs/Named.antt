@@ -1,8 +1,8 @@
--- What the sends of a sync name, and the bytes that it had for that. Our own. Read has_name and IsHad first, then HasAll; last_head,
--- at the end, is the head that they name.
-use Rattle.std.specs.Prelude.{ℕ, ◌≡◌, Bool, true, if◌then◌else◌, All, List, [], ◌∷◌, ◌++◌, Option, None, Some, Ok, is_ok, map, ⊤}
+-- What the sends of a sync name, and the bytes that it had for that. Our own. Read has_name and IsHad first, then HasAll and HasGot;
+-- last_head is the head that they name, and last_round, at the end, what was sent in one round.
+use Rattle.std.specs.Prelude.{ℕ, ◌≡◌, Bool, true, false, if◌then◌else◌, All, List, [], ◌∷◌, ◌++◌, Option, None, Some, Ok, is_ok, map, ⊤}
 use Rattle.std.specs.FinMap as fin
-use Rattle.std.specs.List.{filter_map, flat_map}
+use Rattle.std.specs.List.{Contains, filter_map, flat_map}
 use Rattle.std.specs.Str.{bytes_eq}
 use Rattle.sha1.specs.Sha1.{sha1}
 use Rattle.ids.specs.Key.{Objects}
@@ -87,6 +87,11 @@ abbrev pub HasAll : Objects → List (Key × List ℕ) → Type 0
 HasAll objects [] = ⊤
 HasAll objects (had ∷ more) = (fin.get objects had.0 ≡ Some had.1) × HasAll objects more
 
+-- what was got under its name is stored with these bytes. Nothing is said of what was only asked about, so this can be met over
+-- every folder, also one that tells nothing
+abbrev pub HasGot : Objects → List Sent → Type 0
+HasGot objects sends = (key : Key) (bytes : List ℕ) → Contains (flat_map got_in sends) (key, Some bytes) → has_name key bytes ≡ true → fin.get objects key ≡ Some bytes
+
 -- the list grew by these sends, and this was had for them
 pub record Sends (old new more : List Sent) (had : List (Key × List ℕ)) : Type 0 where
   pub grown : new ≡ old ++ more
@@ -117,3 +122,90 @@ asked_after _ _ before = before
 abbrev pub asked_head : List Sent → Option (List ℕ) → Option (List ℕ)
 asked_head [] before = before
 asked_head (sent ∷ more) before = asked_head more (asked_after sent.0.what sent.1 before)
+
+-- ---- which objects are asked about, sent, lacked and asked for
+
+-- those that are sent or asked about
+abbrev pub keys_named : List Sent → List Key
+keys_named sends = map (λ (named : Named). named.0) (flat_map (λ (sent : Sent). named_by sent.0.what) sends)
+
+-- those that are sent
+abbrev pub put_by : What → List Key
+put_by (what.Put key bytes) = key ∷ []
+put_by (what.PutFs rows) = map (λ (row : Row). fs_key row.id) rows
+put_by _ = []
+
+abbrev pub keys_put : List Sent → List Key
+keys_put sends = flat_map (λ (sent : Sent). put_by sent.0.what) sends
+
+-- those that the library told to lack
+abbrev key_of : Kind → List ℕ → Key
+key_of kind id = record { kind = kind; id = id }
+
+abbrev pub lacked_by : What → Ending → List Key
+lacked_by (what.Missing kind ids) (Ok (Plain (reply.Absent absent) tag)) = map (key_of kind) absent
+lacked_by _ _ = []
+
+abbrev pub keys_lacked : List Sent → List Key
+keys_lacked sends = flat_map (λ (sent : Sent). lacked_by sent.0.what sent.1) sends
+
+-- those that are asked for
+abbrev pub asked_by : What → List Key
+asked_by (what.Get key) = key ∷ []
+asked_by (what.GetFs ids) = map fs_key ids
+asked_by _ = []
+
+abbrev pub keys_asked : List Sent → List Key
+keys_asked sends = flat_map (λ (sent : Sent). asked_by sent.0.what) sends
+
+-- ---- rounds
+
+-- an upload check begins a round
+abbrev pub begins_round : What → Bool
+begins_round (what.Check op.Upload) = true
+begins_round _ = false
+
+abbrev pub round_after : List Sent → Sent → List Sent
+round_after round sent = if begins_round sent.0.what then [] else round ++ sent ∷ []
+
+-- what was sent in the last round, behind its check
+abbrev pub last_round : List Sent → List Sent → List Sent
+last_round [] round = round
+last_round (sent ∷ more) round = last_round more (round_after round sent)
+
+-- ---- orders by kind
+
+-- those that ask what one may do
+abbrev pub is_check : What → Bool
+is_check (what.Check op) = true
+is_check _ = false
+
+-- those that ask for objects
+abbrev pub is_get : What → Bool
+is_get (what.Get key) = true
+is_get (what.GetFs ids) = true
+is_get _ = false
+
+-- those that ask for a part of a tree
+abbrev pub is_of_tree : Kind → Bool
+is_of_tree kind.Commit = false
+is_of_tree kind.Fs = true
+is_of_tree kind.Block = true
+
+abbrev pub gets_tree : What → Bool
+gets_tree (what.Get key) = is_of_tree key.kind
+gets_tree (what.GetFs ids) = true
+gets_tree _ = false
+
+abbrev pub is_block : Kind → Bool
+is_block kind.Commit = false
+is_block kind.Fs = false
+is_block kind.Block = true
+
+-- those that send something, or ask what is to be sent
+abbrev pub is_upload : What → Bool
+is_upload (what.Missing kind ids) = true
+is_upload (what.Put key bytes) = true
+is_upload (what.PutFs rows) = true
+is_upload (what.Update commit) = true
+is_upload _ = false

@@ -1,7 +1,10 @@
--- What a sync sends: which orders, what it puts, and in which rounds. Our own. Read AsksAll, then MadeSo and GoesInRounds.
-use Rattle.std.specs.Prelude.{ℕ, ◌≡◌, ◌≤◌, Bool, true, false, All, List, [], ◌∷◌, ◌++◌, length, Option, None, Some, Ok, if◌then◌else◌, ⊤}
+-- What a sync sends: which orders, what it puts, in which rounds, and what it asks for. Our own. Read AsksAll, then MadeSo, PutsLacked,
+-- GoesInRounds and GetsNeeded. All of it is so over every folder and remote.
+use Rattle.std.specs.Prelude.{ℕ, ◌≡◌, ◌≤◌, ◌&&◌, not, Bool, true, false, All, List, [], ◌∷◌, ◌++◌, length, Option, None, Some, IsSome, Ok, if◌then◌else◌, ⊤}
 use Rattle.std.specs.Option.{option_or}
 use Rattle.sha1.specs.Sha1.{sha1}
+use Rattle.ids.specs.Key.{Objects}
+use Rattle.ids.specs.declared.key.Key.{Key}
 use Rattle.ids.specs.declared.key.Kind.{Kind}
 use Rattle.ids.specs.declared.key.Kind.TheVariants as kind
 use Rattle.commit_objects.specs.Commit.{commit_of}
@@ -11,14 +14,16 @@ use Rattle.commit_objects.specs.declared.commit.Commit.{Commit}
 use Rattle.library_state.specs.declared.call.Op.TheVariants as op
 use Rattle.library_state.specs.declared.reply.Reply.TheVariants as reply
 use Rattle.object_graph.specs.Objects.{commit_key}
+use Rattle.object_graph.specs.Reached.{ReachedFrom}
+use Rattle.object_graph.specs.Traversal.{is_in}
 use Rattle.http_front.specs.declared.order.What.{What}
 use Rattle.http_front.specs.declared.order.What.TheVariants as what
 use Rattle.http_front.specs.declared.outcome.Outcome.TheVariants.{Plain}
 use Rattle.http_front.specs.declared.row.Row.{Row}
 use Rattle.remote_calls.specs.Sends.{Ending, Sent}
-use Rattle.sync_rules.specs.Named.{asked_after}
+use Rattle.sync_rules.specs.Causes.{is_stale}
+use Rattle.sync_rules.specs.Named.{HasGot, asked_after, asked_by, begins_round, is_check, is_get, is_upload, keys_lacked, keys_put, last_head, round_after}
 use Rattle.sync_rules.specs.Offer.{offer_words}
-use Rattle.sync_rules.specs.Synced.{is_stale, is_upload}
 
 -- ---- which orders
 
@@ -52,10 +57,13 @@ AsksAll lib secret old new = (more : List Sent) × (new ≡ old ++ more) × All 
 
 -- ---- what is put
 
--- the text of a commit that a sync makes: of this library, on this parent, by this user, under the name of its text
-pub record IsSyncCommit (lib user : List ℕ) (parent : Option (List ℕ)) (id bytes : List ℕ) : Type 0 where
+-- the text of a commit that a sync makes: of this library, on this parent, and never on none, by this user, at a moment of the clock,
+-- under the name of its text
+pub record IsSyncCommit (lib user : List ℕ) (shows : ℕ → Type 0) (parent : Option (List ℕ)) (id bytes : List ℕ) : Type 0 where
   pub root : List ℕ
   pub moment : ℕ
+  pub shown : shows moment
+  pub based : IsSome parent
   pub commit : Commit
   pub is : commit ≡ made lib root parent None user offer_words moment false
   pub named : commit.id ≡ id
@@ -63,55 +71,89 @@ pub record IsSyncCommit (lib user : List ℕ) (parent : Option (List ℕ)) (id b
   pub reads : commit_of bytes ≡ Ok commit
 
 -- a library is asked to stand at a commit just behind the order that puts it
-abbrev pub StandsAtPut : (lib user : List ℕ) → (parent : Option (List ℕ)) → (before asked : What) → Type 0
-StandsAtPut lib user parent (what.Put key bytes) (what.Update id) = (key ≡ commit_key id) × IsSyncCommit lib user parent id bytes
-StandsAtPut lib user parent before (what.Update id) = ⊥
-StandsAtPut lib user parent before asked = ⊤
+abbrev pub StandsAtPut : (lib user : List ℕ) → (shows : ℕ → Type 0) → (parent : Option (List ℕ)) → (before asked : What) → Type 0
+StandsAtPut lib user shows parent (what.Put key bytes) (what.Update id) = (key ≡ commit_key id) × IsSyncCommit lib user shows parent id bytes
+StandsAtPut lib user shows parent before (what.Update id) = ⊥
+StandsAtPut lib user shows parent before asked = ⊤
 
 -- what is put has its name, and a commit is one that a sync makes
-abbrev pub PutsAs : (lib user : List ℕ) → (parent : Option (List ℕ)) → Kind → (id bytes : List ℕ) → Type 0
-PutsAs lib user parent kind.Commit id bytes = IsSyncCommit lib user parent id bytes
-PutsAs lib user parent kind.Fs id bytes = sha1 bytes ≡ id
-PutsAs lib user parent kind.Block id bytes = sha1 bytes ≡ id
+abbrev pub PutsAs : (lib user : List ℕ) → (shows : ℕ → Type 0) → (parent : Option (List ℕ)) → Kind → (id bytes : List ℕ) → Type 0
+PutsAs lib user shows parent kind.Commit id bytes = IsSyncCommit lib user shows parent id bytes
+PutsAs lib user shows parent kind.Fs id bytes = sha1 bytes ≡ id
+PutsAs lib user shows parent kind.Block id bytes = sha1 bytes ≡ id
 
 abbrev pub IsRowNamed : Row → Type 0
 IsRowNamed row = sha1 row.bytes ≡ row.id
 
-abbrev pub PutsSo : (lib user : List ℕ) → (parent : Option (List ℕ)) → What → Type 0
-PutsSo lib user parent (what.Put key bytes) = PutsAs lib user parent key.kind key.id bytes
-PutsSo lib user parent (what.PutFs rows) = All IsRowNamed rows
-PutsSo lib user parent asked = ⊤
+abbrev pub PutsSo : (lib user : List ℕ) → (shows : ℕ → Type 0) → (parent : Option (List ℕ)) → What → Type 0
+PutsSo lib user shows parent (what.Put key bytes) = PutsAs lib user shows parent key.kind key.id bytes
+PutsSo lib user shows parent (what.PutFs rows) = All IsRowNamed rows
+PutsSo lib user shows parent asked = ⊤
 
 -- each commit that is put, or that it is asked to stand at, was made so, on the index's base, or on the head that was asked in the
 -- round where there was none; `before` is the order before these
-abbrev pub MadeSo : (lib user : List ℕ) → (base asked : Option (List ℕ)) → (before : What) → List Sent → Type 0
-MadeSo lib user base asked before [] = ⊤
-MadeSo lib user base asked before (sent ∷ more) =
-    StandsAtPut lib user (option_or base asked) before sent.0.what × PutsSo lib user (option_or base asked) sent.0.what
-    × MadeSo lib user base (asked_after sent.0.what sent.1 asked) sent.0.what more
+abbrev pub MadeSo : (lib user : List ℕ) → (shows : ℕ → Type 0) → (base asked : Option (List ℕ)) → (before : What) → List Sent → Type 0
+MadeSo lib user shows base asked before [] = ⊤
+MadeSo lib user shows base asked before (sent ∷ more) =
+    StandsAtPut lib user shows (option_or base asked) before sent.0.what × PutsSo lib user shows (option_or base asked) sent.0.what
+    × MadeSo lib user shows base (asked_after sent.0.what sent.1 asked) sent.0.what more
+
+-- what the library told to lack in a round is put in it, before the library is asked to stand at a commit; `round` was sent before
+-- these in it. So no sync asks what is lacking and sends nothing of it
+abbrev pub PutsAt : (round : List Sent) → What → Type 0
+PutsAt round (what.Update commit) = All (λ (key : Key). is_in (keys_put round) key ≡ true) (keys_lacked round)
+PutsAt round asked = ⊤
+
+abbrev pub PutsLacked : (round : List Sent) → List Sent → Type 0
+PutsLacked round [] = ⊤
+PutsLacked round (sent ∷ more) = PutsAt round sent.0.what × PutsLacked (round_after round sent) more
 
 -- ---- rounds
 
--- where a sync stands in its rounds: one may begin, by an upload check; or one runs, and an upload was allowed in it, or nothing is
--- uploaded in it any more
+-- where a sync stands in its rounds. One may begin: nothing is sent but an upload check. An upload was denied: nothing is sent but
+-- the question whether one may download. An upload was allowed. Nothing is uploaded any more. The library stands at what was pushed:
+-- nothing is sent but what asks for objects
 pub data Stage : Type 0 where
   Begins : Stage
+  Denies : Stage
   Uploads : Stage
   Reads : Stage
+  Stands : Stage
+
+abbrev pub asks_download : What → Bool
+asks_download (what.Check op.Download) = true
+asks_download _ = false
+
+abbrev pub may_send : Stage → What → Bool
+may_send Begins asked = begins_round asked
+may_send Denies asked = asks_download asked
+may_send Uploads asked = not (is_check asked)
+may_send Reads asked = not (is_check asked) && not (is_upload asked)
+may_send Stands asked = is_get asked
 
 -- the first round begins the sync, and each other comes after an update that came too late
 abbrev pub stage_after : What → Ending → Stage → Stage
 stage_after (what.Check op.Upload) (Ok (Plain reply.Checked tag)) before = Uploads
-stage_after (what.Check op.Upload) ending before = Reads
-stage_after (what.Update commit) ending before = if is_stale ending then Begins else Reads
+stage_after (what.Check op.Upload) ending before = Denies
+stage_after (what.Check op.Download) ending before = Reads
+stage_after (what.Update commit) ending before = if is_stale ending then Begins else Stands
 stage_after _ _ before = before
 
-abbrev pub FitsStage : What → Stage → Type 0
-FitsStage (what.Check op.Upload) stage = stage ≡ Begins
-FitsStage asked stage = is_upload asked ≡ true → stage ≡ Uploads
-
--- nothing is uploaded but where the check allowed it, each round asks the library to stand at one commit at most, and none follows one
--- at which it stands
+-- each round asks the library to stand at one commit at most, and none follows one at which it stands
 abbrev pub GoesInRounds : Stage → List Sent → Type 0
 GoesInRounds stage [] = ⊤
-GoesInRounds stage (sent ∷ more) = FitsStage sent.0.what stage × GoesInRounds (stage_after sent.0.what sent.1 stage) more
+GoesInRounds stage (sent ∷ more) = (may_send stage sent.0.what ≡ true) × GoesInRounds (stage_after sent.0.what sent.1 stage) more
+
+-- ---- what is asked for
+
+-- the commit at which the library was told to stand last, or what that needs, over any objects that have what was got before. So a
+-- sync gets its head from the top down, and nothing beside it
+pub record IsNeeded (before : List Sent) (key : Key) : Type 0 where
+  pub head : List ℕ
+  pub pushed : Option (List ℕ)
+  pub named : last_head before None ≡ Some (head, pushed)
+  pub reached : (objects : Objects) → HasGot objects before → ReachedFrom objects [] (commit_key head ∷ []) key
+
+abbrev pub GetsNeeded : (before : List Sent) → List Sent → Type 0
+GetsNeeded before [] = ⊤
+GetsNeeded before (sent ∷ more) = All (IsNeeded before) (asked_by sent.0.what) × GetsNeeded (before ++ sent ∷ []) more

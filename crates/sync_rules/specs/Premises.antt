@@ -65,6 +65,14 @@ KnowsEntry _ _ = ⊥
 abbrev pub KnowsRoot : Objects → (root : List ℕ) → Index → Type 0
 KnowsRoot objects root index = (path : PathV) → KnowsEntry (entry_below objects path root) (fin.get index.entries path)
 
+-- the size that an index tells of a file is that of its entry
+abbrev pub KnowsSize : Option Entry → Option Known → Type 0
+KnowsSize (Some (entry.File id mode mtime modifier size)) (Some (known.File its own its_size its_mode its_mtime its_modifier)) = its_size ≡ size
+KnowsSize _ _ = ⊤
+
+abbrev pub KnowsSizes : Objects → (root : List ℕ) → Index → Type 0
+KnowsSizes objects root index = (path : PathV) → KnowsSize (entry_below objects path root) (fin.get index.entries path)
+
 -- an index knows the entries of its base
 abbrev pub KnowsBase : Objects → Option (List ℕ) → Index → Type 0
 KnowsBase objects None index = ⊤

@@ -1,5 +1,5 @@
 //! Theorems about what a sync leaves.
-ghost use Rattle.std.specs.Prelude.{ℕ, ◌≡◌, ◌⊎◌, ◌++◌, ◌∷◌, Bool, true, List, [], map, None, Some, IsSome};
+ghost use Rattle.std.specs.Prelude.{ℕ, ◌≡◌, ◌⊎◌, ◌++◌, ◌∷◌, Bool, true, All, List, [], map, None, Some, IsSome};
 ghost use Rattle.ids.specs.Key.{Objects};
 ghost use Rattle.ids.specs.declared.key.Key.{Key};
 ghost use Rattle.block_chunker.specs.declared.cuts.Cuts.{Cuts};
@@ -15,6 +15,9 @@ ghost use Rattle.local_index.specs.declared.index.Index.{Index};
 ghost use Rattle.tree_model.specs.Path.{PathV};
 ghost use Rattle.tree_model.specs.Tree.{Tree};
 ghost use Rattle.sync_rules.specs.Checkout.{Front, IsPlan, MayHold, Step, is_doomed, run};
+ghost use Rattle.remote_calls.specs.Sends.{Sent};
+ghost use Rattle.sync_rules.specs.Causes.{GoesWell, WentWell};
+ghost use Rattle.sync_rules.specs.Named.{HasAll, HasGot, IsHad, is_get};
 ghost use Rattle.sync_rules.specs.Premises.{Over};
 
 /// Whoever does all steps of a plan leaves the tree with the stuck directories beside it.
@@ -50,6 +53,28 @@ pub fn a_plan_removes_what_is_under_a_path_before_it()
 pub fn what_a_call_had_its_parts_had()
     ensures { (objects : Objects) (cuts : Cuts) (c : Contents) (index : Index) (base : Tree) (first later : List (Key × List ℕ))
         → Over objects cuts c index base (first ++ later) → Over objects cuts c index base first × Over objects cuts c index base later }
+{}
+
+/// Objects that have what a call had for all that it named have what it got under its name. So what is promised over what was got is
+/// promised over what was had.
+pub fn what_was_had_has_what_was_got()
+    ensures { (objects : Objects) (sends : List Sent) (had : List (Key × List ℕ)) → IsHad sends had → HasAll objects had → HasGot objects sends }
+{}
+
+/// Where a call only asked for objects, what was got is all that it had.
+pub fn what_was_got_is_what_was_had_of_gets()
+    ensures { (objects : Objects) (sends : List Sent) (had : List (Key × List ℕ)) → All (λ (sent : Sent). is_get sent.0.what ≡ true) sends
+        → IsHad sends had → HasGot objects sends → HasAll objects had }
+{}
+
+/// What a whole call got, its parts got.
+pub fn what_a_call_got_its_parts_got()
+    ensures { (objects : Objects) (first later : List Sent) → HasGot objects (first ++ later) → HasGot objects first × HasGot objects later }
+{}
+
+/// Each order but the last went well, behind orders that all did.
+pub fn orders_go_well_behind_those_that_went_well()
+    ensures { (first later : List Sent) → All WentWell first → GoesWell later → GoesWell (first ++ later) }
 {}
 
 /// A file of the folder with the own id of a file of the index has its bytes.
