@@ -1,20 +1,24 @@
 -- One sync of a folder that tells what it holds: in which order its steps come, and all that it promises. Our own. Read SyncsSo, at
--- the end, then GoesInOrder and ComesInOrder. What is so over every folder: CausesOf in Causes, and Orders.
+-- the end, then GoesInOrder and ComesInOrder. What is so over every folder: LeavesIndex, CausesOf in Causes, and Orders.
 use Rattle.std.specs.Prelude.{ℕ, ◌≡◌, ◌⊎◌, true, false, All, List, [], ◌∷◌, ◌++◌, Option, None, Some, Result, Ok, Err, ⊤}
+use Rattle.std.specs.FinMap as fin
 use Rattle.ids.specs.Key.{Objects}
 use Rattle.ids.specs.declared.key.Key.{Key}
+use Rattle.tree_model.specs.Path.{PathV}
 use Rattle.tree_model.specs.Tree.{Tree}
 use Rattle.block_chunker.specs.declared.cuts.Cuts.{Cuts}
+use Rattle.commit_objects.specs.declared.commit.Commit.{Commit}
+use Rattle.object_graph.specs.Objects.{commit_at}
 use Rattle.tree_walk.specs.declared.fault.WalkFault.TheVariants as walk
 use Rattle.folder_side.specs.Folder.{Contents}
 use Rattle.folder_side.specs.ScanReport.{IsWithinLimits}
 use Rattle.local_index.specs.declared.index.Index.{Index}
 use Rattle.remote_calls.specs.Sends.{Sent}
 use Rattle.sync_rules.specs.Causes.{CausedOver, FindsSome, HasPath, WentWell}
-use Rattle.sync_rules.specs.Named.{IsHad, gets_tree, is_block, is_check, keys_asked, last_head}
+use Rattle.sync_rules.specs.Named.{HasGot, IsHad, gets_tree, is_block, is_check, keys_asked, last_head}
 use Rattle.sync_rules.specs.Offer.{Agrees}
-use Rattle.sync_rules.specs.Premises.{Over}
-use Rattle.sync_rules.specs.Synced.{IsStopped, IsSynced, is_early}
+use Rattle.sync_rules.specs.Premises.{KnowsRoot, KnowsSizes, Over}
+use Rattle.sync_rules.specs.Synced.{IsConflict, IsStopped, IsSynced, is_early}
 use Rattle.sync_rules.specs.Uploads.{IsEmptyHead, UploadsSo}
 use Rattle.sync_rules.specs.declared.fault.SyncFault.{SyncFault}
 use Rattle.sync_rules.specs.declared.fault.SyncFault.TheVariants as fault
@@ -51,6 +55,30 @@ ComesInOrder c i more fault.NoMemory = ⊤
 ComesInOrder c i more (fault.Remote f) = ⊤
 ComesInOrder c i more (fault.Damaged want got) = ⊤
 ComesInOrder c i more f = i.base ≡ None → HasPath c → FindsSome more → ⊥
+
+-- ---- the index, over every folder
+
+-- nothing was got, since the head is the base, and the index is as it was
+pub record IsSpared (i j : Index) (more : List Sent) (s : Synced) : Type 0 where
+  pub pushed : s.pushed ≡ None
+  pub head : i.base ≡ Some s.head
+  pub none : keys_asked more ≡ []
+  pub conflict : s.conflict ≡ false
+  pub same : (path : PathV) → fin.get j.entries path ≡ fin.get i.entries path
+
+-- the index knows the entries of the head's tree, ids and sizes among them
+pub record KnowsHead (objects : Objects) (j : Index) (s : Synced) : Type 0 where
+  pub commit : Commit
+  pub stored : commit_at objects s.head ≡ Ok commit
+  pub conflict : IsConflict s.pushed s.head commit s.conflict
+  pub knows : KnowsRoot objects commit.root j
+  pub sizes : KnowsSizes objects commit.root j
+
+-- after a fault the index is as it was; else the head is its base, and it knows the head's tree, over any objects that have what was got
+abbrev pub LeavesIndex : Index → Index → List Sent → Result Synced SyncFault → Type 0
+LeavesIndex i j more (Ok s) = (j.base ≡ Some s.head) × (j.lib ≡ i.lib)
+    × (IsSpared i j more s ⊎ ((objects : Objects) → HasGot objects more → KnowsHead objects j s))
+LeavesIndex i j more (Err f) = j ≡ i
 
 -- ---- all of it
 

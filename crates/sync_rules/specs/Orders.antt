@@ -22,7 +22,7 @@ use Rattle.http_front.specs.declared.outcome.Outcome.TheVariants.{Plain}
 use Rattle.http_front.specs.declared.row.Row.{Row}
 use Rattle.remote_calls.specs.Sends.{Ending, Sent}
 use Rattle.sync_rules.specs.Causes.{is_stale}
-use Rattle.sync_rules.specs.Named.{HasGot, asked_after, asked_by, begins_round, is_check, is_get, is_upload, keys_lacked, keys_put, last_head, round_after}
+use Rattle.sync_rules.specs.Named.{HasGot, asked_after, asked_by, begins_round, is_check, is_get, is_upload, keys_lacked, keys_put, last_head, put_by, round_after}
 use Rattle.sync_rules.specs.Offer.{offer_words}
 
 -- ---- which orders
@@ -98,11 +98,19 @@ MadeSo lib user shows base asked before (sent ∷ more) =
     StandsAtPut lib user shows (option_or base asked) before sent.0.what × PutsSo lib user shows (option_or base asked) sent.0.what
     × MadeSo lib user shows base (asked_after sent.0.what sent.1 asked) sent.0.what more
 
--- what the library told to lack in a round is put in it, before the library is asked to stand at a commit; `round` was sent before
--- these in it. So no sync asks what is lacking and sends nothing of it
+-- beside commits just what the library told to lack in a round is put in it, all of it before the library is asked to stand at a
+-- commit; `round` was sent before these in it. So no sync asks what is lacking and sends nothing of it, or sends what is there
+abbrev pub LackedAs : (round : List Sent) → Key → Kind → Type 0
+LackedAs round key kind.Commit = ⊤
+LackedAs round key kind.Fs = is_in (keys_lacked round) key ≡ true
+LackedAs round key kind.Block = is_in (keys_lacked round) key ≡ true
+
+abbrev pub IsLacked : (round : List Sent) → Key → Type 0
+IsLacked round key = LackedAs round key key.kind
+
 abbrev pub PutsAt : (round : List Sent) → What → Type 0
 PutsAt round (what.Update commit) = All (λ (key : Key). is_in (keys_put round) key ≡ true) (keys_lacked round)
-PutsAt round asked = ⊤
+PutsAt round asked = All (IsLacked round) (put_by asked)
 
 abbrev pub PutsLacked : (round : List Sent) → List Sent → Type 0
 PutsLacked round [] = ⊤
