@@ -7,3 +7,4 @@ pub mod Causes
 pub mod Uploads
 pub mod Orders
 pub mod OneSync
+pub mod ShortSyncs

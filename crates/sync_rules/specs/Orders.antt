@@ -1,5 +1,5 @@
--- What a sync sends: which orders, what it puts, in which rounds, and what it asks for. Our own. Read AsksAll, then MadeSo, PutsLacked,
--- GoesInRounds and GetsNeeded. All of it is so over every folder and remote.
+-- What a sync sends: which orders, what it puts, in which rounds, and what it asks for. Our own. Read OrdersSo, at the end,
+-- then MadeSo, PutsLacked, GoesInRounds and GetsNeeded. All of it is so over every folder and remote.
 use Rattle.std.specs.Prelude.{ℕ, ◌≡◌, ◌≤◌, ◌&&◌, not, Bool, true, false, All, List, [], ◌∷◌, ◌++◌, length, Option, None, Some, IsSome, Ok, if◌then◌else◌, ⊤}
 use Rattle.std.specs.Option.{option_or}
 use Rattle.sha1.specs.Sha1.{sha1}
@@ -165,3 +165,13 @@ pub record IsNeeded (before : List Sent) (key : Key) : Type 0 where
 abbrev pub GetsNeeded : (before : List Sent) → List Sent → Type 0
 GetsNeeded before [] = ⊤
 GetsNeeded before (sent ∷ more) = All (IsNeeded before) (asked_by sent.0.what) × GetsNeeded (before ++ sent ∷ []) more
+
+-- ---- all of it
+
+-- the orders of one sync, over every folder and remote
+pub record OrdersSo (lib secret user : List ℕ) (shows : ℕ → Type 0) (base : Option (List ℕ)) (more : List Sent) : Type 0 where
+  pub asks : All (IsSyncOrder lib secret) more
+  pub made : MadeSo lib user shows base None what.Version more
+  pub puts : PutsLacked [] more
+  pub rounds : GoesInRounds Begins more
+  pub gets : GetsNeeded [] more

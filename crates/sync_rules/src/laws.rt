@@ -1,5 +1,5 @@
 //! Theorems about what a sync leaves.
-ghost use Rattle.std.specs.Prelude.{ℕ, ◌≡◌, ◌⊎◌, ◌++◌, ◌∷◌, Bool, true, All, List, [], map, None, Some, IsSome};
+ghost use Rattle.std.specs.Prelude.{ℕ, ◌≡◌, ◌⊎◌, ◌++◌, ◌∷◌, Bool, true, All, List, [], map, None, Some, IsSome, Ok, Err};
 ghost use Rattle.ids.specs.Key.{Objects};
 ghost use Rattle.ids.specs.declared.key.Key.{Key};
 ghost use Rattle.block_chunker.specs.declared.cuts.Cuts.{Cuts};
@@ -16,7 +16,14 @@ ghost use Rattle.tree_model.specs.Path.{PathV};
 ghost use Rattle.tree_model.specs.Tree.{Tree};
 ghost use Rattle.sync_rules.specs.Checkout.{Front, IsPlan, MayHold, Step, is_doomed, run};
 ghost use Rattle.remote_calls.specs.Sends.{Sent};
-ghost use Rattle.sync_rules.specs.Causes.{GoesWell, WentWell};
+ghost use Rattle.sync_rules.specs.declared.fault.SyncFault.TheVariants as fault;
+ghost use Rattle.folder_side.specs.ScanReport.{IsWithinLimits};
+ghost use Rattle.library_state.specs.declared.refusal.Refusal.TheVariants as refusal;
+ghost use Rattle.library_state.specs.declared.tag.Tag.{Tag};
+ghost use Rattle.sync_rules.specs.Causes.{EndsSo, GoesWell, IsSoHere, WentWell};
+ghost use Rattle.sync_rules.specs.OneSync.{LeavesIndex, SyncsSo};
+ghost use Rattle.sync_rules.specs.Orders.{OrdersSo};
+ghost use Rattle.sync_rules.specs.ShortSyncs.{none_done, two_checks, two_sent};
 ghost use Rattle.sync_rules.specs.Named.{HasAll, HasGot, IsHad, is_get};
 ghost use Rattle.sync_rules.specs.Premises.{Over};
 
@@ -75,6 +82,27 @@ pub fn what_a_call_got_its_parts_got()
 /// Each order but the last went well, behind orders that all did.
 pub fn orders_go_well_behind_those_that_went_well()
     ensures { (first later : List Sent) → All WentWell first → GoesWell later → GoesWell (first ++ later) }
+{}
+
+/// A folder in which nothing changed is synced with a library that stands at the index's base by two orders: whether an upload is
+/// allowed, and which commit the library stands at. All clauses of a sync are met with nothing done, by a clock that shows one moment.
+pub fn an_unchanged_folder_is_synced_by_two_orders()
+    ensures { (lib secret id : List ℕ) (first later : Tag) (cuts : Cuts) (c : Contents) (index : Index) (user : List ℕ) (moment : ℕ)
+        → index.base ≡ Some id → Agrees cuts c index → IsWithinLimits c
+        → SyncsSo cuts c (Some c) index index user (two_sent lib secret id first later) (λ other. other ≡ moment) (Ok (none_done c id))
+        × OrdersSo lib secret user (λ other. other ≡ moment) index.base (two_sent lib secret id first later)
+        × EndsSo (IsSoHere cuts (Some c) index) (two_sent lib secret id first later) (Ok (none_done c id))
+        × LeavesIndex index index (two_sent lib secret id first later) (Ok (none_done c id)) }
+{}
+
+/// Where a folder changed and its owner may only read, two orders end the sync as denied: whether an upload is allowed, and then
+/// whether a download is. All clauses of a sync are met with nothing done.
+pub fn a_changed_folder_of_a_reader_is_told_as_denied()
+    ensures { (lib secret id : List ℕ) (first later : Tag) (cuts : Cuts) (c : Contents) (index : Index) (user : List ℕ) (moment : ℕ)
+        → index.base ≡ Some id → (Agrees cuts c index → ⊥) → IsWithinLimits c
+        → SyncsSo cuts c (Some c) index index user (two_checks lib secret first later) (λ other. other ≡ moment) (Err (fault.Refused refusal.Denied))
+        × OrdersSo lib secret user (λ other. other ≡ moment) index.base (two_checks lib secret first later)
+        × EndsSo (IsSoHere cuts (Some c) index) (two_checks lib secret first later) (Err (fault.Refused refusal.Denied)) }
 {}
 
 /// A file of the folder with the own id of a file of the index has its bytes.
