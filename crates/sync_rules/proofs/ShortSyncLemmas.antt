@@ -141,7 +141,7 @@ module _ (lib secret : List ℕ) (first later : Tag) where
       ((denied_sent lib secret first).0, (denied_sent lib secret first).1, (0, some, refl), refl, refl)
 
   module _ (cuts : Cuts) (c : Contents) (index : Index) (differs : Agrees cuts c index → ⊥) where
-    pub denied_ends : EndsSo (IsSoHere cuts (Some c) index) (two_checks lib secret first later) (Err (fault.Refused refusal.Denied))
+    pub denied_ends : EndsSo (IsSoHere cuts (Some c) index (two_checks lib secret first later)) (two_checks lib secret first later) (Err (fault.Refused refusal.Denied))
     denied_ends =
         let few : 0 ≤ 2 = omega arith in (
           ((refl, All-nil IsNamedSo), tt),

@@ -138,8 +138,8 @@ abbrev pub IsBadTree : List Sent → WalkFault → Type 0
 IsBadTree more why = (head : List ℕ) × (pushed : Option (List ℕ)) × (last_head more None ≡ Some (head, pushed))
     × ((objects : Objects) → HasGot objects more → (commit : Commit) × (commit_at objects head ≡ Ok commit) × IsWrongTree objects commit.root why)
 
--- what is so of the sends alone, over any folder, and what else has to be so here. What is found without an order comes only where each
--- order went well
+-- what is so of the sends alone, over any folder, and what else has to be so here; of a part of a sync too. What is found without an order
+-- comes only where each order went well
 abbrev pub CausedBy : (here : SyncFault → Type 0) → List Sent → SyncFault → Type 0
 CausedBy here more (fault.Remote f) = (order : Order) × IsLast more order (Err f)
 CausedBy here more (fault.Refused r) =
@@ -151,7 +151,7 @@ CausedBy here more (fault.Stale now) =
     (order : Order) × (ending : Ending) × (last : ℕ) × IsLast more order ending × IsRefusedBy ending (refusal.Stale last now)
     × (stale_count more ≡ 3)
 CausedBy here more fault.NotEmpty = FindsSome more × here fault.NotEmpty
-CausedBy here more (fault.BadTree why) = IsBadCommit more why ⊎ (IsBadTree more why × All WentWell more × here (fault.BadTree why))
+CausedBy here more (fault.BadTree why) = IsBadCommit more why ⊎ (All WentWell more × here (fault.BadTree why))
 CausedBy here more fault.NoMemory = ⊤
 CausedBy here more f = here f
 
@@ -159,18 +159,19 @@ CausedBy here more f = here f
 abbrev pub HasPath : Contents → Type 0
 HasPath c = (path : PathV) × IsSome (held_at c path)
 
--- a folder, where it tells what it holds, and its index: that they differ, what is too much for a scan, that nothing was synced yet and
--- the folder has something. A folder that tells what it holds never changes meanwhile. That the folder failed and that memory was
--- wanting is told by the sync's own words
-abbrev pub IsSoHere : Cuts → Option Contents → Index → SyncFault → Type 0
-IsSoHere cuts told index (fault.Refused r) = (c : Contents) → told ≡ Some c → Agrees cuts c index → ⊥
-IsSoHere cuts told index (fault.Scan scan.Folder) = ⊥
-IsSoHere cuts told index (fault.Scan scan.NoMemory) = ⊥
-IsSoHere cuts told index (fault.Scan why) = (c : Contents) → told ≡ Some c → IsPastLimit c why
-IsSoHere cuts told index (fault.BadTree (walk.Store why)) = ⊥
-IsSoHere cuts told index (fault.Changed path) = (c : Contents) → told ≡ Some c → ⊥
-IsSoHere cuts told index fault.NotEmpty = (index.base ≡ None) × ((c : Contents) → told ≡ Some c → HasPath c)
-IsSoHere cuts told index f = ⊤
+-- what is wrong with the head's tree, over any objects that have what was got; and a folder, where it tells what it holds, and its index:
+-- that they differ, what is too much for a scan, that nothing was synced yet and the folder has something. A folder that tells what it
+-- holds never changes meanwhile. That the folder failed and that memory was wanting is told by the sync's own words
+abbrev pub IsSoHere : Cuts → Option Contents → Index → List Sent → SyncFault → Type 0
+IsSoHere cuts told index more (fault.Refused r) = (c : Contents) → told ≡ Some c → Agrees cuts c index → ⊥
+IsSoHere cuts told index more (fault.Scan scan.Folder) = ⊥
+IsSoHere cuts told index more (fault.Scan scan.NoMemory) = ⊥
+IsSoHere cuts told index more (fault.Scan why) = (c : Contents) → told ≡ Some c → IsPastLimit c why
+IsSoHere cuts told index more (fault.BadTree (walk.Store why)) = ⊥
+IsSoHere cuts told index more (fault.BadTree why) = IsBadTree more why
+IsSoHere cuts told index more (fault.Changed path) = (c : Contents) → told ≡ Some c → ⊥
+IsSoHere cuts told index more fault.NotEmpty = (index.base ≡ None) × ((c : Contents) → told ≡ Some c → HasPath c)
+IsSoHere cuts told index more f = ⊤
 
 -- what is so over a folder that tells what it holds, and the head's tree
 abbrev pub CausedOver : Objects → Contents → List Sent → SyncFault → Type 0
@@ -187,6 +188,14 @@ is_folder_fault _ = false
 
 abbrev pub FolderRose : ℕ → ℕ → Result Synced SyncFault → Type 0
 FolderRose before now result = FailsBy is_folder_fault before now result
+
+-- for a part of a sync that only asks for objects: a fault that tells that something came under another name, or that may come in the
+-- place of one that does
+abbrev pub is_of_name : SyncFault → Bool
+is_of_name (fault.Damaged want got) = true
+is_of_name (fault.BadTree (walk.Unreadable key)) = true
+is_of_name fault.NoMemory = true
+is_of_name _ = false
 
 -- a fault that the last order was the cause of, or that may come in the place of one that it was
 abbrev pub is_of_order : SyncFault → Bool
@@ -209,4 +218,4 @@ EndsSo here more (Ok s) = All WentWell more × (stale_count more ≤ 2) × (last
 EndsSo here more (Err f) = GoesWell more × CausedBy here more f × (is_of_order f ≡ false → All WentWell more) × (is_late f ≡ false → stale_count more ≤ 2)
 
 abbrev pub CausesOf : Cuts → Option Contents → Index → List Sent → List Sent → Result Synced SyncFault → Type 0
-CausesOf cuts told index old new result = (more : List Sent) × (new ≡ old ++ more) × EndsSo (IsSoHere cuts told index) more result
+CausesOf cuts told index old new result = (more : List Sent) × (new ≡ old ++ more) × EndsSo (IsSoHere cuts told index more) more result

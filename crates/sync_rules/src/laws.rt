@@ -91,7 +91,7 @@ pub fn an_unchanged_folder_is_synced_by_two_orders()
         → index.base ≡ Some id → Agrees cuts c index → IsWithinLimits c
         → SyncsSo cuts c (Some c) index index user (two_sent lib secret id first later) (λ other. other ≡ moment) (Ok (none_done c id))
         × OrdersSo lib secret user (λ other. other ≡ moment) index.base (two_sent lib secret id first later)
-        × EndsSo (IsSoHere cuts (Some c) index) (two_sent lib secret id first later) (Ok (none_done c id))
+        × EndsSo (IsSoHere cuts (Some c) index (two_sent lib secret id first later)) (two_sent lib secret id first later) (Ok (none_done c id))
         × LeavesIndex index index (two_sent lib secret id first later) (Ok (none_done c id)) }
 {}
 
@@ -102,7 +102,7 @@ pub fn a_changed_folder_of_a_reader_is_told_as_denied()
         → index.base ≡ Some id → (Agrees cuts c index → ⊥) → IsWithinLimits c
         → SyncsSo cuts c (Some c) index index user (two_checks lib secret first later) (λ other. other ≡ moment) (Err (fault.Refused refusal.Denied))
         × OrdersSo lib secret user (λ other. other ≡ moment) index.base (two_checks lib secret first later)
-        × EndsSo (IsSoHere cuts (Some c) index) (two_checks lib secret first later) (Err (fault.Refused refusal.Denied)) }
+        × EndsSo (IsSoHere cuts (Some c) index (two_checks lib secret first later)) (two_checks lib secret first later) (Err (fault.Refused refusal.Denied)) }
 {}
 
 /// A file of the folder with the own id of a file of the index has its bytes.
