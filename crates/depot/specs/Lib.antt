@@ -22,3 +22,4 @@ pub mod UpdateMerge
 pub mod UpdateInstall
 pub mod Standing
 pub mod FirstGet
+pub mod Story

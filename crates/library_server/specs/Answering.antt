@@ -2,10 +2,11 @@
 use Rattle.std.specs.Prelude.{◌≡◌, ◌≢◌, ◌⊎◌, ◌<◌, ℕ, Bool, true, false, List, [], ◌∷◌, Option, Some, ⊤}
 use Rattle.ids.specs.Key.{Objects}
 use Rattle.ids.specs.declared.key.Key.{Key}
-use Rattle.depot.specs.Answering.{Serves, permits}
-use Rattle.depot.specs.DepotView.{DepotView, IsGood}
+use Rattle.depot.specs.Answering.{permits}
+use Rattle.depot.specs.DepotView.{DepotView}
 use Rattle.depot.specs.FirstGet.{fs_get, sizes_of}
-use Rattle.depot.specs.Giving.{GivesBy, IsNothing, MayLay}
+use Rattle.depot.specs.Giving.{IsNothing}
+use Rattle.depot.specs.Story.{IsAnswered}
 use Rattle.library_rules.specs.Calls.{token_of}
 use Rattle.library_state.specs.declared.call.Call.{Call}
 use Rattle.library_state.specs.declared.refusal.Refusal.{Refusal}
@@ -20,16 +21,6 @@ use Rattle.worker_server.specs.Calls.{Told, call_asked, collection_asked}
 use Rattle.worker_server.specs.declared.host.Answer.{Answer}
 use Rattle.worker_server.specs.declared.host.Collected.{Collected}
 use Rattle.worker_server.specs.declared.host.Collected.TheVariants as collected
-
--- the library answered: by the rules where its shelf tells what it holds, and over every shelf with its cause; one who may
--- not ask is denied whatever the shelf does; what is left stands for a library, where its shelf tells what it holds; and the
--- shelf may give no more than before, but what the call may lay onto it
-pub record IsAnswered {S : Type 0} (contents : S → Option Contents) (may_give : S → Slot → Option (List ℕ) → Type 0) (texts faults : S → ℕ)
-    (old : DepotView S) (call : Call) (moment : ℕ) (r : Reply) (new : DepotView S) : Type 0 where
-  pub serves : Serves contents may_give texts faults old call moment r new
-  pub denied : permits (token_of old.state.tokens call.secret) call.act ≡ false → r ≡ reply.Refused refusal.Denied
-  pub good : IsGood contents faults new
-  pub gives : GivesBy (MayLay old.state.lib call.act) (may_give old.store.shelf) (may_give new.store.shelf)
 
 -- ---- the cause of damage
 

@@ -1,11 +1,12 @@
 //! One connection with a library that answers alone.
 ghost use Rattle.std.specs.Prelude.{◌≡◌, ◌≢◌, ◌∷◌, ℕ, List, Some, ⊤, false};
 ghost use Rattle.depot.specs.FirstGet.{fs_call};
+ghost use Rattle.depot.specs.Story.{IsAnswered};
 ghost use Rattle.ids.specs.FaultCount.{Rose};
 ghost use Rattle.worker_server.specs.Calls.{Told, Ran, rules_at};
 ghost use Rattle.http_front.specs.Link.{told_by};
 ghost use Rattle.worker_server.specs.ServedConnection.{CountsEnd, EndsAsked, SessionInTime};
-ghost use Rattle.library_server.specs.Answering.{AnswersOn, AreCaused, AsksTooMuch, IsAnswered, NamesIn, NeverFails, is_storage_reply};
+ghost use Rattle.library_server.specs.Answering.{AnswersOn, AreCaused, AsksTooMuch, NamesIn, NeverFails, is_storage_reply};
 ghost use Rattle.library_server.specs.Collecting.{CollectsOn};
 
 use crate::collecting::collect;
