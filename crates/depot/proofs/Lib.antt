@@ -53,3 +53,4 @@ pub mod UpdateLemmas
 pub mod UpdateGoodLemmas
 pub mod StrayLemmas
 pub mod StandingLemmas
+pub mod StoryLemmas

@@ -1,0 +1,171 @@
+-- The history of a library: chains of changes, and the legal list that a chain is. The key lemmas are leads_on, leads_same,
+-- history_of and sound_still.
+use Rattle.std.proofs.Common.{◌≡◌, ◌⊎◌, inl, inr, ℕ, zero, suc, ◌+◌, List, [], ◌∷◌, ◌++◌, length, refl, sym, ap, ◌∙◌, subst, Option, Some, option_map, add-one}
+use Rattle.std.specs.List.{slice_get}
+use Rattle.ids.specs.declared.key.Key.{Key}
+use Rattle.library_rules.specs.Changes.{apply}
+use Rattle.library_rules.specs.History.{Enters, IsPermitted, StepPermits, after}
+use Rattle.library_rules.specs.LibraryState.{IsSound, State}
+use Rattle.library_rules.specs.Turns.{TakesNone, TakesStep}
+use Rattle.library_rules.specs.declared.entry.Entry.{Entry}
+use Rattle.library_rules.specs.declared.entry.Step.{Step}
+use Rattle.library_rules.specs.declared.entry.Step.TheVariants as step
+use Rattle.library_rules.proofs.HistoryLemmas.{sound_after}
+use Rattle.library_state.specs.declared.call.Call.{Call}
+use Rattle.library_state.specs.declared.reply.Reply.{Reply}
+use Rattle.library_state.specs.declared.reply.Reply.TheVariants as reply
+use Rattle.object_store.specs.Shelf.{Contents}
+use Rattle.object_store.specs.StoreView.{objects_of}
+use Rattle.object_store.specs.declared.shelf.Slot.{Slot}
+use Rattle.depot.specs.Answering.{AnswersBySome}
+use Rattle.depot.specs.CollectionTurns.{TurnsBySome, removed_in}
+use Rattle.depot.specs.DepotView.{DepotView, running_library, state_of}
+use Rattle.depot.specs.Story.{HistoryOf, IsOther, IsSame, LeadsTo, Links, MadeBy, removed_of, reply_of, reply_of_turn, step_of, step_of_turn}
+use Rattle.depot.specs.declared.story.Change.{Change}
+use Rattle.depot.specs.declared.story.Made.{Made}
+use Rattle.depot.specs.declared.story.Made.TheVariants as made
+use Rattle.depot.specs.declared.turn.Turn.{Turn}
+use Rattle.depot.specs.declared.turn.Turn.TheVariants as turn
+use Rattle.depot.proofs.ToldLemmas.{MappedAt, mapped_at}
+
+-- ---- sameness
+
+module _ {S : Type 0} {contents : S → Option Contents} {faults : S → ℕ} where
+  pub same_on : {x y z : DepotView S} → IsSame contents faults x y → IsSame contents faults y z → IsSame contents faults x z
+  same_on p q = record {
+    state = q.state ∙ p.state;
+    running = q.running ∙ p.running;
+    count = q.count ∙ p.count;
+    objects = λ objects told. q.objects objects (p.objects objects told);
+  }
+
+  -- where a library is told, so is one that is the same, as the same state
+  pub same_state : {x y : DepotView S} {s : State} → IsSame contents faults x y → state_of contents faults x ≡ Some s → state_of contents faults y ≡ Some s
+  same_state {x} {y} {s} same told =
+      let at : MappedAt (running_library x.state x.running (faults x.store.shelf)) (objects_of contents x.store) s = mapped_at _ _ _ told in
+      ap (option_map (running_library y.state y.running (faults y.store.shelf))) (same.objects at.value at.is)
+      ∙ ap (λ st. Some (running_library st y.running (faults y.store.shelf) at.value)) same.state
+      ∙ ap (λ r. Some (running_library x.state r (faults y.store.shelf) at.value)) same.running
+      ∙ ap (λ n. Some (running_library x.state x.running n at.value)) same.count
+      ∙ ap Some at.gives
+
+-- ---- chains
+
+module _ {S : Type 0} (contents : S → Option Contents) (may_give : S → Slot → Option (List ℕ) → Type 0) (texts faults : S → ℕ) where
+  -- a chain goes on where nothing changed, and with one change more
+  pub leads_same : (x : DepotView S) (cs : List (Change (DepotView S))) {y z : DepotView S} → LeadsTo contents may_give texts faults x cs y → IsSame contents faults y z
+      → LeadsTo contents may_give texts faults x cs z
+  leads_same x [] leads same = same_on leads same
+  leads_same x (c ∷ cs) leads same = (leads.0, leads.1, leads_same c.after.value cs leads.2 same)
+
+  pub leads_on : (x : DepotView S) (cs : List (Change (DepotView S))) {y : DepotView S} (c : Change (DepotView S)) → LeadsTo contents may_give texts faults x cs y
+      → IsSame contents faults y c.before.value → Links contents may_give texts faults c → LeadsTo contents may_give texts faults x (cs ++ c ∷ []) c.after.value
+  leads_on x [] c leads same links = (same_on leads same, links, record { state = refl; running = refl; count = refl; objects = λ objects told. told })
+  leads_on x (d ∷ cs) c leads same links = (leads.0, leads.1, leads_on d.after.value cs c leads.2 same links)
+
+-- ---- the legal list
+
+-- a step leads from a state to what is left, as one entry, which removes these keys
+pub record EntersSo (s : State) (st : Step) (moment : ℕ) (r : Reply) (removed : List Key) (left : Option State) : Type 0 where
+  pub entry : Entry
+  pub permitted : IsPermitted s entry
+  pub is_step : entry.step ≡ st
+  pub at : entry.moment ≡ moment
+  pub answers : entry.reply ≡ r
+  pub removes : entry.removed ≡ removed
+  pub leaves : left ≡ Some (apply s entry)
+
+-- what a step enters
+of_entry : (s : State) (st : Step) (moment : ℕ) (r : Reply) (removed : List Key) (t : State) (left : Option State) (e : Entry) → Enters s st moment r t e
+    → e.removed ≡ removed → left ≡ Some t → EntersSo s st moment r removed left
+of_entry s st moment r removed t left e enters removes is = record {
+  entry = e;
+  permitted = enters.permitted;
+  is_step = enters.is_step;
+  at = enters.at;
+  answers = enters.answers;
+  removes = removes;
+  leaves = is ∙ ap Some (sym enters.state);
+}
+
+-- of a call that left another state
+asked_entry : (s : State) (call : Call) (moment : ℕ) (r : Reply) (left : Option State) → AnswersBySome s call moment r left → (left ≡ Some s → ⊥)
+    → EntersSo s (step.Asked call) moment r [] left
+asked_entry s call moment r left ([], answers) other = absurd (other (answers.left ∙ ap Some answers.step.0))
+asked_entry s call moment r left (e ∷ [], answers) other =
+    let permits : StepPermits s e (step.Asked call) = subst (StepPermits s e) answers.step.is_step answers.step.permitted.permits in
+    of_entry s (step.Asked call) moment r [] answers.state left e answers.step permits.1 answers.left
+asked_entry s call moment r left (e ∷ f ∷ es, answers) other = absurd answers.step
+
+taken_entry : (s : State) (st : Step) (moment : ℕ) (r : Reply) (removed : List Key) (t : State) (es : List Entry) (left : Option State) → TakesStep s st moment r removed t es
+    → left ≡ Some t → EntersSo s st moment r removed left
+taken_entry s st moment r removed t es left takes is = of_entry s st moment r removed t left takes.entry takes.enters takes.removes is
+
+-- of a turn that left another state
+turned_entry : (s : State) (goal : Option ℕ) (moment at_most : ℕ) (taken : Turn) (left : Option State) → TurnsBySome s goal moment at_most taken left → (left ≡ Some s → ⊥)
+    → EntersSo s (step_of_turn taken) moment (reply_of_turn taken) (removed_in taken) left
+turned_entry s goal moment at_most (turn.Began number) left by other = taken_entry s step.Began moment reply.Checked [] by.state by.entries left by.turns.2 by.left
+turned_entry s goal moment at_most (turn.Marked count) left by other = taken_entry s step.Swept moment reply.Checked [] by.state by.entries left by.turns.2 by.left
+turned_entry s goal moment at_most (turn.Swept keys) left by other = taken_entry s step.Swept moment reply.Checked keys by.state by.entries left by.turns.2 by.left
+turned_entry s goal moment at_most (turn.Ended number) left by other = taken_entry s step.Ended moment reply.Checked [] by.state by.entries left by.turns.2 by.left
+turned_entry s goal moment at_most (turn.Over number) left by other = absurd (other (by.left ∙ ap Some by.turns.1))
+turned_entry s goal moment at_most (turn.Refused why keys) left by other = refused by.turns.1
+  where
+    refused : TakesStep s step.Swept moment (reply.Refused why) keys by.state by.entries
+        ⊎ ((keys ≡ []) × TakesNone s step.Swept moment (reply.Refused why) by.state by.entries) → EntersSo s step.Swept moment (reply.Refused why) keys left
+    refused (inl takes) = taken_entry s step.Swept moment (reply.Refused why) keys by.state by.entries left takes by.left
+    refused (inr none) = absurd (other (by.left ∙ ap Some none.1.same))
+
+module _ {S : Type 0} (contents : S → Option Contents) (may_give : S → Slot → Option (List ℕ) → Type 0) (texts faults : S → ℕ) where
+  -- of a change, where the library before it is told
+  made_entry : (made : Made) (old : DepotView S) (moment : ℕ) (new : DepotView S) (s : State) → MadeBy contents may_give texts faults made old moment new
+      → IsOther contents faults old new → state_of contents faults old ≡ Some s
+      → EntersSo s (step_of made) moment (reply_of made) (removed_of made) (state_of contents faults new)
+  made_entry (made.Asked call said) old moment new s by other told =
+      asked_entry s call.value moment said.value (state_of contents faults new) (by.serves.told s told) (other.told s told)
+  made_entry (made.Turned goal at_most taken) old moment new s by other told =
+      turned_entry s goal moment at_most taken.value (state_of contents faults new) (by.takes.told s told) (other.told s told)
+
+  -- a chain from a library that is told is a legal list, and each library on the way is told
+  pub history_of : (x : DepotView S) (cs : List (Change (DepotView S))) (y : DepotView S) (s : State) → LeadsTo contents may_give texts faults x cs y
+      → state_of contents faults x ≡ Some s → HistoryOf contents faults s cs y
+  history_of x [] y s leads told = record {
+    entries = [];
+    legal = tt;
+    told = tt;
+    states = λ n c at. cc;
+    last = same_state leads told;
+  }
+  history_of x (c ∷ cs) y s leads told =
+      let one : EntersSo s (step_of c.made) c.moment (reply_of c.made) (removed_of c.made) (state_of contents faults c.after.value) =
+      made_entry c.made c.before.value c.moment c.after.value s leads.1.by leads.1.other (same_state leads.0 told)
+      in
+      let more : HistoryOf contents faults (apply s one.entry) cs y = history_of c.after.value cs y (apply s one.entry) leads.2 one.leaves in
+      record {
+        entries = one.entry ∷ more.entries;
+        legal = (one.permitted, more.legal);
+        told = (record { is_step = one.is_step; at = one.at; answers = one.answers; removes = one.removes }, more.told);
+        states = states_on c cs s one.entry more.entries one.leaves more.states;
+        last = more.last;
+      }
+    where
+      states_on : (c : Change (DepotView S)) (cs : List (Change (DepotView S))) (s : State) (e : Entry) (es : List Entry)
+          → state_of contents faults c.after.value ≡ Some (apply s e)
+          → ((n : ℕ) (d : Change (DepotView S)) → slice_get cs n ≡ Some d → state_of contents faults d.after.value ≡ Some (after (apply s e) es (n + 1)))
+          → (n : ℕ) (d : Change (DepotView S)) → slice_get (c ∷ cs) n ≡ Some d → state_of contents faults d.after.value ≡ Some (after s (e ∷ es) (n + 1))
+      states_on c cs s e es here more zero d at = subst (λ c. state_of contents faults c.after.value ≡ Some (apply s e)) (some_is at) here
+        where
+          some_is : {A : Type 0} {x y : A} → Some x ≡ Some y → x ≡ y
+          some_is e = cc
+      states_on c cs s e es here more (suc n) d at =
+          more n d at ∙ ap (λ m. Some (after (apply s e) es m)) (add-one n) ∙ sym (ap (λ m. Some (after s (e ∷ es) m)) (add-one (suc n)))
+
+  -- a library that was sound is sound at the end of a chain
+  pub sound_still : (x : DepotView S) (cs : List (Change (DepotView S))) (y : DepotView S) (s t : State) → LeadsTo contents may_give texts faults x cs y
+      → state_of contents faults x ≡ Some s → state_of contents faults y ≡ Some t → IsSound s → IsSound t
+  sound_still x cs y s t leads was now sound =
+      let history : HistoryOf contents faults s cs y = history_of x cs y s leads was in
+      subst IsSound (one (sym history.last ∙ now)) (sound_after s history.entries (length history.entries) history.legal sound)
+    where
+      one : {a b : State} → Some a ≡ Some b → a ≡ b
+      one e = cc
