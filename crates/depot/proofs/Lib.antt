@@ -54,3 +54,4 @@ pub mod UpdateGoodLemmas
 pub mod StrayLemmas
 pub mod StandingLemmas
 pub mod StoryLemmas
+pub mod TellingLemmas

@@ -23,3 +23,4 @@ pub mod UpdateInstall
 pub mod Standing
 pub mod FirstGet
 pub mod Story
+pub mod Telling

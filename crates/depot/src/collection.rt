@@ -68,6 +68,7 @@ impl Collection {
     ghost use Rattle.object_graph.specs.Traversal.{is_in};
     ghost use Rattle.collector.specs.Marks.{phase_of};
     ghost use Rattle.depot.specs.Fresh.{AreNew, FreshensNone, FreshensOne, HasFresh, counted_turn};
+    ghost use Rattle.depot.specs.Telling.{HasCount};
 
     /// A collection that begins with these marks, over so many objects. No key is fresh.
     pub fn begin(alloc: Global, marks: Marks, stored: u64) -> Collection
@@ -93,6 +94,13 @@ impl Collection {
         ensures value { self.new ≡ counted_turn self.old }
     {
         self.turned = self.turned.one_more();
+    }
+
+    /// How many keys are fresh.
+    pub fn fresh_count(&self) -> usize
+        ensures value { HasCount self.now.running.fresh result }
+    {
+        self.fresh.len()
     }
 
     /// Takes the keys as fresh, and gives those that weren't. They are not shielded yet. After an error nothing is changed.

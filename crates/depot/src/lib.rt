@@ -27,6 +27,7 @@ mod shields;
 mod start;
 mod state_write;
 mod story;
+mod telling;
 mod tokens;
 mod turn;
 mod unstored;
