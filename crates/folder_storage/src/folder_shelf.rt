@@ -9,7 +9,7 @@ use crate::file_system::FileSystem;
 use crate::library_folder::{LibraryFolder, Way};
 use crate::unsynced::Unsynced;
 use ids::{Bytes, Key, Kind, ObjId};
-use object_store::{Found, Shelf, ShelfFailed, Slot, TextCount};
+use object_store::{CallCount, Found, Shelf, ShelfFailed, Slot};
 use std::io;
 
 /// A shelf over the files of one library's folder, one file a slot. It tells nothing of what it holds, and counts the
@@ -34,7 +34,7 @@ pub struct FolderShelf<F> {
     folder: LibraryFolder<F>,
     unsynced: Unsynced,
     faults: u64,
-    texts: TextCount,
+    texts: CallCount,
 }
 
 impl<F: FileSystem> FolderShelf<F> {
@@ -48,7 +48,7 @@ impl<F: FileSystem> FolderShelf<F> {
             folder,
             unsynced,
             faults: 0,
-            texts: TextCount::new(),
+            texts: CallCount::new(),
         }
     }
 }

@@ -3,9 +3,9 @@ ghost use Rattle.std.specs.Prelude.{◌≡◌, ◌<◌, ◌^◌, ◌-◌, ℕ, L
 ghost use Rattle.object_store.specs.FuseShelf.{PassesChange, PassesRead, burnt, failed_by};
 ghost use Rattle.object_store.specs.Shelf.{Changes, Contents, CountsFaults, FindsNext, GivesAlso, GivesNoMore, Tells, lies_in, put_known, removed_known, texts_after, with_put, without};
 
+use crate::call_count::CallCount;
 use crate::memory_shelf::MemoryShelf;
 use crate::shelf::{Found, Shelf, ShelfFailed, Slot};
-use crate::text_count::TextCount;
 use ids::{Bytes, Kind, ObjId};
 use std::marker::Model;
 
@@ -17,7 +17,7 @@ pub struct FuseShelf {
     left: u64,
     late: bool,
     faults: u64,
-    texts: TextCount,
+    texts: CallCount,
 }
 
 impl Model for FuseShelf {
@@ -40,7 +40,7 @@ impl FuseShelf {
             left: passes,
             late,
             faults: 0,
-            texts: TextCount::new(),
+            texts: CallCount::new(),
         }
     }
 

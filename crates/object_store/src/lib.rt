@@ -6,6 +6,7 @@
 //! What is stored under a key never changes. It reads no object's grammar.
 #![tactic(auto)]
 
+mod call_count;
 mod changing;
 mod error;
 mod fetching;
@@ -18,8 +19,8 @@ mod odd_shelf;
 mod put;
 mod shelf;
 mod store;
-mod text_count;
 
+pub use crate::call_count::CallCount;
 pub use crate::error::StoreFault;
 pub use crate::fuse_shelf::FuseShelf;
 pub use crate::gate_shelf::{Gate, GateShelf};
@@ -28,4 +29,3 @@ pub use crate::odd_shelf::OddShelf;
 pub use crate::put::Put;
 pub use crate::shelf::{Found, Shelf, ShelfFailed, Slot};
 pub use crate::store::Store;
-pub use crate::text_count::TextCount;

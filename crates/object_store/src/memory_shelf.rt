@@ -5,8 +5,8 @@ ghost use Rattle.ids.specs.FaultCount.{is_due};
 ghost use Rattle.object_store.specs.MemoryShelf.{ShelfAnswers, FindsAt, FindsKey, HasIds, IsLeastFrom, begun, fails_next};
 ghost use Rattle.object_store.specs.Shelf.{Changes, Contents, CountsFaults, FindsNext, GivesAlso, GivesNoMore, Tells, lies_in, put_known, removed_known, texts_after, with_put, without};
 
+use crate::call_count::CallCount;
 use crate::shelf::{Found, Shelf, ShelfFailed, Slot};
-use crate::text_count::TextCount;
 use ids::{Bytes, Items, Key, KeyTable, Kind, ObjId};
 use std::alloc::Global;
 use std::marker::Model;
@@ -20,7 +20,7 @@ pub struct MemoryShelf {
     fails: Items<u64>,
     calls: u64,
     faults: u64,
-    texts: TextCount,
+    texts: CallCount,
 }
 
 impl Model for MemoryShelf {
@@ -60,7 +60,7 @@ impl MemoryShelf {
             fails,
             calls: 0,
             faults: 0,
-            texts: TextCount::new(),
+            texts: CallCount::new(),
         }
     }
 

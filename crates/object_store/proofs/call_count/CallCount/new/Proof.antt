@@ -24,11 +24,11 @@ use denote.Triple.Spec.{Meets, triple_of}
 use denote.Triple.Table.{entered}
 use denote.Triple.Walked.{says, Stays, walk_of, ends_at, walk_Meets}
 use Rattle.object_store.proofs.WalkLemmas.{none, none_made}
-use Rattle.object_store.specs.contracts.text_count.TextCount as Count
-use Rattle.object_store.specs.contracts.text_count.TextCount.new as F
-use Rattle.object_store.specs.contracts.text_count.TextCount.new.Key.{name as #self}
-use Rattle.object_store.proofs.text_count.TextCount.new.Statement as stated
-use Rattle.object_store.proofs.text_count.TextCount.new.Code as code
+use Rattle.object_store.specs.contracts.call_count.CallCount as Count
+use Rattle.object_store.specs.contracts.call_count.CallCount.new as F
+use Rattle.object_store.specs.contracts.call_count.CallCount.new.Key.{name as #self}
+use Rattle.object_store.proofs.call_count.CallCount.new.Statement as stated
+use Rattle.object_store.proofs.call_count.CallCount.new.Code as code
 
 abbrev function : Fn
 function = code.function

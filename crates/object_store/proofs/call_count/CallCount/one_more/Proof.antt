@@ -26,11 +26,11 @@ use denote.Triple.Spec.{Meets, triple_of}
 use denote.Triple.Table.{entered}
 use denote.Triple.Walked.{says, Stays, stay_dropped, walk_of, ends_at, walk_Meets, Goes-dropped}
 use Rattle.object_store.proofs.WalkLemmas.{none, none_made}
-use Rattle.object_store.specs.contracts.text_count.TextCount as Count
-use Rattle.object_store.specs.contracts.text_count.TextCount.one_more as F
-use Rattle.object_store.specs.contracts.text_count.TextCount.one_more.Key.{name as #self}
-use Rattle.object_store.proofs.text_count.TextCount.one_more.Statement as stated
-use Rattle.object_store.proofs.text_count.TextCount.one_more.Code as code
+use Rattle.object_store.specs.contracts.call_count.CallCount as Count
+use Rattle.object_store.specs.contracts.call_count.CallCount.one_more as F
+use Rattle.object_store.specs.contracts.call_count.CallCount.one_more.Key.{name as #self}
+use Rattle.object_store.proofs.call_count.CallCount.one_more.Statement as stated
+use Rattle.object_store.proofs.call_count.CallCount.one_more.Code as code
 
 abbrev function : Fn
 function = code.function
