@@ -19,10 +19,10 @@ use Rattle.object_store.specs.StoreView.{Index}
 use Rattle.object_store.specs.declared.error.StoreFault.TheVariants as store
 use Rattle.library_rules.proofs.MemberLemmas.{any_found, same_id-itself, same_id-true}
 use Rattle.tree_walk.specs.Files.{first_due}
-use Rattle.tree_walk.specs.Reading.{AnswersRead, IsDamageAt, IsDue}
+use Rattle.tree_walk.specs.Reading.{AnswersRead, IsDue}
 use Rattle.tree_walk.specs.declared.fault.WalkFault.{WalkFault}
 use Rattle.tree_walk.specs.declared.fault.WalkFault.TheVariants.{Incomplete, Unreadable, WrongKind, WrongSize, TooDeep, TooMany, Store}
-use Rattle.collector.specs.Marking.{FailsToMark, IsDamageOfNeeded, MarksMany, MarksOne, MarksUpTo, WaitsWith, first_fault, is_of_store, named_first}
+use Rattle.collector.specs.Marking.{FailsToMark, IsDamageOfNeeded, IsDamageRead, MarksMany, MarksOne, MarksUpTo, WaitsWith, first_fault, is_of_store, named_first}
 use Rattle.collector.specs.Marks.{AreCompleteCommits, AreFirst, AreMarks, Candidates, IsExact, Leads, MarksView, is_candidate, needed_by}
 use Rattle.collector.specs.Naming.{names_at}
 use Rattle.collector.proofs.NamingLemmas.{can_be_read}
@@ -38,7 +38,7 @@ any_of P (x ∷ ids) e = elim (or_cases (P x) (list_any P ids) e) [
   | inr there ↦ let rest = any_of P ids there in (rest.0, or_right (same_id rest.0 x) (list_any (same_id rest.0) ids) rest.1, rest.2)
 ]
 
-in_commits : (commits : List (List ℕ)) (c : List ℕ) → list_any (same_id c) commits ≡ true → is_in (map_list commit_key commits) (commit_key c) ≡ true
+pub in_commits : (commits : List (List ℕ)) (c : List ℕ) → list_any (same_id c) commits ≡ true → is_in (map_list commit_key commits) (commit_key c) ≡ true
 in_commits [] c e = absurd (true≢false (sym e))
 in_commits (x ∷ commits) c e = elim (or_cases (same_id c x) (list_any (same_id c) commits) e) [
   | inl here ↦ or_left (same_key (commit_key c) (commit_key x)) (is_in (map_list commit_key commits) (commit_key c))
@@ -382,6 +382,6 @@ pub damage_needed : (objects : Objects) (m : MarksView) (fault : WalkFault) → 
     → FailsToMark objects m fault → IsDamageOfNeeded objects m.commits fault
 damage_needed objects m fault complete exact fails = by fault fails.damage
   where
-    by : (f : WalkFault) → IsDamageAt objects fails.key f → IsDamageOfNeeded objects m.commits f
-    by (Store (store.Damaged want got)) is = (fails.key, is, fails_needed objects m fault complete exact fails)
+    by : (f : WalkFault) → IsDamageRead objects fails.key f → IsDamageOfNeeded objects m.commits f
+    by (Store (store.Damaged want got)) is = (fails.key, is.0, fails_needed objects m fault complete exact fails, is.1)
     by other is = tt

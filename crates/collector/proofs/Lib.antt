@@ -8,6 +8,7 @@ pub mod MadeLemmas
 pub mod MarkingLemmas
 pub mod NamingLemmas
 pub mod NeedLemmas
+pub mod OpenedLemmas
 pub mod OpeningLemmas
 pub mod StoredCandidatesLemmas
 pub mod SweepLemmas

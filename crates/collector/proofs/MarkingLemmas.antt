@@ -18,11 +18,11 @@ use Rattle.object_store.specs.Shelf.{Contents}
 use Rattle.object_store.specs.StoreView.{Index, StoreView}
 use Rattle.object_store.specs.declared.shelf.Slot.{Slot}
 use Rattle.tree_walk.specs.Files.{first_due}
-use Rattle.tree_walk.specs.Reading.{AnswersRead, IsCause, IsDamageAt, IsDue, Reads}
+use Rattle.tree_walk.specs.Reading.{AnswersRead, IsCause, IsDue, Reads}
 use Rattle.tree_walk.specs.declared.fault.WalkFault.{WalkFault}
 use Rattle.tree_walk.specs.declared.fault.WalkFault.TheVariants.{Incomplete, Unreadable, WrongKind, WrongSize, TooDeep, TooMany, Store}
 use Rattle.tree_walk.proofs.StepsLemmas.{due_anywhere}
-use Rattle.collector.specs.Marking.{FailsToMark, HasMarked, IsDamageOfNeeded, IsMarkFault, MarksMany, MarksOne, MarksUpTo, TellsMarked, WaitsWith, first_fault, is_of_store, named_first}
+use Rattle.collector.specs.Marking.{FailsToMark, HasMarked, IsDamageOfNeeded, IsDamageRead, IsMarkFault, MarksMany, MarksOne, MarksUpTo, TellsMarked, WaitsWith, first_fault, is_of_store, named_first}
 use Rattle.collector.specs.Marks.{AreCompleteCommits, AreMarks, Candidates, IsExact, MarksView, is_candidate, phase_of}
 use Rattle.collector.specs.declared.marks.Phase.TheVariants.{Marking, Sweeping, Over}
 use Rattle.collector.specs.Naming.{names_at}
@@ -157,7 +157,7 @@ waits_none objects m = record {
 }
 
 pub fails_to_mark : (objects : Objects) (commits : List (List ℕ)) (marked pending : List Key) (candidates : Candidates) (key : Key) (fault : WalkFault) → Some key ≡ first_of pending
-    → AnswersRead {T = List Key} objects (names_at objects key) (Err fault) → IsDamageAt objects key fault → FailsToMark objects (marks_of commits marked pending candidates) fault
+    → AnswersRead {T = List Key} objects (names_at objects key) (Err fault) → IsDamageRead objects key fault → FailsToMark objects (marks_of commits marked pending candidates) fault
 fails_to_mark objects commits marked pending candidates key fault is due damage =
     let one = first_is pending key is in record { key = key; rest = one.0; first = one.1; due = due; damage = damage }
 

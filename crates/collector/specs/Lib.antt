@@ -4,6 +4,7 @@ pub mod Comparing
 pub mod Marking
 pub mod Marks
 pub mod Naming
+pub mod Opened
 pub mod StoredCandidates
 pub mod Sweeping
 pub mod Worklist

@@ -3,13 +3,14 @@ use Rattle.std.specs.Prelude.{◌≡◌, ◌≢◌, ◌≤◌, ◌<◌, ◌+◌,
 use Rattle.std.specs.FinMap as map
 use Rattle.ids.specs.Key.{Objects}
 use Rattle.ids.specs.declared.key.Key.{Key}
+use Rattle.ids.specs.declared.key.Kind.TheVariants.{Block}
 use Rattle.object_graph.specs.Reached.{named}
 use Rattle.object_graph.specs.Traversal.{distinct_from, is_in, walk_commit}
 use Rattle.object_graph.specs.declared.fault.TreeFault.{TreeFault}
 use Rattle.object_store.specs.Store.{damage_at}
 use Rattle.object_store.specs.declared.error.StoreFault.TheVariants.{Damaged}
 use Rattle.tree_walk.specs.Files.{first_due}
-use Rattle.tree_walk.specs.Reading.{AnswersRead, IsDamageAt, IsDue}
+use Rattle.tree_walk.specs.Reading.{AnswersRead, IsDue}
 use Rattle.tree_walk.specs.declared.fault.WalkFault.{WalkFault}
 use Rattle.tree_walk.specs.declared.fault.WalkFault.TheVariants.{Incomplete, Unreadable, WrongKind, WrongSize, TooDeep, TooMany, Store}
 use Rattle.collector.specs.Marks.{MarksView, is_candidate, needed_by}
@@ -89,11 +90,16 @@ first_fault objects (commit ∷ commits) = first_due (walk_commit objects commit
 abbrev pub IsMarkFault : Objects → List (List ℕ) → WalkFault → Type 0
 IsMarkFault objects commits fault = IsDue objects (first_fault objects commits) fault
 
--- damage is told of an object that is damaged and that one of the commits needs
+-- damage is told of an object that is damaged and that one of the commits needs; and of no block, since none is read
 abbrev pub IsDamageOfNeeded : Objects → List (List ℕ) → WalkFault → Type 0
 IsDamageOfNeeded objects commits (Store (Damaged want got)) =
-    (key : Key) × (damage_at objects key ≡ Some (Damaged want got)) × (needed_by objects commits key ≡ true)
+    (key : Key) × (damage_at objects key ≡ Some (Damaged want got)) × (needed_by objects commits key ≡ true) × (key.kind ≢ Block)
 IsDamageOfNeeded objects commits other = ⊤
+
+-- for a private clause: damage is told of this object alone, and of no block
+abbrev pub IsDamageRead : Objects → Key → WalkFault → Type 0
+IsDamageRead objects key (Store (Damaged want got)) = (damage_at objects key ≡ Some (Damaged want got)) × (key.kind ≢ Block)
+IsDamageRead objects key other = ⊤
 
 -- for a private clause: the object that waits first can't be read, or the store failed
 pub record FailsToMark (objects : Objects) (marks : MarksView) (fault : WalkFault) : Type 0 where
@@ -101,4 +107,4 @@ pub record FailsToMark (objects : Objects) (marks : MarksView) (fault : WalkFaul
   pub rest : List Key
   pub first : marks.pending ≡ key ∷ rest
   pub due : AnswersRead {T = List Key} objects (names_at objects key) (Err fault)
-  pub damage : IsDamageAt objects key fault
+  pub damage : IsDamageRead objects key fault

@@ -1,4 +1,4 @@
--- For private clauses: what an object names, as it is read. Read names_at.
+-- What an object names, as it is read. Our own. Read names_of, then names_at; is_of_bytes is for private clauses.
 use Rattle.std.specs.Prelude.{ℕ, Bool, true, false, List, [], Option, None, Some, Result, Ok, Err}
 use Rattle.std.specs.FinMap as map
 use Rattle.ids.specs.Key.{Objects}

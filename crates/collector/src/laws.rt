@@ -3,6 +3,7 @@ ghost use Rattle.std.specs.Prelude.{◌≡◌, ◌≢◌, ◌⊎◌, [], ℕ, su
 ghost use Rattle.std.specs.FinMap as map;
 ghost use Rattle.ids.specs.Key.{Objects};
 ghost use Rattle.ids.specs.declared.key.Key.{Key};
+ghost use Rattle.ids.specs.declared.key.Kind.TheVariants.{Block};
 ghost use Rattle.library_rules.specs.Answered.{Fails, Plain};
 ghost use Rattle.library_rules.specs.Changes.{begun, moved, swept, turn_counted};
 ghost use Rattle.library_rules.specs.CollectionSteps.{IsClean, Sweeps};
@@ -10,10 +11,11 @@ ghost use Rattle.library_rules.specs.LibraryState.{IsSound, Running, State};
 ghost use Rattle.library_rules.specs.declared.entry.Entry.{Entry};
 ghost use Rattle.library_state.specs.declared.reply.Reply.TheVariants.{Checked};
 ghost use Rattle.object_graph.specs.Traversal.{is_in};
-ghost use Rattle.object_store.specs.StoreView.{Index, StoreView};
+ghost use Rattle.object_store.specs.StoreView.{Index, StoreView, objects_of};
 ghost use Rattle.collector.specs.Collecting.{AreCandidates, AreKeptCommits, Collects, KnowsStored, LeavesCandidates, ShieldsSo};
 ghost use Rattle.collector.specs.Marking.{HasMarked, MarksMany, MarksUpTo};
 ghost use Rattle.collector.specs.Marks.{AreFirst, AreMarks, HasTheSameMarks, IsExact, Leads, MarksView, is_candidate, needed_by};
+ghost use Rattle.collector.specs.Opened.{IsOpened, IsWholeIn};
 ghost use Rattle.collector.specs.StoredCandidates.{AreStoredIn};
 ghost use Rattle.collector.specs.Sweeping.{Took};
 
@@ -89,4 +91,11 @@ pub fn candidates_are_stored_and_stay_so<S: Shelf>()
     ensures stays { (index : Index) → (more : Index) → (old : MarksView) → (new : MarksView)
         → ((key : Key) → is_some (map.get index key) ≡ true → is_some (map.get more key) ≡ true)
         → ((key : Key) → is_candidate new key ≡ true → is_candidate old key ≡ true) → AreStoredIn index old → AreStoredIn more new }
+{}
+
+/// Over a shelf that tells what it holds, a commit, a directory or a file that was opened whole is stored, can be read, and
+/// isn't damaged.
+pub fn what_was_opened_is_whole_where_the_shelf_tells<S: Shelf>()
+    ensures { (store : StoreView S) → (objects : Objects) → (met : List Key) → (key : Key) → objects_of S.contents store ≡ Some objects
+        → key.kind ≢ Block → IsOpened store.index (S.may_give store.shelf) met key → IsWholeIn objects key }
 {}

@@ -5,6 +5,7 @@ ghost use Rattle.object_store.specs.StoreView.{objects_of};
 ghost use Rattle.tree_walk.specs.Reading.{Answers, IsCause, Reads};
 ghost use Rattle.collector.specs.Marking.{FailsToMark, HasMarked, IsDamageOfNeeded, IsMarkFault, MarksMany, MarksOne, MarksUpTo, TellsMarked, WaitsWith, first_fault, is_of_store};
 ghost use Rattle.collector.specs.Marks.{AreCompleteCommits, AreMarks, IsExact};
+ghost use Rattle.collector.specs.Opened.{HaveOpened, OpensFirst, OpensMore};
 
 use crate::marks::Marks;
 use crate::naming::names_at;
@@ -17,16 +18,24 @@ impl Marks {
     /// Marks up to so many objects that wait, in the order in which they were met, and tells how many: one at least, where
     /// one waits. Each is opened, and what it names and wasn't met before waits.
     ///
+    /// Over any shelf nothing is marked but what the store knows and, unless it is a block, was read whole under its own name;
+    /// and what it names waits, or is marked. Where no fault comes the object that waited first is among them. So one that is
+    /// missing, damaged or unreadable ends the marking as it is met: it never counts as one that names nothing, and no sweep
+    /// comes behind it.
+    ///
     /// With a fault those before the object that can't be read are marked, and it goes on waiting. A fault of a tree comes
     /// only where the traversal of one of the commits has that fault. Where the commits are complete, damage is told of no
-    /// object but one that they need.
+    /// object but a commit, directory or file that they need: a block is looked up and not read.
     pub fn mark<S: Shelf>(&mut self, store: &mut Store<S>, at_most: u64) -> Result<u64, WalkFault>
         requires some { 1 ≤ at_most }
         ensures value { (objects : Objects) → objects_of S.contents store.old ≡ Some objects → IfOk result (MarksMany objects self.old self.new) }
         ensures err { (objects : Objects) → objects_of S.contents store.old ≡ Some objects → OnErr result (MarksUpTo objects self.old self.new) }
         ensures told { IfOk result (TellsMarked at_most self.old self.new) }
         ensures left { HasMarked self.old self.new }
+        ensures opened { OpensMore store.old.index (S.may_give store.old.shelf) self.old self.new }
+        ensures first { IfOk result (λ count. OpensFirst store.old.index (S.may_give store.old.shelf) self.old self.new) }
         ensures good { AreMarks self.new }
+        ensures read { HaveOpened self.new }
         ensures cause { (objects : Objects) → objects_of S.contents store.old ≡ Some objects → IsExact objects self.old
             → IfErr result (IsMarkFault objects self.old.commits) }
         ensures damaged { (objects : Objects) → objects_of S.contents store.old ≡ Some objects → IsExact objects self.old → AreCompleteCommits objects self.old.commits
@@ -54,6 +63,7 @@ impl Marks {
     fn is_done(&self) -> bool
         ensures value { result ≡ (length self.now.pending == 0) }
         ensures good { AreMarks self.now }
+        ensures read { HaveOpened self.now }
     {
         self.work.is_done()
     }
@@ -65,7 +75,10 @@ impl Marks {
         ensures err { (objects : Objects) → objects_of S.contents store.old ≡ Some objects → OnErr result (WaitsWith objects self.old self.new) }
         ensures size { OnOk result (length self.new.marked ≡ length self.old.marked + 1) }
         ensures left { HasMarked self.old self.new }
+        ensures opened { OpensMore store.old.index (S.may_give store.old.shelf) self.old self.new }
+        ensures first { OnOk result (OpensFirst store.old.index (S.may_give store.old.shelf) self.old self.new) }
         ensures good { AreMarks self.new }
+        ensures read { HaveOpened self.new }
         ensures cause { (objects : Objects) → objects_of S.contents store.old ≡ Some objects → IfErr result (FailsToMark objects self.old) }
         ensures stays { Reads S.contents S.may_give S.texts S.faults store.old store.new result }
     {

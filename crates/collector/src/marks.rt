@@ -41,7 +41,8 @@ pub struct Marks {
 }
 
 impl Model for Marks {
-    ghost use Rattle.collector.specs.Marks.{AreMarks, MarksView, marks_code};
+    ghost use Rattle.collector.specs.Marks.{MarksView, marks_code};
+    ghost use Rattle.collector.specs.Opened.{AreWholeMarks};
 
     ghost Value = { MarksView };
 
@@ -49,11 +50,12 @@ impl Model for Marks {
 
     ghost view = { λ a. record { commits = a.commits; marked = a.work.opened; pending = a.work.waiting; candidates = a.candidates } };
 
-    ghost invariant = { λ a. AreMarks (record { commits = a.commits; marked = a.work.opened; pending = a.work.waiting; candidates = a.candidates }) };
+    ghost invariant = { λ a. AreWholeMarks (record { commits = a.commits; marked = a.work.opened; pending = a.work.waiting; candidates = a.candidates }) };
 }
 
 impl Marks {
     ghost use Rattle.collector.specs.Marks.{AreFirst, AreMarks, HasTheSameMarks, is_candidate, phase_of};
+    ghost use Rattle.collector.specs.Opened.{HaveOpened};
 
     /// The marks of a collection that begins, for these commits: all that is stored is a candidate, and the commits wait.
     ///
@@ -65,6 +67,7 @@ impl Marks {
     ) -> Result<Marks, AllocError>
         ensures value { IfOk result (AreFirst store.now.index kept.now) }
         ensures good { IfOk result AreMarks }
+        ensures read { IfOk result HaveOpened }
         ensures shown { (objects : Objects) → objects_of S.contents store.now ≡ Some objects
             → IfOk result (λ marks. (key : Key) → is_candidate marks key ≡ is_some (map.get objects key)) }
     {
@@ -86,13 +89,19 @@ impl Marks {
         ensures value { (key : Key) → is_candidate self.new key ≡ (is_candidate self.old key && not (is_in keys.now key)) }
         ensures stays { HasTheSameMarks self.old self.new }
         ensures good { AreMarks self.new }
+        ensures read { HaveOpened self.new }
     {
         take_out(&mut self.candidates, keys.slice());
     }
 
     /// What is due. It takes no memory.
+    ///
+    /// Over any shelf each object that is marked was read whole, and what it named was met. So where it isn't `Marking`, all
+    /// that the commits lead to is marked.
     pub fn phase(&self) -> Phase
         ensures value { result ≡ phase_of self.now }
+        ensures good { AreMarks self.now }
+        ensures read { HaveOpened self.now }
     {
         if !self.work.is_done() {
             return Phase::Marking;

@@ -1,11 +1,14 @@
 //! What an object names.
-ghost use Rattle.std.specs.Prelude.{◌≡◌, ◌++◌, IfErr, IfOk, IsTrue, OnErr, OnOk, Some};
+ghost use Rattle.std.specs.Prelude.{◌≡◌, ◌++◌, IfErr, IfOk, IsTrue, OnErr, OnOk, Some, is_some, true};
+ghost use Rattle.std.specs.FinMap as map;
 ghost use Rattle.ids.specs.Key.{Objects};
 ghost use Rattle.object_graph.specs.Objects.{fs_in};
 ghost use Rattle.object_graph.specs.Reached.{block_keys, entry_keys, named_in, own_keys};
 ghost use Rattle.object_store.specs.StoreView.{objects_of};
 ghost use Rattle.tree_walk.specs.Reading.{AnswersRead, IsDamageAt, Reads};
+ghost use Rattle.collector.specs.Marking.{IsDamageRead};
 ghost use Rattle.collector.specs.Naming.{is_of_bytes, names_at, names_by, names_of};
+ghost use Rattle.collector.specs.Opened.{ReadsAs, ReadsNames};
 
 use commit_objects::Commit;
 use fs_objects::{DirObject, Dirent, FsObject};
@@ -24,7 +27,9 @@ pub(crate) fn names_at<S: Shelf>(
     key: &Key,
 ) -> Result<KeyList, WalkFault>
     ensures value { (objects : Objects) → objects_of S.contents store.old ≡ Some objects → AnswersRead objects (names_at objects key.now) result }
-    ensures damaged { (objects : Objects) → objects_of S.contents store.old ≡ Some objects → IfErr result (IsDamageAt objects key.now) }
+    ensures known { IfOk result (λ names. is_some (map.get store.old.index key.now) ≡ true) }
+    ensures whole { IfOk result (λ names. ReadsNames (S.may_give store.new.shelf) key.now.kind key.now names) }
+    ensures damaged { (objects : Objects) → objects_of S.contents store.old ≡ Some objects → IfErr result (IsDamageRead objects key.now) }
     ensures stays { Reads S.contents S.may_give S.texts S.faults store.old store.new result }
 {
     match key.kind {
@@ -42,7 +47,9 @@ fn block_names<S: Shelf>(
 ) -> Result<KeyList, WalkFault>
     requires ready { key.now.kind ≡ Kind.Block }
     ensures value { (objects : Objects) → objects_of S.contents store.old ≡ Some objects → AnswersRead objects (names_at objects key.now) result }
-    ensures damaged { (objects : Objects) → objects_of S.contents store.old ≡ Some objects → IfErr result (IsDamageAt objects key.now) }
+    ensures known { IfOk result (λ names. is_some (map.get store.old.index key.now) ≡ true) }
+    ensures whole { IfOk result (λ names. ReadsNames (S.may_give store.new.shelf) key.now.kind key.now names) }
+    ensures damaged { (objects : Objects) → objects_of S.contents store.old ≡ Some objects → IfErr result (IsDamageRead objects key.now) }
     ensures stays { Reads S.contents S.may_give S.texts S.faults store.old store.new result }
 {
     match store.has(*key) {
@@ -58,6 +65,8 @@ fn names_read<S: Shelf>(
     key: &Key,
 ) -> Result<KeyList, WalkFault>
     ensures value { (objects : Objects) → objects_of S.contents store.old ≡ Some objects → AnswersRead objects (names_at objects key.now) result }
+    ensures known { IfOk result (λ names. is_some (map.get store.old.index key.now) ≡ true) }
+    ensures whole { IfOk result (λ names. ReadsAs (S.may_give store.new.shelf) key.now names) }
     ensures damaged { (objects : Objects) → objects_of S.contents store.old ≡ Some objects → IfErr result (IsDamageAt objects key.now) }
     ensures stays { Reads S.contents S.may_give S.texts S.faults store.old store.new result }
 {

@@ -6,6 +6,7 @@ ghost use Rattle.ids.specs.declared.key.Key.{Key};
 ghost use Rattle.object_store.specs.Store.{CountsShelf, is_free};
 ghost use Rattle.object_store.specs.StoreView.{status_of};
 ghost use Rattle.collector.specs.Marks.{AreMarks, HasTheSameMarks};
+ghost use Rattle.collector.specs.Opened.{HaveOpened};
 ghost use Rattle.collector.specs.StoredCandidates.{AreStoredIn};
 ghost use Rattle.collector.specs.Sweeping.{CountsSwept, EndsAtFault, EndsSo, GivesOrNothing, StraysAtEnd, TellsRest, Took, TookLeast, TookOne, is_listed};
 
@@ -32,6 +33,7 @@ impl Marks {
         ensures value { Took S.contents store.old store.new self.old.candidates self.new.candidates result.removed }
         ensures stays { HasTheSameMarks self.old self.new }
         ensures good { AreMarks self.new }
+        ensures read { HaveOpened self.new }
         ensures none { self.old.pending ≢ [] → (result.removed ≡ []) × (result.fault ≡ None) }
         ensures size { self.old.pending ≡ [] → result.fault ≡ None → length result.removed ≡ min at_most (map.len self.old.candidates) }
         ensures few { length result.removed ≤ at_most }

@@ -30,6 +30,7 @@ pub mod ShieldLemmas
 pub mod ShieldStepLemmas
 pub mod TurnLemmas
 pub mod TakesTurnLemmas
+pub mod OpenedTurnLemmas
 pub mod SweepPartLemmas
 pub mod SweepTurnLemmas
 pub mod BeginTurnLemmas

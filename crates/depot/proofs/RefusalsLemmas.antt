@@ -75,7 +75,7 @@ walk_not_damaged objects o other is = tt
 pub walk_needed : (s : State) (keys : List Key) (commits : List (List ℕ)) (fault : WalkFault)
     → ((key : Key) → needed_by s.objects commits key ≡ true → is_needed s.objects s.state.kept key ≡ true) → IsDamageOfNeeded s.objects commits fault
     → IsToldNeeded s (Refused (walk_refusal fault) keys)
-walk_needed s keys commits (walk.Store (store.Damaged want got)) each is = (is.0, is.1, each is.0 is.2)
+walk_needed s keys commits (walk.Store (store.Damaged want got)) each (key, damage, needed, read) = (key, damage, each key needed, read)
 walk_needed s keys commits (walk.Store other) each is = tt
 walk_needed s keys commits other each is = tt
 

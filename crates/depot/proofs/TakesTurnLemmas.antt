@@ -32,6 +32,7 @@ use Rattle.object_store.proofs.StrayLemmas.{strays_kept}
 use Rattle.collector.specs.Collecting.{Collects}
 use Rattle.collector.specs.Marking.{HasMarked, IsDamageOfNeeded, IsMarkFault, MarksMany, MarksUpTo, TellsMarked, first_fault}
 use Rattle.collector.specs.Marks.{AreCompleteCommits, AreMarks, Candidates, IsExact, MarksView, is_candidate, phase_of}
+use Rattle.collector.specs.Opened.{OpensMore}
 use Rattle.collector.specs.declared.marks.Phase.TheVariants as Phases
 use Rattle.collector.proofs.CollectingLemmas.{whole}
 use Rattle.collector.proofs.GoesOnLemmas.{marks_collect, waits_collect}
@@ -67,11 +68,11 @@ module _ {S : Type 0} (contents : S → Option Contents) (may_give : S → Slot 
     (table : map.FinMap key_cmp ⊤) (stored turned : ℕ) (old : CollectionView) (is : collection_of marks table stored turned ≡ old) where
   pub marks_some : (at_most count : ℕ) (after : CollectionView) → after ≡ counted_turn (collection_of next table stored turned) → marks.pending ≢ [] → Reads {T = ℕ} contents may_give texts faults store new (Ok count)
       → ((objects : Objects) → objects_of contents store ≡ Some objects → MarksMany objects marks next count) → TellsMarked at_most marks next count → HasMarked marks next → AreMarks next
-      → MarksSo contents may_give texts faults store old at_most (Marked count) new after
-  marks_some at_most count after counts some reads many told left good =
+      → OpensMore store.index (may_give store.shelf) marks next → MarksSo contents may_give texts faults store old at_most (Marked count) new after
+  marks_some at_most count after counts some reads many told left good opened =
       subst (λ (o : CollectionView). MarksSo contents may_give texts faults store o at_most (Marked count) new after) is
       (subst (λ (a : CollectionView). MarksSo contents may_give texts faults store (collection_of marks table stored turned) at_most (Marked count) new a) (sym counts)
-      (told.some some, told.few, record { reads = reads; marks = many; left = left; size = told.size; good = good; turned = refl }))
+      (told.some some, told.few, record { reads = reads; opened = opened; marks = many; left = left; size = told.size; good = good; turned = refl }))
 
   pub fails_some : (at_most : ℕ) (fault : WalkFault) (why : Refusal) (keys : List Key) → why ≡ walk_refusal fault → keys ≡ [] → Reads {T = ℕ} contents may_give texts faults store new (Err fault)
       → ((objects : Objects) → objects_of contents store ≡ Some objects → IsExact objects marks → IsMarkFault objects marks.commits fault)

@@ -3,9 +3,12 @@ use Rattle.std.specs.Prelude.{◌≡◌, ◌≢◌, ◌⊎◌, ◌≤◌, ◌<�
 use Rattle.std.specs.Bool.{MatchBool}
 use Rattle.std.specs.FinMap as map
 use Rattle.std.specs.FinSet as set
+use Rattle.std.specs.List.{IsDistinct}
+use Rattle.std.specs.Ordering.{eq_by_cmp}
 use Rattle.ids.specs.FaultCount.{Rose}
-use Rattle.ids.specs.Key.{Objects}
+use Rattle.ids.specs.Key.{Objects, key_cmp}
 use Rattle.ids.specs.declared.key.Key.{Key}
+use Rattle.ids.specs.declared.key.Kind.TheVariants.{Block}
 use Rattle.library_rules.specs.CollectionSteps.{IsClean}
 use Rattle.library_rules.specs.LibraryState.{Running, State, is_needed, is_stored, kept_commits, last_number}
 use Rattle.library_rules.specs.Turns.{IsRefusedTurn, TakesStep}
@@ -29,6 +32,7 @@ use Rattle.object_store.specs.declared.error.StoreFault.TheVariants as store_fau
 use Rattle.depot.specs.Answering.{MayRefuseTree, is_free_refusal}
 use Rattle.collector.specs.Marking.{HasMarked, IsMarkFault, MarksMany, MarksUpTo, IsDamageOfNeeded}
 use Rattle.collector.specs.Marks.{AreFirst, AreMarks, HasTheSameMarks, IsExact, is_candidate, AreCompleteCommits}
+use Rattle.collector.specs.Opened.{IsOpened, IsRead, OpensMore, anything}
 use Rattle.collector.specs.Sweeping.{CountsSwept, StraysAtEnd, StraysIf, Took}
 use Rattle.tree_walk.specs.Reading.{Reads}
 use Rattle.tree_walk.specs.declared.fault.WalkFault.{WalkFault}
@@ -147,11 +151,41 @@ abbrev pub IsToldDamageIn : Objects → Turn → Type 0
 IsToldDamageIn objects (Refused why keys) = IsToldDamageOf objects why
 IsToldDamageIn objects other = ⊤
 
--- and of one that a kept commit needs
+-- and of one that a kept commit needs; never of a block, since a collection reads none
 abbrev pub IsToldNeeded : State → Turn → Type 0
 IsToldNeeded s (Refused (refusal.Damaged want got) keys) =
-    (key : Key) × (damage_at s.objects key ≡ Some (store_fault.Damaged want got)) × (is_needed s.objects s.state.kept key ≡ true)
+    (key : Key) × (damage_at s.objects key ≡ Some (store_fault.Damaged want got)) × (is_needed s.objects s.state.kept key ≡ true) × (key.kind ≢ Block)
 IsToldNeeded s other = ⊤
+
+-- so many different objects were opened, each whole: the store knows it, and unless it is a block, the shelf may give its bytes under
+-- its own name, and they can be read. Where the library is told, a kept commit needs each
+pub record OpensMany {S : Type 0} (contents : S → Option Contents) (may_give : S → ShelfSlot → Option (List ℕ) → Type 0) (faults : S → ℕ) (old : DepotView S)
+    (count : ℕ) : Type 0 where
+  pub keys : List Key
+  pub met : List Key
+  pub size : length keys ≡ count
+  pub once : IsDistinct (eq_by_cmp key_cmp) keys
+  pub each : (key : Key) → is_in keys key ≡ true → IsOpened old.store.index (may_give old.store.shelf) met key
+  pub needed : (s : State) → state_of contents faults old ≡ Some s → (key : Key) → is_in keys key ≡ true → is_needed s.objects s.state.kept key ≡ true
+
+-- behind what leaves so many different objects are marked: each was read under its own name, unless it is a block; what it names is
+-- marked too; and none of them leaves
+pub record AreMarkedBehind (count : ℕ) (removed : List Key) : Type 0 where
+  pub keys : List Key
+  pub size : length keys ≡ count
+  pub once : IsDistinct (eq_by_cmp key_cmp) keys
+  pub read : (key : Key) → is_in keys key ≡ true → IsRead anything keys key
+  pub stay : (key : Key) → is_in removed key ≡ true → is_in keys key ≡ false
+
+-- what a turn opened: a marking each object that it tells, and where keys leave, or it ends, all that is marked had been. So what
+-- is missing, damaged or unreadable is never told as marked, and never counts as an object that names nothing
+abbrev pub OpensSo : {S : Type 0} → (S → Option Contents) → (S → ShelfSlot → Option (List ℕ) → Type 0) → (S → ℕ) → DepotView S → Turn → Type 0
+OpensSo contents may_give faults old (Began number) = ⊤
+OpensSo contents may_give faults old (Marked count) = OpensMany contents may_give faults old count
+OpensSo contents may_give faults old (Swept keys) = AreMarkedBehind old.marked keys
+OpensSo contents may_give faults old (Ended number) = AreMarkedBehind old.marked []
+OpensSo contents may_give faults old (Over number) = ⊤
+OpensSo contents may_give faults old (Refused why keys) = keys ≢ [] → AreMarkedBehind old.marked keys
 
 -- whether a turn was refused by a failure that the shelf counts; only then the count rose
 abbrev pub is_counted_turn : Turn → Bool
@@ -268,6 +302,7 @@ module _ {S : Type 0} (contents : S → Option Contents) (may_give : S → Shelf
   -- so many objects were marked, and a turn more is counted
   pub record MarksSome (old : StoreView S) (before : CollectionView) (count : ℕ) (new : StoreView S) (after : CollectionView) : Type 0 where
     pub reads : Reads {T = ℕ} contents may_give texts faults old new (Ok count)
+    pub opened : OpensMore old.index (may_give old.shelf) before.marks after.marks
     pub marks : (objects : Objects) → objects_of contents old ≡ Some objects → MarksMany objects before.marks after.marks count
     pub left : HasMarked before.marks after.marks
     pub size : length after.marks.marked ≡ length before.marks.marked + count

@@ -1,8 +1,7 @@
 //! A collection that runs.
-ghost use Rattle.std.specs.Prelude.{ℕ};
-
 use collector::{Marks, Phase};
 use ids::{Key, KeyList, KeyTable};
+use object_store::CallCount;
 use std::alloc::{AllocError, Global};
 use std::marker::Model;
 
@@ -14,14 +13,8 @@ pub(crate) struct Collection {
     pub marks: Marks,
     pub fresh: KeyTable<()>,
     pub stored: u64,
-    pub turned: TurnCount,
-}
-
-/// How many turns of a collection were not refused. It stands in proofs alone: no call tells it, and twice the number of
-/// objects may pass 64 bits.
-#[derive(Drop)]
-pub struct TurnCount {
-    pub ghost count: { ℕ },
+    /// How many of its turns were not refused.
+    pub turned: CallCount,
 }
 
 impl Model for Collection {
@@ -34,39 +27,13 @@ impl Model for Collection {
     ghost view = { λ a. record { marks = a.marks; running = record { fresh = fresh_in a.fresh; stored = a.stored; turned = a.turned.count } } };
 }
 
-impl Model for TurnCount {
-    ghost use Rattle.std.specs.Borrow.{ftrue};
-
-    ghost also_owns = { λ _. ftrue };
-}
-
-// It owns nothing.
-unsafe impl Send for TurnCount {}
-
-impl TurnCount {
-    ghost use Rattle.std.specs.Prelude.{◌≡◌, ◌+◌};
-
-    /// The count of a collection that had no turn.
-    pub fn new() -> TurnCount
-        ensures value { result.count ≡ 0 }
-    {
-        TurnCount {}
-    }
-
-    /// The count with one turn more.
-    pub fn one_more(&self) -> TurnCount
-        ensures value { result.count ≡ self.now.count + 1 }
-    {
-        TurnCount {}
-    }
-}
-
 impl Collection {
     ghost use Rattle.std.specs.Prelude.{◌≡◌, ◌&&◌, ◌||◌, ◌∷◌, [], not, IfOk, OnErr, OnOk};
     ghost use Rattle.std.specs.FinSet as set;
     ghost use Rattle.ids.specs.declared.key.Key.{Key};
     ghost use Rattle.object_graph.specs.Traversal.{is_in};
-    ghost use Rattle.collector.specs.Marks.{phase_of};
+    ghost use Rattle.collector.specs.Marks.{AreMarks, phase_of};
+    ghost use Rattle.collector.specs.Opened.{HaveOpened};
     ghost use Rattle.depot.specs.Fresh.{AreNew, FreshensNone, FreshensOne, HasFresh, counted_turn};
     ghost use Rattle.depot.specs.Telling.{HasCount};
 
@@ -78,13 +45,15 @@ impl Collection {
             marks,
             fresh: KeyTable::new(alloc),
             stored,
-            turned: TurnCount::new(),
+            turned: CallCount::new(),
         }
     }
 
     /// What is due.
     pub fn phase(&self) -> Phase
         ensures value { result ≡ phase_of self.now.marks }
+        ensures good { AreMarks self.now.marks }
+        ensures read { HaveOpened self.now.marks }
     {
         self.marks.phase()
     }

@@ -13,7 +13,7 @@ ghost use Rattle.object_store.specs.Store.{CountsShelf};
 ghost use Rattle.object_graph.specs.Traversal.{is_in};
 ghost use Rattle.object_store.specs.StoreView.{AddsNoStray, objects_of, status_of};
 ghost use Rattle.collector.specs.Sweeping.{StraysIf};
-ghost use Rattle.depot.specs.CollectionTurns.{BeginsOver, BeginsSo, CountsMarked, CountsTurn, IsAimed, IsToldDamageIn, MarksSo, MayLayIn, SettlesBefore, SweepsSo, TakesTurn, TurnSlotSo, TurnsAsDue, TurnsBySome, collection_after, is_begin, is_counted_turn, is_end, is_owner, missed, permits_collection, removed_in, running_after_turn, state_after_turn, IsToldNeeded};
+ghost use Rattle.depot.specs.CollectionTurns.{BeginsOver, BeginsSo, CountsMarked, CountsTurn, IsAimed, IsToldDamageIn, MarksSo, MayLayIn, OpensSo, SettlesBefore, SweepsSo, TakesTurn, TurnSlotSo, TurnsAsDue, TurnsBySome, collection_after, is_begin, is_counted_turn, is_end, is_owner, missed, permits_collection, removed_in, running_after_turn, state_after_turn, IsToldNeeded};
 ghost use Rattle.depot.specs.DepotView.{IsGood, IsKept, KnowsCandidates, depot_of, state_of, KeepsMet};
 ghost use Rattle.depot.specs.Giving.{GivesBy, IsOfSweep, IsOwnText};
 ghost use Rattle.depot.specs.NextState.{with_begin};
@@ -71,8 +71,10 @@ impl<S: Shelf> Depot<S> {
     /// none runs, marks up to `at_most` objects while some wait, gives up as many candidates while some are left, or ends it.
     ///
     /// With a goal whose collection doesn't run it does nothing, and is over. `Spent` comes exactly where one would begin and the
-    /// last number was given. Else a turn is refused where the shelf failed or memory is wanting, and while it marks where an
-    /// object that is needed is damaged.
+    /// last number was given. Else a turn is refused where the shelf failed or memory is wanting, and while it marks where a
+    /// commit, directory or file that is needed is damaged, or an object is missing or can't be read. What is marked was opened
+    /// whole, over any shelf: so no key leaves before each object that is needed could be. After a refusal the state is as it
+    /// was, and a collection that ran goes on; the keys that are told have left.
     pub fn turn_of_collection(&mut self, goal: Option<u64>, moment: u64, at_most: u64) -> Turn
         requires some { 1 ≤ at_most }
         ensures shown { (s : State) → state_of S.contents S.faults self.old ≡ Some s
@@ -88,6 +90,7 @@ impl<S: Shelf> Depot<S> {
         ensures cause { TurnsAsDue self.old.store.index (S.may_give self.new.store.shelf) self.old.running self.old.state.collection goal result }
         ensures damaged { (objects : Objects) → objects_of S.contents self.old.store ≡ Some objects → IsToldDamageIn objects result }
         ensures needed { (s : State) → state_of S.contents S.faults self.old ≡ Some s → IsToldNeeded s result }
+        ensures opened { OpensSo S.contents S.may_give S.faults self.old result }
         ensures faults { CountsTurn (S.faults self.old.store.shelf) (S.faults self.new.store.shelf) result }
         ensures gives { GivesBy (MayLayIn self.old.state.lib result) (S.may_give self.old.store.shelf) (S.may_give self.new.store.shelf) }
 
@@ -109,6 +112,7 @@ impl<S: Shelf> Depot<S> {
     fn take_turn(&mut self, goal: Option<u64>, moment: u64, at_most: u64) -> Turn
         requires some { 1 ≤ at_most }
         ensures value { TakesTurn S.contents S.may_give S.texts S.faults self.old goal moment at_most result self.new }
+        ensures opened { OpensSo S.contents S.may_give S.faults self.old result }
         ensures stands { IsGood S.contents S.faults self.new }
         ensures found { IsGood S.contents S.faults self.old }
     {
@@ -128,6 +132,7 @@ impl<S: Shelf> Depot<S> {
     fn begin_collection(&mut self, moment: u64) -> Turn
         requires idle { self.old.running ≡ None }
         ensures value { (at_most : ℕ) → TakesTurn S.contents S.may_give S.texts S.faults self.old None moment at_most result self.new }
+        ensures opened { OpensSo S.contents S.may_give S.faults self.old result }
         ensures stands { IsGood S.contents S.faults self.new }
     {
         let alloc = self.parts.alloc;
@@ -209,6 +214,7 @@ impl<S: Shelf> Parts<S> {
         ensures value { (goal : Option ℕ) → (moment : ℕ) → IsAimed goal self.old.state.collection → TakesTurn S.contents S.may_give S.texts S.faults
             (depot_of self.old.store self.old.state self.old.unsettled (Some running.old)) goal moment at_most result
             (depot_of self.new.store self.new.state self.new.unsettled (collection_after result running.new)) }
+        ensures opened { OpensSo S.contents S.may_give S.faults (depot_of self.old.store self.old.state self.old.unsettled (Some running.old)) result }
         ensures stands { IsKept S.contents S.faults (depot_of self.new.store self.new.state self.new.unsettled (Some running.new)) known.new (Some running.new) }
     {
         match running.phase() {

@@ -1,7 +1,9 @@
 //! Single objects, read from a store.
-ghost use Rattle.std.specs.Prelude.{◌≡◌, IfErr, IfOk, Some};
+ghost use Rattle.std.specs.Prelude.{◌≡◌, IfErr, IfOk, Some, is_some, true};
+ghost use Rattle.std.specs.FinMap as map;
 ghost use Rattle.ids.specs.Key.{Objects};
 ghost use Rattle.object_graph.specs.Objects.{fs_at, commit_at, block_key, fs_key, commit_key};
+ghost use Rattle.object_store.specs.Store.{IsWhole};
 ghost use Rattle.object_store.specs.StoreView.{objects_of};
 ghost use Rattle.tree_walk.specs.Reading.{AnswersRead, IsDamageAt, IsFaultAt, Reads, stored_at};
 
@@ -61,9 +63,12 @@ pub fn fs_at<S: Shelf>(
     }
 }
 
-/// The bytes that are stored under the key.
+/// The bytes that are stored under the key. Over any shelf it gives none but for a key of the index, and those of a file, a
+/// directory or a block under their own name alone.
 pub fn bytes_at<S: Shelf>(store: &mut Store<S>, key: &Key) -> Result<Bytes, WalkFault>
     ensures value { (objects : Objects) → objects_of S.contents store.old ≡ Some objects → AnswersRead objects (stored_at objects key.now) result }
+    ensures known { IfOk result (λ bytes. is_some (map.get store.old.index key.now) ≡ true) }
+    ensures whole { IfOk result (λ bytes. IsWhole (S.may_give store.new.shelf) key.now (Some bytes)) }
     ensures of_key { IfErr result (IsFaultAt key.now) }
     ensures damaged { (objects : Objects) → objects_of S.contents store.old ≡ Some objects → IfErr result (IsDamageAt objects key.now) }
     ensures stays { Reads S.contents S.may_give S.texts S.faults store.old store.new result }

@@ -6,6 +6,7 @@ use Rattle.collector.specs.Marks.{AreFirst}
 use Rattle.collector.specs.Worklist.{WorklistView}
 use Rattle.collector.proofs.LeadingLemmas.{first_good}
 use Rattle.collector.proofs.MarkingLemmas.{marks_of}
+use Rattle.collector.proofs.OpenedLemmas.{have_first}
 use Rattle.collector.proofs.marks.Marks.begin.Goals as goal
 
 pub returns-clause-value : goal.returns-clause-value
@@ -28,10 +29,13 @@ invariant_of-result g c =
           ∙ ap (λ (ids : List (List ℕ)). distinct_from [] (map_list commit_key ids)) c.slice-2.ensures.value;
       candidates = c.in_ok-candidates.ensures.value;
     } in
-    first_good c.args.store.now.index c.args.kept.now _ first
+    (first_good c.args.store.now.index c.args.kept.now _ first, have_first c.args.store.now.index c.args.kept.now _ first)
 
 pub returns-clause-good : goal.returns-clause-good
-returns-clause-good g c = invariant_of-result g c
+returns-clause-good g c = (invariant_of-result g c).0
+
+pub returns-clause-read : goal.returns-clause-read
+returns-clause-read g c = (invariant_of-result g c).1
 
 pub returns-clause-shown : goal.returns-clause-shown
 returns-clause-shown g c = λ objects told. c.in_ok-candidates.ensures.found objects told

@@ -3,7 +3,9 @@ use Rattle.std.proofs.Common.{◌≡◌, ℕ, Err, Ok, arith, refl, subst, sym, 
 use Rattle.tree_walk.proofs.ReadsLemmas.{reads_then, told_after}
 use Rattle.collector.specs.Marking.{MarksMany, MarksUpTo, first_fault}
 use Rattle.collector.specs.Naming.{names_at}
+use Rattle.collector.specs.Opened.{OpensFirst}
 use Rattle.collector.proofs.MarkingLemmas.{as_commits, has_marked_none, has_marked_then, needed_damage, no_value, none_fails, none_marked, one_more, reads_fails, reads_uncounted, same_commits, size_more, some_fault, store_due, tells_all, tells_done, up_to}
+use Rattle.collector.proofs.OpenedLemmas.{first_done, first_then, opens_none, opens_then}
 use Rattle.collector.proofs.WorklistLemmas.{nothing_waits, on_error, some_waiting}
 use Rattle.collector.proofs.marks.Marks.mark.Goals as goal
 
@@ -14,7 +16,10 @@ loop-count-init g c = record {
   left = has_marked_none c.args.self.now;
   size = omega arith;
   first = λ none. refl;
+  opened = opens_none c.args.store.now.index (g.S.Shelf.may_give c.args.store.now.shelf) c.args.self.now;
+  began = λ one. let no : ⊥ = omega (arith, one) in absurd no;
   good = λ one. let no : ⊥ = omega (arith, one) in absurd no;
+  read = λ one. let no : ⊥ = omega (arith, one) in absurd no;
 }
 
 pub mark_next-requires : goal.mark_next-requires
@@ -31,7 +36,14 @@ loop-count-preserved g c =
       left = has_marked_then c.args.self.now c.loop-count.self c.mark_next.new.self inv.left c.in-Ok.ensures.left;
       size = size_more c.args.self.now c.loop-count.self c.mark_next.new.self c.loop-count.count inv.size c.in-Ok.ensures.size;
       first = λ none. let no : ⊥ = omega (arith, none) in absurd no;
+      opened =
+          opens_then c.args.store.now.index (g.S.Shelf.may_give c.args.store.now.shelf) c.loop-count.store.index (g.S.Shelf.may_give c.loop-count.store.shelf) c.args.self.now c.loop-count.self
+          c.mark_next.new.self inv.reads.kept.index inv.reads.shelf.gives inv.opened c.in-Ok.ensures.opened;
+      began = λ one.
+          first_then c.args.store.now.index (g.S.Shelf.may_give c.args.store.now.shelf) c.loop-count.store.index (g.S.Shelf.may_give c.loop-count.store.shelf) c.args.self.now c.loop-count.self
+          c.mark_next.new.self c.loop-count.count inv.reads.kept.index inv.reads.shelf.gives inv.first inv.began c.in-Ok.ensures.first c.in-Ok.ensures.opened;
       good = λ one. c.in-Ok.ensures.good;
+      read = λ one. c.in-Ok.ensures.read;
     }
 
 -- nothing waits any more
@@ -50,6 +62,18 @@ returns-then-is_done-clause-left g c = c.loop-count.invariant.left
 pub returns-then-is_done-clause-good : goal.returns-then-is_done-clause-good
 returns-then-is_done-clause-good g c = c.is_done.ensures.good
 
+pub returns-then-is_done-clause-opened : goal.returns-then-is_done-clause-opened
+returns-then-is_done-clause-opened g c = c.loop-count.invariant.opened
+
+pub returns-then-is_done-clause-first : goal.returns-then-is_done-clause-first
+returns-then-is_done-clause-first g c =
+    let inv = c.loop-count.invariant in
+    first_done c.args.store.now.index (g.S.Shelf.may_give c.args.store.now.shelf) c.args.self.now c.loop-count.self c.loop-count.count inv.first
+    (nothing_waits c.loop-count.self.pending (sym c.is_done.ensures.value ∙ c.if-is_done.true)) inv.began
+
+pub returns-then-is_done-clause-read : goal.returns-then-is_done-clause-read
+returns-then-is_done-clause-read g c = c.is_done.ensures.read
+
 -- a fault of the store
 pub returns-then-is_of_store-clause-err : goal.returns-then-is_of_store-clause-err
 returns-then-is_of_store-clause-err g c = λ objects told.
@@ -61,6 +85,15 @@ returns-then-is_of_store-clause-left g c = has_marked_then c.args.self.now c.loo
 
 pub returns-then-is_of_store-clause-good : goal.returns-then-is_of_store-clause-good
 returns-then-is_of_store-clause-good g c = c.in-Err.ensures.good
+
+pub returns-then-is_of_store-clause-opened : goal.returns-then-is_of_store-clause-opened
+returns-then-is_of_store-clause-opened g c =
+    let inv = c.loop-count.invariant in
+    opens_then c.args.store.now.index (g.S.Shelf.may_give c.args.store.now.shelf) c.loop-count.store.index (g.S.Shelf.may_give c.loop-count.store.shelf) c.args.self.now c.loop-count.self
+    c.mark_next.new.self inv.reads.kept.index inv.reads.shelf.gives inv.opened c.in-Err.ensures.opened
+
+pub returns-then-is_of_store-clause-read : goal.returns-then-is_of_store-clause-read
+returns-then-is_of_store-clause-read g c = c.in-Err.ensures.read
 
 pub returns-then-is_of_store-clause-cause : goal.returns-then-is_of_store-clause-cause
 returns-then-is_of_store-clause-cause g c = λ objects told exact.
@@ -98,11 +131,24 @@ returns-in-Err-clause-err g c = λ objects told.
 pub returns-in-Err-clause-told : goal.returns-in-Err-clause-told
 returns-in-Err-clause-told g c = no_value _ c.tree_fault.result c.tree_fault.ensures.wrong
 
+pub returns-in-Err-clause-first : goal.returns-in-Err-clause-first
+returns-in-Err-clause-first g c =
+    no_value (λ count. OpensFirst c.args.store.now.index (g.S.Shelf.may_give c.args.store.now.shelf) c.args.self.now c.mark_next.new.self) c.tree_fault.result c.tree_fault.ensures.wrong
+
 pub returns-in-Err-clause-left : goal.returns-in-Err-clause-left
 returns-in-Err-clause-left g c = has_marked_then c.args.self.now c.loop-count.self c.mark_next.new.self c.loop-count.invariant.left c.in-Err.ensures.left
 
 pub returns-in-Err-clause-good : goal.returns-in-Err-clause-good
 returns-in-Err-clause-good g c = c.in-Err.ensures.good
+
+pub returns-in-Err-clause-opened : goal.returns-in-Err-clause-opened
+returns-in-Err-clause-opened g c =
+    let inv = c.loop-count.invariant in
+    opens_then c.args.store.now.index (g.S.Shelf.may_give c.args.store.now.shelf) c.loop-count.store.index (g.S.Shelf.may_give c.loop-count.store.shelf) c.args.self.now c.loop-count.self
+    c.mark_next.new.self inv.reads.kept.index inv.reads.shelf.gives inv.opened c.in-Err.ensures.opened
+
+pub returns-in-Err-clause-read : goal.returns-in-Err-clause-read
+returns-in-Err-clause-read g c = c.in-Err.ensures.read
 
 pub returns-in-Err-clause-cause : goal.returns-in-Err-clause-cause
 returns-in-Err-clause-cause g c = λ objects told exact.
@@ -145,3 +191,12 @@ returns-clause-left g c = c.loop-count.invariant.left
 
 pub returns-clause-good : goal.returns-clause-good
 returns-clause-good g c = let some = c.requires.some in c.loop-count.invariant.good (omega (arith, some))
+
+pub returns-clause-opened : goal.returns-clause-opened
+returns-clause-opened g c = c.loop-count.invariant.opened
+
+pub returns-clause-read : goal.returns-clause-read
+returns-clause-read g c = let some = c.requires.some in c.loop-count.invariant.read (omega (arith, some))
+
+pub returns-clause-first : goal.returns-clause-first
+returns-clause-first g c = let some = c.requires.some in c.loop-count.invariant.began (omega (arith, some))

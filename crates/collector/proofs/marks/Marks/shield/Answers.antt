@@ -7,6 +7,7 @@ use Rattle.collector.specs.Marks.{MarksView, is_candidate}
 use Rattle.collector.specs.Sweeping.{is_listed}
 use Rattle.collector.proofs.LeadingLemmas.{fewer_good}
 use Rattle.collector.proofs.MarkingLemmas.{marks_of}
+use Rattle.collector.proofs.OpenedLemmas.{have_same}
 use Rattle.collector.proofs.marks.Marks.shield.Goals as goal
 
 pub returns-clause-value : goal.returns-clause-value
@@ -23,11 +24,17 @@ returns-clause-stays c = record {
 }
 
 pub invariant_of-self : goal.invariant_of-self
-invariant_of-self c =
-    fewer_good (marks_of c.self.inside.commits c.self.inside.work.opened c.self.inside.work.waiting c.self.inside.candidates)
-    (marks_of c.self.inside.commits c.self.inside.work.opened c.self.inside.work.waiting c.take_out.new.candidates) refl refl
-    (λ key there. (and_parts (is_listed c.self.inside.candidates key) (not (is_in c.slice.result.now key)) (sym (c.take_out.ensures.value key) ∙ there)).0)
-    c.self.invariant
+invariant_of-self c = (
+  fewer_good (marks_of c.self.inside.commits c.self.inside.work.opened c.self.inside.work.waiting c.self.inside.candidates)
+      (marks_of c.self.inside.commits c.self.inside.work.opened c.self.inside.work.waiting c.take_out.new.candidates) refl refl
+      (λ key there. (and_parts (is_listed c.self.inside.candidates key) (not (is_in c.slice.result.now key)) (sym (c.take_out.ensures.value key) ∙ there)).0)
+      c.self.invariant.0,
+  have_same (marks_of c.self.inside.commits c.self.inside.work.opened c.self.inside.work.waiting c.self.inside.candidates)
+      (marks_of c.self.inside.commits c.self.inside.work.opened c.self.inside.work.waiting c.take_out.new.candidates) (record { commits = refl; marked = refl; pending = refl }) c.self.invariant.1,
+)
 
 pub returns-clause-good : goal.returns-clause-good
-returns-clause-good c = invariant_of-self c
+returns-clause-good c = (invariant_of-self c).0
+
+pub returns-clause-read : goal.returns-clause-read
+returns-clause-read c = (invariant_of-self c).1

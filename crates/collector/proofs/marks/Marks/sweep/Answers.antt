@@ -8,9 +8,11 @@ use Rattle.ids.specs.declared.key.Key.{Key}
 use Rattle.object_graph.specs.Traversal.{is_in}
 use Rattle.object_store.specs.declared.error.StoreFault.{StoreFault}
 use Rattle.collector.specs.Marks.{AreMarks, Candidates, MarksView}
+use Rattle.collector.specs.Opened.{HaveOpened}
 use Rattle.collector.specs.Sweeping.{StraysAtEnd, Took, TookLeast, is_listed}
 use Rattle.collector.proofs.LeadingLemmas.{fewer_good}
 use Rattle.collector.proofs.MarkingLemmas.{marks_of}
+use Rattle.collector.proofs.OpenedLemmas.{have_same}
 use Rattle.collector.proofs.SweepLemmas.{ended_counted, ended_free, ended_told, ended_well, least_none, took_nothing}
 use Rattle.collector.proofs.WorklistLemmas.{nothing_waits, some_waiting}
 use Rattle.collector.proofs.marks.Marks.sweep.Goals as goal
@@ -25,7 +27,10 @@ returns-then-not-is_done-clause-size g c = λ none whole.
     (some_waiting c.self.inside.work.waiting (sym c.is_done.ensures.value ∙ c.if-not-is_done.true) (ap (λ (marks : MarksView). marks.pending) c.self.view_is ∙ none))
 
 pub returns-then-not-is_done-clause-good : goal.returns-then-not-is_done-clause-good
-returns-then-not-is_done-clause-good g c = subst AreMarks c.self.view_is c.self.invariant
+returns-then-not-is_done-clause-good g c = subst AreMarks c.self.view_is c.self.invariant.0
+
+pub returns-then-not-is_done-clause-read : goal.returns-then-not-is_done-clause-read
+returns-then-not-is_done-clause-read g c = subst HaveOpened c.self.view_is c.self.invariant.1
 
 pub returns-then-not-is_done-clause-stays : goal.returns-then-not-is_done-clause-stays
 returns-then-not-is_done-clause-stays g c = record { commits = refl; marked = refl; pending = refl }
@@ -98,11 +103,18 @@ returns-clause-stays g c = record {
 }
 
 pub invariant_of-self : goal.invariant_of-self
-invariant_of-self g c =
-    fewer_good (marks_of c.self.inside.commits c.self.inside.work.opened c.self.inside.work.waiting c.self.inside.candidates)
-    (marks_of c.self.inside.commits c.self.inside.work.opened c.self.inside.work.waiting c.take_some-ended.new.candidates) refl refl
-    (λ key there. (and_parts (is_listed c.self.inside.candidates key) (not (is_in c.take_some-ended.new.removed.items key)) (sym (c.take_some-ended.ensures.value.candidates key) ∙ there)).0)
-    c.self.invariant
+invariant_of-self g c = (
+  fewer_good (marks_of c.self.inside.commits c.self.inside.work.opened c.self.inside.work.waiting c.self.inside.candidates)
+      (marks_of c.self.inside.commits c.self.inside.work.opened c.self.inside.work.waiting c.take_some-ended.new.candidates) refl refl
+      (λ key there. (and_parts (is_listed c.self.inside.candidates key) (not (is_in c.take_some-ended.new.removed.items key)) (sym (c.take_some-ended.ensures.value.candidates key) ∙ there)).0)
+      c.self.invariant.0,
+  have_same (marks_of c.self.inside.commits c.self.inside.work.opened c.self.inside.work.waiting c.self.inside.candidates)
+      (marks_of c.self.inside.commits c.self.inside.work.opened c.self.inside.work.waiting c.take_some-ended.new.candidates) (record { commits = refl; marked = refl; pending = refl })
+      c.self.invariant.1,
+)
 
 pub returns-clause-good : goal.returns-clause-good
-returns-clause-good g c = invariant_of-self g c
+returns-clause-good g c = (invariant_of-self g c).0
+
+pub returns-clause-read : goal.returns-clause-read
+returns-clause-read g c = (invariant_of-self g c).1

@@ -44,3 +44,10 @@ pub returns-in-Err-clause-stands : goal.returns-in-Err-clause-stands
 returns-in-Err-clause-stands g c =
     (stops_idle_kept g.S.Shelf.contents g.S.Shelf.may_give g.S.Shelf.texts g.S.Shelf.faults c.self.inside.parts.store c.self.inside.parts.state c.self.inside.parts.unsettled c.self.inside.known c.self.inside.running c.self.invariant c.args.self.now c.self.view_is c.requires.idle c.begin_collection.new.self.store c.begin_collection.new.self.state c.begin_collection.new.self.unsettled c.args.moment
     (omega (arith, c.if-self-ge-LAST.false)) c.in-Err.ensures.stays c.in-Err.ensures.held c.in-Err.ensures.lying c.in-Err.ensures.gives c.in-Err.fault c.in-Err.ensures.err c.in-Err.ensures.text).good
+
+-- no key leaves
+pub returns-then-self-ge-LAST-clause-opened : goal.returns-then-self-ge-LAST-clause-opened
+returns-then-self-ge-LAST-clause-opened g c = λ some. absurd (some c.new.ensures.value)
+
+pub returns-in-Err-clause-opened : goal.returns-in-Err-clause-opened
+returns-in-Err-clause-opened g c = λ some. absurd (some c.new-in-Err.ensures.value)

@@ -1,7 +1,7 @@
 -- A goal that doesn't run is over; else the collection that runs goes on, or one begins.
 use Rattle.std.proofs.Common.{Option, ℕ, ap, subst, sym, ◌∙◌, option_map}
 use Rattle.library_rules.specs.LibraryState.{Running}
-use Rattle.depot.specs.CollectionTurns.{TakesTurn, missed, collection_after}
+use Rattle.depot.specs.CollectionTurns.{OpensSo, TakesTurn, missed, collection_after}
 use Rattle.depot.specs.DepotView.{CollectionView, DepotView, IsGood, IsKept, depot_of, running_of}
 use Rattle.depot.proofs.ClosingLemmas.{aimed_at, closes_kept, closes_takes, no_goal, over_takes}
 use Rattle.depot.proofs.depot.Depot.take_turn.Goals as goal
@@ -85,3 +85,15 @@ returns-in-None-running-clause-found g c = subst (λ (d : DepotView g.row.S.Deno
 
 pub returns-clause-found : goal.returns-clause-found
 returns-clause-found g c = subst (λ (d : DepotView g.row.S.Denot). IsGood g.S.Shelf.contents g.S.Shelf.faults d) c.self.view_is c.self.invariant.good
+
+-- ---- what was opened
+
+pub returns-in-None-running-clause-opened : goal.returns-in-None-running-clause-opened
+returns-in-None-running-clause-opened g c =
+    subst (λ (d : DepotView g.row.S.Denot). OpensSo g.S.Shelf.contents g.S.Shelf.may_give g.S.Shelf.faults d c.begin_collection.result) c.self.view_is c.begin_collection.ensures.opened
+
+pub returns-clause-opened : goal.returns-clause-opened
+returns-clause-opened g c =
+    subst (λ (d : DepotView g.row.S.Denot). OpensSo g.S.Shelf.contents g.S.Shelf.may_give g.S.Shelf.faults d c.go_on-turn.result)
+    (ap (λ (o : Option CollectionView). depot_of c.self.inside.parts.store c.self.inside.parts.state c.self.inside.parts.unsettled o) (sym c.in-Some-running.is) ∙ c.self.view_is)
+    c.go_on-turn.ensures.opened

@@ -30,6 +30,9 @@ returns-clause-damaged g c = c.take_turn.ensures.value.damage
 pub returns-clause-needed : goal.returns-clause-needed
 returns-clause-needed g c = c.take_turn.ensures.value.needed
 
+pub returns-clause-opened : goal.returns-clause-opened
+returns-clause-opened g c = c.take_turn.ensures.opened
+
 pub returns-clause-faults : goal.returns-clause-faults
 returns-clause-faults g c = c.take_turn.ensures.value.count
 

@@ -1,6 +1,7 @@
 -- The step that is due.
-use Rattle.std.proofs.Common.{sym, ◌∙◌}
+use Rattle.std.proofs.Common.{[], sym, ◌∙◌}
 use Rattle.collector.proofs.GoesOnLemmas.{clean}
+use Rattle.depot.proofs.OpenedTurnLemmas.{behind, mark_opens, none_gone, sweep_opens}
 use Rattle.depot.proofs.SweepTurnLemmas.{sweep_stands, sweep_turn}
 use Rattle.depot.proofs.TakesTurnLemmas.{collects_at, ends_takes, library_at, mark_stands, mark_turn, marking_due, none_left, over_due, sweeping_due}
 use Rattle.depot.proofs.depot.Parts.go_on.Goals as goal
@@ -54,3 +55,19 @@ returns-in-Over-clause-value g c = λ goal moment aimed.
 
 pub returns-in-Over-clause-stands : goal.returns-in-Over-clause-stands
 returns-in-Over-clause-stands g c = c.requires.good
+
+-- ---- what was opened
+
+pub returns-in-Marking-clause-opened : goal.returns-in-Marking-clause-opened
+returns-in-Marking-clause-opened g c =
+    mark_opens g.S.Shelf.contents g.S.Shelf.may_give g.S.Shelf.texts g.S.Shelf.faults c.args.self.now.store c.mark_some.new.self.store c.args.self.now.state c.args.self.now.unsettled c.args.running.now c.mark_some.new.running
+    c.args.known.now c.requires.good c.args.at_most c.mark_some.result c.mark_some.ensures.value
+
+pub returns-in-Sweeping-clause-opened : goal.returns-in-Sweeping-clause-opened
+returns-in-Sweeping-clause-opened g c =
+    sweep_opens g.S.Shelf.contents g.S.Shelf.may_give g.S.Shelf.texts g.S.Shelf.faults c.args.self.now.store c.sweep_some.new.self.store c.args.self.now.state c.args.self.now.unsettled c.args.running.now c.sweep_some.new.running
+    c.args.at_most c.sweep_some.result c.phase.ensures.good c.phase.ensures.read (sweeping_due c.args.running.now.marks (sym c.phase.ensures.value ∙ c.in-Sweeping.is)).0 c.sweep_some.ensures.value
+
+pub returns-in-Over-clause-opened : goal.returns-in-Over-clause-opened
+returns-in-Over-clause-opened g c =
+    behind c.args.running.now.marks [] c.phase.ensures.good c.phase.ensures.read (over_due c.args.running.now.marks (sym c.phase.ensures.value ∙ c.in-Over.is)).0 (none_gone c.args.running.now.marks)

@@ -10,7 +10,7 @@ returns-in-Ok-clause-value g c =
     marks_some g.S.Shelf.contents g.S.Shelf.may_give g.S.Shelf.texts g.S.Shelf.faults c.args.self.now.store c.mark.new.store c.running.inside.marks c.mark.new.self c.running.inside.fresh c.running.inside.stored
     c.running.inside.turned.count c.args.running.now c.running.view_is c.args.at_most c.in-Ok.count c.count_turn.new.self c.count_turn.ensures.value
     (pending_before c.running.inside.marks c.running.inside.fresh c.running.inside.stored c.running.inside.turned.count c.args.running.now c.running.view_is c.requires.some.1)
-    c.in-Ok.ensures.stays (λ objects told. c.in-Ok.ensures.value objects told) c.in-Ok.ensures.told c.in-Ok.ensures.left c.in-Ok.ensures.good
+    c.in-Ok.ensures.stays (λ objects told. c.in-Ok.ensures.value objects told) c.in-Ok.ensures.told c.in-Ok.ensures.left c.in-Ok.ensures.good c.in-Ok.ensures.opened
 
 pub returns-in-Err-clause-value : goal.returns-in-Err-clause-value
 returns-in-Err-clause-value g c =
