@@ -32,7 +32,6 @@ use Rattle.collector.specs.StoredCandidates.{AreStoredIn}
 use Rattle.collector.proofs.GoesOnLemmas.{begins_collecting}
 use Rattle.collector.proofs.StoredCandidatesLemmas.{first_stored}
 use Rattle.tree_walk.specs.KnownTrees.{KnownView}
-use Rattle.depot.specs.Answering.{is_free_refusal}
 use Rattle.depot.specs.CollectionTurns.{BeginsOver, BeginsSo, MayRefuseTurn, TakesTurn, TurnsBySome, with_begin}
 use Rattle.depot.specs.DepotView.{CollectionView, IsKept, depot_of, library, running_library, state_of}
 use Rattle.depot.specs.Giving.{GivesBy, IsOfSweep, IsOwnText}
@@ -45,7 +44,7 @@ use Rattle.depot.specs.declared.turn.Turn.TheVariants.{Began, Refused}
 use Rattle.depot.proofs.AnsweringLemmas.{fault_of}
 use Rattle.depot.proofs.BesideLemmas.{sound_fresh}
 use Rattle.depot.proofs.CollectsLemmas.{collects_state}
-use Rattle.depot.proofs.RefusalsLemmas.{counted_same, free_told, told_damage, free_needed}
+use Rattle.depot.proofs.RefusalsLemmas.{counted_same, free_told, refused_lays, told_damage, free_needed}
 use Rattle.depot.proofs.StrayLemmas.{strays_none}
 use Rattle.depot.proofs.ToldLemmas.{mapped_at}
 use Rattle.depot.proofs.TurnLemmas.{begun_turn, idle_turn}
@@ -229,11 +228,6 @@ module _ {S : Type 0} (contents : S → Option Contents) (may_give : S → Shelf
         by (faults_of_store.Wrong id) left = absurd left
         by (faults_of_store.Damaged want got) left = absurd left
 
-    free_why : (f : StoreFault) → IsTrue (is_free f) → IsTrue (is_free_refusal (store_refusal f))
-    free_why faults_of_store.Shelf free = refl
-    free_why faults_of_store.NoMemory free = refl
-    free_why other free = absurd (true≢false (sym free))
-
     may_refuse : (f : StoreFault) → IsTrue (is_free f) → MayRefuseTurn store.index (may_give new.shelf) None state.collection (store_refusal f)
     may_refuse faults_of_store.Shelf free = refl
     may_refuse faults_of_store.NoMemory free = refl
@@ -268,7 +262,7 @@ module _ {S : Type 0} (contents : S → Option Contents) (may_give : S → Shelf
           index = λ key. ap (λ (i : Index). map.get i key) held;
           number = same_size held;
           lying = strays_none contents (is_of_store (store_refusal fault)) store new [] lying;
-          gives = λ slot given now. wider slot given (gives slot given now);
+          gives = refused_lays state.lib (store_refusal fault) [] fault (may_give store.shelf) (may_give new.shelf) refl is_free_fault (λ slot given now. wider slot given (gives slot given now));
           slot = inr (inr (fault, refl, refl, left_by));
         })
       where

@@ -1,6 +1,6 @@
 -- Faults of a store and of a reading as refusals. The key lemmas are store_told, none_due, one_due, walk_not_damaged,
--- walk_needed, free_needed, walked_cause, may_refuse and counted_alike.
-use Rattle.std.proofs.Common.{◌≡◌, ◌⊎◌, inl, inr, ℕ, true, true≢false, List, refl, sym, ap, Option, None, Some, is_some, IsTrue}
+-- walk_needed, free_needed, refused_lays, walked_cause, may_refuse and counted_alike.
+use Rattle.std.proofs.Common.{◌≡◌, ◌⊎◌, inl, inr, ℕ, true, true≢false, List, refl, sym, ap, subst, Option, None, Some, is_some, IsTrue}
 use Rattle.ids.specs.Key.{Objects}
 use Rattle.ids.specs.declared.key.Key.{Key}
 use Rattle.library_rules.specs.LibraryState.{State, is_needed}
@@ -19,8 +19,9 @@ use Rattle.collector.specs.Marks.{needed_by}
 use Rattle.tree_walk.specs.Reading.{IsCause, IsDue, IsReadFault, IsStoreDue, is_counted}
 use Rattle.tree_walk.specs.declared.fault.WalkFault.{WalkFault}
 use Rattle.tree_walk.specs.declared.fault.WalkFault.TheVariants as walk
-use Rattle.depot.specs.CollectionTurns.{IsToldNeeded}
+use Rattle.depot.specs.CollectionTurns.{IsToldNeeded, MayLayIn}
 use Rattle.depot.specs.Answering.{MayRefuseTree, MayRefuseUpdate}
+use Rattle.depot.specs.Giving.{GivesBy, IsOfSweep}
 use Rattle.depot.specs.ObjectCalls.{IsToldDamageOf, IsToldRefusal, is_of_store}
 use Rattle.depot.specs.Refusals.{store_refusal, walk_refusal}
 use Rattle.depot.specs.declared.turn.Turn.TheVariants.{Refused}
@@ -83,6 +84,16 @@ walk_needed s keys commits other each is = tt
 pub free_needed : (s : State) (keys : List Key) (fault : StoreFault) → IsTrue (is_free fault) → IsToldNeeded s (Refused (store_refusal fault) keys)
 free_needed s keys (store.Damaged want got) free = cc
 free_needed s keys other free = tt
+
+-- a turn that they end lays what a sweep does
+pub refused_lays : (lib : List ℕ) (why : Refusal) (keys : List Key) (fault : StoreFault) (before now : Slot → Option (List ℕ) → Type 0) → why ≡ store_refusal fault → IsTrue (is_free fault)
+    → GivesBy (IsOfSweep lib) before now → GivesBy (MayLayIn lib (Refused why keys)) before now
+refused_lays lib why keys fault before now refusal free gives = subst (λ (w : Refusal). GivesBy (MayLayIn lib (Refused w keys)) before now) (sym refusal) (by fault free)
+  where
+    by : (f : StoreFault) → IsTrue (is_free f) → GivesBy (MayLayIn lib (Refused (store_refusal f) keys)) before now
+    by store.Shelf is = gives
+    by store.NoMemory is = gives
+    by other is = absurd (true≢false (sym is))
 
 -- ---- over any shelf
 

@@ -39,7 +39,7 @@ use Rattle.depot.specs.declared.turn.Turn.{Turn}
 use Rattle.depot.specs.declared.turn.Turn.TheVariants.{Swept, Refused}
 use Rattle.depot.proofs.AnsweringLemmas.{fault_of}
 use Rattle.depot.proofs.CollectsLemmas.{collects_state}
-use Rattle.depot.proofs.RefusalsLemmas.{counted_same, free_needed, free_told, told_damage}
+use Rattle.depot.proofs.RefusalsLemmas.{counted_same, free_needed, free_told, refused_lays, told_damage}
 use Rattle.depot.proofs.KnownLemmas.{fits_swept}
 use Rattle.depot.proofs.TakesTurnLemmas.{as_due, collects_at, library_at, sound_at, told_by}
 use Rattle.depot.proofs.ToldLemmas.{mapped_at}
@@ -146,7 +146,7 @@ module _ {S : Type 0} (contents : S → Option Contents) (may_give : S → Shelf
     index = sweeps.took.index;
     number = sweeps.took.held;
     lying = subst (λ (b : Bool). StraysIf b contents store new keys) (counted_same fault ∙ sym (ap is_of_store refusal)) sweeps.lying;
-    gives = gives;
+    gives = refused_lays state.lib why keys fault (may_give store.shelf) (may_give new.shelf) refusal free gives;
     slot = slot;
   }
     where

@@ -214,6 +214,13 @@ TurnSlotSo moment (Refused why keys) unsettled present old still new before now 
     ⊎ IsSettledOnce unsettled present old still new before now
     ⊎ ((fault : StoreFault) × (why ≡ store_refusal fault) × (keys ≡ []) × LeftBy fault unsettled present (with_begin moment present) old still new)
 
+-- what a refused turn may lay: where the shelf failed or memory was wanting the present text, and nothing in slots of objects; and
+-- for any other refusal, as one that is spent or met damage, nothing at all
+abbrev pub MayLayRefused : List ℕ → Refusal → ShelfSlot → Option (List ℕ) → Type 0
+MayLayRefused lib refusal.Store slot given = IsOfSweep lib slot given
+MayLayRefused lib refusal.NoMemory slot given = IsOfSweep lib slot given
+MayLayRefused lib other slot given = ⊥
+
 -- what a turn on the library of this id may lay onto its shelf, beside what it might give before: a begin the text; a sweep
 -- the present text, where it was open, and nothing in the slots of the keys that leave; a refused turn no more than these
 abbrev pub MayLayIn : List ℕ → Turn → ShelfSlot → Option (List ℕ) → Type 0
@@ -222,7 +229,7 @@ MayLayIn lib (Marked count) slot given = ⊥
 MayLayIn lib (Swept keys) slot given = IsOfSweep lib slot given
 MayLayIn lib (Ended number) slot given = ⊥
 MayLayIn lib (Over number) slot given = ⊥
-MayLayIn lib (Refused why keys) slot given = IsOfSweep lib slot given
+MayLayIn lib (Refused why keys) slot given = MayLayRefused lib why slot given
 
 -- ---- who may collect
 

@@ -1,14 +1,16 @@
 -- The cause of damage that is told in a connection in which collections are asked for. The key lemmas are collection_caused and
 -- calls_caused.
-use Rattle.std.proofs.Common.{◌≡◌, ◌⊎◌, inl, inr, ℕ, Bool, true, false, true≢false, List, [], ◌∷◌, refl, sym, ◌∙◌, subst, Option, None, Some, IsTrue}
+use Rattle.std.proofs.Common.{◌≡◌, ◌≢◌, ◌⊎◌, ◌+◌, ◌++◌, inl, inr, ℕ, Bool, true, false, true≢false, List, [], ◌∷◌, refl, sym, ◌∙◌, subst, Option, None, Some, option_map, IsTrue}
 use Rattle.std.specs.Prelude.{⊤}
+use Rattle.std.specs.FinMap as map
+use Rattle.std.specs.FinSet as set
 use Rattle.std.specs.List.{AllByRecursion}
 use Rattle.std.specs.Str.{bytes_eq}
 use Rattle.std.proofs.lemmas.Slice.Eq.{bytes_eq-Decides}
 use Rattle.ids.specs.declared.key.Key.{Key}
 use Rattle.ids.proofs.BasicLemmas.{AllByRecursion-middle}
 use Rattle.depot.specs.Answering.{MayRefuseTree, is_free_refusal}
-use Rattle.depot.specs.CollectionTurns.{MayLayIn, MayTurn, permits_collection}
+use Rattle.depot.specs.CollectionTurns.{MayLayIn, MayLayRefused, MayTurn, TakesTurn, permits_collection}
 use Rattle.depot.specs.DepotView.{DepotView}
 use Rattle.depot.specs.Giving.{GivesBy, IsNothing}
 use Rattle.depot.specs.declared.turn.Turn.{Turn}
@@ -28,7 +30,7 @@ use Rattle.worker_server.specs.Calls.{Told, Ran, call_asked, collection_asked, r
 use Rattle.worker_server.specs.declared.host.Collected.{Collected}
 use Rattle.worker_server.specs.declared.host.Collected.TheVariants as collected
 use Rattle.library_server.specs.Answering.{AnswersOn, AreCaused, AsksTooMuch, IsCaused, IsCausedEnd, OrNothing, after_collection}
-use Rattle.library_server.specs.Collecting.{CollectsOn, EndsAs, TellsTurns, TurnsOn, ended, endless, number_running, told_removed}
+use Rattle.library_server.specs.Collecting.{CollectsOn, EndsAs, TellsTurns, TurnsOn, ended, endless, goes_on, most_in_turn, number_running, told_removed}
 use Rattle.library_server.proofs.CauseLemmas.{Harmless, call_caused, no_text, refused_caused, reply_back}
 
 -- since objects left, nothing may be given too
@@ -40,6 +42,13 @@ nothing_more before now harmless key given is = by (harmless key given is)
     by (inr own) = inr own
 
 -- what a turn lays under a key is nothing
+refused_laid : (lib : List ℕ) (why : Refusal) (key : Key) (given : Option (List ℕ)) → MayLayRefused lib why (Object key) given → IsNothing (Object key) given
+refused_laid lib refusal.Store key given (inl text) = absurd (no_text key text.at)
+refused_laid lib refusal.Store key given (inr nothing) = nothing
+refused_laid lib refusal.NoMemory key given (inl text) = absurd (no_text key text.at)
+refused_laid lib refusal.NoMemory key given (inr nothing) = nothing
+refused_laid lib other key given laid = absurd laid
+
 turn_laid : (lib : List ℕ) (turn : Turn) (key : Key) (given : Option (List ℕ)) → MayLayIn lib turn (Object key) given → IsNothing (Object key) given
 turn_laid lib (Began number) key given laid = absurd (no_text key laid.at)
 turn_laid lib (Marked count) key given laid = absurd laid
@@ -47,8 +56,7 @@ turn_laid lib (Swept keys) key given (inl text) = absurd (no_text key text.at)
 turn_laid lib (Swept keys) key given (inr nothing) = nothing
 turn_laid lib (Ended number) key given laid = absurd laid
 turn_laid lib (Over number) key given laid = absurd laid
-turn_laid lib (Refused why keys) key given (inl text) = absurd (no_text key text.at)
-turn_laid lib (Refused why keys) key given (inr nothing) = nothing
+turn_laid lib (Refused why keys) key given laid = refused_laid lib why key given laid
 
 turn_harmless : (gives mid now : Slot → Option (List ℕ) → Type 0) (lib : List ℕ) (turn : Turn) → Harmless (OrNothing gives) mid → GivesBy (MayLayIn lib turn) mid now → Harmless (OrNothing gives) now
 turn_harmless gives mid now lib turn harmless more key given is = by (more (Object key) given is)
@@ -92,11 +100,13 @@ abbrev IsEndOfTurns : Collected → Type 0
 IsEndOfTurns (collected.Refused why) = IsOfTurn why
 IsEndOfTurns (collected.Done number removed) = ⊤
 
-after_turns : (gives now : Slot → Option (List ℕ) → Type 0) (ends : Collected) → IsEndOfTurns ends → Harmless (OrNothing gives) now → Harmless (after_collection ends gives) now
-after_turns gives now (collected.Refused refusal.Denied) none harmless = absurd none
-after_turns gives now (collected.Refused refusal.NoLibrary) none harmless = absurd none
-after_turns gives now (collected.Refused other) of_turn harmless = harmless
-after_turns gives now (collected.Done number removed) of_turn harmless = harmless
+after_turns : (gives now : Slot → Option (List ℕ) → Type 0) (ends : Collected) → IsEndOfTurns ends → (ends ≡ collected.Refused refusal.Spent → Harmless gives now)
+    → Harmless (OrNothing gives) now → Harmless (after_collection ends gives) now
+after_turns gives now (collected.Refused refusal.Denied) none spent harmless = absurd none
+after_turns gives now (collected.Refused refusal.NoLibrary) none spent harmless = absurd none
+after_turns gives now (collected.Refused refusal.Spent) of_turn spent harmless = spent refl
+after_turns gives now (collected.Refused other) of_turn spent harmless = harmless
+after_turns gives now (collected.Done number removed) of_turn spent harmless = harmless
 
 module _ {S : Type 0} (contents : S → Option Contents) (may_give : S → Slot → Option (List ℕ) → Type 0) (texts faults : S → ℕ) (shows : ℕ → Type 0) where
   turns_caused : (gives : Slot → Option (List ℕ) → Type 0) (u : DepotView S) (goal : Option ℕ) (turns : List Turn) (v : DepotView S) → Harmless (OrNothing gives) (may_give u.store.shelf)
@@ -108,6 +118,59 @@ module _ {S : Type 0} (contents : S → Option Contents) (may_give : S → Slot 
         (turn_caused (OrNothing gives) (may_give mid.store.shelf) later u.store.index u.running u.state.collection goal turn takes.may_come.may, rest.0),
         rest.1,
       )
+
+  -- ---- a collection that is spent took no turn but the one that told so
+
+  counted_on : (before after : Option Running) → before ≢ None → after ≡ option_map {T = Running} (λ (r : Running). record r { turned = r.turned + 1 }) before → (r : Running) × (after ≡ Some r)
+  counted_on None after some is = absurd (some refl)
+  counted_on (Some r) after some is = (record r { turned = r.turned + 1 }, is)
+
+  runs_on : (u : DepotView S) (goal : Option ℕ) (moment : ℕ) (turn : Turn) (v : DepotView S) → goes_on turn ≡ true → TakesTurn contents may_give texts faults u goal moment most_in_turn turn v
+      → (r : Running) × (v.running ≡ Some r)
+  runs_on u goal moment (Began number) v goes takes = (record { fresh = set.empty; stored = map.len u.store.index; turned = 0 }, takes.runs)
+  runs_on u goal moment (Marked count) v goes takes = counted_on u.running v.running takes.may_come.may takes.runs
+  runs_on u goal moment (Swept keys) v goes takes = counted_on u.running v.running takes.may_come.may takes.runs
+  runs_on u goal moment (Ended number) v goes takes = absurd (true≢false (sym goes))
+  runs_on u goal moment (Over number) v goes takes = absurd (true≢false (sym goes))
+  runs_on u goal moment (Refused why keys) v goes takes = absurd (true≢false (sym goes))
+
+  -- one that runs is never spent
+  none_spent : (u : DepotView S) (r : Running) (goal : Option ℕ) (before : List Turn) (keys : List Key) (v : DepotView S) → u.running ≡ Some r
+      → AllByRecursion (λ turn. goes_on turn ≡ true) before → TurnsOn contents may_give texts faults shows u goal (before ++ Refused refusal.Spent keys ∷ []) v → ⊥
+  none_spent u r goal [] keys v runs goes (moment, mid, shown, takes, good, more) =
+      subst (λ (o : Option Running). MayTurn u.store.index (may_give mid.store.shelf) o u.state.collection goal (Refused refusal.Spent keys)) runs takes.may_come.may
+  none_spent u r goal (turn ∷ before) keys v runs goes (moment, mid, shown, takes, good, more) =
+      let on = runs_on u goal moment turn mid goes.0 takes in
+      none_spent mid on.0 (number_running mid) before keys v on.1 goes.1 more
+
+  spent_leaves : (gives : Slot → Option (List ℕ) → Type 0) (u : DepotView S) (goal : Option ℕ) (before : List Turn) (keys : List Key) (v : DepotView S) → Harmless gives (may_give u.store.shelf)
+      → AllByRecursion (λ turn. goes_on turn ≡ true) before → TurnsOn contents may_give texts faults shows u goal (before ++ Refused refusal.Spent keys ∷ []) v → Harmless gives (may_give v.store.shelf)
+  spent_leaves gives u goal [] keys v harmless goes (moment, mid, shown, takes, good, same) =
+      subst (λ (w : DepotView S). Harmless gives (may_give w.store.shelf)) (sym same) (λ key given is. by key given (takes.gives (Object key) given is))
+    where
+      by : (key : Key) (given : Option (List ℕ)) → may_give u.store.shelf (Object key) given ⊎ ⊥ → gives (Object key) given ⊎ ((bytes : List ℕ) × (given ≡ Some bytes) × (has_other_name key bytes ≡ false))
+      by key given (inl was) = harmless key given was
+      by key given (inr none) = absurd none
+  spent_leaves gives u goal (turn ∷ before) keys v harmless goes (moment, mid, shown, takes, good, more) =
+      let on = runs_on u goal moment turn mid goes.0 takes in
+      absurd (none_spent mid on.0 (number_running mid) before keys v on.1 goes.1 more)
+
+  spent_end : (gives : Slot → Option (List ℕ) → Type 0) (u : DepotView S) (turns : List Turn) (ends : Collected) (v : DepotView S) → Harmless gives (may_give u.store.shelf)
+      → TurnsOn contents may_give texts faults shows u None turns v → TellsTurns turns ends → ends ≡ collected.Refused refusal.Spent → Harmless gives (may_give v.store.shelf)
+  spent_end gives u turns ends v harmless on (endless goes long is) spent = let clash : collected.Refused refusal.NoMemory ≡ collected.Refused refusal.Spent = sym is ∙ spent in cc
+  spent_end gives u turns ends v harmless on (ended before last is goes tells) spent = by last is (subst (EndsAs last (told_removed turns)) spent tells)
+    where
+      by : (turn : Turn) → turns ≡ before ++ turn ∷ [] → EndsAs turn (told_removed turns) (collected.Refused refusal.Spent) → Harmless gives (may_give v.store.shelf)
+      by (Began number) at tells = absurd tells
+      by (Marked count) at tells = absurd tells
+      by (Swept keys) at tells = absurd tells
+      by (Ended number) at tells = cc tells
+      by (Over number) at tells = absurd tells
+      by (Refused why keys) at tells =
+          let same : why ≡ refusal.Spent = cc tells in
+          spent_leaves gives u None before keys v harmless goes
+          (subst (λ (w : Refusal). TurnsOn contents may_give texts faults shows u None (before ++ Refused w keys ∷ []) v) same
+          (subst (λ (ts : List Turn). TurnsOn contents may_give texts faults shows u None ts v) at on))
 
   -- the end of some turns is that of the last one
   end_caused : (gives : Slot → Option (List ℕ) → Type 0) (turns : List Turn) (ends : Collected) → TellsTurns turns ends → AllByRecursion (IsCausedTurn gives) turns
@@ -143,7 +206,7 @@ module _ {S : Type 0} (contents : S → Option Contents) (may_give : S → Slot 
           let takes = collects.here ((bytes_eq-Decides lib u.state.lib).0 same) is in
           let each = turns_caused gives u None takes.0 v (nothing_more gives (may_give u.store.shelf) harmless) takes.1 in
           let end = end_caused (OrNothing gives) takes.0 ends takes.2 each.0 in
-          (end.0, after_turns gives (may_give v.store.shelf) ends end.1 each.1)
+          (end.0, after_turns gives (may_give v.store.shelf) ends end.1 (spent_end gives u takes.0 ends v harmless takes.1 takes.2) each.1)
       by true false same is = refused refusal.Denied tt harmless (collects.denied ((bytes_eq-Decides lib u.state.lib).0 same) is)
       by false may other is = refused refusal.NoLibrary tt harmless (collects.elsewhere (λ same. true≢false (sym ((bytes_eq-Decides lib u.state.lib).1 same) ∙ other)))
 

@@ -41,9 +41,11 @@ IsCausedEnd gives (collected.Done number removed) = ⊤
 abbrev pub OrNothing : (Slot → Option (List ℕ) → Type 0) → Slot → Option (List ℕ) → Type 0
 OrNothing gives slot given = gives slot given ⊎ IsNothing slot given
 
--- what may be given after a collection that was asked for and ended so: nothing for any key too, unless none was taken
+-- what may be given after a collection that was asked for and ended so: nothing for any key too, unless no turn took a step, which
+-- is so where it was denied or spent, and of another library
 abbrev pub after_collection : Collected → (Slot → Option (List ℕ) → Type 0) → Slot → Option (List ℕ) → Type 0
 after_collection (collected.Refused refusal.Denied) gives = gives
+after_collection (collected.Refused refusal.Spent) gives = gives
 after_collection (collected.Refused refusal.NoLibrary) gives = gives
 after_collection (collected.Refused other) gives = OrNothing gives
 after_collection (collected.Done number removed) gives = OrNothing gives
