@@ -1,0 +1,11 @@
+pub mod MappedLemmas
+pub mod OfferedEntryLemmas
+pub mod TraceLemmas
+pub mod HadLemmas
+pub mod OfferedContentLemmas
+pub mod StandingLemmas
+pub mod WantedLemmas
+pub mod KnownBytesLemmas
+pub mod KeyEntryLemmas
+pub mod OfferedHadLemmas
+pub mod AskedHadLemmas

@@ -1,0 +1,104 @@
+-- Sends of an upload, one after another. The key lemmas are went_more, went_free, ran_none, asking_start, asking_more, asking_stop,
+-- asking_end and puts_then.
+use Rattle.std.proofs.Common.{◌≡◌, inl, ℕ, true, List, [], ◌∷◌, ◌++◌, Result, Ok, Err, refl, sym, ap, ◌∙◌, subst, append_assoc}
+use Rattle.std.specs.Prelude.{⊤}
+use Rattle.std.specs.List.{AllByRecursion}
+use Rattle.ids.specs.declared.key.Kind.{Kind}
+use Rattle.remote_calls.specs.Sends.{Sent}
+use Rattle.sync_rules.specs.declared.fault.SyncFault.{SyncFault}
+use Rattle.tree_push.specs.Asking.{ArePuts, AsksIds, IsFree, IsSend, Ran, Stopped, Stops, Went, is_own, is_put}
+use Rattle.tree_push.specs.declared.asking.Library.{Library}
+
+pub all_append : {X : Type 0} (P : X → Type 0) (xs ys : List X) → AllByRecursion P xs → AllByRecursion P ys → AllByRecursion P (xs ++ ys)
+all_append P [] ys all more = more
+all_append P (x ∷ xs) ys all more = (all.0, all_append P xs ys all.1 more)
+
+module _ (library : Library) where
+  stops_more : (f : SyncFault) (first later : List Sent) → AllByRecursion (IsSend library) first → Stops library f later → Stops library f (first ++ later)
+  stops_more f [] later went stops = stops
+  stops_more f (sent ∷ first) later went stops = inl (went.0, stops_more f first later went.1 stops)
+
+  stops_own : (f : SyncFault) (more : List Sent) → AllByRecursion (IsSend library) more → is_own f ≡ true → Stops library f more
+  stops_own f [] went own = own
+  stops_own f (sent ∷ more) went own = inl (went.0, stops_own f more went.1 own)
+
+  -- nothing was sent
+  pub ran_none : (P : List Sent → Type 0) (old new : List Sent) → new ≡ old → P [] → Ran library P old new
+  ran_none P old new same is = record { more = []; grown = same ∙ sym (append_nil old); went = tt; are = is }
+    where
+      append_nil : (xs : List Sent) → xs ++ [] ≡ xs
+      append_nil [] = refl
+      append_nil (x ∷ xs) = ap (λ (ys : List Sent). x ∷ ys) (append_nil xs)
+
+  module _ (P Q R : List Sent → Type 0) (join : (first later : List Sent) → P first → Q later → R (first ++ later)) (old mid new : List Sent) where
+    -- what comes after sends that went well
+    pub went_more : {T : Type 0} (result : Result T SyncFault) → Ran library P old mid → Went library Q mid new result → Went library R old new result
+    went_more (Ok x) ran then = record {
+      more = ran.more ++ then.more;
+      grown = then.grown ∙ ap (λ (sends : List Sent). sends ++ then.more) ran.grown ∙ append_assoc old ran.more then.more;
+      went = all_append (IsSend library) ran.more then.more ran.went then.went;
+      are = join ran.more then.more ran.are then.are;
+    }
+    went_more (Err f) ran then = record {
+      more = ran.more ++ then.more;
+      grown = then.grown ∙ ap (λ (sends : List Sent). sends ++ then.more) ran.grown ∙ append_assoc old ran.more then.more;
+      stops = stops_more f ran.more then.more ran.went then.stops;
+    }
+
+  -- a fault of one's own after sends that went well
+  pub stopped_own : (P : List Sent → Type 0) (old new : List Sent) (f : SyncFault) → Ran library P old new → is_own f ≡ true → Stopped library f old new
+  stopped_own P old new f ran own = record { more = ran.more; grown = ran.grown; stops = stops_own f ran.more ran.went own }
+
+  -- a step that sends nothing and has no fault but want of memory
+  pub went_free : {T : Type 0} (P : List Sent → Type 0) (old new : List Sent) (result : Result T SyncFault) → Ran library P old new → IsFree result → Went library P old new result
+  went_free P old new (Ok x) ran free = ran
+  went_free P old new (Err f) ran free = stopped_own P old new f ran (subst (λ (g : SyncFault). is_own g ≡ true) (sym free) refl)
+
+  -- ---- lists of ids
+
+  pub asks_join : (kind : Kind) (some others : List (List ℕ)) (first later : List Sent) → AsksIds library kind some first → AsksIds library kind others later
+      → AsksIds library kind (some ++ others) (first ++ later)
+  asks_join kind some others [] later none asks = subst (λ (ids : List (List ℕ)). AsksIds library kind (ids ++ others) later) (sym none) asks
+  asks_join kind some others (sent ∷ first) later asks more =
+      (asks.0, asks.1 ++ others, ap (λ (ids : List (List ℕ)). ids ++ others) asks.2 ∙ append_assoc asks.0 asks.1 others, asks.3, asks_join kind asks.1 others first later asks.4 more)
+
+  -- these lists were asked for, and these ids are left
+  pub record IsAsking (kind : Kind) (ids left : List (List ℕ)) (old now : List Sent) : Type 0 where
+    pub done : List (List ℕ)
+    pub split : ids ≡ done ++ left
+    pub ran : Ran library (AsksIds library kind done) old now
+
+  pub asking_start : (kind : Kind) (ids : List (List ℕ)) (old : List Sent) → IsAsking kind ids ids old old
+  asking_start kind ids old = record { done = []; split = refl; ran = ran_none (AsksIds library kind []) old old refl refl }
+
+  pub asking_more : (kind : Kind) (ids left first rest : List (List ℕ)) (old now new : List Sent) → IsAsking kind ids left old now → left ≡ first ++ rest
+      → Ran library (AsksIds library kind first) now new → IsAsking kind ids rest old new
+  asking_more kind ids left first rest old now new is cut ran = record {
+    done = is.done ++ first;
+    split = is.split ∙ ap (λ (l : List (List ℕ)). is.done ++ l) cut ∙ sym (append_assoc is.done first rest);
+    ran = went_more (AsksIds library kind is.done) (AsksIds library kind first) (AsksIds library kind (is.done ++ first)) (asks_join kind is.done first) old now new {T = ⊤} (Ok tt) is.ran ran;
+  }
+
+  pub asking_stop : (kind : Kind) (ids left first : List (List ℕ)) (old now new : List Sent) (f : SyncFault) → IsAsking kind ids left old now
+      → Stopped library f now new → Stopped library f old new
+  asking_stop kind ids left first old now new f is stops =
+      went_more (AsksIds library kind is.done) (AsksIds library kind first) (AsksIds library kind (is.done ++ first)) (asks_join kind is.done first) old now new {T = ⊤} (Err f) is.ran stops
+
+  pub asking_end : (kind : Kind) (ids left : List (List ℕ)) (old now : List Sent) → IsAsking kind ids left old now → left ≡ [] → Ran library (AsksIds library kind ids) old now
+  asking_end kind ids left old now is none =
+      subst (λ (l : List (List ℕ)). Ran library (AsksIds library kind l) old now) (sym (is.split ∙ ap (λ (l : List (List ℕ)). is.done ++ l) none ∙ append_none is.done)) is.ran
+    where
+      append_none : (xs : List (List ℕ)) → xs ++ [] ≡ xs
+      append_none [] = refl
+      append_none (x ∷ xs) = ap (λ (ys : List (List ℕ)). x ∷ ys) (append_none xs)
+
+  -- ---- puts
+
+  pub puts_join : (first later : List Sent) → ArePuts first → ArePuts later → ArePuts (first ++ later)
+  puts_join first later are more = all_append (λ sent. is_put sent.0.what ≡ true) first later are more
+
+  pub puts_stop : (old mid new : List Sent) (f : SyncFault) → Ran library ArePuts old mid → Stopped library f mid new → Stopped library f old new
+  puts_stop old mid new f ran then = went_more ArePuts ArePuts ArePuts puts_join old mid new {T = ⊤} (Err f) ran then
+
+  pub puts_then : {T : Type 0} (old mid new : List Sent) (result : Result T SyncFault) → Ran library ArePuts old mid → Went library ArePuts mid new result → Went library ArePuts old new result
+  puts_then old mid new result ran then = went_more ArePuts ArePuts ArePuts puts_join old mid new result ran then

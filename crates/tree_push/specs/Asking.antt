@@ -1,0 +1,194 @@
+-- What is sent while a folder is pushed, and what comes of it. Our own. Read IsSend and Went first, then AsksIds.
+use Rattle.std.specs.Prelude.{ℕ, ◌≡◌, ◌≤◌, ◌⊎◌, Bool, true, false, All, List, [], ◌∷◌, ◌++◌, length, Some, Result, Ok, Err, ⊤}
+use Rattle.std.specs.List.{AllByRecursion}
+use Rattle.sha1.specs.Sha1.{sha1}
+use Rattle.ids.specs.declared.key.Key.{Key}
+use Rattle.ids.specs.declared.key.Kind.{Kind}
+use Rattle.ids.specs.declared.key.Kind.TheVariants as kind
+use Rattle.library_state.specs.declared.reply.Reply.{Reply}
+use Rattle.library_state.specs.declared.reply.Reply.TheVariants as reply
+use Rattle.http_client.specs.OrderOutcome.{CanAnswer}
+use Rattle.http_front.specs.declared.order.Order.{Order}
+use Rattle.http_front.specs.declared.order.What.{What}
+use Rattle.http_front.specs.declared.order.What.TheVariants as what
+use Rattle.http_front.specs.declared.outcome.Outcome.{Outcome}
+use Rattle.http_front.specs.declared.outcome.Outcome.TheVariants as outcome
+use Rattle.http_front.specs.declared.row.Row.{Row}
+use Rattle.remote_calls.specs.Sends.{Ending, Sent}
+use Rattle.remote_calls.specs.declared.error.RemoteFault.{RemoteFault}
+use Rattle.remote_calls.specs.declared.error.RemoteFault.TheVariants as remote
+use Rattle.sync_rules.specs.Orders.{IsRowNamed, most_asked}
+use Rattle.sync_rules.specs.declared.fault.SyncFault.{SyncFault}
+use Rattle.sync_rules.specs.declared.fault.SyncFault.TheVariants as fault
+use Rattle.tree_push.specs.declared.asking.Library.{Library}
+
+-- ---- one order
+
+-- the order that asks the library for it
+abbrev pub order_for : Library → What → Order
+order_for library asked = record { lib = Some library.lib; secret = Some library.secret; what = asked }
+
+-- a block or a commit is put alone
+abbrev pub is_put_kind : Kind → Bool
+is_put_kind kind.Fs = false
+is_put_kind _ = true
+
+-- what an order of an upload asks: what is lacking, that a block or a commit, or files and directories be stored, that the library
+-- stand at a commit
+abbrev pub is_asked : What → Bool
+is_asked (what.Missing kind.Fs ids) = true
+is_asked (what.Missing kind.Block ids) = true
+is_asked (what.Put key bytes) = is_put_kind key.kind
+is_asked (what.PutFs rows) = true
+is_asked (what.Update commit) = true
+is_asked _ = false
+
+-- an outcome of a call
+abbrev pub IsReply : Outcome → Type 0
+IsReply (outcome.Plain told tag) = ⊤
+IsReply (outcome.Refused why) = ⊤
+IsReply _ = ⊥
+
+-- it tells this reply; a refusal is one, however it is told
+abbrev pub Tells : Outcome → Reply → Type 0
+Tells (outcome.Plain told tag) r = r ≡ told
+Tells (outcome.Refused why) r = r ≡ reply.Refused why
+Tells _ r = ⊥
+
+abbrev pub Replies : Ending → Reply → Type 0
+Replies (Ok told) r = Tells told r
+Replies (Err why) r = ⊥
+
+abbrev pub remote_fault : RemoteFault → SyncFault
+remote_fault remote.NoMemory = fault.NoMemory
+remote_fault other = fault.Remote other
+
+-- one send more, with its reply, which the order can have; or its fault; or memory was wanting, and nothing is listed
+abbrev pub AsksSo : Library → What → List Sent → List Sent → Result Reply SyncFault → Type 0
+AsksSo library asked old new (Ok r) = (ending : Ending) × (new ≡ old ++ (order_for library asked, ending) ∷ []) × Replies ending r × CanAnswer asked r
+AsksSo library asked old new (Err f) = ((f ≡ fault.NoMemory) × (new ≡ old))
+    ⊎ ((why : RemoteFault) × (new ≡ old ++ (order_for library asked, Err why) ∷ []) × (f ≡ fault.Remote why))
+
+-- ---- orders of an upload, one after another
+
+-- what is uploaded before a library is asked to stand at it: lists of ids that aren't too long, and objects under their names
+abbrev pub IsUploadWhat : What → Type 0
+IsUploadWhat (what.Missing kind ids) = length ids ≤ most_asked
+IsUploadWhat (what.Put key bytes) = sha1 bytes ≡ key.id
+IsUploadWhat (what.PutFs rows) = All IsRowNamed rows
+IsUploadWhat _ = ⊥
+
+abbrev pub is_refused : Reply → Bool
+is_refused (reply.Refused why) = true
+is_refused _ = false
+
+-- a send that went well
+pub record IsSend (library : Library) (sent : Sent) : Type 0 where
+  pub order : sent.0 ≡ order_for library sent.0.what
+  pub uploads : IsUploadWhat sent.0.what
+  pub told : Reply
+  pub replied : Replies sent.1 told
+  pub well : is_refused told ≡ false
+
+-- a fault that an ending tells
+abbrev pub EndsBy : Ending → SyncFault → Type 0
+EndsBy ending (fault.Remote why) = ending ≡ Err why
+EndsBy ending (fault.Refused why) = Replies ending (reply.Refused why)
+EndsBy ending _ = ⊥
+
+-- the send that told it
+pub record IsEnd (library : Library) (f : SyncFault) (sent : Sent) : Type 0 where
+  pub order : sent.0 ≡ order_for library sent.0.what
+  pub uploads : IsUploadWhat sent.0.what
+  pub ends : EndsBy sent.1 f
+
+-- a fault that no send tells: of the folder, of what stands in it, and want of memory
+abbrev pub is_own : SyncFault → Bool
+is_own fault.Folder = true
+is_own (fault.Changed path) = true
+is_own fault.NoMemory = true
+is_own _ = false
+
+-- each send went well, until one told the fault, or it came without one
+abbrev pub Stops : Library → SyncFault → List Sent → Type 0
+Stops library f [] = is_own f ≡ true
+Stops library f (sent ∷ more) = (IsSend library sent × Stops library f more) ⊎ (IsEnd library f sent × (more ≡ []))
+
+-- sends that went well, and of which this holds
+pub record Ran (library : Library) (wanted : List Sent → Type 0) (old new : List Sent) : Type 0 where
+  pub more : List Sent
+  pub grown : new ≡ old ++ more
+  pub went : AllByRecursion (IsSend library) more
+  pub are : wanted more
+
+-- sends until a fault
+pub record Stopped (library : Library) (f : SyncFault) (old new : List Sent) : Type 0 where
+  pub more : List Sent
+  pub grown : new ≡ old ++ more
+  pub stops : Stops library f more
+
+abbrev pub Went : {T : Type 0} → Library → (List Sent → Type 0) → List Sent → List Sent → Result T SyncFault → Type 0
+Went library wanted old new (Ok x) = Ran library wanted old new
+Went library wanted old new (Err f) = Stopped library f old new
+
+-- the only fault is want of memory
+abbrev pub IsFree : {T : Type 0} → Result T SyncFault → Type 0
+IsFree (Ok x) = ⊤
+IsFree (Err f) = f ≡ fault.NoMemory
+
+-- ---- what is lacking
+
+abbrev pub key_of : Kind → List ℕ → Key
+key_of kind id = record { kind = kind; id = id }
+
+-- it can be asked which ids of the kind name nothing
+abbrev pub is_listed : Kind → Bool
+is_listed kind.Commit = false
+is_listed _ = true
+
+-- what is replied where that is asked: the ids, or a refusal
+abbrev pub IsAbsentReply : Reply → Type 0
+IsAbsentReply (reply.Absent ids) = ⊤
+IsAbsentReply (reply.Refused why) = ⊤
+IsAbsentReply _ = ⊥
+
+abbrev pub NotesSo : {T : Type 0} → Reply → Result T SyncFault → Type 0
+NotesSo (reply.Absent ids) result = IsFree result
+NotesSo (reply.Refused why) result = result ≡ Err (fault.Refused why)
+NotesSo _ result = ⊥
+
+-- it was asked which of these ids name nothing
+pub record AsksList (library : Library) (kind : Kind) (ids : List (List ℕ)) (sent : Sent) : Type 0 where
+  pub asked : sent.0 ≡ order_for library (what.Missing kind ids)
+  pub absent : List (List ℕ)
+  pub told : Replies sent.1 (reply.Absent absent)
+
+-- the same in lists, one after another
+abbrev pub AsksIds : Library → Kind → List (List ℕ) → List Sent → Type 0
+AsksIds library kind ids [] = ids ≡ []
+AsksIds library kind ids (sent ∷ more) =
+    (first : List (List ℕ)) × (rest : List (List ℕ)) × (ids ≡ first ++ rest) × AsksList library kind first sent × AsksIds library kind rest more
+
+-- ---- what is put
+
+abbrev pub is_put : What → Bool
+is_put (what.Put key bytes) = true
+is_put (what.PutFs rows) = true
+is_put _ = false
+
+abbrev pub ArePuts : List Sent → Type 0
+ArePuts = AllByRecursion (λ sent. is_put sent.0.what ≡ true)
+
+-- what is replied where something is put
+abbrev pub IsStoredReply : Reply → Type 0
+IsStoredReply (reply.Stored new) = ⊤
+IsStoredReply (reply.Refused why) = ⊤
+IsStoredReply _ = ⊥
+
+abbrev pub StoresSo : Reply → Result ⊤ SyncFault → Type 0
+StoresSo (reply.Stored is_new) result = result ≡ Ok tt
+StoresSo (reply.Refused why) result = result ≡ Err (fault.Refused why)
+StoresSo _ result = ⊥
+
+abbrev pub AreRowsNamed : List Row → Type 0
+AreRowsNamed rows = All IsRowNamed rows

@@ -1,0 +1,5 @@
+pub mod OfferedEntries
+pub mod OfferedNames
+pub mod Asking
+pub mod Standing
+pub mod Wanted

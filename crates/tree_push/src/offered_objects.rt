@@ -1,0 +1,38 @@
+//! The tree that is offered, as objects.
+ghost use Rattle.std.specs.Prelude.{◌≡◌, ℕ, IfErr, IfOk, List, option_map};
+ghost use Rattle.std.specs.FinMap as map;
+ghost use Rattle.ids.specs.Key.{Objects};
+ghost use Rattle.tree_model.specs.Path.{PathV};
+ghost use Rattle.object_graph.specs.Objects.{entry_below};
+ghost use Rattle.object_graph.specs.Unchanged.{Keeps};
+ghost use Rattle.tree_merge.specs.TreeBuilding.{AreNamed, IsCausedInBuild};
+ghost use Rattle.tree_push.specs.OfferedEntries.{IsSeenFolder, offered_entry};
+
+use crate::offered_entries::offered_entries;
+use folder_side::Seen;
+use ids::Text;
+use local_index::Known;
+use std::alloc::{AllocError, Global};
+use tree_merge::{BuildFault, BuiltTree, build};
+use tree_model::PathTable;
+
+/// The directory objects of the tree that is offered, each under its own name. None is made for an empty directory.
+///
+/// Refused where two of them have one name, or one has forty zeros, as no two texts that are known do.
+pub fn offered_tree(
+    alloc: Global,
+    paths: &PathTable<Seen>,
+    knowns: &PathTable<Known>,
+    moment: u64,
+    user: &Text,
+) -> Result<BuiltTree, BuildFault>
+    ensures value { IfOk result (λ built. IsSeenFolder knowns.now paths.now → (objects : Objects) → Keeps built.made objects
+        → (path : PathV) → entry_below objects path built.root ≡ option_map (offered_entry moment user.now (map.get knowns.now path)) (map.get paths.now path)) }
+    ensures named { IfOk result (λ built. AreNamed built.made) }
+    ensures cause { IfErr result IsCausedInBuild }
+{
+    match offered_entries(alloc, paths, knowns, moment, user) {
+        Ok(entries) => build(alloc, entries),
+        Err(AllocError) => Err(BuildFault::NoMemory),
+    }
+}

@@ -1,0 +1,183 @@
+//! What is put into the library.
+ghost use Rattle.std.specs.Prelude.{◌≡◌, OnOk, true};
+ghost use Rattle.sha1.specs.Sha1.{sha1};
+ghost use Rattle.tree_push.specs.Asking.{ArePuts, AreRowsNamed, IsFree, IsStoredReply, IsUploadWhat, StoresSo, Went, is_asked, is_put};
+ghost use Rattle.tree_push.specs.Wanted.{AreUnderNames};
+
+use crate::asking::{Library, ask};
+use http_front::{Row, What};
+use ids::{Bytes, Items, Key, KeyTable, Kind, ObjId};
+use library_state::Reply;
+use remote_calls::Remote;
+use std::alloc::{AllocError, Global};
+use std::mem;
+use sync_rules::SyncFault;
+
+/// So many bytes of files and directories are put at once, or a larger one alone.
+const MOST_BYTES: u64 = 16_777_216;
+
+/// Files and directories that are to be put together, and how many bytes they have.
+#[derive(Drop)]
+struct Batch {
+    rows: Items<Row>,
+    size: u64,
+}
+
+/// Puts the files and directories that are lacking and were made, each under its own name.
+///
+/// So many are put at once that they have 16,777,216 bytes together, or a larger one alone. `Remote` and `Refused` by the last
+/// order.
+pub fn put_objects<R: Remote>(
+    alloc: Global,
+    remote: &mut R,
+    library: &Library,
+    made: &KeyTable<Bytes>,
+    lacking: &KeyTable<()>,
+) -> Result<(), SyncFault>
+    requires named { AreUnderNames made.now }
+    ensures value { Went library.now ArePuts (R.sends remote.old) (R.sends remote.new) result }
+    ensures stays { R.peer remote.new ≡ R.peer remote.old }
+{
+    let mut batch = Batch {
+        rows: Items::new(alloc),
+        size: 0,
+    };
+    for (key, _) in lacking.iter() {
+        match put_object(alloc, remote, library, made, key, &mut batch) {
+            Ok(()) => {}
+            Err(fault) => return Err(fault),
+        }
+    }
+    put_batch(alloc, remote, library, &mut batch)
+}
+
+/// Takes an object, if it was made, into the batch; a batch that is full is put before.
+fn put_object<R: Remote>(
+    alloc: Global,
+    remote: &mut R,
+    library: &Library,
+    made: &KeyTable<Bytes>,
+    key: &Key,
+    batch: &mut Batch,
+) -> Result<(), SyncFault>
+    requires named { AreUnderNames made.now }
+    requires ready { AreRowsNamed batch.old.rows }
+    ensures value { Went library.now ArePuts (R.sends remote.old) (R.sends remote.new) result }
+    ensures named { OnOk result (AreRowsNamed batch.new.rows) }
+    ensures stays { R.peer remote.new ≡ R.peer remote.old }
+{
+    let Some(bytes) = made.get(key) else {
+        return Ok(());
+    };
+    let copied = match Bytes::copy(alloc, bytes.slice()) {
+        Ok(copied) => copied,
+        Err(AllocError) => return Err(SyncFault::NoMemory),
+    };
+    match make_room(alloc, remote, library, copied.len() as u64, batch) {
+        Ok(()) => add(batch, key.id, copied),
+        Err(fault) => Err(fault),
+    }
+}
+
+/// Takes an object into the batch.
+fn add(batch: &mut Batch, id: ObjId, bytes: Bytes) -> Result<(), SyncFault>
+    requires ready { AreRowsNamed batch.old.rows }
+    requires named { sha1 bytes ≡ id }
+    ensures free { IsFree result }
+    ensures named { OnOk result (AreRowsNamed batch.new.rows) }
+{
+    batch.size = batch.size.saturating_add(bytes.len() as u64);
+    match batch.rows.push(Row { id, bytes }) {
+        Ok(()) => Ok(()),
+        Err(AllocError) => Err(SyncFault::NoMemory),
+    }
+}
+
+/// Puts the batch where this many bytes more would be too many.
+fn make_room<R: Remote>(
+    alloc: Global,
+    remote: &mut R,
+    library: &Library,
+    size: u64,
+    batch: &mut Batch,
+) -> Result<(), SyncFault>
+    requires ready { AreRowsNamed batch.old.rows }
+    ensures value { Went library.now ArePuts (R.sends remote.old) (R.sends remote.new) result }
+    ensures named { OnOk result (AreRowsNamed batch.new.rows) }
+    ensures stays { R.peer remote.new ≡ R.peer remote.old }
+{
+    if batch.size.saturating_add(size) <= MOST_BYTES {
+        return Ok(());
+    }
+    put_batch(alloc, remote, library, batch)
+}
+
+/// Puts what the batch has, if it has anything.
+fn put_batch<R: Remote>(
+    alloc: Global,
+    remote: &mut R,
+    library: &Library,
+    batch: &mut Batch,
+) -> Result<(), SyncFault>
+    requires ready { AreRowsNamed batch.old.rows }
+    ensures value { Went library.now ArePuts (R.sends remote.old) (R.sends remote.new) result }
+    ensures named { AreRowsNamed batch.new.rows }
+    ensures stays { R.peer remote.new ≡ R.peer remote.old }
+{
+    if batch.rows.is_empty() {
+        return Ok(());
+    }
+    let rows = mem::replace(&mut batch.rows, Items::new(alloc));
+    batch.size = 0;
+    put(alloc, remote, library, What::PutFs(rows))
+}
+
+/// Puts a block under its name.
+pub fn put_block<R: Remote>(
+    alloc: Global,
+    remote: &mut R,
+    library: &Library,
+    id: ObjId,
+    bytes: Bytes,
+) -> Result<(), SyncFault>
+    requires named { sha1 bytes ≡ id }
+    ensures value { Went library.now ArePuts (R.sends remote.old) (R.sends remote.new) result }
+    ensures stays { R.peer remote.new ≡ R.peer remote.old }
+{
+    let key = Key {
+        kind: Kind::Block,
+        id,
+    };
+    put(alloc, remote, library, What::Put(key, bytes))
+}
+
+/// Asks that something be stored.
+fn put<R: Remote>(
+    alloc: Global,
+    remote: &mut R,
+    library: &Library,
+    what: What,
+) -> Result<(), SyncFault>
+    requires asked { is_asked what ≡ true }
+    requires ready { is_put what ≡ true }
+    requires named { IsUploadWhat what }
+    ensures value { Went library.now ArePuts (R.sends remote.old) (R.sends remote.new) result }
+    ensures stays { R.peer remote.new ≡ R.peer remote.old }
+{
+    match ask(alloc, remote, library, what) {
+        Ok(reply) => stored(reply),
+        Err(fault) => Err(fault),
+    }
+}
+
+/// What was to be stored is, or it was refused.
+pub(crate) fn stored(reply: Reply) -> Result<(), SyncFault>
+    requires told { IsStoredReply reply }
+    ensures value { StoresSo reply result }
+{
+    match reply {
+        Reply::Stored(_) => Ok(()),
+        Reply::Refused(why) => Err(SyncFault::Refused(why)),
+        _ => unreachable!(),
+    }
+}
