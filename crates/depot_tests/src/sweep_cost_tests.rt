@@ -2,23 +2,29 @@
 use crate::calls::{Step, asked, turned};
 use crate::cost_tests::{FEW, MANY};
 use crate::library::library_on;
-use crate::objects::{is_updated, put_block, put_deep_commit};
+use crate::objects::{Kept, is_updated, put_block, put_deep_commit};
 use crate::stop_tests::opened;
 use depot::Depot;
 use library_state::{Act, Op};
 use object_store::{FuseShelf, MemoryShelf};
 use std::alloc::{AllocError, Global};
 
-/// The shelf of a library with a directory of each name, and two blocks that nothing needs.
-fn shelf_of(alloc: Global, names: &[&str]) -> Result<MemoryShelf, AllocError> {
-    let mut depot = library_on(alloc, &[])?;
+/// Updates a library to a directory of each name, and puts two blocks that nothing needs.
+fn fill(alloc: Global, depot: &mut Kept, names: &[&str]) -> Result<(), AllocError> {
     let first = depot.head();
-    let commit = put_deep_commit(alloc, &mut depot, 0x11, &first, names, "a")?;
-    if !is_updated(&mut depot, &commit) {
+    let commit = put_deep_commit(alloc, depot, 0x11, &first, names, "a")?;
+    if !is_updated(depot, &commit) {
         return Err(AllocError);
     }
-    put_block(alloc, &mut depot, "1")?;
-    put_block(alloc, &mut depot, "2")?;
+    put_block(alloc, depot, "1")?;
+    put_block(alloc, depot, "2")?;
+    Ok(())
+}
+
+/// The shelf of such a library.
+fn shelf_of(alloc: Global, names: &[&str]) -> Result<MemoryShelf, AllocError> {
+    let mut depot = library_on(alloc, &[])?;
+    fill(alloc, &mut depot, names)?;
     Ok(depot.close().end())
 }
 

@@ -14,16 +14,20 @@ pub(crate) const MOMENT: u64 = 7;
 #[derive(Clone, Copy)]
 pub(crate) enum Said {
     Checked,
+    /// The library stands at this commit.
+    Head(ObjId),
     Stored,
     Limited,
     /// Bytes that have this name.
     Got(ObjId),
     /// So many objects aren't there.
     Absent(usize),
-    /// The library stands at this commit.
+    /// The update is made, and the library stands at this commit.
     Updated(ObjId),
     /// A collection began since an upload was last allowed.
     Stale,
+    /// The shelf failed.
+    Failed,
     /// Any other reply.
     Other,
 }
@@ -31,6 +35,7 @@ pub(crate) enum Said {
 fn said_of_refusal(why: &Refusal) -> Said {
     match why {
         Refusal::Stale { .. } => Said::Stale,
+        Refusal::Store => Said::Failed,
         _ => Said::Other,
     }
 }
@@ -38,6 +43,7 @@ fn said_of_refusal(why: &Refusal) -> Said {
 fn said_by(reply: &Reply) -> Said {
     match reply {
         Reply::Checked => Said::Checked,
+        Reply::HeadIs(head) => Said::Head(*head),
         Reply::Stored(_) => Said::Stored,
         Reply::Limited => Said::Limited,
         Reply::Got(bytes) => Said::Got(ObjId::of(bytes.slice())),
@@ -48,14 +54,19 @@ fn said_by(reply: &Reply) -> Said {
     }
 }
 
-/// What the owner is answered.
-pub(crate) fn asked<S: Shelf>(depot: &mut Depot<S>, act: Act) -> Said {
+/// What the one is answered whose secret is twenty times this byte.
+pub(crate) fn asked_by<S: Shelf>(depot: &mut Depot<S>, byte: u8, act: Act) -> Said {
     let call = Call {
-        secret: Some(Secret::from_bytes([0xaa; 20])),
+        secret: Some(Secret::from_bytes([byte; 20])),
         act,
     };
     let reply = depot.answer(&call, 9);
     said_by(&reply)
+}
+
+/// What the owner is answered.
+pub(crate) fn asked<S: Shelf>(depot: &mut Depot<S>, act: Act) -> Said {
+    asked_by(depot, 0xaa, act)
 }
 
 /// What a turn did: the number of its collection, or how many objects it took.

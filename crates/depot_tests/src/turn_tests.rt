@@ -132,10 +132,15 @@ fn stays(alloc: Global, depot: &mut Kept) -> Result<bool, AllocError> {
     Ok(is_told_present(alloc, depot)? && keeps_first(depot) && takes_update(alloc, depot, "a")?)
 }
 
+/// The same of a new library.
+fn stays_in_one(alloc: Global) -> Result<bool, AllocError> {
+    let mut depot = library_on(alloc, &[])?;
+    stays(alloc, &mut depot)
+}
+
 #[test]
 fn what_was_told_present_stays_through_a_collection(rt: HostRuntime) -> Result<(), AllocError> {
-    let mut depot = library_on(rt.alloc(), &[])?;
-    assert!(rt; stays(rt.alloc(), &mut depot)?);
+    assert!(rt; stays_in_one(rt.alloc())?);
     Ok(())
 }
 
@@ -217,11 +222,16 @@ fn a_merged_update_keeps_what_it_needs_from_the_collection_that_runs(
 }
 
 /// Whether an update that was answered is answered with its commit again, once a collection ended that takes nothing.
+fn is_known_over(alloc: Global, depot: &mut Kept) -> Result<bool, AllocError> {
+    let first = depot.head();
+    let commit = update_to(alloc, depot, 0x11, &first, ONE, "1")?;
+    Ok(removed_by(depot, 1000) == Some(0) && is_updated(depot, &commit))
+}
+
+/// The same of a new library.
 fn is_known_after(alloc: Global) -> Result<bool, AllocError> {
     let mut depot = library_on(alloc, &[])?;
-    let first = depot.head();
-    let commit = update_to(alloc, &mut depot, 0x11, &first, ONE, "1")?;
-    Ok(removed_by(&mut depot, 1000) == Some(0) && is_updated(&mut depot, &commit))
+    is_known_over(alloc, &mut depot)
 }
 
 #[test]
@@ -245,17 +255,22 @@ fn is_taken(alloc: Global, depot: &mut Kept, commit: &ObjId) -> Result<bool, All
 }
 
 /// Whether a collection takes an upload, whose update is made once it was put again.
-fn is_put_again(alloc: Global) -> Result<bool, AllocError> {
-    let mut depot = library_on(alloc, &[])?;
+fn is_put_again(alloc: Global, depot: &mut Kept) -> Result<bool, AllocError> {
     let first = depot.head();
-    let commit = put_commit(alloc, &mut depot, 0x11, &first, ONE, "1")?;
-    let taken = is_taken(alloc, &mut depot, &commit)?;
-    let again = put_commit(alloc, &mut depot, 0x11, &first, ONE, "1")?;
-    Ok(taken && is_updated(&mut depot, &again))
+    let commit = put_commit(alloc, depot, 0x11, &first, ONE, "1")?;
+    let taken = is_taken(alloc, depot, &commit)?;
+    let again = put_commit(alloc, depot, 0x11, &first, ONE, "1")?;
+    Ok(taken && is_updated(depot, &again))
+}
+
+/// The same of a new library.
+fn is_put_again_in_one(alloc: Global) -> Result<bool, AllocError> {
+    let mut depot = library_on(alloc, &[])?;
+    is_put_again(alloc, &mut depot)
 }
 
 #[test]
 fn an_upload_that_a_collection_took_is_put_again(rt: HostRuntime) -> Result<(), AllocError> {
-    assert!(rt; is_put_again(rt.alloc())?);
+    assert!(rt; is_put_again_in_one(rt.alloc())?);
     Ok(())
 }

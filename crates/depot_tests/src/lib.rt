@@ -1,4 +1,5 @@
-//! Tests of collections in turns, over the depot's public calls alone: what no scenario over the built program can show.
+//! Tests of a library over the depot's public calls alone, what no scenario over the built program can show: collections in
+//! turns, and what a stop at any call of the shelf leaves.
 //!
 //! They stand apart, since a crate with tests is proved twice. It has no code but its tests.
 #![tactic(auto)]
@@ -12,6 +13,8 @@ mod fault_tests;
 #[cfg(test)]
 mod library;
 #[cfg(test)]
+mod make_stop_tests;
+#[cfg(test)]
 mod objects;
 #[cfg(test)]
 mod stop_tests;
@@ -19,3 +22,5 @@ mod stop_tests;
 mod sweep_cost_tests;
 #[cfg(test)]
 mod turn_tests;
+#[cfg(test)]
+mod update_stop_tests;
