@@ -6,6 +6,8 @@
 #[cfg(test)]
 mod block_chunker_tests;
 #[cfg(test)]
+mod client_words_tests;
+#[cfg(test)]
 mod commit_objects_tests;
 #[cfg(test)]
 mod conflict_names_tests;

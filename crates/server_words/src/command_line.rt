@@ -200,8 +200,8 @@ fn token_command(
     })
 }
 
-/// The secret whose 40 digits a text is.
-fn secret_of(text: &str) -> Option<Secret>
+/// The secret whose 40 lower-case hexadecimal digits a text is. It takes no memory.
+pub fn secret_of(text: &str) -> Option<Secret>
     ensures value { result ≡ secret_of text.now }
 {
     match Secret::read(text) {
@@ -210,8 +210,8 @@ fn secret_of(text: &str) -> Option<Secret>
     }
 }
 
-/// Whether a text has 1 to 255 bytes, and no control character.
-fn is_name(text: &str) -> bool
+/// Whether a text is the name of a library or a user: 1 to 255 bytes, and no control character (0 to 31, or 127).
+pub fn is_name(text: &str) -> bool
     ensures value { result ≡ is_name text.now }
     ensures bound { OnTrue result (IsNameSize text.now) }
 {

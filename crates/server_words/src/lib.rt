@@ -14,7 +14,7 @@ mod line;
 mod line_text;
 
 pub use crate::command::{Command, Location};
-pub use crate::command_line::{names_memory, read_command};
+pub use crate::command_line::{is_name, names_memory, read_command, secret_of};
 pub use crate::fault::Fault;
 pub use crate::line::{Line, help_text, version_text};
 pub use crate::line_text::LineText;

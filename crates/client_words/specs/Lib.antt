@@ -1,0 +1,5 @@
+pub mod Address
+pub mod Grammar
+pub mod Help
+pub mod OptionValues
+pub mod WordReading
