@@ -1,0 +1,11 @@
+pub mod AskLemmas
+pub mod CauseLemmas
+pub mod CheckingOutLemmas
+pub mod GotLemmas
+pub mod HadLemmas
+pub mod PlanLooksLemmas
+pub mod PlanningLemmas
+pub mod SecondLookLemmas
+pub mod StepsLemmas
+pub mod UnchangedLemmas
+pub mod WritingLemmas

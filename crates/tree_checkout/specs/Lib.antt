@@ -1,0 +1,6 @@
+pub mod BlockGets
+pub mod CheckingOut
+pub mod Planning
+pub mod SecondLook
+pub mod Steps
+pub mod Writing

@@ -1,0 +1,22 @@
+//! Brings a folder to a tree, by a plan of steps: what the tree lacks is removed, then directories are made and files are moved
+//! in, each got block by block into the spare.
+//!
+//! Shown upward: `plan_of` with `Plan`, and `Source`, `TreeFile`. Definitions: specs/Planning.antt, specs/BlockGets.antt,
+//! specs/Writing.antt. It asks a library for blocks alone.
+#![tactic(auto)]
+
+mod block_gets;
+mod checking_out;
+mod fault;
+mod hidden;
+pub mod laws;
+mod planning;
+mod second_look;
+mod steps;
+mod writing;
+
+pub use block_gets::Source;
+pub use checking_out::checkout;
+pub use planning::{Due, DueNode, Plan, plan_of};
+pub use steps::{Write, WriteNode};
+pub use writing::TreeFile;
