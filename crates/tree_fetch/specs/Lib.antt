@@ -1,0 +1,4 @@
+pub mod Asking
+pub mod Fetching
+pub mod Held
+pub mod Levels
