@@ -1,4 +1,4 @@
--- What the index knows after objects were put. The key lemmas are holds_put, holds_one and more_then.
+-- What the index knows after objects were put. The key lemmas are holds_put, holds_one, more_then and index_refused.
 use Rattle.std.proofs.Common.{◌≡◌, ℕ, Bool, true, false, ◌||◌, List, [], ◌∷◌, ◌++◌, length, cond, refl, sym, ap, ◌∙◌, subst, true≢false, Option, None, Some, is_some, if◌then◌else◌, Result, Ok, Err}
 use Rattle.std.specs.FinMap as map
 use Rattle.std.proofs.lemmas.Bool.{or_left, or_right}
@@ -6,6 +6,9 @@ use Rattle.ids.proofs.KeyOrderLemmas.{key_cmp_total}
 use Rattle.ids.specs.declared.key.Key.{Key}
 use Rattle.library_rules.specs.Changes.{keys_added}
 use Rattle.library_rules.specs.declared.entry.Stored.{Stored}
+use Rattle.library_state.specs.declared.call.Act.{Act}
+use Rattle.library_state.specs.declared.call.Act.TheVariants as act
+use Rattle.library_state.specs.declared.refusal.Refusal.{Refusal}
 use Rattle.library_state.specs.declared.reply.Reply.{Reply}
 use Rattle.library_state.specs.declared.reply.Reply.TheVariants as reply
 use Rattle.object_graph.specs.Traversal.{is_in}
@@ -16,7 +19,7 @@ use Rattle.object_store.specs.declared.error.StoreFault.{StoreFault}
 use Rattle.object_store.specs.declared.error.StoreFault.TheVariants.{Taken, Wrong, Damaged, Shelf, NoMemory}
 use Rattle.object_store.specs.declared.put.Put.{Put}
 use Rattle.object_store.specs.declared.put.Put.TheVariants.{New, Same}
-use Rattle.depot.specs.Held.{HoldsMore, HoldsPut, KnowsAll}
+use Rattle.depot.specs.Held.{HoldsMore, HoldsPut, IndexSo, KnowsAll}
 use Rattle.depot.specs.Refusals.{store_refusal}
 
 pub keys_append : (xs ys : List Stored) → keys_added (xs ++ ys) ≡ keys_added xs ++ keys_added ys
@@ -132,3 +135,16 @@ knows_then a b j k first more second = record { each = λ key is. by key (is_in 
 
 pub knows_nothing : (index : Index) → KnowsAll (keys_added []) index
 knows_nothing index = record { each = λ key is. absurd (true≢false (sym is)) }
+
+-- ---- the index after a call
+
+-- a refusal that touches nothing leaves it
+pub index_refused : (a : Act) (why : Refusal) (index : Index) → IndexSo a (reply.Refused why) index index
+index_refused (act.Check o) why index = refl
+index_refused act.Head why index = refl
+index_refused (act.Get key) why index = refl
+index_refused (act.Put key bytes) why index = refl
+index_refused (act.Missing k ids) why index = refl
+index_refused (act.Update pushed) why index = λ key there. there
+index_refused (act.Limit days) why index = refl
+index_refused (act.Ids server client) why index = refl

@@ -54,5 +54,7 @@ pub mod UpdateLemmas
 pub mod UpdateGoodLemmas
 pub mod StrayLemmas
 pub mod StandingLemmas
+pub mod ToldMissingLemmas
 pub mod StoryLemmas
+pub mod SizeLemmas
 pub mod TellingLemmas

@@ -1,6 +1,7 @@
 -- The history of a library: chains of changes, and the legal list that a chain is. The key lemmas are leads_on, leads_same,
--- history_of and sound_still.
-use Rattle.std.proofs.Common.{◌≡◌, ◌⊎◌, inl, inr, ℕ, zero, suc, ◌+◌, List, [], ◌∷◌, ◌++◌, length, refl, sym, ap, ◌∙◌, subst, Option, Some, option_map, add-one}
+-- history_of, sound_still, keys_stay, stored_stays and stored_not_missing.
+use Rattle.std.proofs.Common.{◌≡◌, ◌⊎◌, inl, inr, ℕ, zero, suc, ◌+◌, List, [], ◌∷◌, ◌++◌, length, refl, sym, ap, ◌∙◌, subst, Bool, true, false, ◌||◌, if◌then◌else◌, is_some, true≢false, Option, None, Some, option_map, add-one}
+use Rattle.std.specs.FinMap as map
 use Rattle.std.specs.List.{slice_get}
 use Rattle.ids.specs.declared.key.Key.{Key}
 use Rattle.library_rules.specs.Changes.{apply}
@@ -11,22 +12,29 @@ use Rattle.library_rules.specs.declared.entry.Entry.{Entry}
 use Rattle.library_rules.specs.declared.entry.Step.{Step}
 use Rattle.library_rules.specs.declared.entry.Step.TheVariants as step
 use Rattle.library_rules.proofs.HistoryLemmas.{sound_after}
+use Rattle.library_state.specs.declared.call.Act.{Act}
+use Rattle.library_state.specs.declared.call.Act.TheVariants as act
 use Rattle.library_state.specs.declared.call.Call.{Call}
 use Rattle.library_state.specs.declared.reply.Reply.{Reply}
 use Rattle.library_state.specs.declared.reply.Reply.TheVariants as reply
 use Rattle.object_store.specs.Shelf.{Contents}
-use Rattle.object_store.specs.StoreView.{objects_of}
+use Rattle.object_graph.specs.Traversal.{is_in}
+use Rattle.object_graph.proofs.KeyLemmas.{in_append, same_key-itself}
+use Rattle.object_store.specs.StoreView.{Index, objects_of}
 use Rattle.object_store.specs.declared.shelf.Slot.{Slot}
 use Rattle.depot.specs.Answering.{AnswersBySome}
 use Rattle.depot.specs.CollectionTurns.{TurnsBySome, removed_in}
 use Rattle.depot.specs.DepotView.{DepotView, running_library, state_of}
-use Rattle.depot.specs.Story.{HistoryOf, IsOther, IsSame, LeadsTo, Links, MadeBy, removed_of, reply_of, reply_of_turn, step_of, step_of_turn}
+use Rattle.depot.specs.Story.{HistoryOf, IsAnswered, IsOther, IsSame, LeadsTo, Links, MadeBy, removed_of, reply_of, reply_of_turn, removed_through, same_itself, step_of, step_of_turn}
+use Rattle.depot.specs.Held.{HoldsPut, IndexSo, TellsMissing}
 use Rattle.depot.specs.declared.story.Change.{Change}
 use Rattle.depot.specs.declared.story.Made.{Made}
 use Rattle.depot.specs.declared.story.Made.TheVariants as made
 use Rattle.depot.specs.declared.turn.Turn.{Turn}
 use Rattle.depot.specs.declared.turn.Turn.TheVariants as turn
+use Rattle.depot.proofs.PutBesideLemmas.{put_stays}
 use Rattle.depot.proofs.ToldLemmas.{MappedAt, mapped_at}
+use Rattle.depot.proofs.ToldMissingLemmas.{known_not_missing}
 
 -- ---- sameness
 
@@ -36,6 +44,7 @@ module _ {S : Type 0} {contents : S → Option Contents} {faults : S → ℕ} wh
     state = q.state ∙ p.state;
     running = q.running ∙ p.running;
     count = q.count ∙ p.count;
+    keys = λ key. q.keys key ∙ p.keys key;
     objects = λ objects told. q.objects objects (p.objects objects told);
   }
 
@@ -60,7 +69,7 @@ module _ {S : Type 0} (contents : S → Option Contents) (may_give : S → Slot 
 
   pub leads_on : (x : DepotView S) (cs : List (Change (DepotView S))) {y : DepotView S} (c : Change (DepotView S)) → LeadsTo contents may_give texts faults x cs y
       → IsSame contents faults y c.before.value → Links contents may_give texts faults c → LeadsTo contents may_give texts faults x (cs ++ c ∷ []) c.after.value
-  leads_on x [] c leads same links = (same_on leads same, links, record { state = refl; running = refl; count = refl; objects = λ objects told. told })
+  leads_on x [] c leads same links = (same_on leads same, links, same_itself contents faults c.after.value)
   leads_on x (d ∷ cs) c leads same links = (leads.0, leads.1, leads_on d.after.value cs c leads.2 same links)
 
 -- ---- the legal list
@@ -169,3 +178,64 @@ module _ {S : Type 0} (contents : S → Option Contents) (may_give : S → Slot 
     where
       one : {a b : State} → Some a ≡ Some b → a ≡ b
       one e = cc
+
+  -- ---- over any shelf
+
+  -- a key that is known stays so through a call
+  call_keeps : (a : Act) (r : Reply) (old new : Index) → IndexSo a r old new → (key : Key) → is_some (map.get old key) ≡ true → is_some (map.get new key) ≡ true
+  call_keeps (act.Check o) r old new same key there = ap (λ (i : Index). is_some (map.get i key)) same ∙ there
+  call_keeps act.Head r old new same key there = ap (λ (i : Index). is_some (map.get i key)) same ∙ there
+  call_keeps (act.Get other) r old new same key there = ap (λ (i : Index). is_some (map.get i key)) same ∙ there
+  call_keeps (act.Put other bytes) r old new holds key there = put_stays other r old new holds key there
+  call_keeps (act.Missing k ids) r old new same key there = ap (λ (i : Index). is_some (map.get i key)) same ∙ there
+  call_keeps (act.Update pushed) r old new holds key there = holds key there
+  call_keeps (act.Limit days) r old new same key there = ap (λ (i : Index). is_some (map.get i key)) same ∙ there
+  call_keeps (act.Ids server client) r old new same key there = ap (λ (i : Index). is_some (map.get i key)) same ∙ there
+
+  -- and through a turn that doesn't remove it
+  turn_keeps : (removed : List Key) (old new : Index) → ((key : Key) → map.get new key ≡ (if is_in removed key then None else map.get old key)) → (key : Key)
+      → is_in removed key ≡ false → is_some (map.get old key) ≡ true → is_some (map.get new key) ≡ true
+  turn_keeps removed old new holds key apart there =
+      ap is_some (holds key) ∙ ap (λ (b : Bool). is_some (if b then None else map.get old key)) apart ∙ there
+
+  made_keeps : (made : Made) (old : DepotView S) (moment : ℕ) (new : DepotView S) → MadeBy contents may_give texts faults made old moment new → (key : Key)
+      → is_in (removed_of made) key ≡ false → is_some (map.get old.store.index key) ≡ true → is_some (map.get new.store.index key) ≡ true
+  made_keeps (made.Asked call said) old moment new by key apart there = call_keeps call.value.act said.value old.store.index new.store.index by.index key there
+  made_keeps (made.Turned goal at_most taken) old moment new by key apart there =
+      turn_keeps (removed_in taken.value) old.store.index new.store.index by.takes.index key apart there
+
+  not_in : (xs ys : List Key) (key : Key) → is_in (xs ++ ys) key ≡ false → (is_in xs key ≡ false) × (is_in ys key ≡ false)
+  not_in xs ys key apart = by (is_in xs key) (is_in ys key) (sym (in_append xs ys key) ∙ apart)
+    where
+      by : (b c : Bool) → (b || c) ≡ false → (b ≡ false) × (c ≡ false)
+      by true c e = absurd (true≢false e)
+      by false c e = (refl, e)
+
+  -- a key that the index knows stays known till a turn removes it
+  pub keys_stay : (x : DepotView S) (cs : List (Change (DepotView S))) (y : DepotView S) (key : Key) → LeadsTo contents may_give texts faults x cs y
+      → is_some (map.get x.store.index key) ≡ true → is_in (removed_through cs) key ≡ false → is_some (map.get y.store.index key) ≡ true
+  keys_stay x [] y key leads there apart = leads.keys key ∙ there
+  keys_stay x (c ∷ cs) y key leads there apart =
+      let split = not_in (removed_of c.made) (removed_through cs) key apart in
+      keys_stay c.after.value cs y key leads.2 (made_keeps c.made c.before.value c.moment c.after.value leads.1.by key split.0 (leads.0.keys key ∙ there)) split.1
+
+  -- so does one that was answered as stored
+  pub stored_stays : (u : DepotView S) (call : Call) (moment : ℕ) (newly : Bool) (x : DepotView S) (cs : List (Change (DepotView S))) (y : DepotView S) (key : Key) (bytes : List ℕ)
+      → IsAnswered contents may_give texts faults u call moment (reply.Stored newly) x → call.act ≡ act.Put key bytes → LeadsTo contents may_give texts faults x cs y
+      → is_in (removed_through cs) key ≡ false → is_some (map.get y.store.index key) ≡ true
+  stored_stays u call moment newly x cs y key bytes answered puts leads apart =
+      keys_stay x cs y key leads (by newly (subst (λ a. IndexSo a (reply.Stored newly) u.store.index x.store.index) puts answered.index)) apart
+    where
+      by : (b : Bool) → HoldsPut key (reply.Stored b) u.store.index x.store.index → is_some (map.get x.store.index key) ≡ true
+      by true holds = holds.1 key ∙ ap (λ c. c || is_in (key ∷ []) key) holds.0 ∙ ap (λ c. c || false) (same_key-itself key)
+      by false holds = ap (λ (i : Index). is_some (map.get i key)) holds.1 ∙ holds.0
+
+  -- and no answer tells that it is missing
+  pub stored_not_missing : (u : DepotView S) (call : Call) (moment : ℕ) (newly : Bool) (x : DepotView S) (cs : List (Change (DepotView S))) (y : DepotView S) (later : Call) (at : ℕ)
+      (r : Reply) (z : DepotView S) (key : Key) (bytes : List ℕ) → IsAnswered contents may_give texts faults u call moment (reply.Stored newly) x → call.act ≡ act.Put key bytes
+      → LeadsTo contents may_give texts faults x cs y → is_in (removed_through cs) key ≡ false → IsAnswered contents may_give texts faults y later at r z
+      → TellsMissing key later.act r → ⊥
+  stored_not_missing u call moment newly x cs y later at r z key bytes answered puts leads apart answers tells =
+      let there = stored_stays u call moment newly x cs y key bytes answered puts leads apart in
+      let lacks = known_not_missing y.store.index (may_give z.store.shelf) y.state key later r answers.serves.may_come tells in
+      true≢false (sym there ∙ lacks)

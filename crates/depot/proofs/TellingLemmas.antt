@@ -11,7 +11,6 @@ use Rattle.ids.specs.Key.{Objects, key_cmp}
 use Rattle.ids.specs.declared.key.Key.{Key}
 use Rattle.ids.proofs.KeyOrderLemmas.{key_cmp_exact, key_cmp_total}
 use Rattle.object_graph.specs.Traversal.{is_in}
-use Rattle.object_graph.proofs.KeyLemmas.{same_key, same_key-true}
 use Rattle.library_rules.specs.Calls.{token_of}
 use Rattle.library_rules.specs.Changes.{apply, head_in, is_refused, next_by, put_new, seen_by, with_added, with_install, with_last, without}
 use Rattle.library_rules.specs.History.{StepPermits}
@@ -25,10 +24,9 @@ use Rattle.library_state.specs.declared.call.Act.TheVariants as act
 use Rattle.library_state.specs.declared.call.Call.{Call}
 use Rattle.library_state.specs.declared.call.Op.TheVariants as op
 use Rattle.library_state.specs.declared.reply.Reply.{Reply}
-use Rattle.library_state.specs.declared.reply.Reply.TheVariants as reply
 use Rattle.library_state.specs.declared.state.LibState.{LibState}
 use Rattle.library_state.specs.declared.token.Token.{Token}
-use Rattle.collector.proofs.CountedLemmas.{fewer_fit, len_less}
+use Rattle.collector.proofs.CountedLemmas.{fewer_fit}
 use Rattle.object_store.specs.Shelf.{Contents}
 use Rattle.object_store.specs.StoreView.{Index, objects_of}
 use Rattle.object_store.specs.declared.shelf.Slot.{Slot}
@@ -37,6 +35,7 @@ use Rattle.depot.specs.Changing.{IsPlaceOf}
 use Rattle.depot.specs.CollectionTurns.{IsRunning, MayTurn, TurnsBySome, removed_in, running_after_turn, state_after_turn}
 use Rattle.depot.specs.DepotView.{DepotView, fresh_in, running_library, state_of}
 use Rattle.depot.specs.FreshKeys.{GoesOn, RunsOn, came}
+use Rattle.depot.specs.Held.{IndexSo}
 use Rattle.depot.specs.Story.{IsOther, IsSame}
 use Rattle.depot.specs.Telling.{AreFigures, CountsFresh, HasCount, checked_secret, is_step, last_seen}
 use Rattle.depot.specs.declared.telling.Figures.{Figures}
@@ -44,6 +43,7 @@ use Rattle.depot.specs.declared.turn.Turn.{Turn}
 use Rattle.depot.specs.declared.turn.Turn.TheVariants as turn
 use Rattle.depot.proofs.CollectionLemmas.{fresh_has}
 use Rattle.depot.proofs.PlaceLemmas.{place_token}
+use Rattle.depot.proofs.SizeLemmas.{all_there, index_stays, same_len, taken_stays}
 use Rattle.depot.proofs.ToldLemmas.{MappedAt, mapped_at}
 
 -- ---- sets by their size
@@ -51,22 +51,6 @@ use Rattle.depot.proofs.ToldLemmas.{MappedAt, mapped_at}
 -- what a table holds is counted by it
 pub table_count : (table : map.FinMap key_cmp ⊤) (fresh : set.FinSet key_cmp) (count : ℕ) → fresh ≡ fresh_in table → count ≡ map.len table → HasCount fresh count
 table_count table fresh count same is = record { table = table; same = same; size = sym is }
-
--- a map that another one holds and that is as large has each of its keys
-all_there : {X Y : Type 0} (a : map.FinMap key_cmp X) (b : map.FinMap key_cmp Y) → ((key : Key) → is_some (map.get a key) ≡ true → is_some (map.get b key) ≡ true)
-    → map.len a ≡ map.len b → (key : Key) → is_some (map.get b key) ≡ true → is_some (map.get a key) ≡ true
-all_there {X} {Y} a b more same key there = by (is_some (map.get a key)) refl
-  where
-    still : (k : Key) → is_some (map.get a key) ≡ false → is_some (map.get a k) ≡ true → (c : Bool) → same_key k key ≡ c → is_some (map.get (map.remove b key) k) ≡ true
-    still k lacks has true own = absurd (true≢false (sym has ∙ ap (λ q. is_some (map.get a q)) (same_key-true k key own) ∙ lacks))
-    still k lacks has false other = ap is_some (map.get-remove key_cmp_total b key k) ∙ ap (λ (c : Bool). is_some (cond c None (map.get b k))) other ∙ more k has
-
-    by : (c : Bool) → is_some (map.get a key) ≡ c → is_some (map.get a key) ≡ true
-    by true is = is
-    by false lacks =
-        let fits : map.len a ≤ map.len (map.remove b key) = fewer_fit a (map.remove b key) (λ k has. still k lacks has (same_key k key) refl) in
-        let less = len_less b key there in
-        absurd (omega (arith, fits, less, same))
 
 has_key : {keys : set.FinSet key_cmp} {count : ℕ} (has : HasCount keys count) (key : Key) → set.contains keys key ≡ is_some (map.get has.table key)
 has_key has key = ap (λ (keys : set.FinSet key_cmp). set.contains keys key) has.same ∙ fresh_has has.table key
@@ -291,7 +275,7 @@ module _ {S : Type 0} (contents : S → Option Contents) (faults : S → ℕ) (o
     told = λ s is also.
         let alike = alike_told s is also in
         apart (ap (λ (u : State). u.state) alike.one) (ap (λ (u : State). u.running) alike.one);
-    any = λ same index. apart same.state same.running;
+    any = λ same. apart same.state same.running;
   }
 
   -- a step of a collection leaves another library
@@ -329,7 +313,7 @@ module _ {S : Type 0} (contents : S → Option Contents) (faults : S → ℕ) (o
           let objects : same.now ≡ same.was = ap (λ (u : State). u.objects) same.one in
           apart (alike (ap (λ (u : State). u.state) same.one) (ap (λ (u : State). u.running) same.one) (ap (λ (u : State). u.faults) same.one)
           (now_size same.now same.told_now ∙ ap map.len objects ∙ sym (was_size same.was same.told_was)));
-      any = λ same index. apart (alike same.state same.running same.count (ap map.len index));
+      any = λ same. apart (alike same.state same.running same.count (same_len new.store.index old.store.index same.keys));
     }
 
     -- where all are the same, the index is as large, and objects that a state tells are as many
@@ -356,14 +340,15 @@ module _ {S : Type 0} (contents : S → Option Contents) (faults : S → ℕ) (o
       -- after a call the library is the same
       pub stays_same : (call : Call) (moment : ℕ) (r : Reply) → secret ≡ checked_secret call.act call.secret
           → ((s : State) → state_of contents faults old ≡ Some s → AnswersBySome s call moment r (state_of contents faults new)) → new.state ≡ state_after old.state call moment r
-          → (told : List Key) → RunsOn old.store.index new.store.index told old.running new.running → IsSame contents faults old new
-      stays_same call moment r asked answers left told runs = record {
+          → (told : List Key) → RunsOn old.store.index new.store.index told old.running new.running → IndexSo call.act r old.store.index new.store.index → IsSame contents faults old new
+      stays_same call moment r asked answers left told runs index = record {
         state = state_stays old.state call moment r new.state left (sym now.of_updates ∙ ap (λ (f : Figures). f.updates) (sym same) ∙ was.of_updates)
             (sym now.of_days ∙ ap (λ (f : Figures). f.days) (sym same) ∙ was.of_days)
             (subst (λ o. last_seen new.state.tokens o ≡ last_seen old.state.tokens o) asked (sym now.of_last ∙ ap (λ (f : Figures). f.last) (sym same) ∙ was.of_last));
         running = runs_stay old.store.index new.store.index told old.running new.running runs before.fresh was.of_fresh
             (subst (CountsFresh new.running) (ap (λ (f : Figures). f.fresh) (sym same)) now.of_fresh);
         count = same_count;
+        keys = index_stays call.act r old.store.index new.store.index index same_size;
         objects = kept_objects (λ s t is also size. answered_objects s call moment r t (subst (AnswersBySome s call moment r) also (answers s is)) size)
             (λ s is. ((answers s is).1.state, (answers s is).1.left));
       }
@@ -372,11 +357,12 @@ module _ {S : Type 0} (contents : S → Option Contents) (faults : S → ℕ) (o
       pub turn_same : (goal : Option ℕ) (moment at_most : ℕ) (taken : Turn)
           → ((s : State) → state_of contents faults old ≡ Some s → TurnsBySome s goal moment at_most taken (state_of contents faults new)) → new.state ≡ state_after_turn old.state moment taken
           → new.running ≡ running_after_turn (map.len old.store.index) old.running taken → map.len new.store.index + length (removed_in taken) ≡ map.len old.store.index
-          → is_step taken ≡ false → IsSame contents faults old new
-      turn_same goal moment at_most taken turns left runs number none = record {
+          → ((key : Key) → map.get new.store.index key ≡ (if is_in (removed_in taken) key then None else map.get old.store.index key)) → is_step taken ≡ false → IsSame contents faults old new
+      turn_same goal moment at_most taken turns left runs number holds none = record {
         state = left ∙ still_state taken none;
         running = runs ∙ still_running taken none;
         count = same_count;
+        keys = taken_stays (removed_in taken) old.store.index new.store.index (omega (arith, number, same_size)) holds;
         objects = kept_objects (λ s t is also size. turned_objects s goal moment at_most taken t (subst (TurnsBySome s goal moment at_most taken) also (turns s is)) none (omega (arith, number, same_size)))
             (λ s is. ((turns s is).state, (turns s is).left));
       }

@@ -1,6 +1,7 @@
 -- The history of a library as a chain of libraries: each change has the library before it and the one after it, and is tied to
 -- both by all that is said of its call or turn. Our own. Read LeadsTo, Links and IsSame first, then HistoryOf.
-use Rattle.std.specs.Prelude.{◌≡◌, ◌+◌, ℕ, List, [], ◌∷◌, length, Option, Some, false, ⊤, refl}
+use Rattle.std.specs.Prelude.{◌≡◌, ◌+◌, ℕ, List, [], ◌∷◌, ◌++◌, length, is_some, Option, Some, false, ⊤, refl}
+use Rattle.std.specs.FinMap as map
 use Rattle.std.specs.List.{slice_get}
 use Rattle.ids.specs.Key.{Objects}
 use Rattle.ids.specs.declared.key.Key.{Key}
@@ -21,6 +22,7 @@ use Rattle.depot.specs.Answering.{Serves, permits}
 use Rattle.depot.specs.CollectionTurns.{TakesTurn, removed_in}
 use Rattle.depot.specs.DepotView.{DepotView, IsGood, state_of}
 use Rattle.depot.specs.Giving.{GivesBy, MayLay}
+use Rattle.depot.specs.Held.{IndexSo}
 use Rattle.depot.specs.declared.story.Change.{Change}
 use Rattle.depot.specs.declared.story.Made.{Made}
 use Rattle.depot.specs.declared.story.Made.TheVariants as made
@@ -30,14 +32,15 @@ use Rattle.depot.specs.declared.turn.Turn.TheVariants as turn
 -- ---- one call, or one turn
 
 -- the library answered: by the rules where its shelf tells what it holds, and over every shelf with its cause; one who may
--- not ask is denied whatever the shelf does; what is left stands for a library, where its shelf tells what it holds; and the
--- shelf may give no more than before, but what the call may lay onto it
+-- not ask is denied whatever the shelf does; what is left stands for a library, where its shelf tells what it holds; the
+-- shelf may give no more than before, but what the call may lay onto it; and no key leaves the index
 pub record IsAnswered {S : Type 0} (contents : S → Option Contents) (may_give : S → Slot → Option (List ℕ) → Type 0) (texts faults : S → ℕ)
     (old : DepotView S) (call : Call) (moment : ℕ) (r : Reply) (new : DepotView S) : Type 0 where
   pub serves : Serves contents may_give texts faults old call moment r new
   pub denied : permits (token_of old.state.tokens call.secret) call.act ≡ false → r ≡ reply.Refused refusal.Denied
   pub good : IsGood contents faults new
   pub gives : GivesBy (MayLay old.state.lib call.act) (may_give old.store.shelf) (may_give new.store.shelf)
+  pub index : IndexSo call.act r old.store.index new.store.index
 
 -- a turn of a collection was taken, and what is left stands for a library, where its shelf tells what it holds
 pub record IsTurned {S : Type 0} (contents : S → Option Contents) (may_give : S → Slot → Option (List ℕ) → Type 0) (texts faults : S → ℕ)
@@ -47,18 +50,20 @@ pub record IsTurned {S : Type 0} (contents : S → Option Contents) (may_give : 
 
 -- ---- whether a library changed
 
--- what has its place in a history is as it was: the state that is written, the collection that runs, the count of faults, and
--- the objects, where they are told. Whether the text is open, and how many objects are marked, may be otherwise
+-- what has its place in a history is as it was: the state that is written, the collection that runs, the count of faults, the
+-- keys of the index, and the objects, where they are told. Whether the text is open, and how many objects are marked, may be
+-- otherwise
 pub record IsSame {S : Type 0} (contents : S → Option Contents) (faults : S → ℕ) (old new : DepotView S) : Type 0 where
   pub state : new.state ≡ old.state
   pub running : new.running ≡ old.running
   pub count : faults new.store.shelf ≡ faults old.store.shelf
+  pub keys : (key : Key) → is_some (map.get new.store.index key) ≡ is_some (map.get old.store.index key)
   pub objects : (held : Objects) → objects_of contents old.store ≡ Some held → objects_of contents new.store ≡ Some held
 
--- something of it is not: where the library is told it is another; and over any shelf a part of it is, or the index
+-- something of it is not: where the library is told it is another, and over any shelf it isn't the same
 pub record IsOther {S : Type 0} (contents : S → Option Contents) (faults : S → ℕ) (old new : DepotView S) : Type 0 where
   pub told : (s : State) → state_of contents faults old ≡ Some s → state_of contents faults new ≡ Some s → ⊥
-  pub any : IsSame contents faults old new → new.store.index ≡ old.store.index → ⊥
+  pub any : IsSame contents faults old new → ⊥
 
 -- ---- a chain of changes
 
@@ -81,7 +86,7 @@ module _ {S : Type 0} (contents : S → Option Contents) (may_give : S → Slot 
 
 -- each library is the same as itself
 pub same_itself : {S : Type 0} (contents : S → Option Contents) (faults : S → ℕ) (x : DepotView S) → IsSame contents faults x x
-same_itself contents faults x = record { state = refl; running = refl; count = refl; objects = λ objects told. told }
+same_itself contents faults x = record { state = refl; running = refl; count = refl; keys = λ key. refl; objects = λ objects told. told }
 
 -- ---- the history that a chain is, where libraries are told
 
@@ -111,6 +116,11 @@ reply_of (made.Turned goal at_most taken) = reply_of_turn taken.value
 abbrev pub removed_of : Made → List Key
 removed_of (made.Asked call said) = []
 removed_of (made.Turned goal at_most taken) = removed_in taken.value
+
+-- the keys that left through some changes
+abbrev pub removed_through : {V : Type 0} → List (Change V) → List Key
+removed_through [] = []
+removed_through (change ∷ changes) = removed_of change.made ++ removed_through changes
 
 -- the entry is that of the change
 pub record IsEntryOf {V : Type 0} (change : Change V) (e : Entry) : Type 0 where

@@ -13,6 +13,7 @@ ghost use Rattle.depot.specs.Changing.{IsPlaceOf};
 ghost use Rattle.depot.specs.DepotView.{IsGood, state_of};
 ghost use Rattle.depot.specs.FreshKeys.{RunsOn, told_there};
 ghost use Rattle.depot.specs.Giving.{GivesBy, MayLay};
+ghost use Rattle.depot.specs.Held.{IndexSo};
 ghost use Rattle.depot.specs.ObjectCalls.{Counts, IsToldDamage, is_counted};
 
 use crate::depot::Depot;
@@ -43,6 +44,7 @@ impl<S: Shelf> Depot<S> {
         ensures damaged { (objects : Objects) → objects_of S.contents self.old.store ≡ Some objects → IsToldDamage objects result }
         ensures faults { Counts (S.faults self.old.store.shelf) (S.faults self.new.store.shelf) result }
         ensures gives { GivesBy (MayLay self.old.state.lib call.now.act) (S.may_give self.old.store.shelf) (S.may_give self.new.store.shelf) }
+        ensures held { IndexSo call.now.act result self.old.store.index self.new.store.index }
 
         // What is left beside the objects, and what the slot holds.
         ensures left { self.new.state ≡ state_after self.old.state call.now moment result }
@@ -69,6 +71,7 @@ impl<S: Shelf> Depot<S> {
         requires who { MayAsk self.old.state.tokens call.now.secret call.now.act place }
         ensures value { Serves S.contents S.may_give S.texts S.faults self.old call.now moment result self.new }
         ensures gives { GivesBy (MayLay self.old.state.lib call.now.act) (S.may_give self.old.store.shelf) (S.may_give self.new.store.shelf) }
+        ensures held { IndexSo call.now.act result self.old.store.index self.new.store.index }
     {
         match &call.act {
             Act::Check(op) => self.check(place, *op),

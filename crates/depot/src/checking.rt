@@ -23,6 +23,7 @@ impl<S: Shelf> Depot<S> {
         requires who { (secret : Option (List ℕ)) × MayAsk self.old.state.tokens secret (act.Check op) place }
         ensures value { (moment : ℕ) → ServesAt S.contents S.may_give S.texts S.faults self.old place (act.Check op) moment result self.new }
         ensures gives { GivesBy (MayLay self.old.state.lib (act.Check op)) (S.may_give self.old.store.shelf) (S.may_give self.new.store.shelf) }
+        ensures held { self.new.store.index ≡ self.old.store.index }
     {
         match op {
             Op::Download => Reply::Checked,
@@ -35,6 +36,7 @@ impl<S: Shelf> Depot<S> {
         requires who { (secret : Option (List ℕ)) × MayAsk self.old.state.tokens secret (act.Check op.Upload) place }
         ensures value { (moment : ℕ) → ServesAt S.contents S.may_give S.texts S.faults self.old place (act.Check op.Upload) moment result self.new }
         ensures gives { GivesBy (IsOwnText self.old.state.lib) (S.may_give self.old.store.shelf) (S.may_give self.new.store.shelf) }
+        ensures held { self.new.store.index ≡ self.old.store.index }
     {
         let seen = self.parts.see_collection(place);
         answer_of(Reply::Checked, seen)

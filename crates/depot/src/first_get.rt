@@ -31,6 +31,7 @@ impl<S: Shelf> Depot<S> {
     ) -> Reply
         ensures serves { Serves S.contents S.may_give S.texts S.faults self.old (fs_call secret.now id) moment result self.new }
         ensures gives { GivesNoMore (S.may_give self.old.store.shelf) (S.may_give self.new.store.shelf) }
+        ensures held { self.new.store.index ≡ self.old.store.index }
         ensures stands { IsGood S.contents S.faults self.new }
         ensures files { (s : State) → (t : State) → state_of S.contents S.faults self.old ≡ Some s → state_of S.contents S.faults self.new ≡ Some t → KeepsKept s t }
         ensures safe { (s : State) → (t : State) → state_of S.contents S.faults self.old ≡ Some s → state_of S.contents S.faults self.new ≡ Some t

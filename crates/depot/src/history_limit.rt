@@ -18,6 +18,7 @@ impl<S: Shelf> Depot<S> {
     pub(crate) fn limit(&mut self, days: i64) -> Reply
         ensures value { ServesAct S.contents S.may_give S.texts S.faults self.old (act.Limit days) result self.new }
         ensures gives { GivesBy (IsOwnText self.old.state.lib) (S.may_give self.old.store.shelf) (S.may_give self.new.store.shelf) }
+        ensures held { self.new.store.index ≡ self.old.store.index }
     {
         if !is_day_count(days) {
             return Reply::Refused(Refusal::BadDays(days));

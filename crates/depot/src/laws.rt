@@ -1,14 +1,22 @@
 //! What a library that is kept leaves on its shelf, and which history its changes are: theorems on the definitions, with no code.
-ghost use Rattle.std.specs.Prelude.{◌≡◌, ◌==◌, if◌then◌else◌, List, ℕ, None, Option, Some};
+ghost use Rattle.std.specs.Prelude.{◌≡◌, ◌==◌, if◌then◌else◌, List, ℕ, Bool, false, is_some, None, Option, Some, true};
+ghost use Rattle.std.specs.FinMap as map;
 ghost use Rattle.ids.specs.Key.{Objects};
+ghost use Rattle.ids.specs.declared.key.Key.{Key};
 ghost use Rattle.library_rules.specs.LibraryState.{IsSound, State, last_number};
 ghost use Rattle.library_rules.specs.Recovery.{StandsFor};
+ghost use Rattle.library_state.specs.declared.call.Act.TheVariants as act;
+ghost use Rattle.library_state.specs.declared.call.Call.{Call};
+ghost use Rattle.library_state.specs.declared.reply.Reply.{Reply};
+ghost use Rattle.library_state.specs.declared.reply.Reply.TheVariants.{Stored};
+ghost use Rattle.object_graph.specs.Traversal.{is_in};
 ghost use Rattle.object_store.specs.Shelf.{Contents};
 ghost use Rattle.object_store.specs.StoreView.{HasNoStray, StoreView, objects_of};
 ghost use Rattle.depot.specs.DepotView.{DepotView, IsGood, state_of};
+ghost use Rattle.depot.specs.Held.{TellsMissing};
 ghost use Rattle.depot.specs.Start.{start_refusal};
 ghost use Rattle.depot.specs.Standing.{IsOnShelf};
-ghost use Rattle.depot.specs.Story.{HistoryOf, LeadsTo};
+ghost use Rattle.depot.specs.Story.{HistoryOf, IsAnswered, LeadsTo, removed_through};
 ghost use Rattle.depot.specs.declared.error.StartFault.TheVariants.{Worn};
 ghost use Rattle.depot.specs.declared.story.Change.{Change};
 
@@ -46,4 +54,21 @@ pub fn a_library_that_stood_sound_stays_sound<S: Shelf>()
     ensures { (old : DepotView S) → (changes : List (Change (DepotView S))) → (new : DepotView S) → (s : State) → (t : State)
         → LeadsTo S.contents S.may_give S.texts S.faults old changes new → state_of S.contents S.faults old ≡ Some s → state_of S.contents S.faults new ≡ Some t
         → IsSound s → IsSound t }
+{}
+
+/// Over any shelf, a key that the index knows it goes on to know until a turn of a collection removes it.
+pub fn what_is_stored_stays_until_a_turn_removes_it<S: Shelf>()
+    ensures { (old : DepotView S) → (changes : List (Change (DepotView S))) → (new : DepotView S) → (key : Key)
+        → LeadsTo S.contents S.may_give S.texts S.faults old changes new → is_some (map.get old.store.index key) ≡ true
+        → is_in (removed_through changes) key ≡ false → is_some (map.get new.store.index key) ≡ true }
+{}
+
+/// Over any shelf, what was answered as stored is not answered as missing, at any later place, until a turn removes its key.
+pub fn what_was_answered_as_stored_is_not_missing_until_a_turn_removes_it<S: Shelf>()
+    ensures { (before : DepotView S) → (call : Call) → (moment : ℕ) → (newly : Bool) → (old : DepotView S)
+        → (changes : List (Change (DepotView S))) → (new : DepotView S) → (later : Call) → (at : ℕ) → (r : Reply) → (after : DepotView S)
+        → (key : Key) → (bytes : List ℕ)
+        → IsAnswered S.contents S.may_give S.texts S.faults before call moment (Stored newly) old → call.act ≡ act.Put key bytes
+        → LeadsTo S.contents S.may_give S.texts S.faults old changes new → is_in (removed_through changes) key ≡ false
+        → IsAnswered S.contents S.may_give S.texts S.faults new later at r after → TellsMissing key later.act r → ⊥ }
 {}

@@ -24,6 +24,7 @@ impl<S: Shelf> Depot<S> {
     pub(crate) fn list(&mut self, server: &ObjId, client: &Option<ObjId>) -> Reply
         ensures value { ServesAct S.contents S.may_give S.texts S.faults self.old (act.Ids server.now client.now) result self.new }
         ensures gives { GivesNoMore (S.may_give self.old.store.shelf) (S.may_give self.new.store.shelf) }
+        ensures held { self.new.store.index ≡ self.old.store.index }
     {
         list_ids(
             self.parts.alloc,

@@ -27,6 +27,7 @@ impl<S: Shelf> Depot<S> {
     pub(crate) fn missing(&mut self, kind: Kind, ids: &[ObjId]) -> Reply
         ensures value { ServesAct S.contents S.may_give S.texts S.faults self.old (act.Missing kind ids.now) result self.new }
         ensures gives { GivesNoMore (S.may_give self.old.store.shelf) (S.may_give self.new.store.shelf) }
+        ensures held { self.new.store.index ≡ self.old.store.index }
     {
         let found = match absent_ids(self.parts.alloc, &self.parts.store, kind, ids) {
             Ok(found) => found,

@@ -32,6 +32,7 @@ impl<S: Shelf> Depot<S> {
     pub(crate) fn get(&mut self, key: &Key) -> Reply
         ensures value { ServesAct S.contents S.may_give S.texts S.faults self.old (act.Get key.now) result self.new }
         ensures gives { GivesNoMore (S.may_give self.old.store.shelf) (S.may_give self.new.store.shelf) }
+        ensures held { self.new.store.index ≡ self.old.store.index }
     {
         get_object(&mut self.parts.store, key)
     }
@@ -40,6 +41,7 @@ impl<S: Shelf> Depot<S> {
     pub(crate) fn put(&mut self, key: &Key, bytes: &[u8]) -> Reply
         ensures value { ServesAct S.contents S.may_give S.texts S.faults self.old (act.Put key.now bytes.now) result self.new }
         ensures gives { GivesBy (IsObject key.now bytes.now) (S.may_give self.old.store.shelf) (S.may_give self.new.store.shelf) }
+        ensures held { HoldsPut key.now result self.old.store.index self.new.store.index }
     {
         let new = match freshen(self.parts.alloc, &mut self.running, &[*key]) {
             Ok(new) => new,

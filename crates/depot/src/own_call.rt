@@ -12,7 +12,7 @@ ghost use Rattle.object_store.specs.StoreView.{AddsNoStray, objects_of, status_o
 ghost use Rattle.depot.specs.Answering.{MayAnswer, MayAsk, Serves, ServesAct, permits};
 ghost use Rattle.depot.specs.DepotView.{IsGood, state_of};
 ghost use Rattle.depot.specs.Giving.{GivesBy, IsObject, MayLay};
-ghost use Rattle.depot.specs.Held.{HoldsPut};
+ghost use Rattle.depot.specs.Held.{HoldsPut, IndexSo};
 ghost use Rattle.depot.specs.ObjectCalls.{Counts, DoneSo, IsToldDamage, is_counted, store_decided, store_due};
 ghost use Rattle.depot.specs.Writing.{with_stored};
 
@@ -31,6 +31,7 @@ impl<S: Shelf> Depot<S> {
     pub fn answer_own(&mut self, call: Call, moment: u64) -> Reply
         ensures serves { Serves S.contents S.may_give S.texts S.faults self.old call moment result self.new }
         ensures gives { GivesBy (MayLay self.old.state.lib call.act) (S.may_give self.old.store.shelf) (S.may_give self.new.store.shelf) }
+        ensures held { IndexSo call.act result self.old.store.index self.new.store.index }
         ensures stands { IsGood S.contents S.faults self.new }
         ensures files { (s : State) → (t : State) → state_of S.contents S.faults self.old ≡ Some s → state_of S.contents S.faults self.new ≡ Some t → KeepsKept s t }
         ensures safe { (s : State) → (t : State) → state_of S.contents S.faults self.old ≡ Some s → state_of S.contents S.faults self.new ≡ Some t
@@ -57,6 +58,7 @@ impl<S: Shelf> Depot<S> {
         requires who { MayAsk self.old.state.tokens call.secret call.act place }
         ensures value { Serves S.contents S.may_give S.texts S.faults self.old call moment result self.new }
         ensures gives { GivesBy (MayLay self.old.state.lib call.act) (S.may_give self.old.store.shelf) (S.may_give self.new.store.shelf) }
+        ensures held { IndexSo call.act result self.old.store.index self.new.store.index }
     {
         let Call { secret, act } = call;
         match act {
@@ -74,6 +76,7 @@ impl<S: Shelf> Depot<S> {
     fn put_own(&mut self, key: &Key, bytes: Bytes) -> Reply
         ensures value { ServesAct S.contents S.may_give S.texts S.faults self.old (act.Put key.now bytes) result self.new }
         ensures gives { GivesBy (IsObject key.now bytes) (S.may_give self.old.store.shelf) (S.may_give self.new.store.shelf) }
+        ensures held { HoldsPut key.now result self.old.store.index self.new.store.index }
     {
         match key.kind {
             Kind::Block => self.put_block(key, bytes),
@@ -90,6 +93,7 @@ impl<S: Shelf> Depot<S> {
         requires ready { key.now.kind ≡ kinds.Block }
         ensures value { ServesAct S.contents S.may_give S.texts S.faults self.old (act.Put key.now bytes) result self.new }
         ensures gives { GivesBy (IsObject key.now bytes) (S.may_give self.old.store.shelf) (S.may_give self.new.store.shelf) }
+        ensures held { HoldsPut key.now result self.old.store.index self.new.store.index }
     {
         let new = match freshen(self.parts.alloc, &mut self.running, &[*key]) {
             Ok(new) => new,

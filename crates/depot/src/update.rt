@@ -4,6 +4,7 @@ ghost use Rattle.library_state.specs.declared.call.Act.TheVariants as act;
 ghost use Rattle.depot.specs.Answering.{MayAsk, ServesAt};
 ghost use Rattle.depot.specs.DepotView.{IsKept, depot_of};
 ghost use Rattle.depot.specs.Giving.{GivesBy, IsOfUpdate};
+ghost use Rattle.depot.specs.Held.{HoldsStill};
 
 use crate::collection::Collection;
 use crate::depot::{Depot, Parts};
@@ -26,6 +27,7 @@ impl<S: Shelf> Depot<S> {
         requires who { (secret : Option (List ℕ)) × MayAsk self.old.state.tokens secret (act.Update pushed) place }
         ensures value { ServesAt S.contents S.may_give S.texts S.faults self.old place (act.Update pushed) moment result self.new }
         ensures gives { GivesBy (IsOfUpdate self.old.state.lib) (S.may_give self.old.store.shelf) (S.may_give self.new.store.shelf) }
+        ensures held { HoldsStill self.old.store.index self.new.store.index }
     {
         self.parts
             .update_library(&mut self.known, &mut self.running, place, pushed, moment)
@@ -47,6 +49,7 @@ impl<S: Shelf> Parts<S> {
         ensures value { ServesAt S.contents S.may_give S.texts S.faults (depot_of self.old.store self.old.state self.old.unsettled running.old)
             place (act.Update pushed) moment result (depot_of self.new.store self.new.state self.new.unsettled running.new) }
         ensures gives { GivesBy (IsOfUpdate self.old.state.lib) (S.may_give self.old.store.shelf) (S.may_give self.new.store.shelf) }
+        ensures held { HoldsStill self.old.store.index self.new.store.index }
         ensures stands { IsKept S.contents S.faults (depot_of self.new.store self.new.state self.new.unsettled running.new) known.new running.new }
     {
         let plan = match plan_of(

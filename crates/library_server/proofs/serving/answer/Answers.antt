@@ -9,6 +9,7 @@ returns-clause-here g c = λ same. record {
   denied = c.answer_own.ensures.denied;
   good = c.answer_own.ensures.stands;
   gives = c.answer_own.ensures.gives;
+  index = c.answer_own.ensures.held;
 }
 
 pub returns-clause-steady : goal.returns-clause-steady

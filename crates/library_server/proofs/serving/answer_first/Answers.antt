@@ -10,6 +10,7 @@ returns-then-eq-clause-here g c = λ same. record {
   denied = c.get_first.ensures.denied;
   good = c.get_first.ensures.stands;
   gives = no_more _ c.get_first.ensures.gives;
+  index = c.get_first.ensures.held;
 }
 
 pub returns-then-eq-clause-steady : goal.returns-then-eq-clause-steady

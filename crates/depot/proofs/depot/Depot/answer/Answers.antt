@@ -9,6 +9,7 @@ use Rattle.depot.specs.Answering.{permits}
 use Rattle.depot.specs.DepotView.{DepotView, IsGood, running_of}
 use Rattle.depot.specs.FreshKeys.{RunsOn, told_there}
 use Rattle.depot.proofs.AnswerLawLemmas.{answered_files, answered_safe}
+use Rattle.depot.proofs.HeldLemmas.{index_refused}
 use Rattle.depot.proofs.ServingLemmas.{denied_told, runs_still}
 use Rattle.depot.proofs.StopsLemmas.{none_told}
 use Rattle.depot.proofs.depot.Depot.answer.Goals as goal
@@ -44,3 +45,6 @@ pub returns-in-Some-clause-safe : goal.returns-in-Some-clause-safe
 returns-in-Some-clause-safe g c =
     answered_safe g.S.Shelf.contents g.S.Shelf.faults c.args.self.now c.answer_permitted-reply.new.self c.args.call.now c.args.moment c.answer_permitted-reply.result
     (subst (IsGood g.S.Shelf.contents g.S.Shelf.faults) c.self.view_is c.self.invariant.good) c.answer_permitted-reply.ensures.value.told
+
+pub returns-in-None-clause-held : goal.returns-in-None-clause-held
+returns-in-None-clause-held g c = index_refused c.args.call.now.act refusal.Denied c.args.self.now.store.index

@@ -8,6 +8,7 @@ use Rattle.library_state.specs.declared.token.Token.{Token}
 use Rattle.depot.specs.Answering.{Serves, permits}
 use Rattle.depot.specs.DepotView.{DepotView, IsGood, depot_of}
 use Rattle.depot.proofs.AnswerLawLemmas.{answered_files, answered_safe}
+use Rattle.depot.proofs.HeldLemmas.{index_refused}
 use Rattle.depot.proofs.StopsLemmas.{denied_beside}
 use Rattle.depot.proofs.depot.Depot.answer_own.Goals as goal
 
@@ -38,3 +39,6 @@ pub returns-in-Some-clause-safe : goal.returns-in-Some-clause-safe
 returns-in-Some-clause-safe g c =
     answered_safe g.S.Shelf.contents g.S.Shelf.faults c.args.self.now c.answer_own_permitted-reply.new.self c.args.call c.args.moment c.answer_own_permitted-reply.result
     (subst (IsGood g.S.Shelf.contents g.S.Shelf.faults) c.self.view_is c.self.invariant.good) c.answer_own_permitted-reply.ensures.value.told
+
+pub returns-in-None-clause-held : goal.returns-in-None-clause-held
+returns-in-None-clause-held g c = index_refused c.args.call.act refusal.Denied c.args.self.now.store.index

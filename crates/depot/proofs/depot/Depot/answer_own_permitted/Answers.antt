@@ -1,10 +1,12 @@
 -- A put is answered by its own call, and every other act as where the call is lent.
 use Rattle.std.proofs.Common.{subst, sym}
 use Rattle.depot.specs.Giving.{GivesBy, MayLay}
+use Rattle.depot.specs.Held.{IndexSo}
 use Rattle.depot.proofs.depot.Depot.answer_own_permitted.Goals as goal
 
 pub returns-in-Put : goal.returns-in-Put
 returns-in-Put g c = record {
   value = c.put_own.ensures.value c.args.call c.args.moment c.requires.who.right c.in-Put.is;
   gives = subst (λ a. GivesBy (MayLay c.args.self.now.state.lib a) (g.S.Shelf.may_give c.args.self.now.store.shelf) (g.S.Shelf.may_give c.put_own.new.self.store.shelf)) (sym c.in-Put.is) c.put_own.ensures.gives;
+  held = subst (λ a. IndexSo a c.put_own.result c.args.self.now.store.index c.put_own.new.self.store.index) (sym c.in-Put.is) c.put_own.ensures.held;
 }

@@ -1,5 +1,5 @@
 -- A download check changes nothing.
-use Rattle.std.proofs.Common.{◌∙◌, ap, inl, subst, sym}
+use Rattle.std.proofs.Common.{◌∙◌, ap, inl, subst, sym, refl}
 use Rattle.library_state.specs.declared.call.Act.TheVariants as act
 use Rattle.depot.specs.Answering.{MayAsk}
 use Rattle.depot.specs.Giving.{GivesBy, MayLay}
@@ -11,6 +11,7 @@ returns-in-Download g c = record {
   value = λ moment call who asks.
       download_serves g.S.Shelf.contents g.S.Shelf.may_give g.S.Shelf.texts g.S.Shelf.faults c.args.self.now call moment who.right (asks ∙ ap act.Check c.in-Download.is);
   gives = λ slot given is. inl is;
+  held = refl;
 }
 
 pub check_upload-requires : goal.check_upload-requires
@@ -22,4 +23,5 @@ pub returns-in-Upload : goal.returns-in-Upload
 returns-in-Upload g c = record {
   value = λ moment call who asks. c.check_upload.ensures.value moment call who (asks ∙ ap act.Check c.in-Upload.is);
   gives = subst (λ o. GivesBy (MayLay c.args.self.now.state.lib (act.Check o)) (g.S.Shelf.may_give c.args.self.now.store.shelf) (g.S.Shelf.may_give c.check_upload.new.self.store.shelf)) (sym c.in-Upload.is) c.check_upload.ensures.gives;
+  held = c.check_upload.ensures.held;
 }

@@ -1,5 +1,5 @@
 -- The token at the place is told of the collection.
-use Rattle.std.proofs.Common.{ap, refl, sym, subst}
+use Rattle.std.proofs.Common.{ap, refl, sym, subst, ◌≡◌}
 use Rattle.library_rules.proofs.BesideStepLemmas.{told_keys}
 use Rattle.library_state.specs.declared.call.Act.TheVariants as act
 use Rattle.library_state.specs.declared.call.Op.TheVariants as op
@@ -52,4 +52,5 @@ returns g c =
           c.see_collection-seen.new.self.store c.see_collection-seen.new.self.state c.see_collection-seen.new.self.unsettled c.see_collection-seen.ensures.stays c.see_collection-seen.ensures.lying c.see_collection-seen.result
           (c.see_collection-seen.ensures.value no_token) c.see_collection-seen.ensures.err (c.see_collection-seen.ensures.text no_token) c.see_collection-seen.ensures.faults)));
       gives = subst (λ (before : DepotView g.row.S.Denot). GivesBy (IsOwnText before.state.lib) (g.S.Shelf.may_give before.store.shelf) (g.S.Shelf.may_give c.see_collection-seen.new.self.store.shelf)) c.self.view_is c.see_collection-seen.ensures.gives;
+      held = subst (λ (before : DepotView g.row.S.Denot). new.store.index ≡ before.store.index) c.self.view_is c.see_collection-seen.ensures.held;
     }

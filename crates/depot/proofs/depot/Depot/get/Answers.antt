@@ -1,5 +1,5 @@
 -- What is stored under a key is read.
-use Rattle.std.proofs.Common.{ap, refl, subst}
+use Rattle.std.proofs.Common.{ap, refl, subst, ◌≡◌}
 use Rattle.library_rules.proofs.BesideStepLemmas.{told_keys}
 use Rattle.library_state.specs.declared.call.Act.TheVariants as act
 use Rattle.depot.specs.Answering.{ServesAct}
@@ -37,4 +37,5 @@ returns g c =
           (get_serves g.S.Shelf.contents g.S.Shelf.may_give g.S.Shelf.texts g.S.Shelf.faults old call moment right c.args.key.now asks
           c.get_object.new.store c.get_object.result stays c.get_object.ensures.written c.get_object.ensures.value c.get_object.ensures.cause c.get_object.ensures.damaged c.get_object.ensures.faults));
       gives = subst (λ (before : DepotView g.row.S.Denot). GivesNoMore (g.S.Shelf.may_give before.store.shelf) (g.S.Shelf.may_give c.get_object.new.store.shelf)) c.self.view_is c.get_object.ensures.gives;
+      held = subst (λ (before : DepotView g.row.S.Denot). new.store.index ≡ before.store.index) c.self.view_is stays.index;
     }

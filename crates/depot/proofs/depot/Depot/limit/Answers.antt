@@ -1,5 +1,5 @@
 -- The days are set, or the answer is that they can't be.
-use Rattle.std.proofs.Common.{ℤ, ap, inl, refl, sym, ◌∙◌, subst, to_z-of_z}
+use Rattle.std.proofs.Common.{ℤ, ap, inl, refl, sym, ◌∙◌, subst, to_z-of_z, ◌≡◌}
 use Rattle.library_rules.proofs.BesideStepLemmas.{told_keys}
 use Rattle.library_state.specs.declared.call.Act.TheVariants as act
 use Rattle.library_state.specs.declared.refusal.Refusal.TheVariants as refusal
@@ -24,6 +24,7 @@ returns-then-not-is_day_count g c = record {
       (days_serve g.S.Shelf.contents g.S.Shelf.may_give g.S.Shelf.texts g.S.Shelf.faults c.args.self.now call moment right c.args.days asks
       (sym (simp (to_z-of_z, c.ranges.days) at c.is_day_count.ensures.value) ∙ c.if-not-is_day_count.true));
   gives = λ slot given is. inl is;
+  held = refl;
 }
 
 pub invariant_of-self : goal.invariant_of-self
@@ -56,4 +57,5 @@ returns g c =
           c.set_days-set.new.self.store c.set_days-set.new.self.state c.set_days-set.new.self.unsettled c.set_days-set.ensures.stays c.set_days-set.ensures.lying c.set_days-set.result
           (simp (to_z-of_z, c.ranges.days) at c.set_days-set.ensures.ok) c.set_days-set.ensures.err (simp (to_z-of_z, c.ranges.days) at c.set_days-set.ensures.text) c.set_days-set.ensures.faults)));
       gives = subst (λ (before : DepotView g.row.S.Denot). GivesBy (IsOwnText before.state.lib) (g.S.Shelf.may_give before.store.shelf) (g.S.Shelf.may_give c.set_days-set.new.self.store.shelf)) c.self.view_is c.set_days-set.ensures.gives;
+      held = subst (λ (before : DepotView g.row.S.Denot). new.store.index ≡ before.store.index) c.self.view_is c.set_days-set.ensures.held;
     }

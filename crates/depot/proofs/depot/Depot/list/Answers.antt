@@ -1,5 +1,5 @@
 -- Kept commits are complete, so the list has no fault but one of the store.
-use Rattle.std.proofs.Common.{ap, refl, subst, sym}
+use Rattle.std.proofs.Common.{ap, refl, subst, sym, ◌≡◌}
 use Rattle.library_rules.proofs.BesideStepLemmas.{told_keys}
 use Rattle.library_state.specs.declared.call.Act.TheVariants as act
 use Rattle.library_state.specs.declared.history.Install.{Install}
@@ -44,4 +44,5 @@ returns g c =
           (subst (λ (kept : List Install). MayAnswer c.list_ids.new.store.index (g.S.Shelf.may_give c.list_ids.new.store.shelf) (act.Ids c.args.server.now c.args.client.now) (ids_decided kept c.args.server.now) c.list_ids.result)
           c.slice.ensures.value c.list_ids.ensures.cause) c.list_ids.ensures.damaged c.list_ids.ensures.faults));
       gives = subst (λ (before : DepotView g.row.S.Denot). GivesNoMore (g.S.Shelf.may_give before.store.shelf) (g.S.Shelf.may_give c.list_ids.new.store.shelf)) c.self.view_is c.list_ids.ensures.gives;
+      held = subst (λ (before : DepotView g.row.S.Denot). new.store.index ≡ before.store.index) c.self.view_is stays.index;
     }

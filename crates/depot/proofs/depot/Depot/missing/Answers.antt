@@ -1,5 +1,5 @@
 -- What is told to be stored is fresh. Where memory is wanting nothing is changed.
-use Rattle.std.proofs.Common.{◌∙◌, ap, inl, refl, subst, sym}
+use Rattle.std.proofs.Common.{◌∙◌, ap, inl, refl, subst, sym, ◌≡◌}
 use Rattle.std.specs.FinMap as map
 use Rattle.library_state.specs.declared.call.Act.TheVariants as act
 use Rattle.library_state.specs.declared.refusal.Refusal.TheVariants as refusal
@@ -21,6 +21,7 @@ pub returns-in-Err : goal.returns-in-Err
 returns-in-Err g c = record {
   value = missing_stopped g.S.Shelf.contents g.S.Shelf.faults g.S.Shelf.may_give g.S.Shelf.texts c.args.self.now c.args.self.now.running c.args.self.now.marked c.args.kind c.args.ids.now refl refl;
   gives = λ slot given is. is;
+  held = refl;
 }
 
 pub invariant_of-self : goal.invariant_of-self
@@ -38,6 +39,7 @@ returns-in-Err-keep_told g c =
           (missing_stopped g.S.Shelf.contents g.S.Shelf.faults g.S.Shelf.may_give g.S.Shelf.texts old new.running new.marked c.args.kind c.args.ids.now (ap running_of (still_running c.self.inside.running c.keep_told.new.running c.in-Err-keep_told.ensures.err))
           (ap marked_of (still_running c.self.inside.running c.keep_told.new.running c.in-Err-keep_told.ensures.err)));
       gives = subst (λ (before : DepotView g.row.S.Denot). GivesNoMore (g.S.Shelf.may_give before.store.shelf) (g.S.Shelf.may_give old.store.shelf)) c.self.view_is (λ slot given is. is);
+      held = subst (λ (before : DepotView g.row.S.Denot). old.store.index ≡ before.store.index) c.self.view_is refl;
     }
 
 pub invariant_of-self-2 : goal.invariant_of-self-2
@@ -66,4 +68,5 @@ returns g c =
           ∙ absent_all (library c.self.inside.parts.state (g.S.Shelf.faults c.self.inside.parts.store.shelf) objects) c.args.kind c.args.ids.now map.empty refl)))
           may (λ objects known. tt) refl));
       gives = subst (λ (before : DepotView g.row.S.Denot). GivesNoMore (g.S.Shelf.may_give before.store.shelf) (g.S.Shelf.may_give old.store.shelf)) c.self.view_is (λ slot given is. is);
+      held = subst (λ (before : DepotView g.row.S.Denot). old.store.index ≡ before.store.index) c.self.view_is refl;
     }

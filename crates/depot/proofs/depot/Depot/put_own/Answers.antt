@@ -9,4 +9,5 @@ returns-in_default g c = record {
   value = λ call moment right asks. c.put-reply.ensures.value call moment right (asks ∙ ap (act.Put c.args.key.now) (sym c.slice.ensures.value));
   gives = subst (λ (bytes : List ℕ). GivesBy (IsObject c.args.key.now bytes) (g.S.Shelf.may_give c.args.self.now.store.shelf) (g.S.Shelf.may_give c.put-reply.new.self.store.shelf)) c.slice.ensures.value
       c.put-reply.ensures.gives;
+  held = c.put-reply.ensures.held;
 }

@@ -20,13 +20,14 @@ returns-clause-answered g c =
       denied = said.denied;
       good = said.stands;
       gives = said.gives;
+      index = said.held;
     }
 
 pub returns-clause-same : goal.returns-clause-same
 returns-clause-same g c = λ is.
     stays_same g.S.Shelf.contents g.S.Shelf.faults c.args.self.now c.answer-reply.new.self c.checked_secret-secret.result c.figures-before.result c.figures-after.result
     c.figures-before.ensures.value c.figures-after.ensures.value c.figures-before.ensures.shown c.figures-after.ensures.shown (c.differ-changed.ensures.same is)
-    c.args.call.now c.args.moment c.answer-reply.result c.checked_secret-secret.ensures.value c.answer-reply.ensures.shown c.answer-reply.ensures.left _ c.answer-reply.ensures.running
+    c.args.call.now c.args.moment c.answer-reply.result c.checked_secret-secret.ensures.value c.answer-reply.ensures.shown c.answer-reply.ensures.left _ c.answer-reply.ensures.running c.answer-reply.ensures.held
 
 pub returns-clause-other : goal.returns-clause-other
 returns-clause-other g c = λ is.

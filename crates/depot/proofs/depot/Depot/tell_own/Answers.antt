@@ -5,14 +5,14 @@ use Rattle.depot.proofs.depot.Depot.tell_own.Goals as goal
 pub returns-clause-answered : goal.returns-clause-answered
 returns-clause-answered g c =
     let said = c.answer_own-reply.ensures in
-    record { serves = said.serves; denied = said.denied; good = said.stands; gives = said.gives }
+    record { serves = said.serves; denied = said.denied; good = said.stands; gives = said.gives; index = said.held }
 
 pub returns-clause-same : goal.returns-clause-same
 returns-clause-same g c = λ is.
     let served = c.answer_own-reply.ensures.serves in
     stays_same g.S.Shelf.contents g.S.Shelf.faults c.args.self.now c.answer_own-reply.new.self c.checked_secret-secret.result c.figures-before.result c.figures-after.result
     c.figures-before.ensures.value c.figures-after.ensures.value c.figures-before.ensures.shown c.figures-after.ensures.shown (c.differ-changed.ensures.same is)
-    c.args.call c.args.moment c.answer_own-reply.result c.checked_secret-secret.ensures.value served.told served.left _ served.fresh
+    c.args.call c.args.moment c.answer_own-reply.result c.checked_secret-secret.ensures.value served.told served.left _ served.fresh c.answer_own-reply.ensures.held
 
 pub returns-clause-other : goal.returns-clause-other
 returns-clause-other g c = λ is.

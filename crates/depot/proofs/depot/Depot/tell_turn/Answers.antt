@@ -31,7 +31,7 @@ returns-clause-same g c = λ is.
     let none = c.is_change-changed.ensures.same is in
     turn_same g.S.Shelf.contents g.S.Shelf.faults c.args.self.now c.turn_of_collection-turn.new.self None c.figures-before.result c.figures-after.result
     c.figures-before.ensures.value c.figures-after.ensures.value c.figures-before.ensures.shown c.figures-after.ensures.shown none.1
-    c.args.goal c.args.moment c.args.at_most c.turn_of_collection-turn.result said.shown said.left said.running said.size none.0
+    c.args.goal c.args.moment c.args.at_most c.turn_of_collection-turn.result said.shown said.left said.running said.size said.held none.0
 
 pub returns-clause-other : goal.returns-clause-other
 returns-clause-other g c = λ is.

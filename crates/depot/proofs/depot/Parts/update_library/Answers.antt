@@ -400,3 +400,21 @@ returns-in-Ok-carry_out-clause-gives g c = read_by c.in-Ok.ensures.stays.gives (
 
 pub returns-clause-gives : goal.returns-clause-gives
 returns-clause-gives g c = read_by c.in-Ok.ensures.stays.gives (read_by c.in-Ok-prepare.ensures.stays.gives c.in-Err-carry_out.ensures.gives)
+
+pub returns-in-Err-clause-held : goal.returns-in-Err-clause-held
+returns-in-Err-clause-held g c = λ key there. ap (λ (i : Index). is_some (map.get i key)) c.in-Err.ensures.stays.kept.index ∙ there
+
+pub returns-in-None-clause-held : goal.returns-in-None-clause-held
+returns-in-None-clause-held g c = λ key there. ap (λ (i : Index). is_some (map.get i key)) c.in-Ok.ensures.stays.kept.index ∙ there
+
+pub returns-in-Err-prepare-clause-held : goal.returns-in-Err-prepare-clause-held
+returns-in-Err-prepare-clause-held g c = λ key there.
+    ap (λ (i : Index). is_some (map.get i key)) (c.in-Err-prepare.ensures.stays.kept.index ∙ c.in-Ok.ensures.stays.kept.index) ∙ there
+
+pub returns-in-Ok-carry_out-clause-held : goal.returns-in-Ok-carry_out-clause-held
+returns-in-Ok-carry_out-clause-held g c = λ key there.
+    c.in-Ok-carry_out.ensures.held.stays key (ap (λ (i : Index). is_some (map.get i key)) (c.in-Ok-prepare.ensures.stays.kept.index ∙ c.in-Ok.ensures.stays.kept.index) ∙ there)
+
+pub returns-clause-held : goal.returns-clause-held
+returns-clause-held g c = λ key there.
+    c.in-Err-carry_out.ensures.held.stays key (ap (λ (i : Index). is_some (map.get i key)) (c.in-Ok-prepare.ensures.stays.kept.index ∙ c.in-Ok.ensures.stays.kept.index) ∙ there)
