@@ -1,12 +1,10 @@
 -- What is held once so many levels were got, and that its traversal is that of all objects which keep it. The key lemmas are
 -- level_begins, level_next, same_walk, same_entries and no_sizes.
-use Rattle.std.proofs.Common.{◌≡◌, ℕ, zero, suc, ◌+◌, Bool, true, false, if◌then◌else◌, is_some, nat_lt, List, [], ◌∷◌, ◌++◌, refl, sym, ap, ◌∙◌, subst, Option, None, Some, Result, Ok, Err, inl, inr, arith, Ordering, Less, Equal, Greater}
+use Rattle.std.proofs.Common.{◌≡◌, ℕ, zero, suc, ◌+◌, Bool, true, false, if◌then◌else◌, is_some, nat_lt, List, [], ◌∷◌, ◌++◌, refl, sym, ap, ◌∙◌, subst, Option, None, Some, Result, Ok, Err, inl, inr, arith}
 use Rattle.std.specs.Cmp.Lexicographic.{bytes_decides}
 use Rattle.std.specs.FinMap as map
-use Rattle.std.specs.FinMap.Entries.{by_order}
 use Rattle.std.specs.List.{AllByRecursion}
-use Rattle.std.specs.Prelude.{map as list_map, ⊤}
-use Rattle.std.proofs.lemmas.List.{nil_from_length}
+use Rattle.std.specs.Prelude.{⊤}
 use Rattle.ids.specs.Key.{Objects, key_cmp}
 use Rattle.ids.specs.ObjectId.{nil}
 use Rattle.ids.specs.declared.key.Key.{Key}
@@ -23,7 +21,6 @@ use Rattle.object_graph.specs.Traversal.{Walk, counted, failed, next_by, start, 
 use Rattle.object_graph.specs.Unchanged.{Keeps}
 use Rattle.object_graph.specs.declared.fault.TreeFault.{TreeFault}
 use Rattle.object_graph.specs.declared.fault.TreeFault.TheVariants.{TooMany, WrongSize}
-use Rattle.object_graph.proofs.EntryLemmas.{names_total}
 use Rattle.object_graph.proofs.SameBelowLemmas.{ran_root, same_entry}
 use Rattle.object_graph.proofs.SchemeLemmas.{Scheme, Step, along_root}
 use Rattle.object_graph.proofs.StoredLemmas.{agree_kept, none_stored, root_stored}

@@ -9,10 +9,9 @@ use Rattle.ids.specs.Key.{Objects}
 use Rattle.ids.specs.ObjectId.{nil}
 use Rattle.ids.specs.declared.key.Key.{Key}
 use Rattle.fs_objects.specs.declared.dirent.Dirent.{Dirent}
-use Rattle.object_graph.specs.Objects.{fs_at, fs_in, fs_key, is_nil}
-use Rattle.object_graph.specs.Reached.{ReachedFrom, pends, names, entry_keys, named, named_by_fs, own_keys}
+use Rattle.object_graph.specs.Objects.{fs_in, fs_key, is_nil}
+use Rattle.object_graph.specs.Reached.{pends, names, entry_keys, named, named_by_fs, own_keys}
 use Rattle.object_graph.specs.Traversal.{is_in}
-use Rattle.object_graph.specs.Unchanged.{Keeps}
 use Rattle.object_graph.proofs.KeyLemmas.{in_append}
 use Rattle.object_graph.proofs.ReachingLemmas.{in_first}
 use Rattle.tree_walk.proofs.ReadsLemmas.{nothing_left}

@@ -1,7 +1,6 @@
 -- A list is got as it is answered, or by its halves.
-use Rattle.std.proofs.Common.{◌<◌, ◌≤◌, ◌∙◌, length, sym, subst, refl, arith, Ok}
+use Rattle.std.proofs.Common.{◌<◌, ◌≤◌, ◌∙◌, length, sym, subst, arith, Ok}
 use Rattle.std.proofs.lemmas.Bool.{eqb-true}
-use Rattle.library_state.specs.declared.refusal.Refusal.TheVariants as refusal
 use Rattle.http_front.specs.declared.order.What.TheVariants as what
 use Rattle.tree_fetch.specs.Asking.{GetsRows}
 use Rattle.tree_fetch.specs.Levels.{KeepsRows}
