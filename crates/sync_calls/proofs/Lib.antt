@@ -1,0 +1,14 @@
+pub mod ShownLemmas
+pub mod TurnLemmas
+pub mod ServedTurnLemmas
+pub mod RoomLemmas
+pub mod BehindLemmas
+pub mod JoiningLemmas
+pub mod MakingLemmas
+pub mod DoorLemmas
+pub mod JoinedLemmas
+pub mod EnteredLemmas
+pub mod ClosedLemmas
+pub mod GatheredLemmas
+pub mod DealtLemmas
+pub mod OpenedLemmas

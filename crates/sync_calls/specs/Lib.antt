@@ -1,0 +1,11 @@
+pub mod Shown
+pub mod Operations
+pub mod Door
+pub mod RoomPlace
+pub mod Hall
+pub mod ServedTurn
+pub mod Asking
+pub mod Looking
+pub mod Joining
+pub mod Closing
+pub mod Making

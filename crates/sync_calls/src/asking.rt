@@ -1,0 +1,112 @@
+//! A call that is asked of a hall.
+ghost use Rattle.std.specs.Prelude.{◌≡◌, ◌≢◌, ◌<◌, ℕ, List, length, slice_index_or, IfNone, IfSome};
+ghost use Rattle.turnstile.specs.PassView.{drawn_of, parts_of, passes_of};
+ghost use Rattle.sync_calls.specs.Asking.{AsksOne, AsksSo, without_turn};
+ghost use Rattle.sync_calls.specs.Hall.{AreReady, IsReadyAt, LibraryRoom, drawn_by, shown_by};
+ghost use Rattle.sync_calls.specs.Operations.{Line};
+ghost use Rattle.sync_calls.specs.RoomPlace.{HasNoRoom, IsRoomOf};
+ghost use Rattle.sync_calls.specs.Shown.{shown_of};
+
+use crate::door::admits;
+use crate::hall::{Hall, HallPass, Room};
+use crate::served_turn::ask_one;
+use depot::Depot;
+use ids::LibId;
+use library_state::{Call, Refusal, Reply};
+use object_store::Shelf;
+use std::sync::Wait;
+use turnstile::{Pass, Turnstile};
+
+/// The answer to a call.
+#[derive(Debug, Drop)]
+pub struct Answer {
+    /// The reply.
+    pub reply: Reply,
+    /// The opening number of the library, or 0 where no turn was taken.
+    pub opening: u64,
+    /// How many changes were made since then, this one included; 0 where no turn was taken.
+    pub place: u64,
+}
+
+impl<S: Shelf> Hall<S> {
+    /// Asks a call of a library, at a moment in seconds since 1970-01-01 UTC. It may wait for a turn.
+    ///
+    /// `NoLibrary` comes exactly where no library has the id, and then `Denied` exactly where who asks may not, by the tokens with
+    /// which the library came into the hall; neither waits. `Spent` comes exactly where this call read `TURNS` as the next ticket
+    /// of the library's lock. Else the call was answered in one turn, at a place of the history of which the pass has then seen
+    /// all; a change is published at that place, and a read leaves the library as it was.
+    pub fn ask<R: Wait>(
+        &self,
+        rt: &R,
+        pass: &mut HallPass<S>,
+        lib: LibId,
+        call: &Call,
+        moment: u64,
+    ) -> Answer
+        requires ready { AreReady S.contents S.may_give S.texts S.faults self.now pass.old }
+        ensures ready { AreReady S.contents S.may_give S.texts S.faults self.now pass.new }
+        ensures asks { (lines : List Line)
+            × AsksSo S.contents S.may_give S.texts S.faults (shown_by pass.old) lib call.now moment result lines (shown_by pass.new) (drawn_by pass.new) }
+    {
+        let place = match place_of(self.rooms.as_slice(), &lib) {
+            Some(place) => place,
+            None => return without_turn(Refusal::NoLibrary),
+        };
+        ask_at(
+            rt,
+            &self.rooms[place],
+            &mut pass.passes[place],
+            call,
+            moment,
+        )
+    }
+}
+
+/// Asks a call of the library of a room.
+fn ask_at<S: Shelf, R: Wait>(
+    rt: &R,
+    room: &Room<Turnstile<Depot<S>>, Depot<S>>,
+    pass: &mut Pass<Depot<S>>,
+    call: &Call,
+    moment: u64,
+) -> Answer
+    requires ready { IsReadyAt S.contents S.may_give S.texts S.faults (parts_of pass.old) (passes_of pass.old) room.now pass.old }
+    ensures ready { IsReadyAt S.contents S.may_give S.texts S.faults (parts_of pass.old) (passes_of pass.old) room.now pass.new }
+    ensures asks { AsksOne S.contents S.may_give S.texts S.faults (shown_of pass.old) call.now moment result (shown_of pass.new) (drawn_of pass.new) }
+{
+    if !admits(&room.door, &call.secret, &call.act) {
+        return without_turn(Refusal::Denied);
+    }
+    match ask_one(rt, &room.lock, pass, call, moment) {
+        Ok(served) => Answer {
+            reply: served.reply,
+            opening: room.door.opening,
+            place: served.length,
+        },
+        Err(_) => without_turn(Refusal::Spent),
+    }
+}
+
+/// A refusal that took no turn.
+fn without_turn(why: Refusal) -> Answer
+    ensures { result ≡ without_turn why }
+{
+    Answer {
+        reply: Reply::Refused(why),
+        opening: 0,
+        place: 0,
+    }
+}
+
+/// The first room of a library with this id.
+pub(crate) fn place_of<L, X>(rooms: &[Room<L, X>], lib: &LibId) -> Option<usize>
+    ensures found { IfSome result (IsRoomOf rooms.now lib.now) }
+    ensures absent { IfNone result (HasNoRoom rooms.now lib.now) }
+{
+    for (place, room) in rooms.iter().enumerate() {
+        if room.door.lib == *lib {
+            return Some(place);
+        }
+    }
+    None
+}
