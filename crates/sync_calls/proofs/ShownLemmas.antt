@@ -26,6 +26,7 @@ module _ {S : Type 0} (contents : S → Option Contents) (may_give : S → Slot 
     state = b.state ∙ a.state;
     running = b.running ∙ a.running;
     count = b.count ∙ a.count;
+    keys = λ key. b.keys key ∙ a.keys key;
     objects = λ objects told. b.objects objects (a.objects objects told);
   }
 
