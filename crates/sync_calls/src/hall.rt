@@ -45,10 +45,10 @@ impl<D> Story for Exit<D> {
 
 /// Libraries that many ask at once, each with a `HallPass` of their own.
 ///
-/// It may be shared with any number of threads. Only the pass that stands for all passes takes the libraries out.
+/// Only the pass that stands for all passes takes the libraries out.
 pub type Hall<S> = Rooms<Room<Turnstile<Depot<S>>, Depot<S>>, Turnstile<Exit<Depot<S>>>>;
 
 /// The right to ask each library of one hall, and all that its owner knows of their histories.
 ///
-/// It may go to another thread. A dropped pass only means that `close` is refused ever after.
+/// A dropped pass only means that `close` is refused ever after.
 pub type HallPass<S> = Passes<Pass<Depot<S>>, Pass<Exit<Depot<S>>>>;
