@@ -1,6 +1,9 @@
 pub mod MappedLemmas
 pub mod OfferedEntryLemmas
+pub mod NotedLemmas
 pub mod TraceLemmas
+pub mod LackingLemmas
+pub mod PutsLemmas
 pub mod HadLemmas
 pub mod OfferedContentLemmas
 pub mod StandingLemmas
@@ -9,3 +12,4 @@ pub mod KnownBytesLemmas
 pub mod KeyEntryLemmas
 pub mod OfferedHadLemmas
 pub mod AskedHadLemmas
+pub mod OfferingLemmas

@@ -1,13 +1,16 @@
 -- Sends of an upload, one after another. The key lemmas are went_more, went_free, ran_none, asking_start, asking_more, asking_stop,
--- asking_end and puts_then.
+-- asking_end and went_as.
 use Rattle.std.proofs.Common.{◌≡◌, inl, ℕ, true, List, [], ◌∷◌, ◌++◌, Result, Ok, Err, refl, sym, ap, ◌∙◌, subst, append_assoc}
 use Rattle.std.specs.Prelude.{⊤}
+use Rattle.std.proofs.lemmas.List.{append-nil}
 use Rattle.std.specs.List.{AllByRecursion}
 use Rattle.ids.specs.declared.key.Kind.{Kind}
 use Rattle.remote_calls.specs.Sends.{Sent}
 use Rattle.sync_rules.specs.declared.fault.SyncFault.{SyncFault}
 use Rattle.tree_push.specs.Asking.{ArePuts, AsksIds, IsFree, IsSend, Ran, Stopped, Stops, Went, is_own, is_put}
+use Rattle.tree_push.specs.Lacking.{AsksNoting, Keys}
 use Rattle.tree_push.specs.declared.asking.Library.{Library}
+use Rattle.tree_push.proofs.NotedLemmas.{notes_join, notes_none}
 
 pub all_append : {X : Type 0} (P : X → Type 0) (xs ys : List X) → AllByRecursion P xs → AllByRecursion P ys → AllByRecursion P (xs ++ ys)
 all_append P [] ys all more = more
@@ -24,11 +27,15 @@ module _ (library : Library) where
 
   -- nothing was sent
   pub ran_none : (P : List Sent → Type 0) (old new : List Sent) → new ≡ old → P [] → Ran library P old new
-  ran_none P old new same is = record { more = []; grown = same ∙ sym (append_nil old); went = tt; are = is }
-    where
-      append_nil : (xs : List Sent) → xs ++ [] ≡ xs
-      append_nil [] = refl
-      append_nil (x ∷ xs) = ap (λ (ys : List Sent). x ∷ ys) (append_nil xs)
+  ran_none P old new same is = record { more = []; grown = same ∙ sym (append-nil old); went = tt; are = is }
+
+  -- a fault after sends that went well
+  pub stopped_later : (P : List Sent → Type 0) (old mid new : List Sent) (f : SyncFault) → Ran library P old mid → Stopped library f mid new → Stopped library f old new
+  stopped_later P old mid new f ran then = record {
+    more = ran.more ++ then.more;
+    grown = then.grown ∙ ap (λ (sends : List Sent). sends ++ then.more) ran.grown ∙ append_assoc old ran.more then.more;
+    stops = stops_more f ran.more then.more ran.went then.stops;
+  }
 
   module _ (P Q R : List Sent → Type 0) (join : (first later : List Sent) → P first → Q later → R (first ++ later)) (old mid new : List Sent) where
     -- what comes after sends that went well
@@ -39,11 +46,13 @@ module _ (library : Library) where
       went = all_append (IsSend library) ran.more then.more ran.went then.went;
       are = join ran.more then.more ran.are then.are;
     }
-    went_more (Err f) ran then = record {
-      more = ran.more ++ then.more;
-      grown = then.grown ∙ ap (λ (sends : List Sent). sends ++ then.more) ran.grown ∙ append_assoc old ran.more then.more;
-      stops = stops_more f ran.more then.more ran.went then.stops;
-    }
+    went_more (Err f) ran then = stopped_later P old mid new f ran then
+
+  -- the same sends, of which something else holds too
+  pub went_as : {T : Type 0} (P Q : List Sent → Type 0) → ((more : List Sent) → P more → Q more) → (old new : List Sent) (result : Result T SyncFault)
+      → Went library P old new result → Went library Q old new result
+  went_as P Q so old new (Ok x) ran = record { more = ran.more; grown = ran.grown; went = ran.went; are = so ran.more ran.are }
+  went_as P Q so old new (Err f) stopped = stopped
 
   -- a fault of one's own after sends that went well
   pub stopped_own : (P : List Sent → Type 0) (old new : List Sent) (f : SyncFault) → Ran library P old new → is_own f ≡ true → Stopped library f old new
@@ -62,43 +71,40 @@ module _ (library : Library) where
   asks_join kind some others (sent ∷ first) later asks more =
       (asks.0, asks.1 ++ others, ap (λ (ids : List (List ℕ)). ids ++ others) asks.2 ∙ append_assoc asks.0 asks.1 others, asks.3, asks_join kind asks.1 others first later asks.4 more)
 
-  -- these lists were asked for, and these ids are left
-  pub record IsAsking (kind : Kind) (ids left : List (List ℕ)) (old now : List Sent) : Type 0 where
+  -- these lists were asked for, what is lacking of them is noted, and these ids are left
+  pub record IsAsking (kind : Kind) (ids left : List (List ℕ)) (was is : Keys) (old now : List Sent) : Type 0 where
     pub done : List (List ℕ)
     pub split : ids ≡ done ++ left
-    pub ran : Ran library (AsksIds library kind done) old now
+    pub ran : Ran library (AsksNoting library kind done was is) old now
 
-  pub asking_start : (kind : Kind) (ids : List (List ℕ)) (old : List Sent) → IsAsking kind ids ids old old
-  asking_start kind ids old = record { done = []; split = refl; ran = ran_none (AsksIds library kind []) old old refl refl }
+  pub asking_start : (kind : Kind) (ids : List (List ℕ)) (was : Keys) (old : List Sent) → IsAsking kind ids ids was was old old
+  asking_start kind ids was old = record { done = []; split = refl; ran = ran_none (AsksNoting library kind [] was was) old old refl (refl, notes_none was) }
 
-  pub asking_more : (kind : Kind) (ids left first rest : List (List ℕ)) (old now new : List Sent) → IsAsking kind ids left old now → left ≡ first ++ rest
-      → Ran library (AsksIds library kind first) now new → IsAsking kind ids rest old new
-  asking_more kind ids left first rest old now new is cut ran = record {
-    done = is.done ++ first;
-    split = is.split ∙ ap (λ (l : List (List ℕ)). is.done ++ l) cut ∙ sym (append_assoc is.done first rest);
-    ran = went_more (AsksIds library kind is.done) (AsksIds library kind first) (AsksIds library kind (is.done ++ first)) (asks_join kind is.done first) old now new {T = ⊤} (Ok tt) is.ran ran;
+  module _ (kind : Kind) (some others : List (List ℕ)) (was is then : Keys) where
+    noting_join : (first later : List Sent) → AsksNoting library kind some was is first → AsksNoting library kind others is then later
+        → AsksNoting library kind (some ++ others) was then (first ++ later)
+    noting_join first later one two = (asks_join kind some others first later one.0 two.0, notes_join was is then first later one.1 two.1)
+
+  pub asking_more : (kind : Kind) (ids left first rest : List (List ℕ)) (was is then : Keys) (old now new : List Sent) → IsAsking kind ids left was is old now → left ≡ first ++ rest
+      → Ran library (AsksNoting library kind first is then) now new → IsAsking kind ids rest was then old new
+  asking_more kind ids left first rest was is then old now new asking cut ran = record {
+    done = asking.done ++ first;
+    split = asking.split ∙ ap (λ (l : List (List ℕ)). asking.done ++ l) cut ∙ sym (append_assoc asking.done first rest);
+    ran = went_more (AsksNoting library kind asking.done was is) (AsksNoting library kind first is then) (AsksNoting library kind (asking.done ++ first) was then)
+        (noting_join kind asking.done first was is then) old now new {T = ⊤} (Ok tt) asking.ran ran;
   }
 
-  pub asking_stop : (kind : Kind) (ids left first : List (List ℕ)) (old now new : List Sent) (f : SyncFault) → IsAsking kind ids left old now
+  pub asking_stop : (kind : Kind) (ids left : List (List ℕ)) (was is : Keys) (old now new : List Sent) (f : SyncFault) → IsAsking kind ids left was is old now
       → Stopped library f now new → Stopped library f old new
-  asking_stop kind ids left first old now new f is stops =
-      went_more (AsksIds library kind is.done) (AsksIds library kind first) (AsksIds library kind (is.done ++ first)) (asks_join kind is.done first) old now new {T = ⊤} (Err f) is.ran stops
+  asking_stop kind ids left was is old now new f asking stops = stopped_later (AsksNoting library kind asking.done was is) old now new f asking.ran stops
 
-  pub asking_end : (kind : Kind) (ids left : List (List ℕ)) (old now : List Sent) → IsAsking kind ids left old now → left ≡ [] → Ran library (AsksIds library kind ids) old now
-  asking_end kind ids left old now is none =
-      subst (λ (l : List (List ℕ)). Ran library (AsksIds library kind l) old now) (sym (is.split ∙ ap (λ (l : List (List ℕ)). is.done ++ l) none ∙ append_none is.done)) is.ran
-    where
-      append_none : (xs : List (List ℕ)) → xs ++ [] ≡ xs
-      append_none [] = refl
-      append_none (x ∷ xs) = ap (λ (ys : List (List ℕ)). x ∷ ys) (append_none xs)
+  pub asking_end : (kind : Kind) (ids left : List (List ℕ)) (was is : Keys) (old now : List Sent) → IsAsking kind ids left was is old now → left ≡ []
+      → Ran library (AsksNoting library kind ids was is) old now
+  asking_end kind ids left was is old now asking none =
+      subst (λ (l : List (List ℕ)). Ran library (AsksNoting library kind l was is) old now)
+      (sym (asking.split ∙ ap (λ (l : List (List ℕ)). asking.done ++ l) none ∙ append-nil asking.done)) asking.ran
 
   -- ---- puts
 
   pub puts_join : (first later : List Sent) → ArePuts first → ArePuts later → ArePuts (first ++ later)
   puts_join first later are more = all_append (λ sent. is_put sent.0.what ≡ true) first later are more
-
-  pub puts_stop : (old mid new : List Sent) (f : SyncFault) → Ran library ArePuts old mid → Stopped library f mid new → Stopped library f old new
-  puts_stop old mid new f ran then = went_more ArePuts ArePuts ArePuts puts_join old mid new {T = ⊤} (Err f) ran then
-
-  pub puts_then : {T : Type 0} (old mid new : List Sent) (result : Result T SyncFault) → Ran library ArePuts old mid → Went library ArePuts mid new result → Went library ArePuts old new result
-  puts_then old mid new result ran then = went_more ArePuts ArePuts ArePuts puts_join old mid new result ran then

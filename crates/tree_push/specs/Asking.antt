@@ -17,6 +17,7 @@ use Rattle.http_front.specs.declared.row.Row.{Row}
 use Rattle.remote_calls.specs.Sends.{Ending, Sent}
 use Rattle.remote_calls.specs.declared.error.RemoteFault.{RemoteFault}
 use Rattle.remote_calls.specs.declared.error.RemoteFault.TheVariants as remote
+use Rattle.sync_rules.specs.Named.{is_block}
 use Rattle.sync_rules.specs.Orders.{IsRowNamed, most_asked}
 use Rattle.sync_rules.specs.declared.fault.SyncFault.{SyncFault}
 use Rattle.sync_rules.specs.declared.fault.SyncFault.TheVariants as fault
@@ -136,6 +137,13 @@ abbrev pub IsFree : {T : Type 0} → Result T SyncFault → Type 0
 IsFree (Ok x) = ⊤
 IsFree (Err f) = f ≡ fault.NoMemory
 
+-- a fault of an order, or that memory was wanting for it
+abbrev pub IsOrderFault : SyncFault → Type 0
+IsOrderFault (fault.Remote why) = ⊤
+IsOrderFault (fault.Refused why) = ⊤
+IsOrderFault fault.NoMemory = ⊤
+IsOrderFault _ = ⊥
+
 -- ---- what is lacking
 
 abbrev pub key_of : Kind → List ℕ → Key
@@ -152,11 +160,6 @@ IsAbsentReply (reply.Absent ids) = ⊤
 IsAbsentReply (reply.Refused why) = ⊤
 IsAbsentReply _ = ⊥
 
-abbrev pub NotesSo : {T : Type 0} → Reply → Result T SyncFault → Type 0
-NotesSo (reply.Absent ids) result = IsFree result
-NotesSo (reply.Refused why) result = result ≡ Err (fault.Refused why)
-NotesSo _ result = ⊥
-
 -- it was asked which of these ids name nothing
 pub record AsksList (library : Library) (kind : Kind) (ids : List (List ℕ)) (sent : Sent) : Type 0 where
   pub asked : sent.0 ≡ order_for library (what.Missing kind ids)
@@ -171,8 +174,9 @@ AsksIds library kind ids (sent ∷ more) =
 
 -- ---- what is put
 
+-- a block alone, or files and directories together
 abbrev pub is_put : What → Bool
-is_put (what.Put key bytes) = true
+is_put (what.Put key bytes) = is_block key.kind
 is_put (what.PutFs rows) = true
 is_put _ = false
 

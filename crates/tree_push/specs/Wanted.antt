@@ -61,10 +61,6 @@ HasFiles knowns seens wanted = (path : PathV) (s : Seen) → fin.get seens path 
 abbrev pub AreOwnNamed : Objects → Type 0
 AreOwnNamed made = (key : Key) (bytes : List ℕ) → fin.get made key ≡ Some bytes → key ≡ fs_key (sha1 bytes)
 
--- each lies under the SHA-1 of its bytes
-abbrev pub AreUnderNames : Objects → Type 0
-AreUnderNames made = (key : Key) (bytes : List ℕ) → fin.get made key ≡ Some bytes → sha1 bytes ≡ key.id
-
 -- a key is that of a block of a file that was seen
 pub record IsSeenBlock (seens : SeenPaths) (key : Key) : Type 0 where
   pub path : PathV

@@ -2,7 +2,8 @@
 ghost use Rattle.std.specs.Prelude.{◌≡◌, ◌≤◌, IfOk, length, true};
 ghost use Rattle.std.specs.FinMap as map;
 ghost use Rattle.sync_rules.specs.Orders.{most_asked};
-ghost use Rattle.tree_push.specs.Asking.{AsksIds, IsAbsentReply, IsFree, NotesSo, Went, is_listed};
+ghost use Rattle.tree_push.specs.Asking.{IsAbsentReply, Went, is_listed};
+ghost use Rattle.tree_push.specs.Lacking.{AsksNoting, NotesIds, NotesSo};
 ghost use Rattle.tree_push.specs.Wanted.{ids_in};
 
 use crate::asking::{Library, ask};
@@ -18,7 +19,7 @@ const MOST_ASKED: usize = 10_000;
 
 /// Asks which of these ids of files and directories, or of blocks, name nothing, in lists of at most 10,000, and notes those.
 ///
-/// `Remote` and `Refused` by the last order.
+/// `Remote` and `Refused` by the last order. After an error some may be noted.
 pub fn ask_lacking<R: Remote>(
     alloc: Global,
     remote: &mut R,
@@ -28,7 +29,7 @@ pub fn ask_lacking<R: Remote>(
     lacking: &mut KeyTable<()>,
 ) -> Result<(), SyncFault>
     requires listed { is_listed kind ≡ true }
-    ensures value { Went library.now (AsksIds library.now kind ids.now) (R.sends remote.old) (R.sends remote.new) result }
+    ensures value { Went library.now (AsksNoting library.now kind ids.now lacking.old lacking.new) (R.sends remote.old) (R.sends remote.new) result }
     ensures stays { R.peer remote.new ≡ R.peer remote.old }
 {
     let mut left = ids;
@@ -55,7 +56,7 @@ fn ask_list<R: Remote>(
 ) -> Result<(), SyncFault>
     requires listed { is_listed kind ≡ true }
     requires few { length ids.now ≤ most_asked }
-    ensures value { Went library.now (AsksIds library.now kind ids.now) (R.sends remote.old) (R.sends remote.new) result }
+    ensures value { Went library.now (AsksNoting library.now kind ids.now lacking.old lacking.new) (R.sends remote.old) (R.sends remote.new) result }
     ensures stays { R.peer remote.new ≡ R.peer remote.old }
 {
     let asked = match IdList::copy(alloc, ids) {
@@ -71,7 +72,7 @@ fn ask_list<R: Remote>(
 /// Notes the ids that a reply tells.
 fn note(kind: Kind, reply: Reply, lacking: &mut KeyTable<()>) -> Result<(), SyncFault>
     requires told { IsAbsentReply reply }
-    ensures value { NotesSo reply result }
+    ensures value { NotesSo kind reply lacking.old lacking.new result }
 {
     match reply {
         Reply::Absent(ids) => note_ids(kind, ids.slice(), lacking),
@@ -80,8 +81,9 @@ fn note(kind: Kind, reply: Reply, lacking: &mut KeyTable<()>) -> Result<(), Sync
     }
 }
 
+/// Notes these ids.
 fn note_ids(kind: Kind, ids: &[ObjId], lacking: &mut KeyTable<()>) -> Result<(), SyncFault>
-    ensures free { IsFree result }
+    ensures value { NotesIds kind ids.now lacking.old lacking.new result }
 {
     for id in ids {
         match lacking.put(Key { kind, id: *id }, ()) {

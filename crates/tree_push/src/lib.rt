@@ -1,7 +1,7 @@
 //! What a folder offers to a library: its tree as objects, what the library lacks of it, and the commit that it is asked to stand at.
 //!
-//! Shown upward: `offered_tree`, `add_files`, `ask_lacking`, `put_objects`, `stand_at`, and laws.rt. Definitions:
-//! specs/OfferedEntries.antt, OfferedNames.antt, Wanted.antt, Asking.antt, Standing.antt. It reads no folder.
+//! Shown upward: `offer`, `offered_tree`, `add_files`, `ask_lacking`, `put_objects`, `stand_at`, and laws.rt. Definitions:
+//! specs/OfferedEntries.antt, OfferedNames.antt, Wanted.antt, Asking.antt, Lacking.antt, Puts.antt, Standing.antt. It reads no folder.
 #![tactic(auto)]
 
 mod asking;
@@ -9,6 +9,7 @@ mod lacking;
 pub mod laws;
 mod offered_entries;
 mod offered_objects;
+mod offering;
 mod puts;
 mod standing;
 mod wanted;
@@ -16,6 +17,7 @@ mod wanted;
 pub use asking::Library;
 pub use lacking::{ask_lacking, ids_of};
 pub use offered_objects::offered_tree;
+pub use offering::{Offered, offer};
 pub use puts::{put_block, put_objects};
 pub use standing::{Pushed, stand_at};
 pub use wanted::{Wanted, add_files};

@@ -1,8 +1,11 @@
 //! What is put into the library.
-ghost use Rattle.std.specs.Prelude.{◌≡◌, OnOk, true};
+ghost use Rattle.std.specs.Prelude.{◌≡◌, ◌++◌, ◌∷◌, [], IfErr, OnOk, true};
 ghost use Rattle.sha1.specs.Sha1.{sha1};
-ghost use Rattle.tree_push.specs.Asking.{ArePuts, AreRowsNamed, IsFree, IsStoredReply, IsUploadWhat, StoresSo, Went, is_asked, is_put};
-ghost use Rattle.tree_push.specs.Wanted.{AreUnderNames};
+ghost use Rattle.tree_push.specs.Asking.{AreRowsNamed, IsFree, IsOrderFault, IsStoredReply, IsUploadWhat, StoresSo, Went, is_asked, is_put};
+ghost use Rattle.tree_push.specs.Puts.{PutsInto, PutsKeys, PutsMade, PutsSome, row_of};
+ghost use Rattle.tree_push.specs.Wanted.{AreOwnNamed};
+ghost use Rattle.object_graph.specs.Objects.{block_key};
+ghost use Rattle.sync_rules.specs.Named.{put_by};
 
 use crate::asking::{Library, ask};
 use http_front::{Row, What};
@@ -34,8 +37,8 @@ pub fn put_objects<R: Remote>(
     made: &KeyTable<Bytes>,
     lacking: &KeyTable<()>,
 ) -> Result<(), SyncFault>
-    requires named { AreUnderNames made.now }
-    ensures value { Went library.now ArePuts (R.sends remote.old) (R.sends remote.new) result }
+    requires named { AreOwnNamed made.now }
+    ensures value { Went library.now (PutsMade made.now lacking.now) (R.sends remote.old) (R.sends remote.new) result }
     ensures stays { R.peer remote.new ≡ R.peer remote.old }
 {
     let mut batch = Batch {
@@ -52,6 +55,7 @@ pub fn put_objects<R: Remote>(
 }
 
 /// Takes an object, if it was made, into the batch; a batch that is full is put before.
+#[tactic(auto, using(crate::proofs::PutsLemmas::put_skipped))]
 fn put_object<R: Remote>(
     alloc: Global,
     remote: &mut R,
@@ -60,9 +64,9 @@ fn put_object<R: Remote>(
     key: &Key,
     batch: &mut Batch,
 ) -> Result<(), SyncFault>
-    requires named { AreUnderNames made.now }
+    requires named { AreOwnNamed made.now }
     requires ready { AreRowsNamed batch.old.rows }
-    ensures value { Went library.now ArePuts (R.sends remote.old) (R.sends remote.new) result }
+    ensures value { Went library.now (PutsInto made.now (key.now ∷ []) batch.old.rows batch.new.rows) (R.sends remote.old) (R.sends remote.new) result }
     ensures named { OnOk result (AreRowsNamed batch.new.rows) }
     ensures stays { R.peer remote.new ≡ R.peer remote.old }
 {
@@ -84,6 +88,7 @@ fn add(batch: &mut Batch, id: ObjId, bytes: Bytes) -> Result<(), SyncFault>
     requires ready { AreRowsNamed batch.old.rows }
     requires named { sha1 bytes ≡ id }
     ensures free { IsFree result }
+    ensures ok { OnOk result (batch.new.rows ≡ batch.old.rows ++ row_of id bytes ∷ []) }
     ensures named { OnOk result (AreRowsNamed batch.new.rows) }
 {
     batch.size = batch.size.saturating_add(bytes.len() as u64);
@@ -94,6 +99,7 @@ fn add(batch: &mut Batch, id: ObjId, bytes: Bytes) -> Result<(), SyncFault>
 }
 
 /// Puts the batch where this many bytes more would be too many.
+#[tactic(auto, using(crate::proofs::PutsLemmas::put_none))]
 fn make_room<R: Remote>(
     alloc: Global,
     remote: &mut R,
@@ -102,7 +108,7 @@ fn make_room<R: Remote>(
     batch: &mut Batch,
 ) -> Result<(), SyncFault>
     requires ready { AreRowsNamed batch.old.rows }
-    ensures value { Went library.now ArePuts (R.sends remote.old) (R.sends remote.new) result }
+    ensures value { Went library.now (PutsSome batch.old.rows batch.new.rows) (R.sends remote.old) (R.sends remote.new) result }
     ensures named { OnOk result (AreRowsNamed batch.new.rows) }
     ensures stays { R.peer remote.new ≡ R.peer remote.old }
 {
@@ -113,6 +119,7 @@ fn make_room<R: Remote>(
 }
 
 /// Puts what the batch has, if it has anything.
+#[tactic(auto, using(crate::proofs::PutsLemmas::put_none, crate::proofs::PutsLemmas::put_waiting))]
 fn put_batch<R: Remote>(
     alloc: Global,
     remote: &mut R,
@@ -120,7 +127,8 @@ fn put_batch<R: Remote>(
     batch: &mut Batch,
 ) -> Result<(), SyncFault>
     requires ready { AreRowsNamed batch.old.rows }
-    ensures value { Went library.now ArePuts (R.sends remote.old) (R.sends remote.new) result }
+    ensures value { Went library.now (PutsSome batch.old.rows batch.new.rows) (R.sends remote.old) (R.sends remote.new) result }
+    ensures after { batch.new.rows ≡ [] }
     ensures named { AreRowsNamed batch.new.rows }
     ensures stays { R.peer remote.new ≡ R.peer remote.old }
 {
@@ -141,7 +149,8 @@ pub fn put_block<R: Remote>(
     bytes: Bytes,
 ) -> Result<(), SyncFault>
     requires named { sha1 bytes ≡ id }
-    ensures value { Went library.now ArePuts (R.sends remote.old) (R.sends remote.new) result }
+    ensures value { Went library.now (PutsKeys (block_key id ∷ [])) (R.sends remote.old) (R.sends remote.new) result }
+    ensures faults { IfErr result IsOrderFault }
     ensures stays { R.peer remote.new ≡ R.peer remote.old }
 {
     let key = Key {
@@ -161,7 +170,8 @@ fn put<R: Remote>(
     requires asked { is_asked what ≡ true }
     requires ready { is_put what ≡ true }
     requires named { IsUploadWhat what }
-    ensures value { Went library.now ArePuts (R.sends remote.old) (R.sends remote.new) result }
+    ensures value { Went library.now (PutsKeys (put_by what)) (R.sends remote.old) (R.sends remote.new) result }
+    ensures faults { IfErr result IsOrderFault }
     ensures stays { R.peer remote.new ≡ R.peer remote.old }
 {
     match ask(alloc, remote, library, what) {

@@ -6,7 +6,7 @@ use Rattle.tree_push.proofs.lacking.ask_lacking.Given as goal
 abbrev pub invariant-loop-left : goal.invariant-loop-left
 invariant-loop-left g l = record {
   peer : g.R.Remote.peer l.remote ≡ g.R.Remote.peer l.fn.remote;
-  asking : IsAsking l.library l.kind l.ids l.left (g.R.Remote.sends l.fn.remote) (g.R.Remote.sends l.remote);
+  asking : IsAsking l.library l.kind l.ids l.left l.fn.lacking l.lacking (g.R.Remote.sends l.fn.remote) (g.R.Remote.sends l.remote);
 }
 
 abbrev pub decreases-loop-left : goal.decreases-loop-left

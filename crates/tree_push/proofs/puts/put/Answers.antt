@@ -1,0 +1,6 @@
+-- One order that puts.
+use Rattle.tree_push.proofs.PutsLemmas.{put_asked}
+use Rattle.tree_push.proofs.puts.put.Goals as goal
+
+pub returns-in-Ok-clause-value : goal.returns-in-Ok-clause-value
+returns-in-Ok-clause-value g c = put_asked c.args.library.now c.args.what _ _ c.in-Ok.reply c.stored.result c.requires.ready c.requires.named c.in-Ok.ensures.value c.stored.ensures.value
