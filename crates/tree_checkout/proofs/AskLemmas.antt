@@ -1,27 +1,31 @@
--- Blocks are asked for of what is written alone. The key lemmas are asked_within, planned_steps, planned_paths, planned_looks and
--- missized.
-use Rattle.std.proofs.Common.{◌≡◌, ◌⊎◌, ℕ, ◌+◌, ◌<◌, All, List, [], ◌∷◌, ◌++◌, length, map, Option, refl, sym, ap, ap₂, subst, ◌∙◌, inl, inr, append_assoc, length-append, arith}
+-- Blocks are asked for of what is written alone. The key lemmas are asked_within, planned_steps, planned_paths, planned_looks,
+-- missized and written_sized.
+use Rattle.std.proofs.Common.{◌≡◌, ◌⊎◌, ℕ, ◌+◌, ◌<◌, All, List, [], ◌∷◌, ◌++◌, length, map, Option, refl, sym, ap, ap₂, subst, ◌∙◌, inl, inr, append_assoc, length-append, arith, Some, Result, Ok}
 use Rattle.std.specs.List.{AllByRecursion, Contains}
-use Rattle.std.proofs.lemmas.List.Elements.{All-cons, All-contains_itself, All-head, All-nil, All-tail, Contains-append_right}
+use Rattle.std.proofs.lemmas.List.Elements.{All-append, All-cons, All-contains, All-contains_itself, All-head, All-nil, All-tail, Contains-append_right}
 use Rattle.ids.specs.Key.{Objects}
 use Rattle.tree_model.specs.Path.{PathV}
 use Rattle.block_chunker.specs.declared.cuts.Cuts.{Cuts}
 use Rattle.folder_side.specs.Folder.{Contents, at}
 use Rattle.folder_side.specs.declared.scan_report.Scan.{Scan}
 use Rattle.http_front.specs.declared.order.Order.{Order}
-use Rattle.object_graph.specs.Objects.{block_bytes, block_key, entry_below, joined}
+use Rattle.object_graph.specs.Objects.{block_bytes, block_key, entry_below, fs_at, joined}
+use Rattle.object_graph.specs.declared.fault.TreeFault.{TreeFault}
+use Rattle.fs_objects.specs.declared.fs_object.FsObject.{FsObject}
+use Rattle.fs_objects.specs.declared.fs_object.FsObject.TheVariants as fs
+use Rattle.object_graph.specs.declared.entry.Entry.TheVariants as entry
 use Rattle.object_graph.specs.declared.entry.Entry.{Entry}
 use Rattle.remote_calls.specs.Sends.{Sent}
 use Rattle.sync_rules.specs.Checkout.{Step}
 use Rattle.sync_rules.specs.Named.{HasAll, asked_by, keys_asked}
-use Rattle.sync_rules.specs.Synced.{AsksWritten, HasBlock, IsOfWritten}
+use Rattle.sync_rules.specs.Synced.{AsksWritten, HasBlock, IsOfWritten, IsSized}
 use Rattle.sync_rules.specs.declared.fault.SyncFault.{SyncFault}
 use Rattle.sync_rules.specs.declared.fault.SyncFault.TheVariants as fault
 use Rattle.tree_checkout.specs.BlockGets.{AreGot, Stops, block_order, had_of, joined_in}
-use Rattle.tree_checkout.specs.CheckingOut.{AreFor, AreOf, IsFileOf, IsForNode, IsMisSized, IsNodeOf, checkout_steps}
+use Rattle.tree_checkout.specs.CheckingOut.{AreFor, AreObjects, AreOf, IsFileOf, IsForNode, IsMisSized, IsNodeOf, IsObjectOf, checkout_steps}
 use Rattle.tree_checkout.specs.Planning.{LooksUndone, due_first, due_step, node_step, plan_steps}
 use Rattle.tree_checkout.specs.SecondLook.{LooksAs}
-use Rattle.tree_checkout.specs.Steps.{IsWrongFile, LooksUnwritten, blocks_due, made_step, node_blocks, node_first, paths_of, write_step}
+use Rattle.tree_checkout.specs.Steps.{AreSized, IsSizedNode, IsWrongFile, LooksUnwritten, blocks_due, made_step, node_blocks, node_first, paths_of, write_step}
 use Rattle.tree_checkout.specs.declared.block_gets.Source.{Source}
 use Rattle.tree_checkout.specs.declared.planning.Due.{Due}
 use Rattle.tree_checkout.specs.declared.planning.DueNode.{DueNode}
@@ -203,3 +207,41 @@ missized source writes more id objects is has = record {
         (none_left (length is.later) (length is.came.front) (length is.came.others) (length is.file.object.blocks)
         (got_length source is.came.front is.later is.came.came) fewer.0 counted))
         whole same
+
+-- ---- the size of what is written
+
+module _ (objects : Objects) (root : List ℕ) where
+  abbrev SizesRight : Step → Type 0
+  SizesRight (Step.Wrote path bytes) = IsSized objects root path bytes
+  SizesRight _ = Unit {0}
+
+  abbrev id_there : Option Entry → List ℕ
+  id_there (Some (entry.File id mode mtime modifier size)) = id
+  id_there _ = []
+
+  abbrev size_there : Result FsObject TreeFault → ℕ
+  size_there (Ok (fs.File file)) = file.size
+  size_there _ = 0
+
+  node_right : (path : PathV) (node : WriteNode) → IsNodeOf objects root path node → IsObjectOf objects node → IsSizedNode objects node → SizesRight (made_step objects path node)
+  node_right path write.Dir of object sized = tt
+  node_right path (write.File file) of object sized = λ id modifier mode size mtime other there some is.
+      let same : file.id ≡ id = ap id_there (sym of.there ∙ there) in
+      let got : fs_at objects id ≡ Ok (fs.File file.object) =
+      subst (λ (i : List ℕ). fs_at objects i ≡ Ok (fs.File file.object)) same (object (λ e. some (sym same ∙ e))) in
+      ap size_there (sym is ∙ got) ∙ sized
+
+  removed_right : (doomed : List PathV) → All SizesRight (map Step.Removed doomed)
+  removed_right [] = All-nil SizesRight
+  removed_right (path ∷ doomed) = All-cons SizesRight (Step.Removed path) (map Step.Removed doomed) tt (removed_right doomed)
+
+  writes_right : (writes : List Write) → AreOf objects root writes → AreObjects objects writes → AreSized objects writes → All SizesRight (map (write_step objects) writes)
+  writes_right [] of object sized = All-nil SizesRight
+  writes_right (w ∷ writes) of object sized =
+      All-cons SizesRight (write_step objects w) (map (write_step objects) writes) (node_right w.path w.node of.0 object.0 sized.0) (writes_right writes of.1 object.1 sized.1)
+
+  pub written_sized : (doomed : List PathV) (writes : List Write) → AreOf objects root writes → AreObjects objects writes → AreSized objects writes
+      → (path : PathV) (bytes : List ℕ) → Contains (checkout_steps objects doomed writes) (Step.Wrote path bytes) → IsSized objects root path bytes
+  written_sized doomed writes of object sized path bytes there =
+      All-contains SizesRight (checkout_steps objects doomed writes) (Step.Wrote path bytes)
+      (All-append SizesRight (map Step.Removed doomed) (map (write_step objects) writes) (removed_right doomed) (writes_right writes of object sized)) there

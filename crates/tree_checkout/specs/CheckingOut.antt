@@ -1,11 +1,13 @@
 -- What a checkout leaves, done or stopped, and what it sent. Our own. Read checkout_steps and ChecksOut, then StopsOut; AreFor ties a
 -- checkout to a plan, and AreOf to the root of a tree. Read before: Steps, Planning.
-use Rattle.std.specs.Prelude.{ℕ, ℤ, ◌≡◌, ◌≢◌, ◌⊎◌, List, [], ◌∷◌, ◌++◌, length, map, Option, Some, IsSome, ⊤}
+use Rattle.std.specs.Prelude.{ℕ, ℤ, ◌≡◌, ◌≢◌, ◌⊎◌, List, [], ◌∷◌, ◌++◌, length, map, Option, Some, IsSome, Ok, ⊤}
 use Rattle.std.specs.List.{AllByRecursion, Contains}
 use Rattle.ids.specs.Key.{Objects}
+use Rattle.ids.specs.ObjectId.{nil}
+use Rattle.fs_objects.specs.declared.fs_object.FsObject.TheVariants as fs
 use Rattle.tree_model.specs.Path.{PathV}
 use Rattle.folder_side.specs.Folder.{Contents}
-use Rattle.object_graph.specs.Objects.{blocks_at, entry_below, joined}
+use Rattle.object_graph.specs.Objects.{blocks_at, entry_below, fs_at, joined}
 use Rattle.object_graph.specs.declared.entry.Entry.TheVariants as entry
 use Rattle.remote_calls.specs.Sends.{Sent}
 use Rattle.sync_rules.specs.Checkout.{Step, run}
@@ -90,3 +92,11 @@ pub record IsMisSized (objects : Objects) (writes : List Write) (id : List ℕ) 
   pub there : Contains writes (record { path = path; node = write.File file })
   pub named : id ≡ file.id
   pub wrong : file.object.size ≢ length (joined objects file.object.blocks)
+
+-- each file that is written, but an empty one, has the object that says so
+abbrev pub IsObjectOf : Objects → WriteNode → Type 0
+IsObjectOf objects write.Dir = ⊤
+IsObjectOf objects (write.File file) = file.id ≢ nil → fs_at objects file.id ≡ Ok (fs.File file.object)
+
+abbrev pub AreObjects : Objects → List Write → Type 0
+AreObjects objects writes = AllByRecursion (λ w. IsObjectOf objects w.node) writes

@@ -1,6 +1,6 @@
 //! Theorems about checkouts. Each law is a function without a body.
 ghost use Rattle.std.specs.Prelude.{◌≡◌, ℕ, All, List, Option, Some, Ok, Err, true, false, map, ⊤};
-ghost use Rattle.std.specs.List.{AllByRecursion};
+ghost use Rattle.std.specs.List.{AllByRecursion, Contains};
 ghost use Rattle.block_chunker.specs.declared.cuts.Cuts.{Cuts};
 ghost use Rattle.folder_side.specs.Folder.{Contents};
 ghost use Rattle.folder_side.specs.declared.scan_report.Scan.{Scan};
@@ -9,15 +9,15 @@ ghost use Rattle.local_index.specs.declared.index.Index.{Index};
 ghost use Rattle.object_graph.specs.Objects.{joined};
 ghost use Rattle.remote_calls.specs.Sends.{Sent};
 ghost use Rattle.sync_rules.specs.Causes.{CausedBy, GoesWell, IsSoHere, WentWell, is_of_order, stale_count};
-ghost use Rattle.sync_rules.specs.Checkout.{DoesFrom};
+ghost use Rattle.sync_rules.specs.Checkout.{DoesFrom, Step};
 ghost use Rattle.sync_rules.specs.Named.{HasAll, HasGot, IsHad};
-ghost use Rattle.sync_rules.specs.Synced.{AsksWritten};
+ghost use Rattle.sync_rules.specs.Synced.{AsksWritten, IsSized};
 ghost use Rattle.sync_rules.specs.declared.fault.SyncFault.{SyncFault};
 ghost use Rattle.tree_model.specs.Path.{PathV};
 ghost use Rattle.tree_checkout.specs.BlockGets.{AreGot, Stops, had_of, is_quiet, joined_in};
-ghost use Rattle.tree_checkout.specs.CheckingOut.{AreFor, AreOf, ChecksOut, IsMisSized, StopsOut, checkout_steps};
+ghost use Rattle.tree_checkout.specs.CheckingOut.{AreFor, AreObjects, AreOf, ChecksOut, IsMisSized, StopsOut, checkout_steps};
 ghost use Rattle.tree_checkout.specs.Planning.{LooksUndone, plan_steps};
-ghost use Rattle.tree_checkout.specs.Steps.{IsWrongFile, LooksUnwritten, blocks_due, paths_of};
+ghost use Rattle.tree_checkout.specs.Steps.{AreSized, IsWrongFile, LooksUnwritten, blocks_due, paths_of};
 ghost use Rattle.tree_checkout.specs.declared.block_gets.Source.{Source};
 ghost use Rattle.tree_checkout.specs.declared.planning.Due.{Due};
 ghost use Rattle.tree_checkout.specs.declared.planning.Plan.{Plan};
@@ -67,6 +67,13 @@ pub fn blocks_are_asked_for_of_what_is_written()
         → AreGot source (blocks_due writes) more → AsksWritten objects root (checkout_steps objects doomed writes) more }
     ensures err { (objects : Objects) (root : List ℕ) (source : Source) (doomed : List PathV) (writes : List Write) (more : List Sent) (f : SyncFault) → AreOf objects root writes
         → Stops source more (blocks_due writes) f → AsksWritten objects root (checkout_steps objects doomed writes) more }
+{}
+
+/// What is written has as many bytes as the object of the root's file tells.
+pub fn what_is_written_has_the_size_of_its_object()
+    ensures { (objects : Objects) (root : List ℕ) (doomed : List PathV) (writes : List Write) → AreOf objects root writes → AreObjects objects writes
+        → AreSized objects writes → (path : PathV) (bytes : List ℕ) → Contains (checkout_steps objects doomed writes) (Step.Wrote path bytes)
+        → IsSized objects root path bytes }
 {}
 
 /// A file whose size is told to be wrong has another size than its object tells, over any objects that have what came.
