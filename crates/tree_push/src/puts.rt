@@ -16,10 +16,13 @@ use std::alloc::{AllocError, Global};
 use std::mem;
 use sync_rules::SyncFault;
 
-/// So many bytes of files and directories are put at once, or a larger one alone.
-const MOST_BYTES: u64 = 16_777_216;
+/// So many bytes has the body of an order that puts files and directories, or it has one alone.
+const MOST_BYTES: u64 = 1_048_576;
 
-/// Files and directories that are to be put together, and how many bytes they have.
+/// So many bytes has a row of such a body in front of its object: an id and a length.
+const ROW_BYTES: u64 = 44;
+
+/// Files and directories that are to be put together, and how many bytes their rows have.
 #[derive(Drop)]
 struct Batch {
     rows: Items<Row>,
@@ -28,7 +31,7 @@ struct Batch {
 
 /// Puts the files and directories that are lacking and were made, each under its own name.
 ///
-/// So many are put at once that they have 16,777,216 bytes together, or a larger one alone. `Remote` and `Refused` by the last
+/// So many are put at once that their order has a body of 1,048,576 bytes at most, or a larger one alone. `Remote` and `Refused` by the last
 /// order.
 pub fn put_objects<R: Remote>(
     alloc: Global,
@@ -91,14 +94,15 @@ fn add(batch: &mut Batch, id: ObjId, bytes: Bytes) -> Result<(), SyncFault>
     ensures ok { OnOk result (batch.new.rows ≡ batch.old.rows ++ row_of id bytes ∷ []) }
     ensures named { OnOk result (AreRowsNamed batch.new.rows) }
 {
-    batch.size = batch.size.saturating_add(bytes.len() as u64);
+    let size = (bytes.len() as u64).saturating_add(ROW_BYTES);
+    batch.size = batch.size.saturating_add(size);
     match batch.rows.push(Row { id, bytes }) {
         Ok(()) => Ok(()),
         Err(AllocError) => Err(SyncFault::NoMemory),
     }
 }
 
-/// Puts the batch where this many bytes more would be too many.
+/// Puts the batch where an object of so many bytes more would be too many.
 #[tactic(auto, using(crate::proofs::PutsLemmas::put_none))]
 fn make_room<R: Remote>(
     alloc: Global,
@@ -112,7 +116,7 @@ fn make_room<R: Remote>(
     ensures named { OnOk result (AreRowsNamed batch.new.rows) }
     ensures stays { R.peer remote.new ≡ R.peer remote.old }
 {
-    if batch.size.saturating_add(size) <= MOST_BYTES {
+    if batch.size.saturating_add(size.saturating_add(ROW_BYTES)) <= MOST_BYTES {
         return Ok(());
     }
     put_batch(alloc, remote, library, batch)
