@@ -1,2 +1,4 @@
 mod AddressLemmas
+mod JobLemmas
+mod JobTextLemmas
 mod MatchLemmas

@@ -1,5 +1,9 @@
 pub mod Address
 pub mod Grammar
 pub mod Help
+pub mod JobReading
+pub mod JobWriting
+pub mod Lines
 pub mod OptionValues
+pub mod TypedJob
 pub mod WordReading

@@ -6,15 +6,23 @@
 #![tactic(auto)]
 
 mod address;
+mod fault;
 mod grammar;
 mod help;
 mod job;
+mod job_reading;
+mod job_writing;
+mod line;
 mod option_values;
 mod word_reading;
 mod words;
 
 pub use crate::address::{Server, number_up_to, server_of};
+pub use crate::fault::Fault;
 pub use crate::help::{help_text, version_text};
 pub use crate::job::Job;
+pub use crate::job_reading::read_jobs;
+pub use crate::job_writing::write_jobs;
+pub use crate::line::Line;
 pub use crate::word_reading::read_words;
 pub use crate::words::{MAX_TURNS, Unsupported, Words};
