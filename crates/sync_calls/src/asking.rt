@@ -24,7 +24,7 @@ pub struct Answer {
     pub reply: Reply,
     /// The opening number of the library, or 0 where no turn was taken.
     pub opening: u64,
-    /// How many changes were made since then, this one included; 0 where no turn was taken.
+    /// How many changes were made since the hall began, this one included; 0 where no turn was taken.
     pub place: u64,
 }
 
@@ -32,7 +32,7 @@ impl<S: Shelf> Hall<S> {
     /// Asks a call of a library, at a moment in seconds since 1970-01-01 UTC. It may wait for a turn.
     ///
     /// `NoLibrary` comes exactly where no library has the id, and then `Denied` exactly where who asks may not, by the tokens with
-    /// which the library came into the hall; neither waits. `Spent` comes exactly where this call read `TURNS` as the next ticket
+    /// which the library came into the hall; neither takes a turn. `Spent` comes exactly where this call read `TURNS` as the next ticket
     /// of the library's lock. Else the call was answered in one turn, at a place of the history of which the pass has then seen
     /// all; a change is published at that place, and a read leaves the library as it was.
     pub fn ask<R: Wait>(

@@ -13,8 +13,8 @@ use turnstile::{Pass, Turnstile};
 impl<S: Shelf> Hall<S> {
     /// Takes the libraries out for good, in the order in which they came. It takes no memory.
     ///
-    /// Only the pass that stands for all passes closes. Any other gets the hall and itself back as they were, with the number of
-    /// passes made.
+    /// Only the pass that stands for all passes closes. Any other gets the hall back, and itself, which shows what it showed, with
+    /// the number of passes made.
     pub fn close(self, pass: HallPass<S>) -> Result<Vec<Depot<S>>, (Hall<S>, HallPass<S>, u64)>
         requires ready { AreReady S.contents S.may_give S.texts S.faults self pass }
         ensures ok { IfOk result (λ depots. AreClosed S.contents S.may_give S.texts S.faults (passes_in pass) depots.items) }

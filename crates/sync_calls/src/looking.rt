@@ -22,14 +22,14 @@ pub enum Glance {
     NoLibrary,
     /// Who asks may not ask for the head.
     Denied,
-    /// The tag names this opening of the library and as many changes as were made since.
+    /// The tag names this opening of the library and as many changes as were made since the hall began.
     Same,
     /// It names another opening, or another number of changes.
     Other,
 }
 
 impl<S: Shelf> Hall<S> {
-    /// Whether a library is still as a tag tells. It neither waits nor takes memory.
+    /// Whether a library is still as a tag tells. It takes no turn and no memory.
     ///
     /// The number of changes is read once, in this call. `NoLibrary` and `Denied` come as of `ask`, for the head.
     pub fn unchanged(
