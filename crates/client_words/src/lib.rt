@@ -1,7 +1,8 @@
 //! The words of `seaf-cli` as what they ask for.
 //!
-//! Shown upward: `Words` with `read_words`; `Job`, a folder that is synced with a library; the texts of `--help` and
-//! `--version`. Definitions: specs/Grammar.antt (the command line as `clap` takes it), specs/WordReading.antt (`words_of`).
+//! Shown upward: `Words` with `read_words`; `Job`, a folder that is synced with a library, with `read_jobs` and `write_jobs`;
+//! `Line` and `Fault`, what is printed; the texts of `--help` and `--version`. Definitions: specs/Grammar.antt (the command line
+//! as `clap` takes it), specs/WordReading.antt (`words_of`), specs/JobReading.antt, JobWriting.antt, Lines.antt.
 //! It does nothing that a command asks for: it opens nothing and prints nothing itself.
 #![tactic(auto)]
 

@@ -177,8 +177,8 @@ pub record AreMarkedBehind (count : ℕ) (removed : List Key) : Type 0 where
   pub read : (key : Key) → is_in keys key ≡ true → IsRead anything keys key
   pub stay : (key : Key) → is_in removed key ≡ true → is_in keys key ≡ false
 
--- what a turn opened: a marking each object that it tells, and where keys leave, or it ends, all that is marked had been. So what
--- is missing, damaged or unreadable is never told as marked, and never counts as an object that names nothing
+-- what a turn opened: a marking as many objects as it tells; and where keys leave, or it ends, as many as are marked name nothing but
+-- one another, and none of them leaves. Which objects these are is not said over a shelf that doesn't tell what it holds
 abbrev pub OpensSo : {S : Type 0} → (S → Option Contents) → (S → ShelfSlot → Option (List ℕ) → Type 0) → (S → ℕ) → DepotView S → Turn → Type 0
 OpensSo contents may_give faults old (Began number) = ⊤
 OpensSo contents may_give faults old (Marked count) = OpensMany contents may_give faults old count

@@ -72,9 +72,9 @@ impl<S: Shelf> Depot<S> {
     ///
     /// With a goal whose collection doesn't run it does nothing, and is over. `Spent` comes exactly where one would begin and the
     /// last number was given. Else a turn is refused where the shelf failed or memory is wanting, and while it marks where a
-    /// commit, directory or file that is needed is damaged, or an object is missing or can't be read. What is marked was opened
-    /// whole, over any shelf: so no key leaves before each object that is needed could be. After a refusal the state is as it
-    /// was, and a collection that ran goes on; the keys that are told have left.
+    /// commit, directory or file that is needed is damaged, or an object is missing or can't be read. As many objects as are told
+    /// as marked were opened whole, over any shelf; where the library is told a kept commit needs each. After a refusal the state
+    /// is as it was, and a collection that ran goes on; the keys that are told have left.
     pub fn turn_of_collection(&mut self, goal: Option<u64>, moment: u64, at_most: u64) -> Turn
         requires some { 1 ≤ at_most }
         ensures shown { (s : State) → state_of S.contents S.faults self.old ≡ Some s

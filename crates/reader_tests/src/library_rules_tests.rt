@@ -1,4 +1,4 @@
-//! The right of the act that no request asks for yet.
+//! The right of the act that limits a library's history.
 use library_rules::right_needed;
 use library_state::{Act, Right};
 
