@@ -49,8 +49,10 @@ fn name_chunks(names: &mut IdList, chunks: &[Bytes]) -> Result<(), AllocError>
     Ok(())
 }
 
-/// Feeds a piece of a file to its chunker, and names the chunks that end in it.
-fn take_piece(
+/// Feeds a piece of a file to its chunker, and appends the names of the chunks that end in it.
+///
+/// A piece may have any number of bytes. After an error it isn't said what was fed and named: the file is to be begun anew.
+pub fn take_piece(
     alloc: Global,
     chunker: &mut Chunker,
     names: &mut IdList,
@@ -64,8 +66,9 @@ fn take_piece(
     name_chunks(names, chunks.slice())
 }
 
-/// Names the last chunk of a file that was read to its end.
-fn end_file(chunker: Chunker, mut names: IdList, size: u64) -> Result<FileRead, AllocError>
+/// Names the last chunk of a file that came to its end: `names` are those of the chunks before it, and `size` is the
+/// file's length. A file without bytes has no chunk.
+pub fn end_file(chunker: Chunker, mut names: IdList, size: u64) -> Result<FileRead, AllocError>
     requires ready { chunker.failed ≡ false }
     ensures blocks { IfOk result (λ file. file.blocks ≡ names ++ map sha1 (last_chunk chunker.begun)) }
     ensures size { IfOk result (λ file. file.size ≡ size) }

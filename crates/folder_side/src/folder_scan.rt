@@ -38,6 +38,7 @@ pub fn scan<F: Folder>(alloc: Global, folder: &mut F, cuts: Cuts) -> Result<Scan
     ensures value { (c : Contents) → F.told folder.old ≡ Some c → IfOk result (IsScan cuts c) }
     ensures bound { (c : Contents) → F.told folder.old ≡ Some c → OnOk result (IsWithinLimits c) }
     ensures refused { (c : Contents) → F.told folder.old ≡ Some c → IfErr result (IsPastLimit c) }
+    ensures formed { (c : Contents) → F.told folder.old ≡ Some c → OnOk result (IsFolder c) }
     ensures stays { (F.told folder.new ≡ F.told folder.old) × (F.spare folder.new ≡ F.spare folder.old) }
     ensures faults { FailsBy is_scan_failure (F.faults folder.old) (F.faults folder.new) result }
 {

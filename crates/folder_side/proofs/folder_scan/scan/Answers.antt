@@ -15,3 +15,6 @@ returns-in-Ok-report-clause-bound g c = λ c' told.
     let done = c.in-Ok-scan_dir.ensures.value c' told (c.no_findings-found.ensures.value c.args.cuts c') in
     let whole = subst (λ (root : PathV). HasScanned c.args.cuts c' root c.no_findings-found.result c.scan_dir.new.found) c.root-root.ensures.value done.1 in
     IsWithinLimits-of c.args.cuts c' done.0 c.no_findings-found.result c.scan_dir.new.found whole c.in-Ok-scan_dir.ensures.few
+
+pub returns-in-Ok-report-clause-formed : goal.returns-in-Ok-report-clause-formed
+returns-in-Ok-report-clause-formed g c = λ c' told. (c.in-Ok-scan_dir.ensures.value c' told (c.no_findings-found.ensures.value c.args.cuts c')).0
