@@ -2,7 +2,7 @@
 -- directories-only, made-durable, readied, unready, round-steps, named-more, among-more and adds-earlier.
 use Rattle.std.proofs.Common.{◌≡◌, ◌⊎◌, ℕ, suc, zero, ◌<◌, ◌+◌, Bool, List, [], ◌∷◌, ◌++◌, length, get_or, inl, inr, take, map, Option, None, Some, Result, Ok, Err, OnOk, OnErr, slice_index, subst, refl, sym, ◌∙◌, ap, arith}
 use Rattle.std.specs.Bool.{⊤}
-use Rattle.std.proofs.lemmas.List.{append_assoc, map-append, take_more}
+use Rattle.std.proofs.lemmas.List.{append-nil, append_assoc, map-append, take_more}
 use Rattle.ids.specs.declared.key.Key.{Key}
 use Rattle.folder_storage.specs.declared.durability.Directory.{Directory}
 use Rattle.folder_storage.specs.declared.durability.Directory.TheVariants.{Objects, OfKind}
@@ -12,6 +12,11 @@ use Rattle.folder_storage.specs.Durability.{AddsEarlier, AreAmong, AreNamedIn, A
 pub steps-more : (told : Option (List Step)) (a b : List Step) → with_steps (with_steps told a) b ≡ with_steps told (a ++ b)
 steps-more None a b = refl
 steps-more (Some steps) a b = ap Some (append_assoc steps a b)
+
+-- nothing more was done
+pub no-steps : (told : Option (List Step)) → told ≡ with_steps told []
+no-steps None = refl
+no-steps (Some steps) = ap Some (sym (append-nil steps))
 
 -- one more is passed
 pub passed-more : {A : Type 0} (f : A → Step) (xs : List A) (i : ℕ) (d : A) → i < length xs

@@ -1,5 +1,5 @@
 -- In which order what was put is made durable. Our own. Read Step first, then SyncsAll and TextComesLast, then IsInOrder.
--- A disk may tell its steps; the one over files tells None, and no other is here.
+-- A disk may tell its steps; the one over files tells None, and ToldDisk tells all.
 use Rattle.std.specs.Prelude.{◌≡◌, ◌⊎◌, ◌++◌, ℕ, Bool, false, true, List, [], ◌∷◌, Option, None, Some, Result, Ok, Err, ⊤, map, option_map, slice_index}
 use Rattle.ids.specs.declared.key.Key.{Key}
 use Rattle.object_store.specs.declared.shelf.Slot.{Slot}

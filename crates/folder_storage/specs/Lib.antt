@@ -5,3 +5,4 @@ pub mod Listing
 pub mod MemoryGround
 pub mod Paths
 pub mod SteadyShelf
+pub mod ToldDisk

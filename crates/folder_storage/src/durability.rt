@@ -16,7 +16,7 @@ pub(crate) enum Directory {
 }
 
 /// The calls by which objects are put and made durable, and a state text after them. A disk may tell what was done; the
-/// one over files tells nothing, and no other is here.
+/// one over files tells nothing, and `ToldDisk` tells all.
 pub(crate) trait Disk {
     ghost use Rattle.std.specs.Prelude.{Bool};
     ghost use Rattle.ids.specs.declared.key.Key.{Key};

@@ -1,9 +1,18 @@
-//! What holds of the paths in a library's folder: theorems on the definitions, with no code.
-ghost use Rattle.std.specs.Prelude.{◌≡◌, List, Option, Some, slice_index, ℕ};
+//! What holds of the paths in a library's folder, by the definitions alone; and of a run over a disk that tells its calls.
+ghost use Rattle.std.specs.Prelude.{◌≡◌, List, Option, Some, map, slice_index, ℕ, OnErr, OnOk};
 ghost use Rattle.ids.specs.declared.key.Key.{Key};
 ghost use Rattle.object_store.specs.declared.shelf.Slot.{Slot};
 ghost use Rattle.object_store.specs.declared.shelf.Slot.TheVariants.{Object};
+ghost use Rattle.folder_storage.specs.Durability.{AreAmong, AreInOrder, IsInOrder, PutObject, with_steps};
 ghost use Rattle.folder_storage.specs.Paths.{HasId, IsId, IsNamed, listed_text, other_digits, slot_text, under};
+ghost use Rattle.folder_storage.specs.ToldDisk.{EndsDurably, OnlyPuts, steps_of};
+
+use crate::durability::Disk;
+use crate::told_disk::ToldDisk;
+use crate::unsynced::Unsynced;
+use ids::Key;
+use std::alloc::Global;
+use std::io;
 
 /// Two slots of a library have two paths.
 pub fn two_slots_have_two_paths()
@@ -17,3 +26,44 @@ pub fn a_path_reads_back_as_its_id()
     ensures value { (key : Key) → (found : Option (List ℕ)) → IsId key.id
         → IsNamed (slice_index key.id 0) (other_digits key.id) found → found ≡ Some key.id }
 {}
+
+/// Puts these objects, one after another, and then a state text, over a disk of which so many calls are done before each
+/// fails. The text is put only after each object that was put, its folder, and that of its kind were synced; where one
+/// could not be, no text is put.
+pub fn objects_are_durable_before_a_text(
+    alloc: Global,
+    keys: &[Key],
+    text: &[u8],
+    left: u64,
+) -> (ToldDisk, io::Result<()>)
+    ensures value { EndsDurably keys.now text.now (steps_of result.0.done.items) result.1 }
+    ensures order { AreInOrder (λ due. ⊥) (steps_of result.0.done.items) }
+{
+    let mut disk = ToldDisk::new(alloc, left);
+    let mut unsynced = Unsynced::new(alloc);
+    if let Err(failure) = put_all(&mut unsynced, &mut disk, keys, &()) {
+        return (disk, Err(failure));
+    }
+    let put = unsynced.put_text(alloc, &mut disk, text);
+    (disk, put)
+}
+
+/// Puts objects that were written beside their slots, up to the first failure.
+fn put_all<D: Disk>(
+    unsynced: &mut Unsynced,
+    disk: &mut D,
+    keys: &[Key],
+    way: &D::Way,
+) -> io::Result<()>
+    ensures ok { OnOk result (D.steps disk.new ≡ with_steps (D.steps disk.old) (map PutObject keys.now)) }
+    ensures listed { OnOk result (AreAmong keys.now unsynced.new.keys.items) }
+    ensures err { OnErr result (OnlyPuts (D.steps disk.old) (D.steps disk.new)) }
+    ensures order { IsInOrder (D.steps disk.old) unsynced.old.keys.items → IsInOrder (D.steps disk.new) unsynced.new.keys.items }
+{
+    for key in keys {
+        if let Err(failure) = unsynced.put_object(disk, key, b"", way) {
+            return Err(failure);
+        }
+    }
+    Ok(())
+}

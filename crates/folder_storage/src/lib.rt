@@ -5,7 +5,7 @@
 //!
 //! The adapters over files tell nothing of what they hold, so what they do with it is no clause: of them it is proved
 //! that their counts of faults are right, that what is put is listed until a text, and that they are safe and end. In
-//! which order objects are made durable before a text is proved over a disk that tells its calls. The layout of a library's folder and what
+//! which order objects are made durable before a text is proved over a disk that tells its calls, as `ToldDisk` does. The layout of a library's folder and what
 //! lasts through a loss of power are told at `FolderShelf`.
 #![tactic(auto)]
 
@@ -26,6 +26,7 @@ mod paths;
 mod steady_shelf;
 mod syncing;
 mod system_files;
+mod told_disk;
 mod unsynced;
 mod whole;
 
@@ -37,3 +38,4 @@ pub use crate::ground::Ground;
 pub use crate::memory_ground::{KeptLibrary, MemoryGround};
 pub use crate::steady_shelf::SteadyShelf;
 pub use crate::system_files::SystemFiles;
+pub use crate::told_disk::ToldDisk;

@@ -1,6 +1,6 @@
 //! The objects that were put and not made durable, and the state text that waits for them. Definitions:
 //! specs/Durability.antt.
-ghost use Rattle.std.specs.Prelude.{◌≡◌, ◌+◌, ◌≤◌, [], ◌∷◌, OnErr, OnOk, is_ok, vec_capacity, vec_len};
+ghost use Rattle.std.specs.Prelude.{◌≡◌, ◌⊎◌, ◌+◌, ◌≤◌, [], ◌∷◌, OnErr, OnOk, is_ok, vec_capacity, vec_len};
 ghost use Rattle.std.specs.List.{Any, Contains};
 ghost use Rattle.std.specs.declared.cmp.Ordering.TheVariants.{Equal};
 ghost use Rattle.folder_storage.specs.Durability.{AreAmong, BeginsSyncs, In, IsInOrder, PutObject, PutsDurably, PutsOrStays, StopsBefore, with_steps};
@@ -43,6 +43,8 @@ impl Unsynced {
         way: &D::Way,
     ) -> io::Result<()>
         ensures ok { OnOk result (D.steps disk.new ≡ with_steps (D.steps disk.old) (PutObject key.now ∷ [])) }
+        ensures err { OnErr result ((D.steps disk.new ≡ D.steps disk.old)
+            ⊎ (D.steps disk.new ≡ with_steps (D.steps disk.old) (PutObject key.now ∷ []))) }
         ensures found { OnOk result (In key.now self.new.keys.items) }
         ensures listed { AreAmong self.old.keys.items self.new.keys.items }
         ensures after { PutsOrStays (D.puts key.now bytes.now) (is_ok result) disk.old disk.new }

@@ -1,6 +1,12 @@
-use Rattle.std.proofs.Common.{refl}
+use Rattle.std.proofs.Common.{inl, refl}
 use Rattle.folder_storage.proofs.UnsyncedLemmas.{order-put, order-same}
 use Rattle.folder_storage.proofs.unsynced.Unsynced.put_object.Goals as goal
+
+pub returns-in-Err-clause-err : goal.returns-in-Err-clause-err
+returns-in-Err-clause-err g c = inl refl
+
+pub returns-clause-err : goal.returns-clause-err
+returns-clause-err g c = c.put_object.ensures.err
 
 pub returns-in-Err-clause-order : goal.returns-in-Err-clause-order
 returns-in-Err-clause-order g c = order-same (g.D.Disk.steps c.args.disk.now) (g.D.Disk.steps c.args.disk.now) c.args.self.now.keys.items c.note.new.keys.items refl c.note.ensures.listed

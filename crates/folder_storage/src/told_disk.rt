@@ -1,0 +1,121 @@
+//! A disk without files, which tells what it is asked for. Definitions: specs/ToldDisk.antt.
+ghost use Rattle.std.specs.Prelude.{◌≡◌, ◌∷◌, [], OnErr, OnOk, Some};
+ghost use Rattle.folder_storage.specs.Durability.{with_steps};
+ghost use Rattle.folder_storage.specs.ToldDisk.{step_of, steps_of};
+
+use crate::durability::{Directory, Disk};
+use http_server::Log;
+use ids::Key;
+use std::alloc::Global;
+use std::io;
+use std::io::ErrorKind;
+
+/// What a disk did.
+#[derive(Drop)]
+pub(crate) enum Done {
+    Put(Key),
+    Gather(Vec<Key>),
+    Begin(Vec<Key>),
+    SyncFile(Key),
+    SyncNames(Directory),
+    End(bool),
+    Text(Vec<u8>),
+}
+
+/// A disk that keeps nothing. Of its calls that may fail so many are done, and then each fails; what it did it tells, in its
+/// order, to proofs alone.
+#[derive(Drop)]
+pub struct ToldDisk {
+    alloc: Global,
+    /// How many calls are done before each fails.
+    left: u64,
+    // What was done, each with the calls that were left then.
+    done: Log<Done, u64>,
+}
+
+impl ToldDisk {
+    /// A disk that did nothing, of which so many calls will be done.
+    pub(crate) fn new(alloc: Global, left: u64) -> ToldDisk
+        ensures value { steps_of result.done.items ≡ [] }
+    {
+        ToldDisk {
+            alloc,
+            left,
+            done: Log::new(),
+        }
+    }
+
+    /// One call less is left. Where none is, the call fails.
+    fn pass(&mut self) -> io::Result<()>
+        ensures stays { self.new.done.items ≡ self.old.done.items }
+    {
+        if self.left == 0 {
+            return Err(io::Error::from(ErrorKind::Other));
+        }
+        self.left -= 1;
+        Ok(())
+    }
+
+    /// Notes what was done.
+    fn note(&mut self, done: &Done)
+        ensures told { Some (steps_of self.new.done.items) ≡ with_steps (Some (steps_of self.old.done.items)) (step_of done.now ∷ []) }
+    {
+        self.done = self.done.and(done, &self.left);
+    }
+
+    /// Notes what was done, unless no call is left.
+    fn pass_noted(&mut self, done: &Done) -> io::Result<()>
+        ensures ok { OnOk result (Some (steps_of self.new.done.items) ≡ with_steps (Some (steps_of self.old.done.items)) (step_of done.now ∷ [])) }
+        ensures err { OnErr result (Some (steps_of self.new.done.items) ≡ Some (steps_of self.old.done.items)) }
+    {
+        if let Err(failure) = self.pass() {
+            return Err(failure);
+        }
+        self.note(done);
+        Ok(())
+    }
+}
+
+impl Disk for ToldDisk {
+    ghost use Rattle.std.specs.Prelude.{Some, ⊤};
+    ghost use Rattle.folder_storage.specs.ToldDisk.{steps_of};
+
+    type Way = ();
+
+    ghost steps = { λ disk. Some (steps_of disk.done.items) };
+
+    ghost puts = { λ _ _ _ _ _. ⊤ };
+
+    fn put_object(&mut self, key: &Key, bytes: &[u8], way: &()) -> io::Result<()> {
+        let _ = bytes;
+        let _ = way;
+        self.pass_noted(&Done::Put(*key))
+    }
+
+    fn gather(&mut self, keys: &mut Vec<Key>) -> io::Result<()> {
+        let done = Done::Gather(keys.clone()?);
+        self.pass_noted(&done)
+    }
+
+    fn begin_syncs(&mut self, keys: &[Key]) -> io::Result<()> {
+        let done = Done::Begin(Vec::from_slice(self.alloc, keys)?);
+        self.pass_noted(&done)
+    }
+
+    fn sync_object(&mut self, key: &Key) -> io::Result<()> {
+        self.pass_noted(&Done::SyncFile(*key))
+    }
+
+    fn sync_directory(&mut self, directory: Directory) -> io::Result<()> {
+        self.pass_noted(&Done::SyncNames(directory))
+    }
+
+    fn end_syncs(&mut self, is_synced: bool) {
+        self.note(&Done::End(is_synced));
+    }
+
+    fn put_text(&mut self, text: &[u8]) -> io::Result<()> {
+        let done = Done::Text(Vec::from_slice(self.alloc, text)?);
+        self.pass_noted(&done)
+    }
+}
