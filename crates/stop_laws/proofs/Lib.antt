@@ -1,0 +1,4 @@
+pub mod SlotLemmas
+pub mod DoneLemmas
+pub mod RunLemmas
+pub mod ReopeningLemmas

@@ -1,0 +1,5 @@
+use Rattle.stop_laws.proofs.RunLemmas.{stood}
+use Rattle.stop_laws.proofs.laws.after_any_calls_the_shelf_stands_for_the_library_or_for_what_was_refused.Goals as goal
+
+pub returns : goal.returns
+returns g c = stood g.S.Shelf.contents g.S.Shelf.may_give g.S.Shelf.texts g.S.Shelf.faults
