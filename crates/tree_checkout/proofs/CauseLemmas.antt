@@ -1,5 +1,5 @@
 -- Which orders of a checkout went well, and the cause of each fault. The key lemmas are all_went, stopped_well, ordered_went, got_fresh,
--- stopped_fresh, caused_stop, has_of_got and has_of_stopped.
+-- stopped_fresh, caused_stop, got_asks, stopped_asks, got_ordered, stopped_ordered, has_of_got and has_of_stopped.
 use Rattle.std.proofs.Common.{◌≡◌, ◌⊎◌, ℕ, Bool, true, false, All, if◌then◌else◌, List, [], ◌∷◌, ◌++◌, None, Some, Ok, length, refl, sym, ap, subst, ◌∙◌, inl, inr, true≢false, arith}
 use Rattle.std.specs.List.{Contains, cons_option, filter_map, flat_map}
 use Rattle.std.proofs.lemmas.Grind.{flat_map-append}
@@ -18,6 +18,7 @@ use Rattle.object_graph.specs.Objects.{block_key}
 use Rattle.remote_calls.specs.Sends.{Ending, Sent}
 use Rattle.sync_rules.specs.Causes.{CausedBy, GoesWell, IsRefusedBy, WentWell, ends_sync, is_of_order, is_stale, stale_count}
 use Rattle.sync_rules.specs.Named.{HasAll, HasGot, IsNamedSo, Named, got_in, is_block, is_get}
+use Rattle.sync_rules.specs.Orders.{IsSyncOrder}
 use Rattle.sync_rules.specs.declared.fault.SyncFault.{SyncFault}
 use Rattle.sync_rules.specs.declared.fault.SyncFault.TheVariants as fault
 use Rattle.sync_rules.proofs.GotLemmas.{got_has}
@@ -183,17 +184,17 @@ module _ (here : SyncFault → Type 0) (source : Source) (more : List Sent) wher
 
 -- ---- objects that have what was got
 
-abbrev AsksGet : Sent → Type 0
+abbrev pub AsksGet : Sent → Type 0
 AsksGet sent = is_get sent.0.what ≡ true
 
-got_asks : (source : Source) (ids : List (List ℕ)) (more : List Sent) → AreGot source ids more → All AsksGet more
+pub got_asks : (source : Source) (ids : List (List ℕ)) (more : List Sent) → AreGot source ids more → All AsksGet more
 got_asks source [] [] are = All-nil AsksGet
 got_asks source [] (sent ∷ more) are = absurd are
 got_asks source (id ∷ ids) [] are = absurd are
 got_asks source (id ∷ ids) (sent ∷ more) are =
     All-cons AsksGet sent more (ap (λ (order : Order). is_get order.what) are.0.asked) (got_asks source ids more are.1)
 
-stopped_asks : (source : Source) (f : SyncFault) (more : List Sent) (ids : List (List ℕ)) → Stops source more ids f → All AsksGet more
+pub stopped_asks : (source : Source) (f : SyncFault) (more : List Sent) (ids : List (List ℕ)) → Stops source more ids f → All AsksGet more
 stopped_asks source f [] ids stops = All-nil AsksGet
 stopped_asks source f (sent ∷ more) [] stops = absurd stops
 stopped_asks source f (sent ∷ more) (id ∷ ids) (inl on) =
@@ -201,6 +202,27 @@ stopped_asks source f (sent ∷ more) (id ∷ ids) (inl on) =
 stopped_asks source f (sent ∷ more) (id ∷ ids) (inr ends) =
     All-cons AsksGet sent more (ap (λ (order : Order). is_get order.what) (told_at source id sent f ends.0))
     (subst (All AsksGet) (sym ends.1) (All-nil AsksGet))
+
+-- ---- orders of a sync
+
+order_of_sync : (source : Source) (id : List ℕ) (sent : Sent) → sent.0 ≡ block_order source id → IsSyncOrder source.lib source.secret sent
+order_of_sync source id sent asked = subst (λ (order : Order). IsSyncOrder source.lib source.secret (order, sent.1)) (sym asked) (refl, refl, refl, tt)
+
+pub got_ordered : (source : Source) (ids : List (List ℕ)) (more : List Sent) → AreGot source ids more → All (IsSyncOrder source.lib source.secret) more
+got_ordered source [] [] are = All-nil (IsSyncOrder source.lib source.secret)
+got_ordered source [] (sent ∷ more) are = absurd are
+got_ordered source (id ∷ ids) [] are = absurd are
+got_ordered source (id ∷ ids) (sent ∷ more) are =
+    All-cons (IsSyncOrder source.lib source.secret) sent more (order_of_sync source id sent are.0.asked) (got_ordered source ids more are.1)
+
+pub stopped_ordered : (source : Source) (f : SyncFault) (more : List Sent) (ids : List (List ℕ)) → Stops source more ids f → All (IsSyncOrder source.lib source.secret) more
+stopped_ordered source f [] ids stops = All-nil (IsSyncOrder source.lib source.secret)
+stopped_ordered source f (sent ∷ more) [] stops = absurd stops
+stopped_ordered source f (sent ∷ more) (id ∷ ids) (inl on) =
+    All-cons (IsSyncOrder source.lib source.secret) sent more (order_of_sync source id sent on.0.asked) (stopped_ordered source f more ids on.1)
+stopped_ordered source f (sent ∷ more) (id ∷ ids) (inr ends) =
+    All-cons (IsSyncOrder source.lib source.secret) sent more (order_of_sync source id sent (told_at source id sent f ends.0))
+    (subst (All (IsSyncOrder source.lib source.secret)) (sym ends.1) (All-nil (IsSyncOrder source.lib source.secret)))
 
 pub has_of_got : (objects : Objects) (source : Source) (ids : List (List ℕ)) (more : List Sent) → AreGot source ids more → HasGot objects more → HasAll objects (had_of more)
 has_of_got objects source ids more are has = got_has objects more (had_of more) (got_asks source ids more are) (got_had source ids more are) has

@@ -3,8 +3,10 @@ pub mod CauseLemmas
 pub mod CheckingOutLemmas
 pub mod GotLemmas
 pub mod HadLemmas
+pub mod HeldLemmas
 pub mod PlanLooksLemmas
 pub mod PlanningLemmas
+pub mod RemovalLemmas
 pub mod SecondLookLemmas
 pub mod StepsLemmas
 pub mod UnchangedLemmas

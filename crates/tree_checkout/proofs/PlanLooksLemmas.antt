@@ -121,7 +121,7 @@ distinct_climbs (p ∷ ps) climbs = (apart ps climbs.0, distinct_climbs ps climb
 
 -- ---- nothing is in the way
 
-both_false : (a b : Bool) → (a || b) ≡ false → (a ≡ false) × (b ≡ false)
+pub both_false : (a b : Bool) → (a || b) ≡ false → (a ≡ false) × (b ≡ false)
 both_false true b e = absurd (true≢false e)
 both_false false b e = (refl, e)
 

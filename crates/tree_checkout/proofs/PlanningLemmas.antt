@@ -117,7 +117,7 @@ file_node objects entry.Dir = refl
 file_node objects (entry.File id mode mtime modifier size) = refl
 
 module _ (cuts : Cuts) (c : Contents) (scan : Scan) (is_scan : IsScan cuts c scan) where
-  stuck_in : (path : PathV) → is_stuck_in scan path ≡ is_stuck c path
+  pub stuck_in : (path : PathV) → is_stuck_in scan path ≡ is_stuck c path
   stuck_in path =
       ap (λ (o : Option Seen). is_dir_seen o && hides_in scan path) (is_scan.paths path)
       ∙ ap (λ (b : Bool). b && hides_in scan path) (dir_seen cuts (at c path)) ∙ sym (stuck-told cuts c scan is_scan path)

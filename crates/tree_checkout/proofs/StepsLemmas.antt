@@ -1,36 +1,32 @@
--- Steps of a checkout, one after another. The key lemmas are front_at, removed_more, removed_stop, removed_all, removed_same,
--- writes_start, writes_more, writes_end and writes_stop.
-use Rattle.std.proofs.Common.{◌≡◌, ◌⊎◌, ◌||◌, ℕ, ◌+◌, ◌<◌, ◌≤◌, Bool, true, false, cond, List, [], ◌∷◌, ◌++◌, length, map, take, drop, get_or, Option, None, Some, IsSome, is_some, option_map, refl, sym, ap, ap₂, subst, ◌∙◌, inl, inr, append_assoc, append-nil}
+-- What is written, one after another. The key lemmas are writes_start, writes_more, writes_end and writes_stop.
+use Rattle.std.proofs.Common.{◌≡◌, ◌⊎◌, ◌||◌, ℕ, ◌+◌, ◌<◌, ◌≤◌, Bool, true, false, cond, List, [], ◌∷◌, ◌++◌, length, map, take, drop, get_or, Option, None, Some, IsSome, is_some, option_map, refl, sym, ap, subst, ◌∙◌, inl, inr, append_assoc, append-nil}
 use Rattle.std.specs.FinMap as fin
-use Rattle.std.specs.List.{AllByRecursion, IsDistinct}
-use Rattle.std.specs.Cmp.{eq_by_cmp_equiv}
-use Rattle.std.specs.Ordering.{eq_by_cmp}
 use Rattle.std.proofs.lemmas.Bool.{true≢false}
 use Rattle.std.proofs.lemmas.Grind.{flat_map-append}
-use Rattle.std.proofs.lemmas.List.{map-append, take-append-drop, take_all, take_more}
-use Rattle.ids.proofs.BasicLemmas.{AllByRecursion-middle, AllByRecursion-push, is_some-option_map}
+use Rattle.std.proofs.lemmas.List.{map-append, take-append-drop, take_all}
+use Rattle.ids.proofs.BasicLemmas.{AllByRecursion-push, is_some-option_map}
 use Rattle.ids.specs.Key.{Objects}
-use Rattle.tree_model.specs.Path.{PathV, path_cmp}
+use Rattle.tree_model.specs.Path.{PathV}
 use Rattle.tree_model.specs.PathOrder.{paths_total}
 use Rattle.tree_model.proofs.ListedLemmas.{any_append, same_path}
 use Rattle.block_chunker.specs.declared.cuts.Cuts.{Cuts}
-use Rattle.folder_side.specs.Folder.{Contents, at, with_dir, with_file, with_holding, without}
+use Rattle.folder_side.specs.Folder.{Contents, at, with_dir, with_file, with_holding}
 use Rattle.folder_side.specs.declared.holding.Holding.{Holding}
 use Rattle.folder_side.specs.declared.holding.Holding.TheVariants.{Dir, File}
 use Rattle.folder_side.specs.declared.scan_report.Scan.{Scan}
 use Rattle.folder_side.specs.declared.scan_report.Seen.{Seen}
 use Rattle.object_graph.specs.Objects.{joined}
 use Rattle.remote_calls.specs.Sends.{Sent}
-use Rattle.sync_rules.specs.Checkout.{Front, Step, do_step, is_one_of, run}
+use Rattle.sync_rules.specs.Checkout.{Step, do_step, is_one_of, run}
+use Rattle.sync_rules.specs.Offer.{own_of}
 use Rattle.sync_rules.specs.declared.fault.SyncFault.{SyncFault}
-use Rattle.sync_rules.proofs.PlanLemmas.{removed_at}
 use Rattle.sync_rules.specs.declared.fault.SyncFault.TheVariants as fault
 use Rattle.tree_walk.proofs.StepsLemmas.{next_entry}
 use Rattle.tree_walk.specs.declared.fault.WalkFault.TheVariants as walk
 use Rattle.tree_checkout.specs.BlockGets.{AreGot, Stops, joined_in}
-use Rattle.tree_checkout.specs.SecondLook.{IsLookFault, LooksAs, LooksFirst}
-use Rattle.tree_checkout.specs.Steps.{IsSizedNode, IsWrongIn, Leaves, RemovesAll, RemovesFront, StopsOne, StopsWrites, WritesAll, WritesOne, blocks_due, is_path_fault, node_blocks, paths_of, write_step}
-use Rattle.tree_checkout.specs.Writing.{IsMoved, IsOther, IsWrongSize, is_change}
+use Rattle.tree_checkout.specs.SecondLook.{IsLookFault}
+use Rattle.tree_checkout.specs.Steps.{IsSizedNode, IsWrongIn, Leaves, StopsOne, StopsWrites, WritesAll, WritesOne, blocks_due, node_blocks, node_owns, owns_of, paths_of, write_step}
+use Rattle.tree_checkout.specs.Writing.{IsMoved, IsWrongSize, is_change}
 use Rattle.tree_checkout.specs.declared.block_gets.Source.{Source}
 use Rattle.tree_checkout.specs.declared.writing.TreeFile.{TreeFile}
 use Rattle.tree_checkout.specs.declared.steps.Write.{Write}
@@ -39,119 +35,11 @@ use Rattle.tree_checkout.specs.declared.steps.WriteNode.TheVariants as write
 use Rattle.tree_checkout.proofs.GotLemmas.{all_got_stops, got_append, got_front, stops_behind, stops_more}
 use Rattle.tree_checkout.proofs.HadLemmas.{has_first_of, has_later_of, joined_got}
 use Rattle.tree_checkout.proofs.WritingLemmas.{look_other, look_quiet}
-
--- ---- fronts
-
-pub front_at : (done left : List Step) (c : Contents) → Front (done ++ left) c (run done c)
-front_at [] left c = Front.stopped left c
-front_at (step ∷ done) left c = Front.went step (done ++ left) c (run done (do_step step c)) (front_at done left (do_step step c))
-
-pub run_both : (first later : List Step) (c : Contents) → run (first ++ later) c ≡ run later (run first c)
-run_both [] later c = refl
-run_both (step ∷ first) later c = run_both first later (do_step step c)
-
-run_more : (steps : List Step) (step : Step) (c : Contents) → run (steps ++ step ∷ []) c ≡ do_step step (run steps c)
-run_more steps step c = run_both steps (step ∷ []) c
-
--- ---- removals
-
-next_path : {X : Type 0} (xs : List X) (index : ℕ) (x : X) → index < length xs → x ≡ get_or xs index x → take (index + 1) xs ≡ take index xs ++ x ∷ []
-next_path xs index x below is = take_more xs index x below ∙ ap (λ y. take index xs ++ y ∷ []) (sym is)
-
-removed_run : (paths : List PathV) (index : ℕ) (path : PathV) (c : Contents) → index < length paths → path ≡ get_or paths index path
-    → run (map Step.Removed (take (index + 1) paths)) c ≡ without path (run (map Step.Removed (take index paths)) c)
-removed_run paths index path c below is =
-    ap (λ (ps : List PathV). run (map Step.Removed ps) c) (next_path paths index path below is)
-    ∙ ap (λ (steps : List Step). run steps c) (map-append Step.Removed (take index paths) (path ∷ []))
-    ∙ run_more (map Step.Removed (take index paths)) (Step.Removed path) c
-
-pub removed_more : (paths : List PathV) (index : ℕ) (path : PathV) (c : Contents) (before after : Option Contents) → index < length paths → path ≡ get_or paths index path
-    → before ≡ Some (run (map Step.Removed (take index paths)) c) → after ≡ option_map (without path) before
-    → after ≡ Some (run (map Step.Removed (take (index + 1) paths)) c)
-removed_more paths index path c before after below is now done =
-    done ∙ ap (option_map (without path)) now ∙ ap Some (sym (removed_run paths index path c below is))
-
-module _ (paths : List PathV) (index : ℕ) (path : PathV) (first before after : Option Contents) (below : index < length paths) (is : path ≡ get_or paths index path)
-    (now : (c : Contents) → first ≡ Some c → before ≡ Some (run (map Step.Removed (take index paths)) c)) where
-  pub removed_stop : (after ≡ before) ⊎ (after ≡ option_map (without path) before) → RemovesFront paths first after
-  removed_stop (inl same) = record {
-    gone = take index paths;
-    rest = drop index paths;
-    front = sym (take-append-drop index paths);
-    left = λ c told. same ∙ now c told;
-  }
-  removed_stop (inr done) = record {
-    gone = take (index + 1) paths;
-    rest = drop (index + 1) paths;
-    front = sym (take-append-drop (index + 1) paths);
-    left = λ c told. removed_more paths index path c before after below is (now c told) done;
-  }
-
-pub removed_all : (paths : List PathV) (index : ℕ) (first told : Option Contents) → length paths ≤ index
-    → ((c : Contents) → first ≡ Some c → told ≡ Some (run (map Step.Removed (take index paths)) c)) → RemovesAll paths first told
-removed_all paths index first told over now = record {
-  left = λ c is. now c is ∙ ap (λ (ps : List PathV). Some (run (map Step.Removed ps) c)) (take_all index paths over);
-}
-
-pub look_of_path : (cuts : Cuts) (told : Option Contents) (path : PathV) (first : Option Seen) (f : SyncFault) → IsLookFault cuts told path first f → is_path_fault f ≡ true
-look_of_path cuts told path first fault.Folder is = refl
-look_of_path cuts told path first fault.NoMemory is = refl
-look_of_path cuts told path first (fault.Changed changed) is = refl
-look_of_path cuts told path first other is = absurd is
-
--- ---- what stands at a path before its turn is what stood there first
-
--- a path that stands once in a list is none of those before it
-pub once_in : (front : List PathV) (path : PathV) (rest : List PathV) → IsDistinct (eq_by_cmp path_cmp) (front ++ path ∷ rest) → is_one_of front path ≡ false
-unfolding IsDistinct
-once_in [] path rest once = refl
-once_in (p ∷ front) path rest once =
-    ap₂ (λ (a b : Bool). a || b)
-    ((eq_by_cmp_equiv paths_total).symm path p ∙ AllByRecursion-middle (λ q. same_path p q ≡ false) front path rest once.0)
-    (once_in front path rest once.1)
-
-removed_apart : (paths : List PathV) (c : Contents) (q : PathV) → is_one_of paths q ≡ false → at (run (map Step.Removed paths) c) q ≡ at c q
-removed_apart paths c q apart = removed_at paths c q ∙ ap (λ (b : Bool). cond b None (at c q)) apart
-
--- where it looks as it did first, no change is told
-pub unchanged : (cuts : Cuts) (told : Option Contents) (path : PathV) (first : Option Seen) (c : Contents) (f : SyncFault) → told ≡ Some c → LooksAs cuts (at c path) first
-    → IsOther cuts told path first f → is_change f ≡ false
-unchanged cuts told path first c (fault.Changed changed) is looks other = absurd (other.1 c is looks)
-unchanged cuts told path first c f is looks other = refl
-
-pub removed_same : (cuts : Cuts) (scan : Scan) (paths : List PathV) (index : ℕ) (path : PathV) (c : Contents) (told : Option Contents) (f : SyncFault)
-    → index < length paths → path ≡ get_or paths index path → IsDistinct (eq_by_cmp path_cmp) paths → AllByRecursion (LooksFirst cuts c scan) paths
-    → told ≡ Some (run (map Step.Removed (take index paths)) c) → IsLookFault cuts told path (fin.get scan.paths path) f → is_change f ≡ false
-removed_same cuts scan paths index path c told f below is once looks now cause =
-    let split : paths ≡ take index paths ++ path ∷ drop (index + 1) paths =
-    sym (take-append-drop index paths) ∙ ap (λ (rest : List PathV). take index paths ++ rest) (next_entry paths index path below is) in
-    let apart = once_in (take index paths) path (drop (index + 1) paths) (subst (IsDistinct (eq_by_cmp path_cmp)) split once) in
-    let here = AllByRecursion-middle (LooksFirst cuts c scan) (take index paths) path (drop (index + 1) paths) (subst (AllByRecursion (LooksFirst cuts c scan)) split looks) in
-    unchanged cuts told path (fin.get scan.paths path) (run (map Step.Removed (take index paths)) c) f now
-    (subst (λ (o : Option Holding). LooksAs cuts o (fin.get scan.paths path)) (sym (removed_apart (take index paths) c path apart)) here)
-    (look_other cuts told path (fin.get scan.paths path) f cause)
-
--- each path that was removed stood there as it was seen
-pub found_more : (cuts : Cuts) (scan : Scan) (paths : List PathV) (index : ℕ) (path : PathV) (c : Contents) (told : Option Contents)
-    → index < length paths → path ≡ get_or paths index path → IsDistinct (eq_by_cmp path_cmp) paths → AllByRecursion (LooksFirst cuts c scan) (take index paths)
-    → told ≡ Some (run (map Step.Removed (take index paths)) c) → ((d : Contents) → told ≡ Some d → LooksFirst cuts d scan path)
-    → AllByRecursion (LooksFirst cuts c scan) (take (index + 1) paths)
-found_more cuts scan paths index path c told below is once found now here =
-    let split : paths ≡ take index paths ++ path ∷ drop (index + 1) paths =
-    sym (take-append-drop index paths) ∙ ap (λ (rest : List PathV). take index paths ++ rest) (next_entry paths index path below is) in
-    let apart = once_in (take index paths) path (drop (index + 1) paths) (subst (IsDistinct (eq_by_cmp path_cmp)) split once) in
-    subst (AllByRecursion (LooksFirst cuts c scan)) (sym (next_path paths index path below is))
-    (AllByRecursion-push (LooksFirst cuts c scan) (take index paths) path found
-    (subst (λ (o : Option Holding). LooksAs cuts o (fin.get scan.paths path)) (removed_apart (take index paths) c path apart)
-    (here (run (map Step.Removed (take index paths)) c) now)))
-
-pub found_all : (cuts : Cuts) (scan : Scan) (paths : List PathV) (index : ℕ) (c : Contents) → length paths ≤ index
-    → AllByRecursion (LooksFirst cuts c scan) (take index paths) → AllByRecursion (LooksFirst cuts c scan) paths
-found_all cuts scan paths index c over found = subst (AllByRecursion (LooksFirst cuts c scan)) (take_all index paths over) found
+use Rattle.tree_checkout.proofs.RemovalLemmas.{next_path, run_more, stop_unless, stop_write}
 
 -- ---- what writes leave
 
-same_contents : (c d : Contents) → Some c ≡ Some d → c ≡ d
+pub same_contents : (c d : Contents) → Some c ≡ Some d → c ≡ d
 same_contents c d e = cc
 
 leaves_nothing : (before after : Option Contents) → after ≡ before → Leaves [] [] before after
@@ -238,19 +126,28 @@ leaves_file source writes path file more part before mid after leaves got sized 
 
 -- ---- writes, one after another
 
-pub writes_start : (source : Source) (sends : List Sent) (before after : Option Contents) → after ≡ before → WritesAll source [] sends sends before after
-writes_start source sends before after same = record {
+pub writes_start : (source : Source) (cuts : Cuts) (sends : List Sent) (before after : Option Contents) (owns : List (List ℕ)) → after ≡ before
+    → WritesAll source [] cuts sends sends before after owns owns
+writes_start source cuts sends before after owns same = record {
   more = [];
   grown = sym (append-nil sends);
   got = tt;
   leaves = leaves_nothing before after same;
+  owned = λ objects has. sym (append-nil owns);
 }
+
+owns_more : (cuts : Cuts) (objects : Objects) (front : List Write) (w : Write) → owns_of cuts objects (front ++ w ∷ []) ≡ owns_of cuts objects front ++ node_owns cuts objects w.node
+owns_more cuts objects front w =
+    flat_map-append (λ (v : Write). node_owns cuts objects v.node) front (w ∷ [])
+    ∙ ap (λ ids. owns_of cuts objects front ++ ids) (append-nil (node_owns cuts objects w.node))
 
 due_more : (front : List Write) (w : Write) → blocks_due (front ++ w ∷ []) ≡ blocks_due front ++ node_blocks w.node
 due_more front w = flat_map-append (λ (v : Write). node_blocks v.node) front (w ∷ []) ∙ ap (λ ids. blocks_due front ++ ids) (append-nil (node_blocks w.node))
 
-module _ (source : Source) (front : List Write) (path : PathV) (old now new : List Sent) (before mid after : Option Contents) (all : WritesAll source front old now before mid) where
-  one_more : (node : WriteNode) → WritesOne source path node now new mid after → WritesAll source (front ++ record { path = path; node = node } ∷ []) old new before after
+module _ (source : Source) (front : List Write) (path : PathV) (cuts : Cuts) (old now new : List Sent) (before mid after : Option Contents) (had noted has : List (List ℕ))
+    (all : WritesAll source front cuts old now before mid had noted) where
+  one_more : (node : WriteNode) → WritesOne source path node cuts now new mid after noted has
+      → WritesAll source (front ++ record { path = path; node = node } ∷ []) cuts old new before after had has
   one_more write.Dir one = record {
     more = all.more;
     grown = one.0 ∙ all.grown;
@@ -258,6 +155,9 @@ module _ (source : Source) (front : List Write) (path : PathV) (old now new : Li
         subst (λ (ids : List (List ℕ)). AreGot source ids all.more)
         (sym (due_more front (record { path = path; node = write.Dir }) ∙ append-nil (blocks_due front))) all.got;
     leaves = leaves_dir front path all.more before mid after all.leaves one.1;
+    owned = λ objects came.
+        one.2 ∙ all.owned objects came
+        ∙ ap (λ ids. had ++ ids) (sym (owns_more cuts objects front (record { path = path; node = write.Dir }) ∙ append-nil (owns_of cuts objects front)));
   }
   one_more (write.File file) one = record {
     more = all.more ++ one.more;
@@ -266,18 +166,25 @@ module _ (source : Source) (front : List Write) (path : PathV) (old now new : Li
         subst (λ (ids : List (List ℕ)). AreGot source ids (all.more ++ one.more)) (sym (due_more front (record { path = path; node = write.File file })))
         (got_append source (blocks_due front) file.object.blocks all.more one.more all.got one.got);
     leaves = leaves_file source front path file all.more one.more before mid after all.leaves one.got one.sized one.written;
+    owned = λ objects came.
+        let bytes : joined objects file.object.blocks ≡ joined_in one.more = joined_got source file.object.blocks one.more objects one.got (has_later_of objects all.more one.more came) in
+        one.owned ∙ ap (λ ids. ids ++ own_of cuts (joined_in one.more) ∷ []) (all.owned objects (has_first_of objects all.more one.more came))
+        ∙ append_assoc had (owns_of cuts objects front) (own_of cuts (joined_in one.more) ∷ [])
+        ∙ ap (λ (bs : List ℕ). had ++ (owns_of cuts objects front ++ own_of cuts bs ∷ [])) (sym bytes)
+        ∙ ap (λ ids. had ++ ids) (sym (owns_more cuts objects front (record { path = path; node = write.File file })));
   }
 
-pub writes_more : (source : Source) (writes : List Write) (index : ℕ) (w : Write) (old now new : List Sent) (before mid after : Option Contents)
-    → index < length writes → w ≡ get_or writes index w → WritesAll source (take index writes) old now before mid → WritesOne source w.path w.node now new mid after
-    → WritesAll source (take (index + 1) writes) old new before after
-writes_more source writes index w old now new before mid after below is all one =
-    subst (λ (front : List Write). WritesAll source front old new before after) (sym (next_path writes index w below is))
-    (one_more source (take index writes) w.path old now new before mid after all w.node one)
+pub writes_more : (source : Source) (writes : List Write) (index : ℕ) (w : Write) (cuts : Cuts) (old now new : List Sent) (before mid after : Option Contents)
+    (had noted has : List (List ℕ)) → index < length writes → w ≡ get_or writes index w → WritesAll source (take index writes) cuts old now before mid had noted
+    → WritesOne source w.path w.node cuts now new mid after noted has → WritesAll source (take (index + 1) writes) cuts old new before after had has
+writes_more source writes index w cuts old now new before mid after had noted has below is all one =
+    subst (λ (front : List Write). WritesAll source front cuts old new before after had has) (sym (next_path writes index w below is))
+    (one_more source (take index writes) w.path cuts old now new before mid after had noted has all w.node one)
 
-pub writes_end : (source : Source) (writes : List Write) (index : ℕ) (old new : List Sent) (before after : Option Contents) → length writes ≤ index
-    → WritesAll source (take index writes) old new before after → WritesAll source writes old new before after
-writes_end source writes index old new before after over all = subst (λ (front : List Write). WritesAll source front old new before after) (take_all index writes over) all
+pub writes_end : (source : Source) (writes : List Write) (index : ℕ) (cuts : Cuts) (old new : List Sent) (before after : Option Contents) (had has : List (List ℕ))
+    → length writes ≤ index → WritesAll source (take index writes) cuts old new before after had has → WritesAll source writes cuts old new before after had has
+writes_end source writes index cuts old new before after had has over all =
+    subst (λ (front : List Write). WritesAll source front cuts old new before after had has) (take_all index writes over) all
 
 -- ---- a write that stops
 
@@ -287,7 +194,7 @@ look_no_size_in source cuts told path first writes more (fault.BadTree why) is =
 look_no_size_in source cuts told path first writes more other is = tt
 
 module _ (source : Source) (front : List Write) (path : PathV) (rest : List Write) (scan : Scan) (cuts : Cuts) (old now new : List Sent)
-    (before mid after : Option Contents) (f : SyncFault) (all : WritesAll source front old now before mid) where
+    (before mid after : Option Contents) (had noted : List (List ℕ)) (f : SyncFault) (all : WritesAll source front cuts old now before mid had noted) where
   due_split : (w : Write) → blocks_due (front ++ w ∷ rest) ≡ (blocks_due front ++ node_blocks w.node) ++ blocks_due rest
   due_split w =
       flat_map-append (λ (v : Write). node_blocks v.node) front (w ∷ rest)
@@ -313,7 +220,7 @@ module _ (source : Source) (front : List Write) (path : PathV) (rest : List Writ
 
   dir_stops : StopsOne source path write.Dir scan cuts now new mid after f
       → StopsWrites source (front ++ record { path = path; node = write.Dir } ∷ rest) scan cuts old new before after f
-  dir_stops one = by one.2
+  dir_stops one = by (is_change f) refl one.3
     where
       w : Write
       w = record { path = path; node = write.Dir }
@@ -323,8 +230,8 @@ module _ (source : Source) (front : List Write) (path : PathV) (rest : List Writ
           subst (λ (ids : List (List ℕ)). Stops source all.more ids f) (sym (flat_map-append (λ (v : Write). node_blocks v.node) front (w ∷ rest)))
           (stops_more source f (blocks_due front) (blocks_due (w ∷ rest)) all.more (all_got_stops source f (blocks_due front) all.more all.got (look_quiet cuts mid path None f one.1)))
 
-      by : (after ≡ mid) ⊎ (after ≡ option_map (with_dir path) mid) → StopsWrites source (front ++ w ∷ rest) scan cuts old new before after f
-      by (inl same) = record {
+      stayed : after ≡ mid → StopsWrites source (front ++ w ∷ rest) scan cuts old new before after f
+      stayed same = record {
         more = all.more;
         grown = one.0 ∙ all.grown;
         stops = stop;
@@ -338,8 +245,11 @@ module _ (source : Source) (front : List Write) (path : PathV) (rest : List Writ
           tells = λ c is. ap is_some same ∙ all.leaves.tells c is;
           others = λ c d is told q apart. all.leaves.others c d is (sym same ∙ told) q apart;
         };
+        changed = stop_write cuts scan w rest mid after f same (look_other cuts mid path None f one.1);
       }
-      by (inr made) = record {
+
+      made_there : after ≡ option_map (with_dir path) mid → is_change f ≡ false → StopsWrites source (front ++ w ∷ rest) scan cuts old new before after f
+      made_there made stays = record {
         more = all.more;
         grown = one.0 ∙ all.grown;
         stops = stop;
@@ -348,11 +258,17 @@ module _ (source : Source) (front : List Write) (path : PathV) (rest : List Writ
         rest = rest;
         front = sym (append_assoc front (w ∷ []) rest);
         leaves = leaves_dir front path all.more before mid after all.leaves made;
+        changed = stop_unless cuts scan [] rest after f stays;
       }
+
+      by : (b : Bool) → is_change f ≡ b → (after ≡ mid) ⊎ (after ≡ option_map (with_dir path) mid) → StopsWrites source (front ++ w ∷ rest) scan cuts old new before after f
+      by true told some = stayed (one.2 told)
+      by false stays (inl same) = stayed same
+      by false stays (inr made) = made_there made stays
 
   file_stops : (file : TreeFile) → StopsOne source path (write.File file) scan cuts now new mid after f
       → StopsWrites source (front ++ record { path = path; node = write.File file } ∷ rest) scan cuts old new before after f
-  file_stops file one = by one.left
+  file_stops file one = by (is_change f) refl one.left
     where
       w : Write
       w = record { path = path; node = write.File file }
@@ -366,8 +282,8 @@ module _ (source : Source) (front : List Write) (path : PathV) (rest : List Writ
       grown : new ≡ old ++ (all.more ++ one.more)
       grown = one.grown ∙ ap (λ sends. sends ++ one.more) all.grown ∙ append_assoc old all.more one.more
 
-      by : (after ≡ mid) ⊎ IsMoved source file path one.more mid after → StopsWrites source (front ++ w ∷ rest) scan cuts old new before after f
-      by (inl same) = record {
+      stayed : after ≡ mid → StopsWrites source (front ++ w ∷ rest) scan cuts old new before after f
+      stayed same = record {
         more = all.more ++ one.more;
         grown = grown;
         stops = stop;
@@ -376,8 +292,11 @@ module _ (source : Source) (front : List Write) (path : PathV) (rest : List Writ
         rest = w ∷ rest;
         front = refl;
         leaves = leaves_wider front all.more one.more before mid after same all.leaves;
+        changed = stop_write cuts scan w rest mid after f same one.other;
       }
-      by (inr moved) = record {
+
+      moved_there : IsMoved source file path one.more mid after → is_change f ≡ false → StopsWrites source (front ++ w ∷ rest) scan cuts old new before after f
+      moved_there moved stays = record {
         more = all.more ++ one.more;
         grown = grown;
         stops = stop;
@@ -386,17 +305,23 @@ module _ (source : Source) (front : List Write) (path : PathV) (rest : List Writ
         rest = rest;
         front = sym (append_assoc front (w ∷ []) rest);
         leaves = leaves_file source front path file all.more one.more before mid after all.leaves moved.got moved.sized moved.written;
+        changed = stop_unless cuts scan [] rest after f stays;
       }
+
+      by : (b : Bool) → is_change f ≡ b → (after ≡ mid) ⊎ IsMoved source file path one.more mid after → StopsWrites source (front ++ w ∷ rest) scan cuts old new before after f
+      by true told some = stayed (one.untouched told)
+      by false stays (inl same) = stayed same
+      by false stays (inr moved) = moved_there moved stays
 
   one_stops : (node : WriteNode) → StopsOne source path node scan cuts now new mid after f
       → StopsWrites source (front ++ record { path = path; node = node } ∷ rest) scan cuts old new before after f
   one_stops write.Dir one = dir_stops one
   one_stops (write.File file) one = file_stops file one
 
-pub writes_stop : (source : Source) (writes : List Write) (index : ℕ) (w : Write) (scan : Scan) (cuts : Cuts) (old now new : List Sent) (before mid after : Option Contents) (f : SyncFault)
-    → index < length writes → w ≡ get_or writes index w → WritesAll source (take index writes) old now before mid
+pub writes_stop : (source : Source) (writes : List Write) (index : ℕ) (w : Write) (scan : Scan) (cuts : Cuts) (old now new : List Sent) (before mid after : Option Contents) (had noted : List (List ℕ))
+    (f : SyncFault) → index < length writes → w ≡ get_or writes index w → WritesAll source (take index writes) cuts old now before mid had noted
     → StopsOne source w.path w.node scan cuts now new mid after f → StopsWrites source writes scan cuts old new before after f
-writes_stop source writes index w scan cuts old now new before mid after f below is all one =
+writes_stop source writes index w scan cuts old now new before mid after had noted f below is all one =
     subst (λ (ws : List Write). StopsWrites source ws scan cuts old new before after f)
     (ap (λ (rest : List Write). take index writes ++ rest) (sym (next_entry writes index w below is)) ∙ take-append-drop index writes)
-    (one_stops source (take index writes) w.path (drop (index + 1) writes) scan cuts old now new before mid after f all w.node one)
+    (one_stops source (take index writes) w.path (drop (index + 1) writes) scan cuts old now new before mid after had noted f all w.node one)

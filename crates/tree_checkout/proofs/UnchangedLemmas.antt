@@ -22,7 +22,7 @@ use Rattle.tree_checkout.specs.declared.block_gets.Source.{Source}
 use Rattle.tree_checkout.specs.declared.steps.Write.{Write}
 use Rattle.tree_checkout.specs.declared.steps.WriteNode.{WriteNode}
 use Rattle.tree_checkout.specs.declared.steps.WriteNode.TheVariants as write
-use Rattle.tree_checkout.proofs.StepsLemmas.{once_in, unchanged}
+use Rattle.tree_checkout.proofs.RemovalLemmas.{once_in, unchanged}
 use Rattle.tree_checkout.proofs.WritingLemmas.{look_other}
 
 one_other : (source : Source) (path : PathV) (node : WriteNode) (scan : Scan) (cuts : Cuts) (now new : List Sent) (mid after : Option Contents) (f : SyncFault)
@@ -30,11 +30,11 @@ one_other : (source : Source) (path : PathV) (node : WriteNode) (scan : Scan) (c
 one_other source path write.Dir scan cuts now new mid after f one = look_other cuts mid path None f one.1
 one_other source path (write.File file) scan cuts now new mid after f one = one.other
 
-pub writes_same : (source : Source) (writes : List Write) (index : ℕ) (w : Write) (scan : Scan) (cuts : Cuts) (old now new : List Sent) (before mid after : Option Contents) (f : SyncFault)
-    (c : Contents) → index < length writes → w ≡ get_or writes index w → WritesAll source (take index writes) old now before mid
+pub writes_same : (source : Source) (writes : List Write) (index : ℕ) (w : Write) (scan : Scan) (cuts : Cuts) (old now new : List Sent) (before mid after : Option Contents) (had noted : List (List ℕ))
+    (f : SyncFault) (c : Contents) → index < length writes → w ≡ get_or writes index w → WritesAll source (take index writes) cuts old now before mid had noted
     → StopsOne source w.path w.node scan cuts now new mid after f → before ≡ Some c → IsDistinct (eq_by_cmp path_cmp) (paths_of writes)
     → AllByRecursion (LooksUnwritten cuts c scan) writes → is_change f ≡ false
-writes_same source writes index w scan cuts old now new before mid after f c below is all one told once looks = by mid refl
+writes_same source writes index w scan cuts old now new before mid after had noted f c below is all one told once looks = by mid refl
   where
     split : writes ≡ take index writes ++ w ∷ drop (index + 1) writes
     split = sym (take-append-drop index writes) ∙ ap (λ (rest : List Write). take index writes ++ rest) (next_entry writes index w below is)
@@ -56,10 +56,10 @@ writes_same source writes index w scan cuts old now new before mid after f c bel
 
 -- each write found what it was to find
 pub unwritten_more : (source : Source) (writes : List Write) (index : ℕ) (w : Write) (scan : Scan) (cuts : Cuts) (old now : List Sent) (before mid : Option Contents)
-    (c : Contents) → index < length writes → w ≡ get_or writes index w → WritesAll source (take index writes) old now before mid
+    (had noted : List (List ℕ)) (c : Contents) → index < length writes → w ≡ get_or writes index w → WritesAll source (take index writes) cuts old now before mid had noted
     → before ≡ Some c → IsDistinct (eq_by_cmp path_cmp) (paths_of writes) → AllByRecursion (LooksUnwritten cuts c scan) (take index writes)
     → ((d : Contents) → mid ≡ Some d → LooksUnwritten cuts d scan w) → AllByRecursion (LooksUnwritten cuts c scan) (take (index + 1) writes)
-unwritten_more source writes index w scan cuts old now before mid c below is all told once found here =
+unwritten_more source writes index w scan cuts old now before mid had noted c below is all told once found here =
     subst (AllByRecursion (LooksUnwritten cuts c scan)) (sym (take_more writes index w below ∙ ap (λ (v : Write). take index writes ++ v ∷ []) (sym is)))
     (AllByRecursion-push (LooksUnwritten cuts c scan) (take index writes) w found (by mid refl))
   where

@@ -1,15 +1,22 @@
 -- A file on its way into the spare and to its path. The key lemmas are filling_start, filling_more, filling_end, filling_stop,
--- filling_short, adds_one, too_long, not_added, got_no_block, writes, moved_or_not, stops_filled and stops_moved.
-use Rattle.std.proofs.Common.{◌≡◌, ◌≢◌, ◌⊎◌, ℕ, ◌+◌, ◌<◌, ◌≤◌, true, false, List, [], ◌∷◌, ◌++◌, length, take, drop, get_or, Option, None, Some, option_map, Result, Err, refl, sym, ap, subst, ◌∙◌, inl, inr, append_assoc, append-nil, length-append, arith}
-use Rattle.std.proofs.lemmas.List.{take-append-drop, take_all, take_more}
+-- filling_short, filling_wanting, adds_one, too_long, not_added, not_cut, got_no_block, written_at, written_or_not, stops_unfilled, stops_looked
+-- and stops_moved.
+use Rattle.std.proofs.Common.{◌≡◌, ◌≢◌, ◌⊎◌, ℕ, ◌+◌, ◌<◌, ◌≤◌, true, false, List, [], ◌∷◌, ◌++◌, length, map, take, drop, get_or, Option, None, Some, option_map, Result, Err, refl, sym, ap, ap₂, subst, ◌∙◌, inl, inr, append_assoc, append-nil, length-append, true≢false, arith}
+use Rattle.std.proofs.lemmas.List.{map-append, take-append-drop, take_all, take_more}
+use Rattle.sha1.specs.Sha1.{sha1}
 use Rattle.tree_model.specs.Path.{PathV}
 use Rattle.block_chunker.specs.declared.cuts.Cuts.{Cuts}
+use Rattle.block_chunker.specs.ChunkBoundaries.{begun_after, chunks_of, finished_chunks, last_chunk}
+use Rattle.block_chunker.specs.ChunkerProgress.{Progress, after_piece, finished_by, start_of}
+use Rattle.block_chunker.proofs.ChunkListLemmas.{begun_after-append, finished_chunks-append}
 use Rattle.folder_side.specs.Folder.{Contents, with_file, FolderFails}
 use Rattle.folder_side.specs.declared.error.FolderFault.{FolderFault}
 use Rattle.folder_side.specs.declared.error.FolderFault.TheVariants as folder
 use Rattle.folder_side.specs.declared.scan_report.Seen.{Seen}
 use Rattle.ids.specs.FaultCount.{FailsBy}
+use Rattle.local_index.specs.OwnIds.{own_id}
 use Rattle.remote_calls.specs.Sends.{Sent}
+use Rattle.sync_rules.specs.Offer.{own_of}
 use Rattle.sync_rules.specs.Causes.{is_folder_fault}
 use Rattle.sync_rules.specs.declared.fault.SyncFault.{SyncFault}
 use Rattle.sync_rules.specs.declared.fault.SyncFault.TheVariants as fault
@@ -44,6 +51,9 @@ folder_quiet folder.NoMemory = refl
 pub folder_no_change : (e : FolderFault) → is_change (folder_fault e) ≡ false
 folder_no_change folder.Folder = refl
 folder_no_change folder.NoMemory = refl
+
+pub folder_untouched : (e : FolderFault) (f : SyncFault) (before after : Option Contents) → f ≡ folder_fault e → is_change f ≡ true → after ≡ before
+folder_untouched e f before after is changed = absurd (true≢false (sym changed ∙ ap is_change is ∙ folder_no_change e))
 
 -- ---- a block
 
@@ -99,45 +109,89 @@ module _ (source : Source) (file block : List ℕ) (left : ℕ) (old new : List 
         no_change = folder_no_change e;
       })
 
-pub adds_one : (source : Source) (block : List ℕ) (left size rest : ℕ) (old new : List Sent) (held holds : Option (List ℕ)) (bytes added : List ℕ)
-    → GetsOne source block bytes old new → size ≡ length bytes → rest + size ≡ left → added ≡ bytes
-    → holds ≡ option_map (λ before. before ++ added) held → AddsOne source block left old new held holds rest
-adds_one source block left size rest old new held holds bytes added one sized split same is = record {
+  -- it was added, and there was no memory to cut it
+  pub not_cut : (bytes : List ℕ) → GetsOne source block bytes old new → FailsToAdd source file block left old new fault.NoMemory
+  not_cut bytes one = record {
+    more = one.sent ∷ [];
+    grown = one.grown;
+    stops = inl (one.got, refl);
+    wrong = tt;
+    no_change = refl;
+  }
+
+pub adds_one : (source : Source) (block : List ℕ) (left size rest : ℕ) (old new : List Sent) (held holds : Option (List ℕ)) (before after : Progress) (names all : List (List ℕ))
+    (bytes added fed : List ℕ) → GetsOne source block bytes old new → size ≡ length bytes → rest + size ≡ left → added ≡ bytes → fed ≡ bytes
+    → holds ≡ option_map (λ first. first ++ added) held → after ≡ after_piece before fed → all ≡ names ++ map sha1 (finished_by before fed)
+    → AddsOne source block left old new held holds before after names all rest
+adds_one source block left size rest old new held holds before after names all bytes added fed one sized split same taken is cut named = record {
   sent = one.sent;
   grown = one.grown;
   got = one.got;
   counted = sym split ∙ ap (λ n. rest + n) (sized ∙ ap length one.gives);
-  added = is ∙ ap (λ (bs : List ℕ). option_map (λ before. before ++ bs) held) (same ∙ one.gives);
+  added = is ∙ ap (λ (bs : List ℕ). option_map (λ first. first ++ bs) held) (same ∙ one.gives);
+  fed = cut ∙ ap (after_piece before) (taken ∙ one.gives);
+  named = named ∙ ap (λ (bs : List ℕ). names ++ map sha1 (finished_by before bs)) (taken ∙ one.gives);
 }
+
+-- ---- chunks of bytes that come in pieces
+
+module _ (cuts : Cuts) (bytes piece : List ℕ) where
+  begins_more : (before after : Progress) → before ≡ after_piece (start_of cuts) bytes → after ≡ after_piece before piece → after ≡ after_piece (start_of cuts) (bytes ++ piece)
+  begins_more before after begun cut =
+      let start : Progress = start_of cuts in
+      cut ∙ ap (λ p. after_piece p piece) begun ∙ ap (λ b. record start { begun = b }) (sym (begun_after-append cuts [] bytes piece))
+
+  names_more : (before : Progress) (names all : List (List ℕ)) → before ≡ after_piece (start_of cuts) bytes → names ≡ map sha1 (finished_by (start_of cuts) bytes)
+      → all ≡ names ++ map sha1 (finished_by before piece) → all ≡ map sha1 (finished_by (start_of cuts) (bytes ++ piece))
+  names_more before names all begun named more =
+      more
+      ∙ ap₂ (λ (ns : List (List ℕ)) (p : Progress). ns ++ map sha1 (finished_by p piece)) named begun
+      ∙ sym (map-append sha1 (finished_by (start_of cuts) bytes) (finished_chunks cuts (begun_after cuts [] bytes) piece))
+      ∙ ap (map sha1) (sym (finished_chunks-append cuts [] bytes piece))
+
+-- all their names
+names_whole : (cuts : Cuts) (bytes : List ℕ) (chunker : Progress) (names : List (List ℕ)) → chunker ≡ after_piece (start_of cuts) bytes
+    → names ≡ map sha1 (finished_by (start_of cuts) bytes) → names ++ map sha1 (last_chunk chunker.begun) ≡ map sha1 (chunks_of cuts bytes)
+unfolding chunks_of
+names_whole cuts bytes chunker names begun named =
+    ap₂ (λ (ns : List (List ℕ)) (p : Progress). ns ++ map sha1 (last_chunk p.begun)) named begun
+    ∙ sym (map-append sha1 (finished_by (start_of cuts) bytes) (last_chunk (begun_after cuts [] bytes)))
 
 -- ---- the blocks of a file, one after another
 
--- where the filling of the spare stands: the first blocks were got, and this many bytes are due
-pub record Filling (source : Source) (file : TreeFile) (front : List (List ℕ)) (left : ℕ) (old new : List Sent) (told : Option Contents) (holds : Option (List ℕ)) : Type 0 where
+-- where the filling of the spare stands: the first blocks were got, and this many bytes are due; and how far the chunker is
+pub record Filling (source : Source) (file : TreeFile) (cuts : Cuts) (front : List (List ℕ)) (left : ℕ) (old new : List Sent) (told : Option Contents) (holds : Option (List ℕ))
+    (chunker : Progress) (names : List (List ℕ)) : Type 0 where
   pub more : List Sent
   pub grown : new ≡ old ++ more
   pub got : AreGot source front more
   pub counted : file.object.size ≡ left + length (joined_in more)
   pub filled : (c : Contents) → told ≡ Some c → holds ≡ Some (joined_in more)
+  pub fed : chunker ≡ after_piece (start_of cuts) (joined_in more)
+  pub named : names ≡ map sha1 (finished_by (start_of cuts) (joined_in more))
 
-pub filling_start : (source : Source) (file : TreeFile) (sends : List Sent) (told : Option Contents) (holds : Option (List ℕ))
-    → ((c : Contents) → told ≡ Some c → holds ≡ Some []) → Filling source file [] file.object.size sends sends told holds
-filling_start source file sends told holds cleared = record {
+pub filling_start : (source : Source) (file : TreeFile) (cuts : Cuts) (sends : List Sent) (told : Option Contents) (holds : Option (List ℕ)) (chunker : Progress)
+    (names : List (List ℕ)) → chunker ≡ start_of cuts → names ≡ [] → ((c : Contents) → told ≡ Some c → holds ≡ Some [])
+    → Filling source file cuts [] file.object.size sends sends told holds chunker names
+unfolding begun_after finished_chunks
+filling_start source file cuts sends told holds chunker names begun none cleared = record {
   more = [];
   grown = sym (append-nil sends);
   got = tt;
   counted = omega arith;
   filled = cleared;
+  fed = begun;
+  named = none;
 }
 
 added_to : (held holds : Option (List ℕ)) (before bytes : List ℕ) → holds ≡ option_map (λ first. first ++ bytes) held → held ≡ Some before → holds ≡ Some (before ++ bytes)
 added_to held holds before bytes is had = is ∙ ap (option_map (λ first. first ++ bytes)) had
 
-pub filling_more : (source : Source) (file : TreeFile) (blocks : List (List ℕ)) (index : ℕ) (block : List ℕ) (left rest : ℕ) (old now new : List Sent)
-    (told : Option Contents) (held holds : Option (List ℕ)) → index < length blocks → block ≡ get_or blocks index block
-    → Filling source file (take index blocks) left old now told held → AddsOne source block left now new held holds rest
-    → Filling source file (take (index + 1) blocks) rest old new told holds
-filling_more source file blocks index block left rest old now new told held holds below at_index filling one =
+pub filling_more : (source : Source) (file : TreeFile) (cuts : Cuts) (blocks : List (List ℕ)) (index : ℕ) (block : List ℕ) (left rest : ℕ) (old now new : List Sent)
+    (told : Option Contents) (held holds : Option (List ℕ)) (before after : Progress) (names all : List (List ℕ)) → index < length blocks → block ≡ get_or blocks index block
+    → Filling source file cuts (take index blocks) left old now told held before names → AddsOne source block left now new held holds before after names all rest
+    → Filling source file cuts (take (index + 1) blocks) rest old new told holds after all
+filling_more source file cuts blocks index block left rest old now new told held holds before after names all below at_index filling one =
     let joined = joined_append filling.more (one.sent ∷ []) ∙ ap (λ bytes. joined_in filling.more ++ bytes) (append-nil (bytes_in one.sent.1)) in
     record {
       more = filling.more ++ one.sent ∷ [];
@@ -150,29 +204,41 @@ filling_more source file blocks index block left rest old now new told held hold
           summed file.object.size left rest (length (joined_in filling.more)) (length (bytes_in one.sent.1)) filling.counted one.counted
           ∙ ap (λ n. rest + n) (sym (ap length joined ∙ length-append (joined_in filling.more) (bytes_in one.sent.1)));
       filled = λ c is. added_to held holds (joined_in filling.more) (bytes_in one.sent.1) one.added (filling.filled c is) ∙ ap Some (sym joined);
+      fed =
+          begins_more cuts (joined_in filling.more) (bytes_in one.sent.1) before after filling.fed one.fed
+          ∙ ap (after_piece (start_of cuts)) (sym joined);
+      named =
+          names_more cuts (joined_in filling.more) (bytes_in one.sent.1) before names all filling.fed filling.named one.named
+          ∙ ap (λ bytes. map sha1 (finished_by (start_of cuts) bytes)) (sym joined);
     }
   where
     summed : (size left rest n m : ℕ) → size ≡ left + n → left ≡ rest + m → size ≡ rest + (n + m)
     summed size left rest n m e f = omega arith
 
-pub filling_end : (source : Source) (file : TreeFile) (index left : ℕ) (old new : List Sent) (told : Option Contents) (holds : Option (List ℕ))
-    → length file.object.blocks ≤ index → left ≡ 0 → Filling source file (take index file.object.blocks) left old new told holds → Fills source file old new told holds
-filling_end source file index left old new told holds over none filling = record {
+pub filling_end : (source : Source) (file : TreeFile) (cuts : Cuts) (index left : ℕ) (old new : List Sent) (told : Option Contents) (holds : Option (List ℕ)) (chunker : Progress)
+    (names had has : List (List ℕ)) → length file.object.blocks ≤ index → left ≡ 0 → Filling source file cuts (take index file.object.blocks) left old new told holds chunker names
+    → has ≡ had ++ own_id (names ++ map sha1 (last_chunk chunker.begun)) file.object.size ∷ [] → Fills source file cuts old new told holds had has
+filling_end source file cuts index left old new told holds chunker names had has over none filling noted = record {
   more = filling.more;
   grown = filling.grown;
   got = subst (λ (front : List (List ℕ)). AreGot source front filling.more) (take_all index file.object.blocks over) filling.got;
   sized = none_left file.object.size left (length (joined_in filling.more)) filling.counted none;
   filled = filling.filled;
+  owned =
+      noted
+      ∙ ap₂ (λ (blocks : List (List ℕ)) (size : ℕ). had ++ own_id blocks size ∷ [])
+      (names_whole cuts (joined_in filling.more) chunker names filling.fed filling.named)
+      (none_left file.object.size left (length (joined_in filling.more)) filling.counted none);
 }
   where
     none_left : (size left n : ℕ) → size ≡ left + n → left ≡ 0 → size ≡ n
     none_left size left n e none = omega arith
 
 -- bytes are due, and no block is left
-pub filling_short : (source : Source) (file : TreeFile) (index left : ℕ) (old new : List Sent) (told : Option Contents) (holds : Option (List ℕ))
-    → length file.object.blocks ≤ index → left ≢ 0 → Filling source file (take index file.object.blocks) left old new told holds
+pub filling_short : (source : Source) (file : TreeFile) (cuts : Cuts) (index left : ℕ) (old new : List Sent) (told : Option Contents) (holds : Option (List ℕ)) (chunker : Progress)
+    (names : List (List ℕ)) → length file.object.blocks ≤ index → left ≢ 0 → Filling source file cuts (take index file.object.blocks) left old new told holds chunker names
     → (f : SyncFault) → f ≡ fault.BadTree (walk.WrongSize file.id) → StopsFilling source file old new f
-filling_short source file index left old new told holds over some filling f is =
+filling_short source file cuts index left old new told holds chunker names over some filling f is =
     let got = subst (λ (front : List (List ℕ)). AreGot source front filling.more) (take_all index file.object.blocks over) filling.got in
     subst (λ (g : SyncFault). StopsFilling source file old new g) (sym is)
     (record {
@@ -186,9 +252,24 @@ filling_short source file index left old new told holds over some filling f is =
     fewer : (size left n : ℕ) → size ≡ left + n → left ≢ 0 → n < size
     fewer size left n e some = omega arith
 
+-- all were got, and there was no memory for their own id
+pub filling_wanting : (source : Source) (file : TreeFile) (cuts : Cuts) (index left : ℕ) (old new : List Sent) (told : Option Contents) (holds : Option (List ℕ)) (chunker : Progress)
+    (names : List (List ℕ)) → length file.object.blocks ≤ index → Filling source file cuts (take index file.object.blocks) left old new told holds chunker names
+    → StopsFilling source file old new fault.NoMemory
+filling_wanting source file cuts index left old new told holds chunker names over filling = record {
+  more = filling.more;
+  grown = filling.grown;
+  stops =
+      all_got_stops source fault.NoMemory file.object.blocks filling.more
+      (subst (λ (front : List (List ℕ)). AreGot source front filling.more) (take_all index file.object.blocks over) filling.got) refl;
+  wrong = tt;
+  no_change = refl;
+}
+
 -- a block was not added
-module _ (source : Source) (file : TreeFile) (index : ℕ) (block : List ℕ) (left : ℕ) (old now new : List Sent) (told : Option Contents) (held : Option (List ℕ)) where
-  wrong_size : (filling : Filling source file (take index file.object.blocks) left old now told held) (f : SyncFault) (more : List Sent) → IsTooLong file.id left more f
+module _ (source : Source) (file : TreeFile) (cuts : Cuts) (index : ℕ) (block : List ℕ) (left : ℕ) (old now new : List Sent) (told : Option Contents) (held : Option (List ℕ))
+    (chunker : Progress) (names : List (List ℕ)) where
+  wrong_size : (filling : Filling source file cuts (take index file.object.blocks) left old now told held chunker names) (f : SyncFault) (more : List Sent) → IsTooLong file.id left more f
       → IsWrongSize file (filling.more ++ more) f
   wrong_size filling (fault.BadTree (walk.WrongSize id)) more long =
       let joined = ap length (joined_append filling.more more) ∙ length-append (joined_in filling.more) (joined_in more) in
@@ -199,7 +280,7 @@ module _ (source : Source) (file : TreeFile) (index : ℕ) (block : List ℕ) (l
   wrong_size filling other more long = tt
 
   pub filling_stop : index < length file.object.blocks → block ≡ get_or file.object.blocks index block
-      → Filling source file (take index file.object.blocks) left old now told held → (f : SyncFault) → FailsToAdd source file.id block left now new f
+      → Filling source file cuts (take index file.object.blocks) left old now told held chunker names → (f : SyncFault) → FailsToAdd source file.id block left now new f
       → StopsFilling source file old new f
   filling_stop below at_index filling f fails =
       let blocks = file.object.blocks in
@@ -276,12 +357,14 @@ module _ (source : Source) (file : TreeFile) (path : PathV) (cuts : Cuts) (first
     stops = stops.stops;
     wrong = stops.wrong;
     other = other_of cuts before path first f stops.no_change;
+    untouched = λ told. same;
     left = inl same;
   }
 
-  pub stops_looked : (f : SyncFault) (held : Option (List ℕ)) (told : Option Contents) → after ≡ before → told ≡ before → Fills source file old new before held
+  pub stops_looked : (f : SyncFault) (held : Option (List ℕ)) (told : Option Contents) (had has : List (List ℕ)) → after ≡ before → told ≡ before
+      → Fills source file cuts old new before held had has
       → IsLookFault cuts told path first f → StopsWriting source file path cuts first old new before after f
-  stops_looked f held told same same_told fills is =
+  stops_looked f held told had has same same_told fills is =
       let looked = subst (λ (t : Option Contents). IsLookFault cuts t path first f) same_told is in
       record {
         more = fills.more;
@@ -289,12 +372,14 @@ module _ (source : Source) (file : TreeFile) (path : PathV) (cuts : Cuts) (first
         stops = all_got_stops source f file.object.blocks fills.more fills.got (look_quiet cuts before path first f looked);
         wrong = look_no_size cuts before path first file fills.more f looked;
         other = look_other cuts before path first f looked;
+        untouched = λ changed. same;
         left = inl same;
       }
 
-  pub stops_moved : (e : FolderFault) (f : SyncFault) (held : Option (List ℕ)) → f ≡ folder_fault e → (fills : Fills source file old new before held)
+  pub stops_moved : (e : FolderFault) (f : SyncFault) (held : Option (List ℕ)) (had has : List (List ℕ)) → f ≡ folder_fault e
+      → (fills : Fills source file cuts old new before held had has)
       → (after ≡ before) ⊎ (after ≡ option_map (with_file path (joined_in fills.more)) before) → StopsWriting source file path cuts first old new before after f
-  stops_moved e f held is fills left =
+  stops_moved e f held had has is fills left =
       subst (λ (g : SyncFault). StopsWriting source file path cuts first old new before after g) (sym is)
       (record {
         more = fills.more;
@@ -302,6 +387,7 @@ module _ (source : Source) (file : TreeFile) (path : PathV) (cuts : Cuts) (first
         stops = all_got_stops source (folder_fault e) file.object.blocks fills.more fills.got (folder_quiet e);
         wrong = folder_no_size file fills.more e;
         other = other_of cuts before path first (folder_fault e) (folder_no_change e);
+        untouched = λ changed. absurd (true≢false (sym changed ∙ folder_no_change e));
         left = by left;
       })
     where

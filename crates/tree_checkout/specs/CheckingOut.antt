@@ -6,7 +6,9 @@ use Rattle.ids.specs.Key.{Objects}
 use Rattle.ids.specs.ObjectId.{nil}
 use Rattle.fs_objects.specs.declared.fs_object.FsObject.TheVariants as fs
 use Rattle.tree_model.specs.Path.{PathV}
+use Rattle.block_chunker.specs.declared.cuts.Cuts.{Cuts}
 use Rattle.folder_side.specs.Folder.{Contents}
+use Rattle.folder_side.specs.declared.scan_report.Scan.{Scan}
 use Rattle.object_graph.specs.Objects.{blocks_at, entry_below, fs_at, joined}
 use Rattle.object_graph.specs.declared.entry.Entry.TheVariants as entry
 use Rattle.remote_calls.specs.Sends.{Sent}
@@ -14,7 +16,7 @@ use Rattle.sync_rules.specs.Checkout.{Step, run}
 use Rattle.sync_rules.specs.Named.{HasAll}
 use Rattle.sync_rules.specs.declared.fault.SyncFault.{SyncFault}
 use Rattle.tree_checkout.specs.BlockGets.{AreGot, Stops, had_of}
-use Rattle.tree_checkout.specs.Steps.{AreSized, IsWrongIn, blocks_due, write_step}
+use Rattle.tree_checkout.specs.Steps.{AreSized, IsStopAt, IsWrongIn, LeavesOthers, blocks_due, owns_of, paths_of, write_step}
 use Rattle.tree_checkout.specs.declared.block_gets.Source.{Source}
 use Rattle.tree_checkout.specs.declared.planning.Due.{Due}
 use Rattle.tree_checkout.specs.declared.planning.DueNode.{DueNode}
@@ -28,18 +30,23 @@ use Rattle.tree_checkout.specs.declared.writing.TreeFile.{TreeFile}
 abbrev pub checkout_steps : Objects → List PathV → List Write → List Step
 checkout_steps objects doomed writes = map Step.Removed doomed ++ map (write_step objects) writes
 
--- all steps were done, over any objects that have what came, each file has the size that its object tells, and just the blocks of what
--- is written were got, in their order
-pub record ChecksOut (source : Source) (doomed : List PathV) (writes : List Write) (old new : List Sent) (before after : Option Contents) : Type 0 where
+-- all steps were done, over any objects that have what came, each file has the size that its object tells, and its own id is told; and
+-- just the blocks of what is written were got, in their order. Whatever came, all other paths hold what they held
+pub record ChecksOut (source : Source) (doomed : List PathV) (writes : List Write) (cuts : Cuts) (old new : List Sent) (before after : Option Contents)
+    (owns : List (List ℕ)) : Type 0 where
   pub more : List Sent
   pub grown : new ≡ old ++ more
   pub got : AreGot source (blocks_due writes) more
   pub left : (c : Contents) → before ≡ Some c → (objects : Objects) → HasAll objects (had_of more) → after ≡ Some (run (checkout_steps objects doomed writes) c)
   pub sized : (objects : Objects) → HasAll objects (had_of more) → AreSized objects writes
   pub tells : (c : Contents) → before ≡ Some c → IsSome after
+  pub others : LeavesOthers (doomed ++ paths_of writes) before after
+  pub owned : (objects : Objects) → HasAll objects (had_of more) → owns ≡ owns_of cuts objects writes
 
--- a front of the steps was done, and nothing written before all was removed that is to go; a front of those blocks was got
-pub record StopsOut (source : Source) (doomed : List PathV) (writes : List Write) (old new : List Sent) (before after : Option Contents) (f : SyncFault) : Type 0 where
+-- a front of the steps was done, and nothing written before all was removed that is to go; a front of those blocks was got. Where a change
+-- is told, it is one at the path of the next step
+pub record StopsOut (source : Source) (doomed : List PathV) (writes : List Write) (scan : Scan) (cuts : Cuts) (old new : List Sent) (before after : Option Contents)
+    (f : SyncFault) : Type 0 where
   pub more : List Sent
   pub grown : new ≡ old ++ more
   pub stops : Stops source more (blocks_due writes) f
@@ -54,6 +61,8 @@ pub record StopsOut (source : Source) (doomed : List PathV) (writes : List Write
   pub left : (c : Contents) → before ≡ Some c → (objects : Objects) → HasAll objects (had_of more) → after ≡ Some (run (checkout_steps objects gone done) c)
   pub sized : (objects : Objects) → HasAll objects (had_of more) → AreSized objects done
   pub tells : (c : Contents) → before ≡ Some c → IsSome after
+  pub others : LeavesOthers (gone ++ paths_of done) before after
+  pub changed : IsStopAt cuts scan kept rest after f
 
 -- ---- beside a plan and a root
 

@@ -1,5 +1,5 @@
 -- The plan that brings a folder to the tree of some entries, by the report of a scan. Our own. Read StandsFor, plan_steps and
--- PlansSo; the words behind it say the same over a scan, for private clauses.
+-- PlansSo, and dues_at for what is written; the other words behind it say the same over a scan, for private clauses.
 use Rattle.std.specs.Prelude.{ℕ, ◌≡◌, ◌&&◌, ◌||◌, not, Bool, true, false, if◌then◌else◌, List, [], ◌∷◌, ◌++◌, map, Option, None, Some, option_map, Result, Ok, Err, ⊤}
 use Rattle.std.specs.FinMap as fin
 use Rattle.std.specs.List.{AllByRecursion, IsDistinct, list_any}
@@ -12,6 +12,7 @@ use Rattle.tree_model.specs.declared.node.FileVersion.{FileVersion}
 use Rattle.tree_model.specs.declared.node.Node.TheVariants as node
 use Rattle.block_chunker.specs.declared.cuts.Cuts.{Cuts}
 use Rattle.folder_side.specs.Folder.{Contents, at}
+use Rattle.folder_side.specs.WorkingTree.{held_list}
 use Rattle.folder_side.specs.declared.holding.Holding.TheVariants.{File}
 use Rattle.folder_side.specs.declared.scan_report.Scan.{Scan}
 use Rattle.folder_side.specs.declared.scan_report.Seen.{Seen}
@@ -57,15 +58,22 @@ due_step objects d = node_step objects d.path d.node
 abbrev pub plan_steps : Objects → Plan → List Step
 plan_steps objects plan = map Step.Removed plan.doomed ++ map (due_step objects) plan.writes
 
--- the first path that is blocked, or else a plan, whatever the bytes of the files are
+-- the first path that is blocked, or else a plan, whatever the bytes of the files are, with the stuck directories that the tree lacks
 abbrev pub PlansSo : Cuts → Contents → Index → fin.FinMap path_cmp Entry → Bool → Result Plan SyncFault → Type 0
 PlansSo cuts c index entries pushed (Ok plan) = (objects : Objects) (tree : Tree) → StandsFor objects entries tree
     → (first_blocked c (fin.entries tree) ≡ None)
     × (AreAlike c (alone_at cuts c index entries pushed) tree → IsPlan tree c (alone_at cuts c index entries pushed) (plan_steps objects plan))
+    × (plan.held ≡ held_list tree c)
 PlansSo cuts c index entries pushed (Err (fault.Blocked path)) = (objects : Objects) (tree : Tree) → StandsFor objects entries tree
     → first_blocked c (fin.entries tree) ≡ Some path
 PlansSo cuts c index entries pushed (Err fault.NoMemory) = ⊤
 PlansSo cuts c index entries pushed (Err _) = ⊥
+
+-- why there is no plan, whatever was scanned: a path is blocked, or memory was wanting
+abbrev pub IsPlanFault : SyncFault → Type 0
+IsPlanFault (fault.Blocked path) = ⊤
+IsPlanFault fault.NoMemory = ⊤
+IsPlanFault _ = ⊥
 
 -- ---- over a scan
 
@@ -102,6 +110,17 @@ dooms scan entries path s = not (keeps_in (fin.get entries path) s) && not (is_d
 
 abbrev pub doomed_path : Scan → fin.FinMap path_cmp Entry → PathV × Seen → Option PathV
 doomed_path scan entries e = if dooms scan entries e.0 e.1 then Some e.0 else None
+
+-- a directory that can't be removed, and that the tree lacks
+abbrev pub is_lacked_in : Option Entry → Bool
+is_lacked_in None = true
+is_lacked_in (Some e) = false
+
+abbrev pub stays_in : Scan → fin.FinMap path_cmp Entry → PathV → Seen → Bool
+stays_in scan entries path s = (is_dir_of s && hides_in scan path) && is_lacked_in (fin.get entries path)
+
+abbrev pub held_path : Scan → fin.FinMap path_cmp Entry → PathV × Seen → Option PathV
+held_path scan entries e = if stays_in scan entries e.0 e.1 then Some e.0 else None
 
 -- what is due at a path
 abbrev pub dir_due : Option Seen → PathV → List Due

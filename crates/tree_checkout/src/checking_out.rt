@@ -1,5 +1,5 @@
 //! A checkout: the steps of a plan.
-ghost use Rattle.std.specs.Prelude.{◌≡◌, ◌<◌, ◌≤◌, IfErr, OnOk, Some, false, length, map as list_map};
+ghost use Rattle.std.specs.Prelude.{◌≡◌, ◌<◌, ◌≤◌, IfErr, IfOk, OnOk, Some, false, length, map as list_map};
 ghost use Rattle.std.specs.List.{AllByRecursion, IsDistinct};
 ghost use Rattle.std.specs.Ordering.{eq_by_cmp};
 ghost use Rattle.ids.specs.FaultCount.{FailsBy};
@@ -17,12 +17,14 @@ use crate::block_gets::Source;
 use crate::steps::{Write, remove_all, write_all};
 use block_chunker::Cuts;
 use folder_side::{Folder, Scan};
+use ids::{IdList, Items};
 use remote_calls::Remote;
 use std::alloc::Global;
 use sync_rules::SyncFault;
 use tree_model::Path;
 
-/// Removes paths, and then makes directories and moves files in, one after another as they are listed.
+/// Removes paths, and then makes directories and moves files in, one after another as they are listed. It answers the own id of each
+/// file that was moved in, in the order of the writes: the one that these cuts give to its bytes, as they came.
 ///
 /// A file's blocks are got into the spare, one in memory at a time, and compared with their names. Each path is looked at again
 /// before it is touched, beside what the scan saw there; a file that stands there is read with the buffer. After an error a front
@@ -39,11 +41,11 @@ pub fn checkout<F: Folder, R: Remote>(
     writes: &[Write],
     cuts: Cuts,
     buffer: &mut [u8],
-) -> Result<(), SyncFault>
+) -> Result<IdList, SyncFault>
     requires some { 0 < length buffer.old }
     requires fits { length buffer.old ≤ PIECE }
-    ensures ok { OnOk result (ChecksOut source.now doomed.now writes.now (R.sends remote.old) (R.sends remote.new) (F.told folder.old) (F.told folder.new)) }
-    ensures err { IfErr result (StopsOut source.now doomed.now writes.now (R.sends remote.old) (R.sends remote.new) (F.told folder.old) (F.told folder.new)) }
+    ensures ok { IfOk result (ChecksOut source.now doomed.now writes.now cuts (R.sends remote.old) (R.sends remote.new) (F.told folder.old) (F.told folder.new)) }
+    ensures err { IfErr result (StopsOut source.now doomed.now writes.now scan.now cuts (R.sends remote.old) (R.sends remote.new) (F.told folder.old) (F.told folder.new)) }
     ensures same { (c : Contents) → F.told folder.old ≡ Some c → IsDistinct (eq_by_cmp path_cmp) doomed.now → AllByRecursion (LooksFirst cuts c scan.now) doomed.now
         → IsDistinct (eq_by_cmp path_cmp) (paths_of writes.now) → AllByRecursion (LooksUnwritten cuts (run (list_map Step.Removed doomed.now) c) scan.now) writes.now
         → IfErr result (λ f. is_change f ≡ false) }
@@ -57,9 +59,12 @@ pub fn checkout<F: Folder, R: Remote>(
         Ok(()) => {}
         Err(fault) => return Err(fault),
     }
-    match write_all(alloc, folder, remote, source, scan, writes, cuts, buffer) {
+    let mut owns = Items::new(alloc);
+    match write_all(
+        alloc, folder, remote, source, scan, writes, cuts, buffer, &mut owns,
+    ) {
         Ok(()) => {}
         Err(fault) => return Err(fault),
     }
-    Ok(())
+    Ok(owns)
 }

@@ -10,7 +10,8 @@ ghost use Rattle.object_graph.specs.Objects.{joined};
 ghost use Rattle.remote_calls.specs.Sends.{Sent};
 ghost use Rattle.sync_rules.specs.Causes.{CausedBy, GoesWell, IsSoHere, WentWell, is_of_order, stale_count};
 ghost use Rattle.sync_rules.specs.Checkout.{DoesFrom, Step};
-ghost use Rattle.sync_rules.specs.Named.{HasAll, HasGot, IsHad};
+ghost use Rattle.sync_rules.specs.Named.{HasAll, HasGot, IsHad, is_get};
+ghost use Rattle.sync_rules.specs.Orders.{IsSyncOrder};
 ghost use Rattle.sync_rules.specs.Synced.{AsksWritten, IsSized};
 ghost use Rattle.sync_rules.specs.declared.fault.SyncFault.{SyncFault};
 ghost use Rattle.tree_model.specs.Path.{PathV};
@@ -25,11 +26,11 @@ ghost use Rattle.tree_checkout.specs.declared.steps.Write.{Write};
 
 /// A checkout that is done did all its steps, and one that stopped a front of them, over any objects that have what came.
 pub fn a_checkout_did_its_steps_or_a_front_of_them()
-    ensures ok { (source : Source) (doomed : List PathV) (writes : List Write) (old new : List Sent) (before after : Option Contents)
-        → (all : ChecksOut source doomed writes old new before after) → (c : Contents) → before ≡ Some c → (objects : Objects) → HasAll objects (had_of all.more)
+    ensures ok { (source : Source) (doomed : List PathV) (writes : List Write) (cuts : Cuts) (old new : List Sent) (before after : Option Contents) (owns : List (List ℕ))
+        → (all : ChecksOut source doomed writes cuts old new before after owns) → (c : Contents) → before ≡ Some c → (objects : Objects) → HasAll objects (had_of all.more)
         → DoesFrom {T = ⊤} {E = SyncFault} (checkout_steps objects doomed writes) c after (Ok tt) }
-    ensures err { (source : Source) (doomed : List PathV) (writes : List Write) (old new : List Sent) (before after : Option Contents) (f : SyncFault)
-        → (stops : StopsOut source doomed writes old new before after f) → (c : Contents) → before ≡ Some c → (objects : Objects) → HasAll objects (had_of stops.more)
+    ensures err { (source : Source) (doomed : List PathV) (writes : List Write) (scan : Scan) (cuts : Cuts) (old new : List Sent) (before after : Option Contents) (f : SyncFault)
+        → (stops : StopsOut source doomed writes scan cuts old new before after f) → (c : Contents) → before ≡ Some c → (objects : Objects) → HasAll objects (had_of stops.more)
         → DoesFrom {T = ⊤} {E = SyncFault} (checkout_steps objects doomed writes) c after (Err f) }
 {}
 
@@ -53,6 +54,14 @@ pub fn orders_of_a_checkout_go_well()
     ensures ok { (source : Source) (ids : List (List ℕ)) (more : List Sent) → AreGot source ids more → All WentWell more × (stale_count more ≡ 0) }
     ensures err { (source : Source) (f : SyncFault) (more : List Sent) (ids : List (List ℕ)) → Stops source more ids f
         → GoesWell more × (is_of_order f ≡ false → All WentWell more) × (stale_count more ≡ 0) }
+{}
+
+/// Each order of a checkout asks for an object, and is one of a sync of this library, with this secret.
+pub fn orders_of_a_checkout_are_those_of_a_sync()
+    ensures ok { (source : Source) (ids : List (List ℕ)) (more : List Sent) → AreGot source ids more
+        → All (λ (sent : Sent). is_get sent.0.what ≡ true) more × All (IsSyncOrder source.lib source.secret) more }
+    ensures err { (source : Source) (f : SyncFault) (more : List Sent) (ids : List (List ℕ)) → Stops source more ids f
+        → All (λ (sent : Sent). is_get sent.0.what ≡ true) more × All (IsSyncOrder source.lib source.secret) more }
 {}
 
 /// Each fault of a checkout has the cause that a sync's has. What is so of the folder or the tree is asked of those that no send tells.

@@ -1,8 +1,8 @@
 //! Brings a folder to a tree, by a plan of steps: what the tree lacks is removed, then directories are made and files are moved
 //! in, each got block by block into the spare.
 //!
-//! Shown upward: `plan_of` with `Plan`, and `Source`, `TreeFile`. Definitions: specs/Planning.antt, specs/BlockGets.antt,
-//! specs/Writing.antt. It asks a library for blocks alone.
+//! Shown upward: `plan_of` with `Plan`, `Due`, `DueNode`; `checkout` with `Source`, `Write`, `WriteNode`, `TreeFile`; and `laws`.
+//! Definitions: specs/Planning.antt, specs/Steps.antt, specs/CheckingOut.antt. It asks a library for blocks alone.
 #![tactic(auto)]
 
 mod block_gets;

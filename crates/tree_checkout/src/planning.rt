@@ -1,12 +1,12 @@
 //! The plan of a checkout: what is removed, and what is then written.
-ghost use Rattle.std.specs.Prelude.{◌≡◌, ◌++◌, ◌∷◌, [], IfOk, OnOk, option_copied, reverse};
+ghost use Rattle.std.specs.Prelude.{◌≡◌, ◌++◌, ◌∷◌, [], IfErr, IfOk, OnOk, option_copied, reverse};
 ghost use Rattle.std.specs.List.{filter_map, flat_map};
 ghost use Rattle.std.specs.FinMap as fin;
 ghost use Rattle.block_chunker.specs.declared.cuts.Cuts.{Cuts};
 ghost use Rattle.folder_side.specs.Folder.{Contents};
 ghost use Rattle.folder_side.specs.ScanReport.{IsScan, IsWithinLimits};
 ghost use Rattle.sync_rules.specs.Checkout.{own_has};
-ghost use Rattle.tree_checkout.specs.Planning.{LooksScanned, PlansSo, dir_due, doomed_path, dooms, dues_at, is_alone_in, keeps_in};
+ghost use Rattle.tree_checkout.specs.Planning.{IsPlanFault, LooksScanned, PlansSo, dir_due, doomed_path, dooms, dues_at, held_path, is_alone_in, is_lacked_in, keeps_in, stays_in};
 
 use crate::hidden::{first_blocked, hides, is_dir};
 use folder_side::{Scan, Seen};
@@ -32,11 +32,12 @@ pub enum DueNode {
 }
 
 /// What brings a folder to a tree: the paths that are removed, none before one below it; and then what is written, in byte order
-/// of path.
+/// of path. And the directories that the tree lacks and that stay since they can't be removed, in byte order of path.
 #[derive(Drop)]
 pub struct Plan {
     pub doomed: Items<Path>,
     pub writes: Items<Due>,
+    pub held: Items<Path>,
 }
 
 /// The plan that brings a folder, as it was scanned, to the tree of these entries; or the first path that is blocked.
@@ -52,6 +53,8 @@ pub fn plan_of(
 ) -> Result<Plan, SyncFault>
     ensures value { (cuts : Cuts) (c : Contents) → IsScan cuts c scan.now → PlansSo cuts c index.now entries.now pushed result }
     ensures same { (cuts : Cuts) (c : Contents) → IsScan cuts c scan.now → IsWithinLimits c → IfOk result (LooksScanned cuts c scan.now) }
+    ensures written { IfOk result (λ plan. plan.writes ≡ flat_map (dues_at scan.now index.now pushed) (fin.entries entries.now)) }
+    ensures cause { IfErr result IsPlanFault }
 {
     let blocked = match first_blocked(alloc, scan, entries) {
         Ok(blocked) => blocked,
@@ -77,12 +80,15 @@ fn steps_of(
 ) -> Result<Plan, AllocError>
     ensures gone { IfOk result (λ plan. plan.doomed ≡ reverse (filter_map (doomed_path scan.now entries.now) (fin.entries scan.now.paths))) }
     ensures written { IfOk result (λ plan. plan.writes ≡ flat_map (dues_at scan.now index.now pushed) (fin.entries entries.now)) }
+    ensures held { IfOk result (λ plan. plan.held ≡ filter_map (held_path scan.now entries.now) (fin.entries scan.now.paths)) }
 {
     let doomed = doomed_of(alloc, scan, entries)?;
     let writes = writes_of(alloc, scan, index, entries, pushed)?;
+    let held = held_of(alloc, scan, entries)?;
     Ok(Plan {
         doomed: Items::from_vec(turned(doomed)),
         writes,
+        held,
     })
 }
 
@@ -127,6 +133,40 @@ fn keeps(entry: Option<&Entry>, seen: &Seen) -> bool
         None => false,
         Some(Entry::Dir) => is_dir(seen),
         Some(Entry::File { .. }) => !is_dir(seen),
+    }
+}
+
+/// The directories that stay though the tree lacks them, in byte order of path.
+fn held_of(
+    alloc: Global,
+    scan: &Scan,
+    entries: &PathTable<Entry>,
+) -> Result<Items<Path>, AllocError>
+    ensures value { IfOk result (λ held. held ≡ filter_map (held_path scan.now entries.now) (fin.entries scan.now.paths)) }
+{
+    let mut held = Items::new(alloc);
+    for (path, seen) in scan.paths.iter() {
+        if is_held(scan, entries, path, seen) {
+            held.push(path.copy(alloc)?)?;
+        }
+    }
+    Ok(held)
+}
+
+/// Whether what was seen at a path is a directory that can't be removed, and the tree lacks it.
+fn is_held(scan: &Scan, entries: &PathTable<Entry>, path: &Path, seen: &Seen) -> bool
+    ensures value { result ≡ stays_in scan.now entries.now path.now seen.now }
+{
+    is_dir(seen) && hides(scan, path) && is_lacked(entries.get(path))
+}
+
+/// Whether the tree has nothing there.
+fn is_lacked(entry: Option<&Entry>) -> bool
+    ensures value { result ≡ is_lacked_in (option_copied entry.entry) }
+{
+    match entry {
+        None => true,
+        Some(_) => false,
     }
 }
 

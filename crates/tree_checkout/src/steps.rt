@@ -1,5 +1,5 @@
 //! The steps of a checkout, one after another: removals, and then what is written.
-ghost use Rattle.std.specs.Prelude.{◌≡◌, ◌<◌, ◌≤◌, IfErr, OnErr, OnOk, Some, None, true, false, length, option_copied};
+ghost use Rattle.std.specs.Prelude.{◌≡◌, ◌<◌, ◌≤◌, IfErr, OnOk, Some, None, true, false, length, option_copied};
 ghost use Rattle.std.specs.FinMap as fin;
 ghost use Rattle.std.specs.List.{AllByRecursion, IsDistinct};
 ghost use Rattle.std.specs.Ordering.{eq_by_cmp};
@@ -19,6 +19,7 @@ use crate::second_look::look_again;
 use crate::writing::{TreeFile, write_file};
 use block_chunker::Cuts;
 use folder_side::{Folder, Scan, Seen};
+use ids::IdList;
 use remote_calls::Remote;
 use std::alloc::Global;
 use sync_rules::SyncFault;
@@ -50,7 +51,7 @@ pub(crate) fn remove_all<F: Folder>(
     requires some { 0 < length buffer.old }
     requires fits { length buffer.old ≤ PIECE }
     ensures ok { OnOk result (RemovesAll doomed.now (F.told folder.old) (F.told folder.new)) }
-    ensures err { OnErr result (RemovesFront doomed.now (F.told folder.old) (F.told folder.new)) }
+    ensures err { IfErr result (RemovesFront doomed.now scan.now cuts (F.told folder.old) (F.told folder.new)) }
     ensures cause { IfErr result (λ f. is_path_fault f ≡ true) }
     ensures same { (c : Contents) → F.told folder.old ≡ Some c → IsDistinct (eq_by_cmp path_cmp) doomed.now
         → AllByRecursion (LooksFirst cuts c scan.now) doomed.now → IfErr result (λ f. is_change f ≡ false) }
@@ -79,6 +80,7 @@ fn remove_one<F: Folder>(
     requires fits { length buffer.old ≤ PIECE }
     ensures value { Changes (without path.now) (F.told folder.old) (F.told folder.new) result }
     ensures cause { IfErr result (IsLookFault cuts (F.told folder.old) path.now (fin.get scan.now.paths path.now)) }
+    ensures untouched { IfErr result (λ f. is_change f ≡ true → F.told folder.new ≡ F.told folder.old) }
     ensures found { (c : Contents) → F.told folder.old ≡ Some c → OnOk result (LooksFirst cuts c scan.now path.now) }
     ensures faults { FailsBy is_folder_fault (F.faults folder.old) (F.faults folder.new) result }
 {
@@ -92,7 +94,7 @@ fn remove_one<F: Folder>(
     }
 }
 
-/// Makes directories and moves files in, one after another, each at its path.
+/// Makes directories and moves files in, one after another, each at its path, and notes the own id of each file.
 pub(crate) fn write_all<F: Folder, R: Remote>(
     alloc: Global,
     folder: &mut F,
@@ -102,10 +104,11 @@ pub(crate) fn write_all<F: Folder, R: Remote>(
     writes: &[Write],
     cuts: Cuts,
     buffer: &mut [u8],
+    owns: &mut IdList,
 ) -> Result<(), SyncFault>
     requires some { 0 < length buffer.old }
     requires fits { length buffer.old ≤ PIECE }
-    ensures ok { OnOk result (WritesAll source.now writes.now (R.sends remote.old) (R.sends remote.new) (F.told folder.old) (F.told folder.new)) }
+    ensures ok { OnOk result (WritesAll source.now writes.now cuts (R.sends remote.old) (R.sends remote.new) (F.told folder.old) (F.told folder.new) owns.old owns.new) }
     ensures err { IfErr result (StopsWrites source.now writes.now scan.now cuts (R.sends remote.old) (R.sends remote.new) (F.told folder.old) (F.told folder.new)) }
     ensures same { (c : Contents) → F.told folder.old ≡ Some c → IsDistinct (eq_by_cmp path_cmp) (paths_of writes.now)
         → AllByRecursion (LooksUnwritten cuts c scan.now) writes.now → IfErr result (λ f. is_change f ≡ false) }
@@ -115,7 +118,9 @@ pub(crate) fn write_all<F: Folder, R: Remote>(
     ensures faults { FailsBy is_folder_fault (F.faults folder.old) (F.faults folder.new) result }
 {
     for write in writes {
-        match write_one(alloc, folder, remote, source, scan, write, cuts, buffer) {
+        match write_one(
+            alloc, folder, remote, source, scan, write, cuts, buffer, owns,
+        ) {
             Ok(()) => {}
             Err(fault) => return Err(fault),
         }
@@ -123,7 +128,7 @@ pub(crate) fn write_all<F: Folder, R: Remote>(
     Ok(())
 }
 
-/// Makes a directory or moves a file in.
+/// Makes a directory, or moves a file in and notes its own id.
 fn write_one<F: Folder, R: Remote>(
     alloc: Global,
     folder: &mut F,
@@ -133,10 +138,12 @@ fn write_one<F: Folder, R: Remote>(
     write: &Write,
     cuts: Cuts,
     buffer: &mut [u8],
+    owns: &mut IdList,
 ) -> Result<(), SyncFault>
     requires some { 0 < length buffer.old }
     requires fits { length buffer.old ≤ PIECE }
-    ensures ok { OnOk result (WritesOne source.now write.now.path write.now.node (R.sends remote.old) (R.sends remote.new) (F.told folder.old) (F.told folder.new)) }
+    ensures ok { OnOk result (WritesOne source.now write.now.path write.now.node cuts
+        (R.sends remote.old) (R.sends remote.new) (F.told folder.old) (F.told folder.new) owns.old owns.new) }
     ensures err { IfErr result (StopsOne source.now write.now.path write.now.node scan.now cuts
         (R.sends remote.old) (R.sends remote.new) (F.told folder.old) (F.told folder.new)) }
     ensures found { (c : Contents) → F.told folder.old ≡ Some c → OnOk result (LooksUnwritten cuts c scan.now write.now) }
@@ -155,6 +162,7 @@ fn write_one<F: Folder, R: Remote>(
             file_seen(scan, &write.path),
             cuts,
             buffer,
+            owns,
         ),
     }
 }
@@ -171,6 +179,7 @@ fn make_dir<F: Folder>(
     requires fits { length buffer.old ≤ PIECE }
     ensures value { Changes (with_dir path.now) (F.told folder.old) (F.told folder.new) result }
     ensures cause { IfErr result (IsLookFault cuts (F.told folder.old) path.now None) }
+    ensures untouched { IfErr result (λ f. is_change f ≡ true → F.told folder.new ≡ F.told folder.old) }
     ensures found { (c : Contents) → F.told folder.old ≡ Some c → OnOk result (LooksAs cuts (at c path.now) None) }
     ensures faults { FailsBy is_folder_fault (F.faults folder.old) (F.faults folder.new) result }
 {

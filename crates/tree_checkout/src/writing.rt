@@ -1,8 +1,11 @@
 //! A file of a tree, got block by block into the spare and moved to its path.
-ghost use Rattle.std.specs.Prelude.{◌≡◌, ◌<◌, ◌≤◌, IfErr, IfOk, OnOk, Some, length, option_copied};
+ghost use Rattle.std.specs.Prelude.{◌≡◌, ◌<◌, ◌≤◌, ◌++◌, ◌∷◌, [], IfErr, IfOk, OnOk, Some, false, length, map as list_map, option_copied};
+ghost use Rattle.block_chunker.specs.ChunkBoundaries.{last_chunk};
 ghost use Rattle.folder_side.specs.Folder.{Contents, at};
 ghost use Rattle.ids.specs.FaultCount.{FailsBy};
 ghost use Rattle.folder_side.specs.declared.folder_scan.TheConstants.{PIECE};
+ghost use Rattle.local_index.specs.OwnIds.{own_id};
+ghost use Rattle.sha1.specs.Sha1.{sha1};
 ghost use Rattle.sync_rules.specs.Causes.{is_folder_fault};
 ghost use Rattle.sync_rules.specs.declared.fault.SyncFault.TheVariants as fault;
 ghost use Rattle.tree_walk.specs.declared.fault.WalkFault.TheVariants as walk;
@@ -12,12 +15,13 @@ ghost use Rattle.tree_checkout.specs.Writing.{AddsOne, FailsToAdd, Fills, StopsF
 use crate::block_gets::{Source, get_block};
 use crate::fault::folder_fault;
 use crate::second_look::look_again;
-use block_chunker::Cuts;
-use folder_side::{Folder, Seen};
+use block_chunker::{Chunker, Cuts};
+use folder_side::{Folder, Seen, end_file, take_piece};
 use fs_objects::FileObject;
-use ids::ObjId;
+use ids::{IdList, Items, ObjId};
+use local_index::own_id;
 use remote_calls::Remote;
-use std::alloc::Global;
+use std::alloc::{AllocError, Global};
 use sync_rules::SyncFault;
 use tree_model::Path;
 use tree_walk::WalkFault;
@@ -31,7 +35,8 @@ pub struct TreeFile {
 
 /// Gets a file into the spare, looks at its path again, and moves it there. At most one block of it is in memory.
 ///
-/// `first` is what is to be there, and `buffer` is what a file there is read with.
+/// `first` is what is to be there, and `buffer` is what a file there is read with. The id that these cuts give to its bytes is
+/// noted in `owns`.
 pub(crate) fn write_file<F: Folder, R: Remote>(
     alloc: Global,
     folder: &mut F,
@@ -42,17 +47,18 @@ pub(crate) fn write_file<F: Folder, R: Remote>(
     first: Option<&Seen>,
     cuts: Cuts,
     buffer: &mut [u8],
+    owns: &mut IdList,
 ) -> Result<(), SyncFault>
     requires some { 0 < length buffer.old }
     requires fits { length buffer.old ≤ PIECE }
-    ensures ok { OnOk result (Writes source.now file.now path.now (R.sends remote.old) (R.sends remote.new) (F.told folder.old) (F.told folder.new)) }
+    ensures ok { OnOk result (Writes source.now file.now path.now cuts (R.sends remote.old) (R.sends remote.new) (F.told folder.old) (F.told folder.new) owns.old owns.new) }
     ensures err { IfErr result (StopsWriting source.now file.now path.now cuts (option_copied first.entry)
         (R.sends remote.old) (R.sends remote.new) (F.told folder.old) (F.told folder.new)) }
     ensures found { (c : Contents) → F.told folder.old ≡ Some c → OnOk result (LooksAs cuts (at c path.now) (option_copied first.entry)) }
     ensures stays { R.peer remote.new ≡ R.peer remote.old }
     ensures faults { FailsBy is_folder_fault (F.faults folder.old) (F.faults folder.new) result }
 {
-    match fill_spare(alloc, folder, remote, source, file) {
+    match fill_spare(alloc, folder, remote, source, file, cuts, owns) {
         Ok(()) => {}
         Err(fault) => return Err(fault),
     }
@@ -66,7 +72,7 @@ pub(crate) fn write_file<F: Folder, R: Remote>(
     }
 }
 
-/// Empties the spare and gets the blocks of a file into it, one after another.
+/// Empties the spare and gets the blocks of a file into it, one after another, and notes the own id of what came.
 ///
 /// `BadTree` by `WrongSize` where they don't add up to the size that the file's object tells: as soon as there are more bytes,
 /// or at the end where there are fewer.
@@ -76,8 +82,10 @@ fn fill_spare<F: Folder, R: Remote>(
     remote: &mut R,
     source: &Source,
     file: &TreeFile,
+    cuts: Cuts,
+    owns: &mut IdList,
 ) -> Result<(), SyncFault>
-    ensures ok { OnOk result (Fills source.now file.now (R.sends remote.old) (R.sends remote.new) (F.told folder.old) (F.spare folder.new)) }
+    ensures ok { OnOk result (Fills source.now file.now cuts (R.sends remote.old) (R.sends remote.new) (F.told folder.old) (F.spare folder.new) owns.old owns.new) }
     ensures err { IfErr result (StopsFilling source.now file.now (R.sends remote.old) (R.sends remote.new)) }
     ensures untouched { F.told folder.new ≡ F.told folder.old }
     ensures stays { R.peer remote.new ≡ R.peer remote.old }
@@ -87,20 +95,52 @@ fn fill_spare<F: Folder, R: Remote>(
         Ok(()) => {}
         Err(fault) => return Err(folder_fault(fault)),
     }
+    let mut chunker = Chunker::new(alloc, cuts);
+    let mut names = Items::new(alloc);
     let mut left = file.object.size;
     for block in file.object.blocks.slice() {
-        match add_block(alloc, folder, remote, source, &file.id, block, left) {
+        match add_block(
+            alloc,
+            folder,
+            remote,
+            source,
+            &file.id,
+            block,
+            left,
+            &mut chunker,
+            &mut names,
+        ) {
             Ok(rest) => left = rest,
             Err(fault) => return Err(fault),
         }
     }
     if left == 0 {
-        return Ok(());
+        return match note_own(alloc, chunker, names, file.object.size, owns) {
+            Ok(()) => Ok(()),
+            Err(AllocError) => Err(SyncFault::NoMemory),
+        };
     }
     Err(wrong_size(&file.id))
 }
 
-/// Gets a block and appends it to the spare, where at most `left` bytes are due; and tells how many are due behind it.
+/// Notes the own id of a file, of whose chunks all but the last are named.
+fn note_own(
+    alloc: Global,
+    chunker: Chunker,
+    names: IdList,
+    size: u64,
+    owns: &mut IdList,
+) -> Result<(), AllocError>
+    requires ready { chunker.failed ≡ false }
+    ensures ok { OnOk result (owns.new ≡ owns.old ++ own_id (names ++ list_map sha1 (last_chunk chunker.begun)) size ∷ []) }
+{
+    let read = end_file(chunker, names, size)?;
+    let own = own_id(alloc, read.blocks.slice(), read.size)?;
+    owns.push(own)
+}
+
+/// Gets a block, appends it to the spare, where at most `left` bytes are due, and hands it to the chunker; and tells how many bytes
+/// are due behind it.
 fn add_block<F: Folder, R: Remote>(
     alloc: Global,
     folder: &mut F,
@@ -109,8 +149,11 @@ fn add_block<F: Folder, R: Remote>(
     file: &ObjId,
     block: &ObjId,
     left: u64,
+    chunker: &mut Chunker,
+    names: &mut IdList,
 ) -> Result<u64, SyncFault>
-    ensures ok { IfOk result (AddsOne source.now block.now left (R.sends remote.old) (R.sends remote.new) (F.spare folder.old) (F.spare folder.new)) }
+    ensures ok { IfOk result (AddsOne source.now block.now left (R.sends remote.old) (R.sends remote.new) (F.spare folder.old) (F.spare folder.new)
+        chunker.old chunker.new names.old names.new) }
     ensures err { IfErr result (FailsToAdd source.now file.now block.now left (R.sends remote.old) (R.sends remote.new)) }
     ensures untouched { F.told folder.new ≡ F.told folder.old }
     ensures stays { R.peer remote.new ≡ R.peer remote.old }
@@ -125,8 +168,12 @@ fn add_block<F: Folder, R: Remote>(
         return Err(wrong_size(file));
     }
     match folder.spare_add(bytes.slice()) {
+        Ok(()) => {}
+        Err(fault) => return Err(folder_fault(fault)),
+    }
+    match take_piece(alloc, chunker, names, bytes.slice()) {
         Ok(()) => Ok(left - size),
-        Err(fault) => Err(folder_fault(fault)),
+        Err(AllocError) => Err(SyncFault::NoMemory),
     }
 }
 

@@ -1,5 +1,5 @@
 use Rattle.std.proofs.Common.{◌∙◌, arith}
-use Rattle.tree_checkout.proofs.StepsLemmas.{found_all, found_more, look_of_path, removed_all, removed_more, removed_same, removed_stop}
+use Rattle.tree_checkout.proofs.RemovalLemmas.{found_all, found_more, look_of_path, removed_all, removed_more, removed_same, removed_stop}
 use Rattle.tree_checkout.proofs.steps.remove_all.Goals as goal
 
 pub loop-path-preserved : goal.loop-path-preserved
@@ -13,7 +13,8 @@ loop-path-preserved g c = record {
 
 pub returns-in-Err-clause-err : goal.returns-in-Err-clause-err
 returns-in-Err-clause-err g c =
-    removed_stop c.args.doomed.now c.loop-path.path-index c.path-item.result _ _ _ (omega arith) c.path-item.is c.loop-path.invariant.told c.in-Err.ensures.value
+    removed_stop c.args.doomed.now c.loop-path.path-index c.path-item.result _ _ _ (omega arith) c.path-item.is c.loop-path.invariant.told c.args.scan.now c.args.cuts c.in-Err.fault
+    c.in-Err.ensures.untouched c.in-Err.ensures.cause c.in-Err.ensures.value
 
 pub returns-in-Err-clause-cause : goal.returns-in-Err-clause-cause
 returns-in-Err-clause-cause g c = look_of_path c.args.cuts _ c.path-item.result _ c.in-Err.fault c.in-Err.ensures.cause

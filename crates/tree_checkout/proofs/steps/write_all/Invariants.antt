@@ -12,6 +12,6 @@ invariant-loop-write g l = record {
       → AllByRecursion (LooksUnwritten l.cuts c l.scan) (take l.write-index l.writes);
   faults : g.F.Folder.faults l.folder ≡ g.F.Folder.faults l.fn.folder;
   peer : g.R.Remote.peer l.remote ≡ g.R.Remote.peer l.fn.remote;
-  written : WritesAll l.source (take l.write-index l.writes) (g.R.Remote.sends l.fn.remote) (g.R.Remote.sends l.remote)
-      (g.F.Folder.told l.fn.folder) (g.F.Folder.told l.folder);
+  written : WritesAll l.source (take l.write-index l.writes) l.cuts (g.R.Remote.sends l.fn.remote) (g.R.Remote.sends l.remote)
+      (g.F.Folder.told l.fn.folder) (g.F.Folder.told l.folder) l.fn.owns l.owns;
 }
