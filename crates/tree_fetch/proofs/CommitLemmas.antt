@@ -80,7 +80,7 @@ module _ (asker : Asker) (old new : List Sent) (id : List ℕ) where
       let f = begins asker (key ∷ []) old in
       let got : Fetching asker (key ∷ []) old new (map.insert map.empty key bytes) =
       one_more asker (key ∷ []) old old new map.empty (map.insert map.empty key bytes) sent (had_one key bytes) f is
-      (is_fetch asker (what.Get key) (Ok (Plain (reply.Got bytes) tag)) refl tt) (reached f.more)
+      (is_fetch asker (what.Get key) (Ok (Plain (reply.Got bytes) tag)) refl tt refl) (reached f.more)
       (refl, All-cons IsNamedSo (key, Some bytes) [] named (All-nil IsNamedSo)) (one_had key bytes)
       (λ objects has keeps. keeps_insert map.empty objects key bytes keeps (has_one objects key bytes named has)) in
       record {
@@ -97,7 +97,7 @@ module _ (asker : Asker) (old new : List Sent) (id : List ℕ) where
       let key = commit_key id in
       let sent : Sent = (order_of asker (what.Get key), Ok (Plain (reply.Got bytes) tag)) in
       let f = begins asker (key ∷ []) old in
-      stops asker (key ∷ []) old old new map.empty sent (had_one key bytes) f is (is_fetch asker (what.Get key) (Ok (Plain (reply.Got bytes) tag)) refl tt) (reached f.more) (one_had key bytes)
+      stops asker (key ∷ []) old old new map.empty sent (had_one key bytes) f is (is_fetch asker (what.Get key) (Ok (Plain (reply.Got bytes) tag)) refl tt refl) (reached f.more) (one_had key bytes)
       (fault.BadTree why)
       (inl (subst (IsBadCommit (f.more ++ sent ∷ [])) (sym bad.0) (order_of asker (what.Get key), bytes, tag, (f.more, refl), refl, refl, none_spelled id bytes (tree.Unreadable key) bad.1)))
       (ap (λ (w : WalkFault). is_of_order (fault.BadTree w)) bad.0) tt
@@ -105,5 +105,5 @@ module _ (asker : Asker) (old new : List Sent) (id : List ℕ) where
       let key = commit_key id in
       let f = begins asker (key ∷ []) old in
       stops asker (key ∷ []) old old new map.empty (order_of asker (what.Get key), Ok (Plain (reply.Got bytes) tag)) (had_one key bytes) f is
-      (is_fetch asker (what.Get key) (Ok (Plain (reply.Got bytes) tag)) refl tt) (reached f.more) (one_had key bytes) fault.NoMemory tt refl tt
+      (is_fetch asker (what.Get key) (Ok (Plain (reply.Got bytes) tag)) refl tt refl) (reached f.more) (one_had key bytes) fault.NoMemory tt refl tt
   commit_got bytes tag is (Err _) bad = absurd bad

@@ -156,7 +156,7 @@ pub rows_got : (asker : Asker) (from : List Key) (before old new : List Sent) (i
     → Fetching asker from before old F → AreReached from F ids → new ≡ old ++ (order_of asker (what.GetFs ids), Ok (Packed rows)) ∷ [] → list_map row_id rows ≡ ids
     → (result : Result ⊤ SyncFault) → KeepsRows rows F G result → FetchesList asker from before new ids F G result
 rows_got asker from before old new ids rows F G some few f reached grown same (Ok done) puts = (
-  one_more asker from before old new F G (order_of asker (what.GetFs ids), Ok (Packed rows)) (had_rows rows) f grown (is_fetch asker (what.GetFs ids) (Ok (Packed rows)) (fetches_some ids some) few)
+  one_more asker from before old new F G (order_of asker (what.GetFs ids), Ok (Packed rows)) (had_rows rows) f grown (is_fetch asker (what.GetFs ids) (Ok (Packed rows)) (fetches_some ids some) few refl)
       (reached_all asker from before old F f ids reached) (refl, rows_named rows F G puts) (rows_had rows) (λ objects has keeps. rows_kept rows F G objects puts has keeps),
   subst (λ list. Grows list F G) same (rows_grow rows F G puts),
 )
@@ -165,10 +165,10 @@ rows_got asker from before old new ids rows F G some few f reached grown same (E
     let here : Contains (list_map row_named rows ++ []) (row_named row) = subst (λ names. Contains names (row_named row)) (sym (append-nil (list_map row_named rows))) (contains_mapped row_named rows row there) in
     let last : Contains (flat_map got_in (f.more ++ sent ∷ [])) (row_named row) =
     subst (λ names. Contains names (row_named row)) (sym (flat_map-append got_in f.more (sent ∷ []))) (Contains-append_right (flat_map got_in f.more) (list_map row_named rows ++ []) (row_named row) here) in
-    stops asker from before old new F sent (had_rows rows) f grown (is_fetch asker (what.GetFs ids) (Ok (Packed rows)) (fetches_some ids some) few) (reached_all asker from before old F f ids reached) (rows_had rows)
+    stops asker from before old new F sent (had_rows rows) f grown (is_fetch asker (what.GetFs ids) (Ok (Packed rows)) (fetches_some ids some) few refl) (reached_all asker from before old F f ids reached) (rows_had rows)
     (fault.Damaged want got) (fs_key row.id, row.bytes, sym w, g, (λ e. other (sym g ∙ e ∙ w)), (λ (e : kind.Fs ≡ kind.Commit). cc), last) refl tt
 rows_got asker from before old new ids rows F G some few f reached grown same (Err fault.NoMemory) puts =
-    stops asker from before old new F (order_of asker (what.GetFs ids), Ok (Packed rows)) (had_rows rows) f grown (is_fetch asker (what.GetFs ids) (Ok (Packed rows)) (fetches_some ids some) few)
+    stops asker from before old new F (order_of asker (what.GetFs ids), Ok (Packed rows)) (had_rows rows) f grown (is_fetch asker (what.GetFs ids) (Ok (Packed rows)) (fetches_some ids some) few refl)
     (reached_all asker from before old F f ids reached) (rows_had rows) fault.NoMemory tt refl tt
 rows_got asker from before old new ids rows F G some few f reached grown same (Err _) puts = absurd puts
 

@@ -27,7 +27,7 @@ use Rattle.sync_rules.proofs.OverLemmas.{has_first, has_later}
 use Rattle.sync_rules.proofs.WentLemmas.{goes_well, went_then}
 use Rattle.sync_rules.specs.Named.{GetsNamed, HasAll, HasGot, IsHadFor, IsNamedSo, Named, Sends, asked_by, got_by, if_named, is_get, named_by, names_in}
 use Rattle.sync_rules.specs.Orders.{AsksFew, is_sync_what}
-use Rattle.sync_rules.specs.Causes.{CausedBy, IsRefusedBy, WentWell, ends_sync, goes_on, is_of_order, is_too_long}
+use Rattle.sync_rules.specs.Causes.{CausedBy, IsRefusedBy, WentWell, ends_sync, goes_on, is_of_order, is_stale, is_too_long}
 use Rattle.sync_rules.specs.declared.fault.SyncFault.{SyncFault}
 use Rattle.sync_rules.specs.declared.fault.SyncFault.TheVariants as fault
 use Rattle.tree_fetch.specs.Asking.{FailsSo, GetsRows, IsOfOne, IsRefused, order_of, refused_of}
@@ -156,8 +156,23 @@ is_sync (what.GetFs []) is = cc
 is_sync (what.GetFs (id ∷ ids)) is = refl
 is_sync _ is = cc
 
-pub is_fetch : (asker : Asker) (w : What) (ending : Ending) → fetches w ≡ true → AsksFew w → IsFetch asker (order_of asker w, ending)
-is_fetch asker w ending is few = ((refl, refl, is_sync w is, few), is)
+pub is_fetch : (asker : Asker) (w : What) (ending : Ending) → fetches w ≡ true → AsksFew w → is_stale ending ≡ false → IsFetch asker (order_of asker w, ending)
+is_fetch asker w ending is few timely = ((refl, refl, is_sync w is, few), is, timely)
+
+-- a fetch can't come too late
+never_stale : (w : What) → fetches w ≡ true → (last now : ℕ) → can_refuse w (refusal.Stale last now) ≡ true → ⊥
+never_stale (what.Get key) is last now can = cc
+never_stale (what.GetFs []) is last now can = cc
+never_stale (what.GetFs (id ∷ ids)) is last now can = cc
+never_stale _ is last now can = cc
+
+pub timely_refusal : (w : What) → fetches w ≡ true → (outcome : Outcome) (why : Refusal) → IsRefusedBy (Ok outcome) why → can_refuse w why ≡ true → is_stale (Ok outcome) ≡ false
+timely_refusal w is (Plain (reply.Refused (refusal.Stale last now)) tag) why refused can =
+    absurd (never_stale w is last now (subst (λ (r : Refusal). can_refuse w r ≡ true) (sym refused) can))
+timely_refusal w is (Refused (refusal.Stale last now)) why refused can = absurd (never_stale w is last now (subst (λ (r : Refusal). can_refuse w r ≡ true) (sym refused) can))
+timely_refusal w is (Plain (reply.Refused _) tag) why refused can = refl
+timely_refusal w is (Refused _) why refused can = refl
+timely_refusal w is _ why refused can = absurd refused
 
 names_nothing : (w : What) → fetches w ≡ true → named_by w ≡ []
 names_nothing (what.Get key) is = refl
@@ -207,10 +222,10 @@ alone_so asker more w ending _ one = tt
 pub failed_stops : (asker : Asker) (from : List Key) (before old new : List Sent) (F : Objects) (w : What) → fetches w ≡ true → AsksFew w → (f : Fetching asker from before old F)
     → All (IsReached from f.more) (asked_by w) → (why : SyncFault) → FailsSo old new (order_of asker w) why → IsOne w why → Stopped asker from before new why
 failed_stops asker from before old new F w is few f reached (fault.Remote g) grown one =
-    stops asker from before old new F (order_of asker w, Err g) [] f grown (is_fetch asker w (Err g) is few) reached (no_names asker w (Err g) is (fault_gives w g)) (fault.Remote g)
+    stops asker from before old new F (order_of asker w, Err g) [] f grown (is_fetch asker w (Err g) is few refl) reached (no_names asker w (Err g) is (fault_gives w g)) (fault.Remote g)
     (order_of asker w, (f.more, refl)) refl tt
 failed_stops asker from before old new F w is few f reached (fault.Refused why) (outcome, grown, refused, can) one =
-    stops asker from before old new F (order_of asker w, Ok outcome) [] f grown (is_fetch asker w (Ok outcome) is few) reached
+    stops asker from before old new F (order_of asker w, Ok outcome) [] f grown (is_fetch asker w (Ok outcome) is few (timely_refusal w is outcome why refused can)) reached
     (no_names asker w (Ok outcome) is (refusal_gives w outcome why refused)) (fault.Refused why) (inl (order_of asker w, Ok outcome, (f.more, refl), refused, ends_so w is why can)) refl
     (alone_so asker f.more w (Ok outcome) why one)
 failed_stops asker from before old new F w is few f reached fault.NoMemory same one = subst (λ now. Stopped asker from before now fault.NoMemory) (sym same) (stops_here asker from before old F f)
@@ -252,7 +267,7 @@ pub halved : (asker : Asker) (from : List Key) (before old new : List Sent) (F :
     → AreReached from F ids → IsRefused old new (order_of asker (what.GetFs ids)) refusal.NoMemory → Fetching asker from before new F
 halved asker from before old new F ids few more f reached (outcome, grown, refused, can) =
     let w : What = what.GetFs ids in
-    one_more asker from before old new F F (order_of asker w, Ok outcome) [] f grown (is_fetch asker w (Ok outcome) (fetches_many ids more) few) (reached_all asker from before old F f ids reached)
+    one_more asker from before old new F F (order_of asker w, Ok outcome) [] f grown (is_fetch asker w (Ok outcome) (fetches_many ids more) few (timely_refusal w (fetches_many ids more) outcome refusal.NoMemory refused can)) (reached_all asker from before old F f ids reached)
     (went_halved ids more outcome refused, none_named asker w (Ok outcome) (refusal_gives w outcome refusal.NoMemory refused))
     (no_names asker w (Ok outcome) (fetches_many ids more) (refusal_gives w outcome refusal.NoMemory refused)) (λ objects has keeps. keeps)
 

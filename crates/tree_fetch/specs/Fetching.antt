@@ -21,7 +21,7 @@ use Rattle.tree_walk.specs.declared.fault.WalkFault.TheVariants as walk
 use Rattle.remote_calls.specs.Sends.{Ending, Sent}
 use Rattle.sync_rules.specs.Named.{HasAll, HasGot, Sends, asked_by}
 use Rattle.sync_rules.specs.Orders.{IsSyncOrder}
-use Rattle.sync_rules.specs.Causes.{CausedBy, GoesWell, IsLast, IsWrongTree, WentWell, is_of_order}
+use Rattle.sync_rules.specs.Causes.{CausedBy, GoesWell, IsLast, IsWrongTree, WentWell, is_of_order, is_stale}
 use Rattle.sync_rules.specs.declared.fault.SyncFault.{SyncFault}
 use Rattle.sync_rules.specs.declared.fault.SyncFault.TheVariants as fault
 use Rattle.tree_fetch.specs.Asking.{FailsSo, ReadsCommit, order_of}
@@ -37,9 +37,9 @@ fetches (what.GetFs []) = false
 fetches (what.GetFs (id ∷ ids)) = true
 fetches _ = false
 
--- a send of a fetch: of the library, with the secret, and of few ids
+-- a send of a fetch: of the library, with the secret, and of few ids; an update alone may come too late
 abbrev pub IsFetch : Asker → Sent → Type 0
-IsFetch asker sent = IsSyncOrder asker.lib asker.secret sent × (fetches sent.0.what ≡ true)
+IsFetch asker sent = IsSyncOrder asker.lib asker.secret sent × (fetches sent.0.what ≡ true) × (is_stale sent.1 ≡ false)
 
 -- just one object is asked for
 abbrev pub AsksOne : What → Type 0
