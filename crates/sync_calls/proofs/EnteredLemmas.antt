@@ -1,5 +1,5 @@
 -- The room that a call goes to, and its pass, as they are read and written by their place. The key lemmas are ready_at,
--- ready_again, asks_again and looks_again.
+-- ready_again, asks_again, looks_again and collects_again.
 use Rattle.std.proofs.Common.{◌≡◌, ℕ, ◌<◌, List, length, refl, sym, subst, arith, Option}
 use Rattle.std.specs.Prelude.{slice_index_or, slice_set, vec_len}
 use Rattle.std.specs.Vec.{with_item}
@@ -10,13 +10,16 @@ use Rattle.object_store.specs.Shelf.{Contents}
 use Rattle.object_store.specs.declared.shelf.Slot.{Slot}
 use Rattle.turnstile.specs.PassView.{drawn_of, parts_of, passes_of}
 use Rattle.sync_calls.specs.Asking.{AsksOne, AsksSo}
+use Rattle.sync_calls.specs.Collecting.{CollectsOne, CollectsSo}
 use Rattle.sync_calls.specs.Hall.{AreReady, HallOf, IsReadyAt, LibraryRoom, PassOf, drawn_by, made_with, passes_in, rooms_of, shares_of, shown_by}
 use Rattle.sync_calls.specs.Looking.{GlancesOne, GlancesSo}
 use Rattle.sync_calls.specs.Operations.{Line}
 use Rattle.sync_calls.specs.RoomPlace.{IsRoomOf}
 use Rattle.sync_calls.specs.Shown.{LibraryPass, shown_of}
 use Rattle.sync_calls.specs.declared.asking.Answer.{Answer}
+use Rattle.sync_calls.specs.declared.collecting.Collected.{Collected}
 use Rattle.sync_calls.specs.declared.looking.Glance.{Glance}
+use Rattle.sync_calls.proofs.CollectingLemmas.{collects_lift}
 use Rattle.sync_calls.proofs.RoomLemmas.{asks_lift, looks_lift, named_at, ready_there}
 
 -- the pass with another to one room
@@ -70,4 +73,21 @@ module _ {S : Type 0} (contents : S → Option Contents) (may_give : S → Slot 
       (subst (λ (p : LibraryPass S). GlancesOne (shown_of p) secret tag found (shown_of new)) at so) in (
         told.0,
         subst (λ us. GlancesSo contents may_give texts faults (shown_by pass) lib secret tag found told.0 us) (sym (map-set shown_of (passes_in pass) place new)) told.1,
+      )
+
+  pub collects_again : (shows : ℕ → Type 0) (lib : List ℕ) (secret : Option (List ℕ)) (ends : Collected) (new : LibraryPass S) → IsRoomOf (rooms_of hall) lib place
+      → CollectsOne contents may_give texts faults shows (shown_of to) secret ends (shown_of new) (drawn_of new)
+      → (lines : List Line) × CollectsSo contents may_give texts faults shows (shown_by pass) lib secret ends lines (shown_by (with_pass pass place new)) (drawn_by (with_pass pass place new))
+  collects_again shows lib secret ends new found so =
+      let ok = pass.passes.ok.0 in
+      let size = ready.size in
+      let drawn = length-map (passes_in pass) drawn_of in
+      let below : place < length (drawn_by pass) = omega arith in
+      let told = collects_lift contents may_give texts faults shows (shown_by pass) (drawn_by pass) lib place (shown_of (slice_index_or (passes_in pass) place to)) (shown_of new) (drawn_of new) secret ends
+      (named_at contents may_give texts faults hall pass ready lib place room to found) below
+      (subst (λ (p : LibraryPass S). CollectsOne contents may_give texts faults shows (shown_of p) secret ends (shown_of new) (drawn_of new)) at so) in (
+        told.0,
+        subst (λ us. CollectsSo contents may_give texts faults shows (shown_by pass) lib secret ends told.0 us (drawn_by (with_pass pass place new))) (sym (map-set shown_of (passes_in pass) place new))
+            (subst (λ draws. CollectsSo contents may_give texts faults shows (shown_by pass) lib secret ends told.0 (slice_set (shown_by pass) place (shown_of new)) draws)
+            (sym (map-set drawn_of (passes_in pass) place new)) told.1),
       )

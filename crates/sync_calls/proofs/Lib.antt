@@ -1,6 +1,12 @@
 pub mod ShownLemmas
 pub mod TurnLemmas
 pub mod ServedTurnLemmas
+pub mod CollectTurnLemmas
+pub mod EndLemmas
+pub mod RunLemmas
+pub mod OverLemmas
+pub mod CollectingLemmas
+pub mod FewTurnsLemmas
 pub mod RoomLemmas
 pub mod BehindLemmas
 pub mod JoiningLemmas

@@ -7,6 +7,7 @@ use Rattle.library_state.specs.declared.call.Act.{Act}
 use Rattle.library_state.specs.declared.right.Right.{Right}
 use Rattle.library_state.specs.declared.token.Token.{Token}
 use Rattle.depot.specs.Answering.{permits}
+use Rattle.depot.specs.CollectionTurns.{is_owner}
 use Rattle.depot.specs.DepotView.{DepotView}
 use Rattle.sync_calls.specs.declared.door.Door.{Door}
 use Rattle.sync_calls.specs.declared.door.Holder.{Holder}
@@ -40,6 +41,14 @@ is_enough act (Some right) = nat_le (right_number (right_for act)) (right_number
 
 abbrev pub admits : Door → Option (List ℕ) → Act → Bool
 admits door secret act = is_enough act (right_shown door.holders secret)
+
+-- whether it is an owner's
+abbrev pub is_owners : Option Right → Bool
+is_owners None = false
+is_owners (Some right) = is_owner right
+
+abbrev pub admits_collection : Door → Option (List ℕ) → Bool
+admits_collection door secret = is_owners (right_shown door.holders secret)
 
 -- the same by the library as it began
 abbrev pub admitted : {S : Type 0} → Option (DepotView S) → Option (List ℕ) → Act → Bool

@@ -4,7 +4,9 @@ pub mod Door
 pub mod RoomPlace
 pub mod Hall
 pub mod ServedTurn
+pub mod CollectTurn
 pub mod Asking
+pub mod Collecting
 pub mod Looking
 pub mod Joining
 pub mod Closing

@@ -2,7 +2,7 @@
 ghost use Rattle.std.specs.Prelude.{◌≡◌, ◌≢◌, ◌<◌, ℕ, List, length, slice_index_or, IfNone, IfSome};
 ghost use Rattle.turnstile.specs.PassView.{drawn_of, parts_of, passes_of};
 ghost use Rattle.sync_calls.specs.Asking.{AsksOne, AsksSo, without_turn};
-ghost use Rattle.sync_calls.specs.Hall.{AreReady, IsReadyAt, LibraryRoom, drawn_by, shown_by};
+ghost use Rattle.sync_calls.specs.Hall.{AreReady, IsReadyAt, LibraryRoom, drawn_by, made_with, shares_of, shown_by};
 ghost use Rattle.sync_calls.specs.Operations.{Line};
 ghost use Rattle.sync_calls.specs.RoomPlace.{HasNoRoom, IsRoomOf};
 ghost use Rattle.sync_calls.specs.Shown.{shown_of};
@@ -45,6 +45,7 @@ impl<S: Shelf> Hall<S> {
     ) -> Answer
         requires ready { AreReady S.contents S.may_give S.texts S.faults self.now pass.old }
         ensures ready { AreReady S.contents S.may_give S.texts S.faults self.now pass.new }
+        ensures size { (shares_of pass.new ≡ shares_of pass.old) × (made_with pass.new ≡ made_with pass.old) }
         ensures asks { (lines : List Line)
             × AsksSo S.contents S.may_give S.texts S.faults (shown_by pass.old) lib call.now moment result lines (shown_by pass.new) (drawn_by pass.new) }
     {

@@ -2,7 +2,8 @@
 ghost use Rattle.std.specs.Prelude.{◌≡◌, nat_le, IfOk, Option, Some, option_map, find};
 ghost use Rattle.std.specs.List.{slice_get};
 ghost use Rattle.library_state.specs.Rights.{right_number};
-ghost use Rattle.sync_calls.specs.Door.{IsDoorOf, admits, holders_of, is_enough, right_in, right_shown};
+ghost use Rattle.depot.specs.CollectionTurns.{is_owner};
+ghost use Rattle.sync_calls.specs.Door.{IsDoorOf, admits, admits_collection, holders_of, is_enough, is_owners, right_in, right_shown};
 
 use depot::Depot;
 use ids::{Items, LibId};
@@ -37,6 +38,30 @@ pub(crate) fn admits(door: &Door, secret: &Option<Secret>, act: &Act) -> bool
     match right_in(door.holders.slice(), shown) {
         Some(right) => right_needed(act) <= right,
         None => false,
+    }
+}
+
+/// Whether the one who shows this secret may ask for a collection: an owner.
+pub(crate) fn admits_collection(door: &Door, secret: &Option<Secret>) -> bool
+    ensures { result ≡ admits_collection door.now secret.now }
+{
+    let Some(shown) = secret else {
+        return false;
+    };
+    match right_in(door.holders.slice(), shown) {
+        Some(right) => is_owner(right),
+        None => false,
+    }
+}
+
+/// Whether it is the right of an owner.
+fn is_owner(right: Right) -> bool
+    ensures { result ≡ is_owner right }
+{
+    match right {
+        Right::Owner => true,
+        Right::Write => false,
+        Right::Read => false,
     }
 }
 

@@ -8,14 +8,18 @@
 
 mod asking;
 mod closing;
+mod collect_turn;
+mod collecting;
 mod door;
 mod hall;
 mod joining;
+pub mod laws;
 mod looking;
 mod making;
 mod served_turn;
 
 pub use asking::Answer;
+pub use collecting::Collected;
 pub use door::{Door, Holder};
 pub use hall::{Exit, Hall, HallPass, Passes, Room, Rooms};
 pub use looking::Glance;

@@ -1,7 +1,7 @@
 //! A look at how long a library's history is, without a turn.
 ghost use Rattle.std.specs.Prelude.{◌≡◌, List};
 ghost use Rattle.turnstile.specs.PassView.{parts_of, passes_of};
-ghost use Rattle.sync_calls.specs.Hall.{AreReady, IsReadyAt, shown_by};
+ghost use Rattle.sync_calls.specs.Hall.{AreReady, IsReadyAt, made_with, shares_of, shown_by};
 ghost use Rattle.sync_calls.specs.Looking.{GlancesOne, GlancesSo, glance_at};
 ghost use Rattle.sync_calls.specs.Operations.{Line};
 ghost use Rattle.sync_calls.specs.Shown.{shown_of};
@@ -41,6 +41,7 @@ impl<S: Shelf> Hall<S> {
     ) -> Glance
         requires ready { AreReady S.contents S.may_give S.texts S.faults self.now pass.old }
         ensures ready { AreReady S.contents S.may_give S.texts S.faults self.now pass.new }
+        ensures size { (shares_of pass.new ≡ shares_of pass.old) × (made_with pass.new ≡ made_with pass.old) }
         ensures told { (lines : List Line) × GlancesSo S.contents S.may_give S.texts S.faults (shown_by pass.old) lib secret.now tag result lines (shown_by pass.new) }
     {
         let place = match place_of(self.rooms.as_slice(), &lib) {

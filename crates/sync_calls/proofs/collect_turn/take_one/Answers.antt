@@ -1,0 +1,20 @@
+-- What the pass knows as the turn ends is what it knew in it, and the collection that runs is the same.
+use Rattle.std.proofs.Common.{◌≡◌, None, false, rules, subst, sym}
+use Rattle.turnstile.specs.HeldTurn.{pass_of}
+use Rattle.turnstile.specs.PassView.{view_of}
+use Rattle.sync_calls.specs.CollectTurn.{RunsAt}
+use Rattle.sync_calls.specs.ServedTurn.{CatchesUp}
+use Rattle.sync_calls.specs.Shown.{Knows, LibraryView, shown_in, shown_of}
+use Rattle.sync_calls.proofs.collect_turn.take_one.Goals as goal
+
+pub returns-clause-known : goal.returns-clause-known
+returns-clause-known g c =
+    let up : CatchesUp (shown_of c.args.pass.now) (shown_in (view_of (pass_of c.in_ok-held.held))) = search rules in
+    let known = c.take-taken.ensures.known (shown_of c.args.pass.now) up c.requires.known in
+    let same : view_of c.pass-2-1.given.0 ≡ record (view_of (pass_of c.take-taken.new.held)) { ticket = None; turn = false; told = 0 } = search rules in
+    subst (λ (v : LibraryView g.row.S.Denot). Knows g.S.Shelf.contents g.S.Shelf.may_give g.S.Shelf.texts g.S.Shelf.faults (shown_in v)) (sym same) known
+
+pub returns-clause-running : goal.returns-clause-running
+returns-clause-running g c =
+    let same : view_of c.pass-2-1.given.0 ≡ record (view_of (pass_of c.take-taken.new.held)) { ticket = None; turn = false; told = 0 } = search rules in
+    subst (λ (v : LibraryView g.row.S.Denot). RunsAt (shown_in v) c.take-taken.result.running) (sym same) c.take-taken.ensures.running
