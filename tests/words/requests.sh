@@ -34,6 +34,7 @@ ask_file() (
     {
         printf '%s %s HTTP/1.1\r\nHost: x\r\n' "$1" "$target"
         [ "$secret" = nobody ] || printf 'Seafile-Repo-Token: %s\r\n' "$secret"
+        [ -z "$shown" ] || printf 'If-None-Match: %s\r\n' "$shown"
         [ "$#" = 2 ] || printf 'Content-Length: %s\r\n' "$(($(wc -c < "$3")))"
         [ "$closes" = no ] || printf 'Connection: close\r\n'
         printf '\r\n'
@@ -120,18 +121,25 @@ status_line() (
     esac
 )
 
-# reply STATUS TYPE FILE: a reply of these bytes, without a type where it has none.
+# shows TAG: the next request names this tag: `OPENING-COUNT`, or any text.
+shows() {
+    shown=$1
+}
+
+# reply STATUS TYPE FILE: a reply of these bytes, without a type where it has none. Where $tagged is a count, or `*` for any, it has
+# the tag of this opening of the library and that count.
 reply() {
     reply_size=$(($(wc -c < "$3")))
     {
         printf 'HTTP/1.1 %s\r\n' "$(status_line "$1")"
         [ "$reply_size" = 0 ] || printf 'Content-Type: application/%s\r\n' "$2"
-        printf 'Content-Length: %s\r\n' "$reply_size"
+        [ "$1" = 304 ] || printf 'Content-Length: %s\r\n' "$reply_size"
+        [ -z "$tagged" ] || printf 'ETag: "@-%s"\r\n' "$tagged"
         [ "$closes" = no ] || printf 'Connection: close\r\n'
         printf '\r\n'
         cat "$3"
     } >> "wanted.$piece"
-    closes=no
+    closes=no tagged='' shown=''
 }
 
 # told STATUS JSON
@@ -144,8 +152,11 @@ told() {
 stored() { told 200 ''; }
 lists() { told 200 "$(array "$@")"; }
 lists_ascending() { lists $(printf '%s\n' "$@" | sort); }
-updated() { told 200 "{\"head_commit_id\":\"$1\",\"is_corrupted\":0}"; }
-head_is() { updated "$1"; }
+# updated ID [COUNT]: the head is this commit, after so many changes since the library was opened, or after any number.
+updated() { tagged=${2-*}; told 200 "{\"head_commit_id\":\"$1\",\"is_corrupted\":0}"; }
+head_is() { updated "$@"; }
+# unchanged COUNT: the library is still as the tag tells that was shown.
+unchanged() { tagged=$1; told 304 ''; }
 gives_file() { reply 200 octet-stream "$1"; }
 gives_commit() { gives_file "kept/commit/$1"; }
 
@@ -169,7 +180,7 @@ no_call() { told 404 '{"reason":"no-call"}'; }
 # this connection. The row finds its name in $merged, once in a connection.
 merged() {
     [ "$piece" = 0 ] || fail 'a connection has one merge'
-    printf 'HTTP/1.1 200 OK\r\nContent-Type: application/json\r\nContent-Length: 78\r\n\r\n{"head_commit_id":"' >> wanted.0
+    printf 'HTTP/1.1 200 OK\r\nContent-Type: application/json\r\nContent-Length: 78\r\nETag: "@-*"\r\n\r\n{"head_commit_id":"' >> wanted.0
     piece=1
     printf '","is_corrupted":0}' > wanted.1
     merge_parent=$1 merge_second=$2 merge_root=$3 merge_flag=${4-}

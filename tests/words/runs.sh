@@ -55,10 +55,18 @@ token() {
 
 # connect [PLACE [LIB]]: a connection with the library of this place, `folder` if left out.
 connect() {
-    place=${1-folder} asked_of=${2-$LIB} piece=0 merge_parent='' secret=$SECRET closes=no
+    place=${1-folder} asked_of=${2-$LIB} piece=0 merge_parent='' secret=$SECRET closes=no tagged='' shown=''
+    opened_as "$place/$asked_of/status"
     : > asked
     rm -f wanted.*
     : > wanted.0
+}
+
+# opened_as STATUS: the opening number of the library after its next start is that of its state text and one more; 1 in memory.
+opened_as() {
+    before=0
+    [ ! -e "$1" ] || before=$(sed -n 's/.*"opening":\([0-9]*\).*/\1/p' "$1")
+    number=$((${before:-0} + 1))
 }
 
 # given: what the connection is sent. A row may send it in another way.
@@ -76,13 +84,27 @@ hang_up() {
     met "$1"
 }
 
+# tag FILE: each tag of the file has the opening number of the run, and where its count may be any, that of the tag at its place
+# among those that were given.
+tag() {
+    grep -a '^ETag: "' got | sed 's/^[^-]*-\([0-9]*\).*/\1/' > counts || :
+    grep -an '^ETag: "@-' "$1" | cut -d : -f 1 > lines || :
+    paste -d ' ' lines counts | while read -r at given_count; do
+        [ -z "$at" ] || printf '%ss/@-/%s-/;%ss/-[*]/-%s/\n' "$at" "$number" "$at" "${given_count:-none}"
+    done > tags
+    sed -f tags "$1" > with_tags
+    mv with_tags "$1"
+}
+
 # spell: the file wanted has the replies, and the name of the merge, if there is one, is that of a moment of the run.
 spell() {
     cat wanted.0 > wanted
+    tag wanted
     if [ -n "$merge_parent" ]; then
         for merged_at in $(seq "$began" "$ended"); do
             merged=$(make_commit "$merged_at" "$merge_parent" "$merge_second" "$merge_root" 'Auto merge by system' $merge_flag)
             { cat wanted.0; printf '%s' "$merged"; cat wanted.1; } > wanted
+            tag wanted
             ! cmp -s wanted got || break
         done
     fi

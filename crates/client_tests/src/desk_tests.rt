@@ -184,7 +184,7 @@ fn are_packed(ending: &Ending, count: usize) -> bool {
 /// Whether its head is told.
 fn tells_head(alloc: Global, desk: &mut DeskRemote) -> bool {
     let head = desk.depot().head();
-    let ending = own(alloc, desk, What::Head);
+    let ending = own(alloc, desk, What::Head(None));
     is_head(&ending, &head) && is_tagged(&ending)
 }
 
@@ -196,7 +196,7 @@ fn fails(alloc: Global, desk: &mut DeskRemote, what: What, fault: RemoteFault) -
 /// Whether the second of three orders fails, and the others don't.
 fn fails_once(alloc: Global, desk: &mut DeskRemote) -> bool {
     tells_head(alloc, desk)
-        && fails(alloc, desk, What::Head, RemoteFault::Link)
+        && fails(alloc, desk, What::Head(None), RemoteFault::Link)
         && tells_head(alloc, desk)
 }
 
@@ -210,10 +210,10 @@ fn an_order_of_a_number_that_is_to_fail_is_not_asked(rt: HostRuntime) -> Result<
 /// Whether a secret of no token is denied, and no other library is there.
 fn is_alone(alloc: Global, desk: &mut DeskRemote) -> bool {
     is_refused(
-        &sent(alloc, desk, LIB, [0xbb; 20], What::Head),
+        &sent(alloc, desk, LIB, [0xbb; 20], What::Head(None)),
         &Refusal::Denied,
     ) && is_refused(
-        &sent(alloc, desk, OTHER, SECRET, What::Head),
+        &sent(alloc, desk, OTHER, SECRET, What::Head(None)),
         &Refusal::NoLibrary,
     )
 }
@@ -297,7 +297,7 @@ fn has_no_number(alloc: Global, desk: &mut DeskRemote, commit: Bytes) -> bool {
         desk,
         What::Put(key, commit),
         RemoteFault::TooLarge(1_048_577),
-    ) && fails(alloc, desk, What::Head, RemoteFault::Link)
+    ) && fails(alloc, desk, What::Head(None), RemoteFault::Link)
 }
 
 #[test]

@@ -1,7 +1,7 @@
 //! The orders of the tests, by words.
 use http_front::{Order, Row, What};
 use ids::{Bytes, IdList, Items, Key, Kind, LibId, ObjId};
-use library_state::{Op, Secret};
+use library_state::{Op, Secret, Tag};
 use std::alloc::{AllocError, Global};
 
 /// The SHA-1 of `abc`.
@@ -40,7 +40,11 @@ fn plain(word: &str) -> What {
         "limit" => What::Limit(-1),
         "long limit" => What::Limit(-1_000_000_000_000_000_000),
         "collect" => What::Collect,
-        _ => What::Head,
+        "look" => What::Head(Some(Tag {
+            opening: 1,
+            count: 2,
+        })),
+        _ => What::Head(None),
     }
 }
 

@@ -115,7 +115,7 @@ fn a_cut_reply_is_never_whole(rt: HostRuntime) -> Result<(), AllocError> {
 }
 
 /// Beginnings of replies to the question for the head, and what is told of them.
-const FRONTS: [(&str, &str); 17] = [
+const FRONTS: [(&str, &str); 19] = [
     ("HTTP/1.1 20", "Need"),
     ("HTTP/1.0 2", "Bad(7)"),
     ("HTTP/1.0 200 OK\r\nContent-Length: 0\r\n\r\n", "Bad(7)"),
@@ -136,8 +136,19 @@ const FRONTS: [(&str, &str); 17] = [
         "HTTP/1.1 304 Not Modified\r\nETag: \"1-2\"\r\nContent-Length: 5\r\n\r\n",
         "Bad(61)",
     ),
-    ("HTTP/1.1 200 OK\r\nContent-Length: 2\r\n\r\n{", "Need"),
-    ("HTTP/1.1 200 OK\r\nContent-Length: 2\r\n\r\n{}", "Bad(38)"),
+    (
+        "HTTP/1.1 200 OK\r\nETag: \"1-2\"\r\nContent-Length: 2\r\n\r\n{",
+        "Need",
+    ),
+    (
+        "HTTP/1.1 200 OK\r\nETag: \"1-2\"\r\nContent-Length: 2\r\n\r\n{}",
+        "Bad(51)",
+    ),
+    ("HTTP/1.1 200 OK\r\nContent-Length: 2\r\n\r\n{", "Bad(38)"),
+    (
+        "HTTP/1.1 200 OK\r\nETag: \"1-02\"\r\nContent-Length: 2\r\n\r\n{",
+        "Bad(52)",
+    ),
     (
         "HTTP/1.1 403 No\r\nContent-Length: 28\r\nX: y\r\n\r\n{\"b\":[7], \"reason\":\"denied\"}HTTP",
         "Whole { outcome: Refused(Denied), used: 73, closes: false }",
@@ -156,26 +167,26 @@ fn what_is_no_reply_is_told_with_its_place(rt: HostRuntime) -> Result<(), AllocE
 }
 
 /// Orders, replies that tell an id, a row or a path, and what is told.
-const THINGS: [(&str, &str, &str); 16] = [
+const THINGS: [(&str, &str, &str); 18] = [
     (
         "head",
-        "HTTP/1.1 200 OK\r\nContent-Length: 78\r\n\r\n{\"is_corrupted\":0,\"head_commit_id\":\"a9993e364706816aba3e25717850c26c9cd0d89d\"}",
-        "Whole { outcome: Plain(HeadIs(ObjId([169, 153, 62, 54, 71, 6, 129, 106, 186, 62, 37, 113, 120, 80, 194, 108, 156, 208, 216, 157])), Tag { opening: 0, count: 0 }), used: 117, closes: false }",
+        "HTTP/1.1 200 OK\r\nETag: \"1-2\"\r\nContent-Length: 78\r\n\r\n{\"is_corrupted\":0,\"head_commit_id\":\"a9993e364706816aba3e25717850c26c9cd0d89d\"}",
+        "Whole { outcome: Plain(HeadIs(ObjId([169, 153, 62, 54, 71, 6, 129, 106, 186, 62, 37, 113, 120, 80, 194, 108, 156, 208, 216, 157])), Tag { opening: 1, count: 2 }), used: 130, closes: false }",
     ),
     (
         "head",
-        "HTTP/1.1 200 OK\r\nContent-Length: 82\r\n\r\n{\"is_corrupted\":false,\"head_commit_id\":\"a9993e364706816aba3e25717850c26c9cd0d89d\"}",
-        "Whole { outcome: Plain(HeadIs(ObjId([169, 153, 62, 54, 71, 6, 129, 106, 186, 62, 37, 113, 120, 80, 194, 108, 156, 208, 216, 157])), Tag { opening: 0, count: 0 }), used: 121, closes: false }",
+        "HTTP/1.1 200 OK\r\nETag: \"1-2\"\r\nContent-Length: 82\r\n\r\n{\"is_corrupted\":false,\"head_commit_id\":\"a9993e364706816aba3e25717850c26c9cd0d89d\"}",
+        "Whole { outcome: Plain(HeadIs(ObjId([169, 153, 62, 54, 71, 6, 129, 106, 186, 62, 37, 113, 120, 80, 194, 108, 156, 208, 216, 157])), Tag { opening: 1, count: 2 }), used: 134, closes: false }",
     ),
     (
         "head",
-        "HTTP/1.1 200 OK\r\nContent-Length: 61\r\n\r\n{\"head_commit_id\":\"a9993e364706816aba3e25717850c26c9cd0d89d\"}",
-        "Bad(39)",
+        "HTTP/1.1 200 OK\r\nETag: \"1-2\"\r\nContent-Length: 61\r\n\r\n{\"head_commit_id\":\"a9993e364706816aba3e25717850c26c9cd0d89d\"}",
+        "Bad(52)",
     ),
     (
         "update",
-        "HTTP/1.1 200 OK\r\nContent-Length: 78\r\n\r\n{\"is_corrupted\":0,\"head_commit_id\":\"a9993e364706816aba3e25717850c26c9cd0d89d\"}",
-        "Whole { outcome: Plain(Updated(ObjId([169, 153, 62, 54, 71, 6, 129, 106, 186, 62, 37, 113, 120, 80, 194, 108, 156, 208, 216, 157])), Tag { opening: 0, count: 0 }), used: 117, closes: false }",
+        "HTTP/1.1 200 OK\r\nETag: \"1-2\"\r\nContent-Length: 78\r\n\r\n{\"is_corrupted\":0,\"head_commit_id\":\"a9993e364706816aba3e25717850c26c9cd0d89d\"}",
+        "Whole { outcome: Plain(Updated(ObjId([169, 153, 62, 54, 71, 6, 129, 106, 186, 62, 37, 113, 120, 80, 194, 108, 156, 208, 216, 157])), Tag { opening: 1, count: 2 }), used: 130, closes: false }",
     ),
     (
         "put",
@@ -236,6 +247,16 @@ const THINGS: [(&str, &str, &str); 16] = [
         "get",
         "HTTP/1.1 304 Not Modified\r\nETag: \"1-2\"\r\nContent-Length: x\r\n\r\n",
         "Bad(61)",
+    ),
+    (
+        "look",
+        "HTTP/1.1 304 Not Modified\r\nETag: \"1-3\"\r\n\r\n",
+        "Whole { outcome: Same(Tag { opening: 1, count: 3 }), used: 42, closes: false }",
+    ),
+    (
+        "head",
+        "HTTP/1.1 304 Not Modified\r\nETag: \"1-3\"\r\n\r\n",
+        "Bad(42)",
     ),
 ];
 

@@ -42,7 +42,7 @@ fn a_block_is_asked_for_in_one_text(rt: HostRuntime) -> Result<(), AllocError> {
 }
 
 /// Words without a body, and their requests.
-const PATHS: [(&str, &str); 7] = [
+const PATHS: [(&str, &str); 8] = [
     (
         "check",
         "GET /repo/11111111-2222-4333-8444-555555555555/permission-check?op=upload HTTP/1.1\r\nHost: x\r\nSeafile-Repo-Token: aaaaaaaaaaaaaaaaaaaaaaaaaaaaaaaaaaaaaaaa\r\n\r\n",
@@ -50,6 +50,10 @@ const PATHS: [(&str, &str); 7] = [
     (
         "head",
         "GET /repo/11111111-2222-4333-8444-555555555555/commit/HEAD HTTP/1.1\r\nHost: x\r\nSeafile-Repo-Token: aaaaaaaaaaaaaaaaaaaaaaaaaaaaaaaaaaaaaaaa\r\n\r\n",
+    ),
+    (
+        "look",
+        "GET /repo/11111111-2222-4333-8444-555555555555/commit/HEAD HTTP/1.1\r\nHost: x\r\nSeafile-Repo-Token: aaaaaaaaaaaaaaaaaaaaaaaaaaaaaaaaaaaaaaaa\r\nIf-None-Match: \"1-2\"\r\n\r\n",
     ),
     (
         "update",

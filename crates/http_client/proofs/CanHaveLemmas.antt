@@ -6,6 +6,7 @@ use Rattle.serde_json.specs.Data.{Data}
 use Rattle.json_words.specs.JsonText.{json_of}
 use Rattle.library_state.specs.declared.reply.Reply.{Reply}
 use Rattle.library_state.specs.declared.reply.Reply.TheVariants as reply
+use Rattle.library_state.specs.declared.tag.Tag.{Tag}
 use Rattle.http_front.specs.declared.order.What.{What}
 use Rattle.http_front.specs.declared.order.What.TheVariants as what
 use Rattle.http_front.specs.declared.outcome.Outcome.{Outcome}
@@ -13,7 +14,7 @@ use Rattle.http_front.specs.declared.outcome.Outcome.TheVariants.{Version, Same,
 use Rattle.http_front.specs.declared.status.Status.{Status}
 use Rattle.http_front.specs.declared.status.Status.TheVariants as status
 use Rattle.http_client.specs.OrderOutcome.{CanAnswer, CanHave, are_among}
-use Rattle.http_client.specs.OutcomeReading.{IsOutcome, IsPacked, IsRefusal, IsSuccess, absent_of, answered, collected_in, head_in, ids_in, if_empty, told_in, version_in}
+use Rattle.http_client.specs.OutcomeReading.{IsOutcome, IsPacked, IsRefusal, IsSuccess, absent_of, answered, collected_in, head_in, ids_in, if_empty, same_told, state_told, told_in, version_in}
 use Rattle.http_client.specs.RefusalWords.{number_at}
 
 refusal_can : (order : What) (s : Status) (body : List ℕ) (o : Outcome) → IsRefusal order s body (Some o) → CanHave order o
@@ -47,6 +48,11 @@ module _ (order : What) (o : Outcome) where
   mapped_can f can None e = absurd (cc)
   mapped_can f can (Some a) e = by_answer (f a) (can a) e
 
+  -- where a library stands, beside the tag that is there
+  state_can : (says : List ℕ → Reply) → ((id : List ℕ) (tag : Tag) → CanAnswer order (says id)) → (tag : Option Tag) (x : Option (List ℕ)) → Some o ≡ state_told says tag x → CanHave order o
+  state_can says can None x e = absurd (cc)
+  state_can says can (Some tag) x e = mapped_can (λ i. Plain (says i) tag) (λ i. can i tag) x e
+
 version_can : (o : Outcome) (x : Option Data) → Some o ≡ option_and_then version_in x → CanHave what.Version o
 version_can o None e = absurd (cc)
 version_can o (Some d) e = by_number (number_at (codes "version") d) e
@@ -75,33 +81,38 @@ absent_can kind asked o (Some ids) e = by (are_among asked ids) refl e
     by true is e = by_answer (what.Missing kind asked) o (answered (reply.Absent ids)) is e
     by false is e = absurd (cc)
 
-success_can : (order : What) (body : List ℕ) (o : Outcome) → IsSuccess order body (Some o) → CanHave order o
-success_can what.Version body o is = version_can o (json_of body) is
-success_can (what.Check op) body o is = empty_can (what.Check op) o body reply.Checked refl is
-success_can what.Head body o is = mapped_can what.Head o (λ id. answered (reply.HeadIs id)) (λ id. refl) (told_in head_in body) is
-success_can (what.Update commit) body o is = mapped_can (what.Update commit) o (λ id. answered (reply.Updated id)) (λ id. refl) (told_in head_in body) is
-success_can (what.Get key) body o is = by_answer (what.Get key) o (answered (reply.Got body)) refl is
-success_can (what.Put key bytes) body o is = empty_can (what.Put key bytes) o body (reply.Stored true) refl is
-success_can (what.Missing kind ids) body o is = absent_can kind ids o (ids_in body) is
-success_can (what.PutFs rows) body o is = empty_can (what.PutFs rows) o body (reply.Stored true) refl is
-success_can (what.GetFs ids) body o is = packed_can ids body o is
-success_can (what.Ids server client) body o is = mapped_can (what.Ids server client) o (λ ids. answered (reply.Listed ids)) (λ ids. refl) (ids_in body) is
-success_can (what.Limit days) body o is = empty_can (what.Limit days) o body reply.Limited refl is
-success_can what.Collect body o is = collected_can o (json_of body) is
+success_can : (order : What) (tag : Option Tag) (body : List ℕ) (o : Outcome) → IsSuccess order tag body (Some o) → CanHave order o
+success_can what.Version tag body o is = version_can o (json_of body) is
+success_can (what.Check op) tag body o is = empty_can (what.Check op) o body reply.Checked refl is
+success_can (what.Head asked) tag body o is = state_can (what.Head asked) o reply.HeadIs (λ id t. refl) tag (told_in head_in body) is
+success_can (what.Update commit) tag body o is = state_can (what.Update commit) o reply.Updated (λ id t. refl) tag (told_in head_in body) is
+success_can (what.Get key) tag body o is = by_answer (what.Get key) o (answered (reply.Got body)) refl is
+success_can (what.Put key bytes) tag body o is = empty_can (what.Put key bytes) o body (reply.Stored true) refl is
+success_can (what.Missing kind ids) tag body o is = absent_can kind ids o (ids_in body) is
+success_can (what.PutFs rows) tag body o is = empty_can (what.PutFs rows) o body (reply.Stored true) refl is
+success_can (what.GetFs ids) tag body o is = packed_can ids body o is
+success_can (what.Ids server client) tag body o is = mapped_can (what.Ids server client) o (λ ids. answered (reply.Listed ids)) (λ ids. refl) (ids_in body) is
+success_can (what.Limit days) tag body o is = empty_can (what.Limit days) o body reply.Limited refl is
+success_can what.Collect tag body o is = collected_can o (json_of body) is
 
-pub outcome_can : (order : What) (s : Status) (body : List ℕ) (o : Outcome) → IsOutcome order s body (Some o) → CanHave order o
-outcome_can order status.Success body o is = success_can order body o is
-outcome_can order status.NotModified body o is = let bad : Some o ≡ None = is in absurd (cc)
-outcome_can order status.BadRequest body o is = refusal_can order status.BadRequest body o is
-outcome_can order status.Forbidden body o is = refusal_can order status.Forbidden body o is
-outcome_can order status.NotFound body o is = refusal_can order status.NotFound body o is
-outcome_can order status.Conflict body o is = refusal_can order status.Conflict body o is
-outcome_can order status.ContentTooLarge body o is = refusal_can order status.ContentTooLarge body o is
-outcome_can order status.HeadTooLarge body o is = refusal_can order status.HeadTooLarge body o is
-outcome_can order status.TooLarge body o is = refusal_can order status.TooLarge body o is
-outcome_can order status.Damaged body o is = refusal_can order status.Damaged body o is
-outcome_can order status.Incomplete body o is = refusal_can order status.Incomplete body o is
-outcome_can order status.Spent body o is = refusal_can order status.Spent body o is
-outcome_can order status.ServerError body o is = refusal_can order status.ServerError body o is
-outcome_can order status.NotImplemented body o is = refusal_can order status.NotImplemented body o is
-outcome_can order status.Unavailable body o is = refusal_can order status.Unavailable body o is
+same_can : (order : What) (tag : Option Tag) (o : Outcome) → Some o ≡ same_told order tag → CanHave order o
+same_can (what.Head None) tag o e = absurd (cc)
+same_can (what.Head (Some asked)) tag o e = mapped_can (what.Head (Some asked)) o Same (λ t. tt) tag e
+same_can other tag o e = absurd (cc)
+
+pub outcome_can : (order : What) (s : Status) (tag : Option Tag) (body : List ℕ) (o : Outcome) → IsOutcome order s tag body (Some o) → CanHave order o
+outcome_can order status.Success tag body o is = success_can order tag body o is
+outcome_can order status.NotModified tag body o is = same_can order tag o is
+outcome_can order status.BadRequest tag body o is = refusal_can order status.BadRequest body o is
+outcome_can order status.Forbidden tag body o is = refusal_can order status.Forbidden body o is
+outcome_can order status.NotFound tag body o is = refusal_can order status.NotFound body o is
+outcome_can order status.Conflict tag body o is = refusal_can order status.Conflict body o is
+outcome_can order status.ContentTooLarge tag body o is = refusal_can order status.ContentTooLarge body o is
+outcome_can order status.HeadTooLarge tag body o is = refusal_can order status.HeadTooLarge body o is
+outcome_can order status.TooLarge tag body o is = refusal_can order status.TooLarge body o is
+outcome_can order status.Damaged tag body o is = refusal_can order status.Damaged body o is
+outcome_can order status.Incomplete tag body o is = refusal_can order status.Incomplete body o is
+outcome_can order status.Spent tag body o is = refusal_can order status.Spent body o is
+outcome_can order status.ServerError tag body o is = refusal_can order status.ServerError body o is
+outcome_can order status.NotImplemented tag body o is = refusal_can order status.NotImplemented body o is
+outcome_can order status.Unavailable tag body o is = refusal_can order status.Unavailable body o is

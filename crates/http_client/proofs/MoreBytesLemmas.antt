@@ -60,7 +60,9 @@ whole_more order buffer more outcome used ends is =
       has = has_head_more order buffer more is.head is.status is.size is.has;
       used_is = is.used_is;
       there = longer used buffer more is.there;
-      outcome_is = subst (λ (b : List ℕ). IsOutcome order is.status b (Some outcome)) (sym (body_more buffer more is.head is.size fits)) is.outcome_is;
+      tag = is.tag;
+      tag_is = is.tag_is;
+      outcome_is = subst (λ (b : List ℕ). IsOutcome order is.status is.tag b (Some outcome)) (sym (body_more buffer more is.head is.size fits)) is.outcome_is;
       ends_is = is.ends_is;
     }
 
@@ -90,9 +92,9 @@ bad_more order buffer more at (IsBad.in_length is full open_is) =
 bad_more order buffer more at (IsBad.in_head head rest is wrong at_is) =
     let longer_head = front_head_more buffer more head rest is in
     IsBad.in_head head longer_head.0 longer_head.1 wrong at_is
-bad_more order buffer more at (IsBad.in_body head status size has fits tells at_is) =
-    IsBad.in_body head status size (has_head_more order buffer more head status size has) (longer (length (print_response head) + size) buffer more fits)
-    (subst (λ (b : List ℕ). IsOutcome order status b None) (sym (body_more buffer more head size fits)) tells) at_is
+bad_more order buffer more at (IsBad.in_body head status size tag has tag_is fits tells at_is) =
+    IsBad.in_body head status size tag (has_head_more order buffer more head status size has) tag_is (longer (length (print_response head) + size) buffer more fits)
+    (subst (λ (b : List ℕ). IsOutcome order status tag b None) (sym (body_more buffer more head size fits)) tells) at_is
 
 -- ---- a whole reply by itself
 
@@ -130,6 +132,8 @@ whole_alone order buffer outcome used ends is =
       has = record { rest = alone.0; at = alone.1; right = is.has.right };
       used_is = is.used_is;
       there = omega (arith, size_is);
-      outcome_is = subst (λ (b : List ℕ). IsOutcome order is.status b (Some outcome)) (sym same) is.outcome_is;
+      tag = is.tag;
+      tag_is = is.tag_is;
+      outcome_is = subst (λ (b : List ℕ). IsOutcome order is.status is.tag b (Some outcome)) (sym same) is.outcome_is;
       ends_is = is.ends_is;
     }

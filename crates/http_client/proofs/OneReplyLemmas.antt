@@ -3,11 +3,14 @@ use Rattle.std.proofs.Common.{◌≡◌, ℕ, ◌+◌, ◌<◌, nat_le, Bool, tr
 use Rattle.std.proofs.lemmas.Bool.{leb-false, leb-true}
 use Rattle.std.proofs.lemmas.List.{take-append-drop, take-take}
 use Rattle.httparse.specs.Grammar.{ReadsResponse, ResponseHead, print_response}
+use Rattle.library_state.specs.declared.tag.Tag.{Tag}
+use Rattle.http_front.specs.NextHead.{IsTagIn}
 use Rattle.http_front.specs.declared.order.What.{What}
 use Rattle.http_front.specs.declared.outcome.Outcome.{Outcome}
 use Rattle.http_front.specs.declared.status.Status.{Status}
+use Rattle.http_front.proofs.TagLemmas.{tag_once}
 use Rattle.http_client.specs.OutcomeReading.{IsOutcome}
-use Rattle.http_client.specs.ReplyHead.{IsHeadAt, IsRight, IsWrong, MayBecomeHead, NeverHasHead, closes}
+use Rattle.http_client.specs.ReplyHead.{IsHeadAt, IsRight, IsWrong, MayBecomeHead, NeverHasHead, closes, fields_of, tag_field}
 use Rattle.http_client.specs.Response.{HasHead, IsBad, IsCut, IsOpen, IsResponse, IsWhole, NeedsManyFields, body_behind, front_of}
 use Rattle.http_client.specs.declared.response.Response.{Response}
 use Rattle.http_client.specs.declared.response.Response.TheVariants.{Need, Whole, Bad}
@@ -50,12 +53,17 @@ module _ (order : What) (buffer : List ℕ) where
   all_same : (h k : ResponseHead) (s t : Status) (n m : ℕ) → StandsOnce h k s t n m → length (print_response h) + n ≡ length (print_response k) + m
   all_same h k s t n m once = ap₂ (λ (x : ResponseHead) (y : ℕ). length (print_response x) + y) once.head once.size
 
-  outcome_same : (h k : ResponseHead) (s t : Status) (n m : ℕ) (a b : Option Outcome) → StandsOnce h k s t n m → IsOutcome order s (body_behind buffer h n) a
-      → IsOutcome order t (body_behind buffer k m) b → a ≡ b
-  outcome_same h k s t n m a b once is also =
+  -- its tag
+  tag_same : (h k : ResponseHead) (g f : Option Tag) → h ≡ k → IsTagIn (tag_field (fields_of h)) g → IsTagIn (tag_field (fields_of k)) f → g ≡ f
+  tag_same h k g f same is also = tag_once (tag_field (fields_of k)) g f (subst (λ (x : ResponseHead). IsTagIn (tag_field (fields_of x)) g) same is) also
+
+  outcome_same : (h k : ResponseHead) (s t : Status) (n m : ℕ) (g f : Option Tag) (a b : Option Outcome) → StandsOnce h k s t n m → g ≡ f
+      → IsOutcome order s g (body_behind buffer h n) a → IsOutcome order t f (body_behind buffer k m) b → a ≡ b
+  outcome_same h k s t n m g f a b once tag is also =
       let body : body_behind buffer h n ≡ body_behind buffer k m = ap₂ (λ (x : ResponseHead) (y : ℕ). body_behind buffer x y) once.head once.size in
-      outcome_once order t (body_behind buffer k m) a b
-      (subst (λ (x : Status). IsOutcome order x (body_behind buffer k m) a) once.status_is (subst (λ (z : List ℕ). IsOutcome order s z a) body is)) also
+      outcome_once order t f (body_behind buffer k m) a b
+      (subst (λ (x : Status). IsOutcome order x f (body_behind buffer k m) a) once.status_is
+      (subst (λ (x : Option Tag). IsOutcome order s x (body_behind buffer k m) a) tag (subst (λ (z : List ℕ). IsOutcome order s g z a) body is))) also
 
   cut_or_whole : (o : Outcome) (used : ℕ) (ends : Bool) → IsCut order buffer → IsWhole order buffer o used ends → ⊥
   cut_or_whole o used ends (IsCut.in_head less open_is) w = open_is.none w.head w.has.rest w.has.at.reads
@@ -69,11 +77,11 @@ module _ (order : What) (buffer : List ℕ) where
   cut_or_bad at (IsCut.in_head less open_is) (IsBad.in_bytes none inside may never) = open_never buffer at open_is never
   cut_or_bad at (IsCut.in_head less open_is) (IsBad.in_length is full also) = absurd (omega (arith, less, full))
   cut_or_bad at (IsCut.in_head less open_is) (IsBad.in_head head rest is wrong at_is) = absurd (open_is.none head rest is.reads)
-  cut_or_bad at (IsCut.in_head less open_is) (IsBad.in_body head s n has fits tells at_is) = absurd (open_is.none head has.rest has.at.reads)
+  cut_or_bad at (IsCut.in_head less open_is) (IsBad.in_body head s n s_tag has s_tag_is fits tells at_is) = absurd (open_is.none head has.rest has.at.reads)
   cut_or_bad at (IsCut.in_body h s n has short) (IsBad.in_bytes none inside may never) = absurd (none h has.rest has.at)
   cut_or_bad at (IsCut.in_body h s n has short) (IsBad.in_length is full open_is) = absurd (open_is.none h has.rest has.at.reads)
   cut_or_bad at (IsCut.in_body h s n has short) (IsBad.in_head head rest is wrong at_is) = absurd (right_or_wrong h head s n rest has is wrong)
-  cut_or_bad at (IsCut.in_body h s n has short) (IsBad.in_body k t m also fits tells at_is) =
+  cut_or_bad at (IsCut.in_body h s n has short) (IsBad.in_body k t m t_tag also t_tag_is fits tells at_is) =
       let same = all_same h k s t n m (stood_once order buffer h k s t n m has also) in
       absurd (omega (arith, short, same, fits))
 
@@ -81,16 +89,17 @@ module _ (order : What) (buffer : List ℕ) where
   whole_or_bad o used ends at w (IsBad.in_bytes none inside may never) = none w.head w.has.rest w.has.at
   whole_or_bad o used ends at w (IsBad.in_length is full open_is) = open_is.none w.head w.has.rest w.has.at.reads
   whole_or_bad o used ends at w (IsBad.in_head head rest is wrong at_is) = right_or_wrong w.head head w.status w.size rest w.has is wrong
-  whole_or_bad o used ends at w (IsBad.in_body k t m also fits tells at_is) =
+  whole_or_bad o used ends at w (IsBad.in_body k t m t_tag also t_tag_is fits tells at_is) =
+      let once = stood_once order buffer w.head k w.status t w.size m w.has also in
       let bad : ◌≡◌ {A = Option Outcome} (Some o) None =
-      outcome_same w.head k w.status t w.size m (Some o) None (stood_once order buffer w.head k w.status t w.size m w.has also) w.outcome_is tells in
+      outcome_same w.head k w.status t w.size m w.tag t_tag (Some o) None once (tag_same w.head k w.tag t_tag once.head w.tag_is t_tag_is) w.outcome_is tells in
       cc
 
   two_wholes : (o other : Outcome) (used size : ℕ) (ends closes_too : Bool) → IsWhole order buffer o used ends → IsWhole order buffer other size closes_too
       → Whole o used ends ≡ Whole other size closes_too
   two_wholes o other used size ends closes_too w v =
       let once = stood_once order buffer w.head v.head w.status v.status w.size v.size w.has v.has in
-      let outcome : Some o ≡ Some other = outcome_same w.head v.head w.status v.status w.size v.size (Some o) (Some other) once w.outcome_is v.outcome_is in
+      let outcome : Some o ≡ Some other = outcome_same w.head v.head w.status v.status w.size v.size w.tag v.tag (Some o) (Some other) once (tag_same w.head v.head w.tag v.tag once.head w.tag_is v.tag_is) w.outcome_is v.outcome_is in
       let length_is : used ≡ size = w.used_is ∙ all_same w.head v.head w.status v.status w.size v.size once ∙ sym v.used_is in
       let ends_are : ends ≡ closes_too = w.ends_is ∙ ap closes once.head ∙ sym v.ends_is in
       cc (outcome, length_is, ends_are)
@@ -106,20 +115,20 @@ module _ (order : What) (buffer : List ℕ) where
       by false false a b = let l = leb-false (at + 1) place a in let m = leb-false (place + 1) at b in inl (omega (arith, l, m))
   two_bads at place (IsBad.in_bytes none inside may never) (IsBad.in_length is full open_is) = inr (open_never buffer at open_is never)
   two_bads at place (IsBad.in_bytes none inside may never) (IsBad.in_head head rest is wrong at_is) = absurd (none head rest is)
-  two_bads at place (IsBad.in_bytes none inside may never) (IsBad.in_body head s n has fits tells at_is) = absurd (none head has.rest has.at)
+  two_bads at place (IsBad.in_bytes none inside may never) (IsBad.in_body head s n s_tag has s_tag_is fits tells at_is) = absurd (none head has.rest has.at)
   two_bads at place (IsBad.in_length is full open_is) (IsBad.in_bytes none inside may never) = inr (open_never buffer place open_is never)
   two_bads at place (IsBad.in_length is full open_is) (IsBad.in_length is_too full_too open_too) = inl (is ∙ sym is_too)
   two_bads at place (IsBad.in_length is full open_is) (IsBad.in_head head rest head_is wrong at_is) = absurd (open_is.none head rest head_is.reads)
-  two_bads at place (IsBad.in_length is full open_is) (IsBad.in_body head s n has fits tells at_is) = absurd (open_is.none head has.rest has.at.reads)
+  two_bads at place (IsBad.in_length is full open_is) (IsBad.in_body head s n s_tag has s_tag_is fits tells at_is) = absurd (open_is.none head has.rest has.at.reads)
   two_bads at place (IsBad.in_head head rest is wrong at_is) (IsBad.in_bytes none inside may never) = absurd (none head rest is)
   two_bads at place (IsBad.in_head head rest is wrong at_is) (IsBad.in_length same full open_is) = absurd (open_is.none head rest is.reads)
   two_bads at place (IsBad.in_head h rest is wrong at_is) (IsBad.in_head k more also wrong_too place_is) =
       inl (at_is ∙ ap (λ (x : ResponseHead). length (print_response x)) (head_once (front_of buffer) h k rest more is also) ∙ sym place_is)
-  two_bads at place (IsBad.in_head head rest is wrong at_is) (IsBad.in_body k t m has fits tells place_is) = absurd (right_or_wrong k head t m rest has is wrong)
-  two_bads at place (IsBad.in_body head s n has fits tells at_is) (IsBad.in_bytes none inside may never) = absurd (none head has.rest has.at)
-  two_bads at place (IsBad.in_body head s n has fits tells at_is) (IsBad.in_length same full open_is) = absurd (open_is.none head has.rest has.at.reads)
-  two_bads at place (IsBad.in_body h s n has fits tells at_is) (IsBad.in_head head rest is wrong place_is) = absurd (right_or_wrong h head s n rest has is wrong)
-  two_bads at place (IsBad.in_body h s n has fits tells at_is) (IsBad.in_body k t m also fits_too tells_too place_is) =
+  two_bads at place (IsBad.in_head head rest is wrong at_is) (IsBad.in_body k t m t_tag has t_tag_is fits tells place_is) = absurd (right_or_wrong k head t m rest has is wrong)
+  two_bads at place (IsBad.in_body head s n s_tag has s_tag_is fits tells at_is) (IsBad.in_bytes none inside may never) = absurd (none head has.rest has.at)
+  two_bads at place (IsBad.in_body head s n s_tag has s_tag_is fits tells at_is) (IsBad.in_length same full open_is) = absurd (open_is.none head has.rest has.at.reads)
+  two_bads at place (IsBad.in_body h s n s_tag has s_tag_is fits tells at_is) (IsBad.in_head head rest is wrong place_is) = absurd (right_or_wrong h head s n rest has is wrong)
+  two_bads at place (IsBad.in_body h s n s_tag has s_tag_is fits tells at_is) (IsBad.in_body k t m t_tag also t_tag_is fits_too tells_too place_is) =
       inl (at_is ∙ ap (λ (x : ResponseHead). length (print_response x)) (stood_once order buffer h k s t n m has also).head ∙ sym place_is)
 
   -- ---- all of it

@@ -4,6 +4,7 @@ use Rattle.ids.proofs.BasicLemmas.{same_from_some}
 use Rattle.httparse.specs.Grammar.{ResponseHead, status_code}
 use Rattle.httparse.proofs.GrammarLemmas.{response_unique}
 use Rattle.library_state.specs.declared.refusal.Refusal.{Refusal}
+use Rattle.library_state.specs.declared.tag.Tag.{Tag}
 use Rattle.http_front.specs.Fields.{found, values_of}
 use Rattle.http_front.specs.Rows.{IsRowsOf}
 use Rattle.http_front.specs.declared.order.What.{What}
@@ -60,14 +61,14 @@ refusal_once order s body (Some o) (Some other) is also =
     let u = why_in order s body other also in
     ap Some t.is ∙ sym (answered_by order s body t.why t.tells) ∙ answered_by order s body u.why u.tells ∙ sym (ap Some u.is)
 
-success_once : (order : What) (body : List ℕ) (a b : Option Outcome) → IsSuccess order body a → IsSuccess order body b → a ≡ b
-success_once (what.GetFs ids) body a b is also = packed_once ids body a b is also
-success_once other body a b is also = is ∙ sym also
+success_once : (order : What) (tag : Option Tag) (body : List ℕ) (a b : Option Outcome) → IsSuccess order tag body a → IsSuccess order tag body b → a ≡ b
+success_once (what.GetFs ids) tag body a b is also = packed_once ids body a b is also
+success_once other tag body a b is also = is ∙ sym also
 
-pub outcome_once : (order : What) (s : Status) (body : List ℕ) (a b : Option Outcome) → IsOutcome order s body a → IsOutcome order s body b → a ≡ b
-outcome_once order status.Success body a b is also = success_once order body a b is also
-outcome_once order status.NotModified body a b is also = is ∙ sym also
-outcome_once order other body a b is also = refusal_once order other body a b is also
+pub outcome_once : (order : What) (s : Status) (tag : Option Tag) (body : List ℕ) (a b : Option Outcome) → IsOutcome order s tag body a → IsOutcome order s tag body b → a ≡ b
+outcome_once order status.Success tag body a b is also = success_once order tag body a b is also
+outcome_once order status.NotModified tag body a b is also = is ∙ sym also
+outcome_once order other tag body a b is also = refusal_once order other body a b is also
 
 -- ---- heads
 

@@ -96,6 +96,6 @@ told order why can named said = record {
 }
 
 pub refusal_read : (order : What) (why : Refusal) → can_refuse order why ≡ true → NamesThings why → IsSpoken why
-    → IsOutcome order (refused_status why) (refused_body why) (Some (Refused why))
+    → IsOutcome order (refused_status why) None (refused_body why) (Some (Refused why))
 refusal_read order refusal.NoLibrary can named said = told order refusal.NoLibrary can named said
 refusal_read order other can named said = told order other can named said

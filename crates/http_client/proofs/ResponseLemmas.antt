@@ -38,7 +38,7 @@ module _ (order : What) (buffer : List ℕ) (seen : SeenHead) (is : IsSeen order
     body_is behind body there front = front ∙ ap (take size) (there ∙ ap (λ n. drop n buffer) is.size)
 
     module _ (behind body : List ℕ) (there : behind ≡ drop seen.size buffer) (front : body ≡ take size behind) (fits : size ≤ length behind) where
-      pub whole_by : (outcome : Outcome) → IsOutcome order status body (Some outcome) → IsWhole order buffer outcome (seen.size + size) seen.closes
+      pub whole_by : (outcome : Outcome) → IsOutcome order status seen.tag body (Some outcome) → IsWhole order buffer outcome (seen.size + size) seen.closes
       whole_by outcome tells =
           let whole = behind_is behind there in
           let inside = inside_buffer in
@@ -49,17 +49,19 @@ module _ (order : What) (buffer : List ℕ) (seen : SeenHead) (is : IsSeen order
             has = has;
             used_is = ap (λ n. n + size) is.size;
             there = omega (arith, whole, inside, fits);
-            outcome_is = subst (λ b. IsOutcome order status b (Some outcome)) (body_is behind body there front) tells;
+            tag = seen.tag;
+            tag_is = is.tag_is;
+            outcome_is = subst (λ b. IsOutcome order status seen.tag b (Some outcome)) (body_is behind body there front) tells;
             ends_is = is.closes_is;
           }
 
-      pub bad_body_by : IsOutcome order status body None → IsBad order buffer seen.size
+      pub bad_body_by : IsOutcome order status seen.tag body None → IsBad order buffer seen.size
       bad_body_by tells =
           let whole = behind_is behind there in
           let inside = inside_buffer in
           let same = is.size in
-          IsBad.in_body is.head status size has (omega (arith, whole, inside, same, fits))
-          (subst (λ b. IsOutcome order status b None) (body_is behind body there front) tells) is.size
+          IsBad.in_body is.head status size seen.tag has is.tag_is (omega (arith, whole, inside, same, fits))
+          (subst (λ b. IsOutcome order status seen.tag b None) (body_is behind body there front) tells) is.size
 
 -- where no head was seen
 module _ (order : What) (buffer front : List ℕ) (is : front ≡ front_of buffer) where

@@ -294,7 +294,7 @@ query_in _ = []
 pub tail_of : (w : What) → IsTail (query_text w) (query_in w)
 tail_of what.Version = no_query
 tail_of (what.Check op) = with_query (check_query op)
-tail_of what.Head = no_query
+tail_of (what.Head tag) = no_query
 tail_of (what.Update commit) = with_query (update_query commit)
 tail_of (what.Get key) = no_query
 tail_of (what.Put key bytes) = no_query
@@ -337,7 +337,7 @@ query_text_is what.Collect is asked = record { bytes = refl; short = lit≤ tt }
 query_text_is what.Version is asked = record { bytes = refl; short = lit≤ tt }
 query_text_is (what.Check Upload) is asked = record { bytes = refl; short = lit≤ tt }
 query_text_is (what.Check Download) is asked = record { bytes = refl; short = lit≤ tt }
-query_text_is what.Head is asked = record { bytes = refl; short = lit≤ tt }
+query_text_is (what.Head tag) is asked = record { bytes = refl; short = lit≤ tt }
 query_text_is (what.Update commit) is asked = record { bytes = digits_visible commit is; short = let f = forty commit is in omega (arith, f) }
 query_text_is (what.Get key) is asked = record { bytes = refl; short = lit≤ tt }
 query_text_is (what.Put key bytes) is asked = record { bytes = refl; short = lit≤ tt }
@@ -373,7 +373,7 @@ pub route_call : (lib : Option (List ℕ)) (w : What) → IsLibraryOrNone lib �
 route_call None w l i n a = tt
 route_call (Some lib) what.Version l i n a = absurd n
 route_call (Some lib) (what.Check op) l i n a = l
-route_call (Some lib) what.Head l i n a = l
+route_call (Some lib) (what.Head tag) l i n a = l
 route_call (Some lib) (what.Update commit) l i n a = l
 route_call (Some lib) (what.Get key) l i n a = record { lib_is = l; id_size = i.size; id_bytes = i.bytes; kind = a }
 route_call (Some lib) (what.Put key bytes) l i n a = record { lib_is = l; id_size = i.size; id_bytes = i.bytes; kind = a }

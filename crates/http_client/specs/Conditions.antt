@@ -25,7 +25,7 @@ is_listed_kind Block = true
 abbrev pub is_asked : What → Bool
 is_asked what.Version = true
 is_asked (what.Check op) = true
-is_asked what.Head = true
+is_asked (what.Head tag) = true
 is_asked (what.Update commit) = true
 is_asked (what.Get key) = is_path_kind key.kind
 is_asked (what.Put key bytes) = is_path_kind key.kind

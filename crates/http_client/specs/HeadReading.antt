@@ -2,10 +2,11 @@
 use Rattle.std.specs.Prelude.{ℕ, ◌≡◌, ◌≤◌, ◌==◌, ◌||◌, Bool, false, if◌then◌else◌, Option, None, Some, List, [], ◌∷◌, drop, length}
 use Rattle.httparse.specs.Grammar.{ResponseHead, print_response, status_code}
 use Rattle.http_front.specs.Fields.{FieldList}
+use Rattle.http_front.specs.NextHead.{IsTagIn}
 use Rattle.http_front.specs.declared.order.What.{What}
 use Rattle.http_front.specs.declared.status.Status.{Status}
 use Rattle.http_front.specs.declared.status.Status.TheVariants.{Success, NotModified, BadRequest, Forbidden, NotFound, Conflict, ContentTooLarge, HeadTooLarge, TooLarge, Damaged, Incomplete, Spent, ServerError, NotImplemented, Unavailable}
-use Rattle.http_client.specs.ReplyHead.{IsHeadAt, IsRightBy, IsWrongBy, closes, fields_of}
+use Rattle.http_client.specs.ReplyHead.{IsHeadAt, IsRightBy, IsWrongBy, closes, fields_of, tag_field}
 use Rattle.http_client.specs.declared.reply_head.SeenHead.{SeenHead}
 
 -- the status of a number, where it is one of a reply
@@ -41,6 +42,7 @@ pub record IsSeen (order : What) (front : List ℕ) (seen : SeenHead) : Type 0 w
   pub size : seen.size ≡ length (print_response head)
   pub inside : seen.size ≤ length front
   pub told : IsJudgedBy order (status_code head) (fields_of head) seen.told
+  pub tag_is : IsTagIn (tag_field (fields_of head)) seen.tag
   pub closes_is : seen.closes ≡ closes head
 
 -- what follows the ends of lines at the front

@@ -1,6 +1,6 @@
 -- Which outcomes an order can have, whatever of them a reply shows. Our own, by what the calls of a library answer.
 -- Read CanHave first, at the end.
-use Rattle.std.specs.Prelude.{ℕ, ◌≡◌, Bool, true, false, ◌||◌, List, map}
+use Rattle.std.specs.Prelude.{ℕ, ◌≡◌, Bool, true, false, ◌||◌, Some, List, map, ⊤}
 use Rattle.std.specs.List.{list_all, list_any}
 use Rattle.std.specs.Str.{bytes_eq}
 use Rattle.ids.specs.declared.key.Kind.{Kind}
@@ -127,12 +127,17 @@ asks_right (what.Check op) = true
 asks_right _ = false
 
 abbrev pub asks_head : What → Bool
-asks_head what.Head = true
+asks_head (what.Head tag) = true
 asks_head _ = false
 
 abbrev pub asks_object : What → Bool
 asks_object (what.Get key) = true
 asks_object _ = false
+
+-- the head is asked for, and a tag is named
+abbrev pub NamesTag : What → Type 0
+NamesTag (what.Head (Some tag)) = ⊤
+NamesTag _ = ⊥
 
 -- the ids that name nothing were asked for
 abbrev pub CanMiss : What → List (List ℕ) → Type 0
@@ -159,7 +164,7 @@ CanAnswer order (reply.Refused why) = can_refuse order why ≡ true
 -- an order can have that outcome, with any tag
 abbrev pub CanHave : What → Outcome → Type 0
 CanHave order Version = asks_version order ≡ true
-CanHave order (Same tag) = ⊥
+CanHave order (Same tag) = NamesTag order
 CanHave order (Plain told tag) = CanAnswer order told
 CanHave order (Packed rows) = CanPack order rows
 CanHave order (Collected number removed) = asks_collection order ≡ true

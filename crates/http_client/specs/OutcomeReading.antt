@@ -1,5 +1,6 @@
--- The outcome that the body of a reply tells one who gave an order, by the status. What a text does not show is read as
--- fixed: a tag of two zeros, that what was put was new, and that a refusal came before any library was asked.
+-- The outcome that the body of a reply tells one who gave an order, by the status and the tag of its head. What a text does not
+-- show is read as fixed: a tag of two zeros where none is due, that what was put was new, and that a refusal came before any
+-- library was asked.
 -- Read first: OrderOutcome, RefusalReading; here: IsOutcome, at the end.
 use Rattle.std.specs.Prelude.{ℕ, ◌≡◌, ◌<◌, ◌^◌, Bool, true, false, ◌==◌, if◌then◌else◌, Option, None, Some, Ok, List, length, map, option_map, codes, All, ⊤}
 use Rattle.std.specs.Option.{option_and_then}
@@ -13,6 +14,7 @@ use Rattle.library_state.specs.declared.reply.Reply.TheVariants as reply
 use Rattle.library_state.specs.declared.tag.Tag.{Tag}
 use Rattle.http_front.specs.CallQuery.{IsObjectId}
 use Rattle.http_front.specs.IdArray.{ids_of}
+use Rattle.http_front.specs.NextHead.{IsTag}
 use Rattle.http_front.specs.RefusalText.{refused_status}
 use Rattle.http_front.specs.Rows.{IsRow, IsRowsOf}
 use Rattle.http_front.specs.declared.order.What.{What}
@@ -27,7 +29,7 @@ use Rattle.http_client.specs.RefusalReading.{IsSpoken, NamesThings, TellsRefusal
 use Rattle.http_client.specs.RefusalWords.{id_at, number_at}
 use Rattle.http_client.specs.ReplyHead.{status_number}
 
--- the tag of what has none
+-- the tag of what shows none
 abbrev pub no_tag : Tag
 no_tag = record { opening = 0; count = 0 }
 
@@ -64,6 +66,11 @@ has_flag (Some d) = is_flag d
 abbrev pub head_in : Data → Option (List ℕ)
 head_in d = if has_flag (get (codes "is_corrupted") d) then id_at (codes "head_commit_id") d else None
 
+-- where a library stands, told beside the tag of that state
+abbrev pub state_told : (List ℕ → Reply) → Option Tag → Option (List ℕ) → Option Outcome
+state_told says None id = None
+state_told says (Some tag) id = option_map (λ i. Plain (says i) tag) id
+
 abbrev pub absent_of : List (List ℕ) → Option (List (List ℕ)) → Option Outcome
 absent_of asked None = None
 absent_of asked (Some ids) = if are_among asked ids then Some (answered (reply.Absent ids)) else None
@@ -78,19 +85,19 @@ IsPacked ids body (Some (Packed rows)) = IsRowsOf body (Ok rows) × (map row_id 
 IsPacked ids body (Some _) = ⊥
 
 -- what a body tells that comes with success
-abbrev pub IsSuccess : What → List ℕ → Option Outcome → Type 0
-IsSuccess what.Version body told = told ≡ told_in version_in body
-IsSuccess (what.Check op) body told = told ≡ if_empty body reply.Checked
-IsSuccess what.Head body told = told ≡ option_map (λ id. answered (reply.HeadIs id)) (told_in head_in body)
-IsSuccess (what.Update commit) body told = told ≡ option_map (λ id. answered (reply.Updated id)) (told_in head_in body)
-IsSuccess (what.Get key) body told = told ≡ Some (answered (reply.Got body))
-IsSuccess (what.Put key bytes) body told = told ≡ if_empty body (reply.Stored true)
-IsSuccess (what.Missing kind ids) body told = told ≡ absent_of ids (ids_in body)
-IsSuccess (what.PutFs rows) body told = told ≡ if_empty body (reply.Stored true)
-IsSuccess (what.GetFs ids) body told = IsPacked ids body told
-IsSuccess (what.Ids server client) body told = told ≡ option_map (λ ids. answered (reply.Listed ids)) (ids_in body)
-IsSuccess (what.Limit days) body told = told ≡ if_empty body reply.Limited
-IsSuccess what.Collect body told = told ≡ told_in collected_in body
+abbrev pub IsSuccess : What → Option Tag → List ℕ → Option Outcome → Type 0
+IsSuccess what.Version tag body told = told ≡ told_in version_in body
+IsSuccess (what.Check op) tag body told = told ≡ if_empty body reply.Checked
+IsSuccess (what.Head asked) tag body told = told ≡ state_told reply.HeadIs tag (told_in head_in body)
+IsSuccess (what.Update commit) tag body told = told ≡ state_told reply.Updated tag (told_in head_in body)
+IsSuccess (what.Get key) tag body told = told ≡ Some (answered (reply.Got body))
+IsSuccess (what.Put key bytes) tag body told = told ≡ if_empty body (reply.Stored true)
+IsSuccess (what.Missing kind ids) tag body told = told ≡ absent_of ids (ids_in body)
+IsSuccess (what.PutFs rows) tag body told = told ≡ if_empty body (reply.Stored true)
+IsSuccess (what.GetFs ids) tag body told = IsPacked ids body told
+IsSuccess (what.Ids server client) tag body told = told ≡ option_map (λ ids. answered (reply.Listed ids)) (ids_in body)
+IsSuccess (what.Limit days) tag body told = told ≡ if_empty body reply.Limited
+IsSuccess what.Collect tag body told = told ≡ told_in collected_in body
 
 -- the body tells that refusal, which the order can have and which comes with this status
 pub record TellsWhy (order : What) (status : Status) (body : List ℕ) (why : Refusal) : Type 0 where
@@ -105,34 +112,43 @@ IsRefusal order status body None = (why : Refusal) → TellsWhy order status bod
 IsRefusal order status body (Some (Refused why)) = TellsWhy order status body why
 IsRefusal order status body (Some _) = ⊥
 
--- the outcome that a body tells with a status, or none. No order can have the reply that a library still stands as a tag says
-abbrev pub IsOutcome : What → Status → List ℕ → Option Outcome → Type 0
-IsOutcome order Success body told = IsSuccess order body told
-IsOutcome order NotModified body told = told ≡ None
-IsOutcome order status body told = IsRefusal order status body told
+-- that a library is still as it was, told to one who named a tag, by the tag of the reply
+abbrev pub same_to : Option Tag → Option Tag → Option Outcome
+same_to None tag = None
+same_to (Some asked) tag = option_map Same tag
+
+abbrev pub same_told : What → Option Tag → Option Outcome
+same_told (what.Head asked) tag = same_to asked tag
+same_told _ tag = None
+
+-- the outcome that a body tells with a status and a tag, or none
+abbrev pub IsOutcome : What → Status → Option Tag → List ℕ → Option Outcome → Type 0
+IsOutcome order Success tag body told = IsSuccess order tag body told
+IsOutcome order NotModified tag body told = told ≡ same_told order tag
+IsOutcome order status tag body told = IsRefusal order status body told
 
 -- ---- what is read of an outcome that was written
 
-abbrev pub answer_read : Reply → Outcome
-answer_read reply.Checked = answered reply.Checked
-answer_read (reply.HeadIs id) = answered (reply.HeadIs id)
-answer_read (reply.Got bytes) = answered (reply.Got bytes)
-answer_read (reply.Stored is_new) = answered (reply.Stored true)
-answer_read (reply.Absent ids) = answered (reply.Absent ids)
-answer_read (reply.Updated id) = answered (reply.Updated id)
-answer_read reply.Limited = answered reply.Limited
-answer_read (reply.Listed ids) = answered (reply.Listed ids)
-answer_read (reply.Refused why) = Refused why
+abbrev pub answer_read : Reply → Tag → Outcome
+answer_read reply.Checked tag = answered reply.Checked
+answer_read (reply.HeadIs id) tag = Plain (reply.HeadIs id) tag
+answer_read (reply.Got bytes) tag = answered (reply.Got bytes)
+answer_read (reply.Stored is_new) tag = answered (reply.Stored true)
+answer_read (reply.Absent ids) tag = answered (reply.Absent ids)
+answer_read (reply.Updated id) tag = Plain (reply.Updated id) tag
+answer_read reply.Limited tag = answered reply.Limited
+answer_read (reply.Listed ids) tag = answered (reply.Listed ids)
+answer_read (reply.Refused why) tag = Refused why
 
 abbrev pub as_read : Outcome → Outcome
 as_read Version = Version
 as_read (Same tag) = Same tag
-as_read (Plain told tag) = answer_read told
+as_read (Plain told tag) = answer_read told tag
 as_read (Packed rows) = Packed rows
 as_read (Collected count removed) = Collected count removed
 as_read (Refused why) = Refused why
 
--- ids are ids, rows have lengths that are told, numbers have 64 bits, and what a refusal says can be said, as in every outcome
+-- ids are ids, rows have lengths that are told, numbers and those of tags have 64 bits, and what a refusal says can be said, as in every outcome
 -- of a program
 abbrev pub SaysThings : Reply → Type 0
 SaysThings (reply.HeadIs id) = IsObjectId id
@@ -143,7 +159,8 @@ SaysThings (reply.Refused why) = NamesThings why × IsSpoken why
 SaysThings _ = ⊤
 
 abbrev pub TellsThings : Outcome → Type 0
-TellsThings (Plain told tag) = SaysThings told
+TellsThings (Same tag) = IsTag tag
+TellsThings (Plain told tag) = SaysThings told × IsTag tag
 TellsThings (Packed rows) = All IsRow rows
 TellsThings (Collected count removed) = (count < 2 ^ 64) × (removed < 2 ^ 64)
 TellsThings (Refused why) = NamesThings why × IsSpoken why

@@ -10,6 +10,7 @@ use Rattle.http_front.specs.Limits.{field_limit}
 use Rattle.http_front.specs.NextHead.{IsTagIn}
 use Rattle.http_front.specs.RequestHead.{number_in, wants_close}
 use Rattle.http_front.specs.declared.order.What.{What}
+use Rattle.http_front.specs.declared.order.What.TheVariants as what
 use Rattle.http_front.specs.declared.status.Status.{Status}
 use Rattle.http_front.specs.declared.status.Status.TheVariants.{Success, NotModified, BadRequest, Forbidden, NotFound, Conflict, ContentTooLarge, HeadTooLarge, TooLarge, Damaged, Incomplete, Spent, ServerError, NotImplemented, Unavailable}
 
@@ -69,14 +70,25 @@ size_due _ absent = None
 size_due _ (once value) = number_in value
 size_due _ again = None
 
+-- how often a head has a tag
+abbrev pub tag_field : FieldList → Found
+tag_field fields = found (values_of (codes "etag") fields)
+
 -- a tag in its form is there once
 pub record HasTag (fields : FieldList) : Type 0 where
   pub tag : Tag
-  pub there : IsTagIn (found (values_of (codes "etag") fields)) (Some tag)
+  pub there : IsTagIn (tag_field fields) (Some tag)
 
--- whether a reply with this status to that order has to have a tag
+-- what is replied to the order tells of a state of the library
+abbrev pub tells_state : What → Bool
+tells_state (what.Head tag) = true
+tells_state (what.Update commit) = true
+tells_state _ = false
+
+-- whether a reply with this status to that order has to have a tag: that a library is still as it was, and where it stands
 abbrev pub tag_due : What → Status → Bool
 tag_due order NotModified = true
+tag_due order Success = tells_state order
 tag_due order _ = false
 
 abbrev pub IsTagged : Bool → FieldList → Type 0

@@ -6,6 +6,8 @@ use Rattle.std.specs.Char.{is_ascii_alphanumeric}
 use Rattle.hex.specs.Hex.{encode_lower}
 use Rattle.ids.specs.declared.key.Kind.{Kind}
 use Rattle.ids.specs.declared.key.Kind.TheVariants.{Commit, Fs, Block}
+use Rattle.library_state.specs.declared.tag.Tag.{Tag}
+use Rattle.http_front.specs.EntityTag.{tag_text}
 use Rattle.http_front.specs.CallQuery.{check_query, days_query, ids_query, update_query}
 use Rattle.http_front.specs.IdArray.{array_text}
 use Rattle.http_front.specs.ReplyText.{close_line, end_of_line, line}
@@ -30,7 +32,7 @@ missing_route lib Block = route.CheckBlocks lib
 abbrev pub library_route : List ℕ → What → Route
 library_route lib what.Version = route.Version
 library_route lib (what.Check op) = route.Check lib
-library_route lib what.Head = route.Head lib
+library_route lib (what.Head tag) = route.Head lib
 library_route lib (what.Update commit) = route.Update lib
 library_route lib (what.Get key) = route.Get lib key
 library_route lib (what.Put key bytes) = route.Put lib key
@@ -82,6 +84,15 @@ abbrev pub token_line : Option (List ℕ) → List ℕ
 token_line None = []
 token_line (Some secret) = line (codes "Seafile-Repo-Token: ") (encode_lower secret)
 
+-- the tag that is named where the head is asked for
+abbrev pub named_tag : What → Option Tag
+named_tag (what.Head tag) = tag
+named_tag _ = None
+
+abbrev pub match_line : Option Tag → List ℕ
+match_line None = []
+match_line (Some tag) = line (codes "If-None-Match: ") (tag_text tag)
+
 -- the length of the body, with a method that has one
 abbrev pub length_line : Method → ℕ → List ℕ
 length_line method.Get size = []
@@ -93,7 +104,7 @@ length_line method.Other size = []
 unfoldable pub request_with : Order → List ℕ → Bool → List ℕ → List ℕ
 request_with order host closes body =
     start_line (method_in (route_in order.lib order.what)) (target_text order.lib order.what) ++ host_line host ++ token_line order.secret
-    ++ length_line (method_in (route_in order.lib order.what)) (length body) ++ close_line closes ++ end_of_line ++ body
+    ++ match_line (named_tag order.what) ++ length_line (method_in (route_in order.lib order.what)) (length body) ++ close_line closes ++ end_of_line ++ body
 
 -- the request that an order is written as, with `Connection: close` where the connection is to end after it
 abbrev pub request_text : Order → List ℕ → Bool → List ℕ

@@ -1,12 +1,14 @@
 -- The reply that stands at the front of some bytes, for one who gave an order. Read IsResponse first, at the end.
-use Rattle.std.specs.Prelude.{ℕ, ◌≡◌, ◌+◌, ◌<◌, ◌≤◌, Bool, None, Some, List, length, take, drop}
+use Rattle.std.specs.Prelude.{ℕ, ◌≡◌, ◌+◌, ◌<◌, ◌≤◌, Bool, Option, None, Some, List, length, take, drop}
 use Rattle.httparse.specs.Grammar.{HasNoResponse, ResponseHead, print_response}
+use Rattle.library_state.specs.declared.tag.Tag.{Tag}
 use Rattle.http_front.specs.Limits.{head_limit}
+use Rattle.http_front.specs.NextHead.{IsTagIn}
 use Rattle.http_front.specs.declared.order.What.{What}
 use Rattle.http_front.specs.declared.outcome.Outcome.{Outcome}
 use Rattle.http_front.specs.declared.status.Status.{Status}
 use Rattle.http_client.specs.OutcomeReading.{IsOutcome}
-use Rattle.http_client.specs.ReplyHead.{HasNoHead, IsHeadAt, IsRight, IsWrong, MayBecomeHead, NeverHasHead, closes}
+use Rattle.http_client.specs.ReplyHead.{HasNoHead, IsHeadAt, IsRight, IsWrong, MayBecomeHead, NeverHasHead, closes, fields_of, tag_field}
 use Rattle.http_client.specs.declared.response.Response.{Response}
 use Rattle.http_client.specs.declared.response.Response.TheVariants.{Need, Whole, Bad}
 
@@ -43,7 +45,9 @@ pub record IsWhole (order : What) (buffer : List ℕ) (outcome : Outcome) (used 
   pub has : HasHead order buffer head status size
   pub used_is : used ≡ length (print_response head) + size
   pub there : used ≤ length buffer
-  pub outcome_is : IsOutcome order status (body_behind buffer head size) (Some outcome)
+  pub tag : Option Tag
+  pub tag_is : IsTagIn (tag_field (fields_of head)) tag
+  pub outcome_is : IsOutcome order status tag (body_behind buffer head size) (Some outcome)
   pub ends_is : ends ≡ closes head
 
 -- no reply to the order stands at the front, and none will. The place is the first at which no head goes on, else the
@@ -54,9 +58,9 @@ pub data IsBad (order : What) (buffer : List ℕ) (at : ℕ) : Type 0 where
   in_length : at ≡ head_limit → head_limit ≤ length buffer → IsOpen buffer → IsBad order buffer at
   in_head : (head : ResponseHead) (rest : List ℕ) → IsHeadAt (front_of buffer) head rest → IsWrong order head
       → at ≡ length (print_response head) → IsBad order buffer at
-  in_body : (head : ResponseHead) (status : Status) (size : ℕ) → HasHead order buffer head status size
-      → length (print_response head) + size ≤ length buffer
-      → IsOutcome order status (body_behind buffer head size) None
+  in_body : (head : ResponseHead) (status : Status) (size : ℕ) (tag : Option Tag) → HasHead order buffer head status size
+      → IsTagIn (tag_field (fields_of head)) tag → length (print_response head) + size ≤ length buffer
+      → IsOutcome order status tag (body_behind buffer head size) None
       → at ≡ length (print_response head) → IsBad order buffer at
 
 -- what is told of the bytes to one who gave the order

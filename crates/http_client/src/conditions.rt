@@ -54,7 +54,7 @@ fn is_asked(what: &What) -> bool
         What::Missing(kind, _) => is_listed_kind(*kind),
         What::Version
         | What::Check(_)
-        | What::Head
+        | What::Head(_)
         | What::Update(_)
         | What::PutFs(_)
         | What::GetFs(_)
@@ -152,7 +152,7 @@ fn library_limit(what: &What) -> u64
         What::PutFs(_) => 67_108_864,
         What::Version
         | What::Check(_)
-        | What::Head
+        | What::Head(_)
         | What::Update(_)
         | What::Get(_)
         | What::GetFs(_)
@@ -193,7 +193,7 @@ pub fn body_size(order: &Order) -> u64
         What::PutFs(rows) => rows_size(rows.slice()),
         What::Version
         | What::Check(_)
-        | What::Head
+        | What::Head(_)
         | What::Update(_)
         | What::Get(_)
         | What::Ids(_, _)

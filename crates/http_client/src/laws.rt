@@ -27,11 +27,11 @@ pub fn what_is_written_for_an_order_is_read_as_the_order()
         → SpellsOrder (request_text order host ends ++ rest) order ends rest }
 {}
 
-/// The status and the body that a server writes for an outcome are read as that outcome, by whoever gave an order that can
+/// The status, the tag and the body that a server writes for an outcome are read as that outcome, by whoever gave an order that can
 /// have it. What a text doesn't show is read as fixed (`as_read`).
 pub fn the_body_that_is_written_for_an_outcome_is_read_as_the_outcome()
     ensures { (order : What) (outcome : Outcome) → CanHave order outcome → TellsThings outcome
-        → IsOutcome order (parts_of outcome).status (parts_of outcome).body (Some (as_read outcome)) }
+        → IsOutcome order (parts_of outcome).status (parts_of outcome).tag (parts_of outcome).body (Some (as_read outcome)) }
 {}
 
 /// The number by which a client knows a status is the one that the words of a server for it begin with.

@@ -3,7 +3,7 @@ ghost use Rattle.std.specs.Prelude.{◌≡◌, ◌==◌, ◌↔◌, map, option_
 ghost use Rattle.serde_json.specs.View.{view};
 ghost use Rattle.http_front.specs.Rows.{IsRowsOf};
 ghost use Rattle.http_client.specs.OrderOutcome.{are_among, row_id};
-ghost use Rattle.http_client.specs.OutcomeReading.{IsOutcome, IsPacked, IsSuccess, absent_of, answered, collected_in, has_flag, head_in, ids_in, if_empty, no_tag, told_in, version_in};
+ghost use Rattle.http_client.specs.OutcomeReading.{IsOutcome, IsPacked, IsSuccess, absent_of, answered, collected_in, has_flag, head_in, ids_in, if_empty, no_tag, same_to, same_told, state_told, told_in, version_in};
 ghost use Rattle.library_state.specs.declared.reply.Reply.{Reply};
 
 use crate::asked_ids::are_among;
@@ -21,26 +21,32 @@ pub(crate) fn outcome_of(
     alloc: Global,
     order: &What,
     status: Status,
+    tag: Option<Tag>,
     body: &[u8],
 ) -> Result<Option<Outcome>, AllocError>
-    ensures value { IfOk result (IsOutcome order.now status body.now) }
+    ensures value { IfOk result (IsOutcome order.now status tag body.now) }
 {
     match status {
-        Status::Success => success_of(alloc, order, body),
-        Status::NotModified => Ok(None),
+        Status::Success => success_of(alloc, order, tag, body),
+        Status::NotModified => Ok(same_told(order, tag)),
         _ => refusal_of(alloc, order, status, body),
     }
 }
 
 /// What a body tells that comes with success.
-fn success_of(alloc: Global, order: &What, body: &[u8]) -> Result<Option<Outcome>, AllocError>
-    ensures value { IfOk result (IsSuccess order.now body.now) }
+fn success_of(
+    alloc: Global,
+    order: &What,
+    tag: Option<Tag>,
+    body: &[u8],
+) -> Result<Option<Outcome>, AllocError>
+    ensures value { IfOk result (IsSuccess order.now tag body.now) }
 {
     match order {
         What::Version => version_of(alloc, body),
         What::Check(_) => Ok(if_empty(body, Reply::Checked)),
-        What::Head => head_is(alloc, body),
-        What::Update(_) => updated(alloc, body),
+        What::Head(_) => head_is(alloc, tag, body),
+        What::Update(_) => updated(alloc, tag, body),
         What::Get(_) => got(alloc, body),
         What::Put(_, _) => Ok(if_empty(body, Reply::Stored(true))),
         What::Missing(_, ids) => absent_of(alloc, ids.slice(), body),
@@ -114,20 +120,51 @@ fn collected_in(value: &Value) -> Option<Outcome>
     Some(Outcome::Collected { number, removed })
 }
 
-fn head_is(alloc: Global, body: &[u8]) -> Result<Option<Outcome>, AllocError>
-    ensures value { IfOk result (λ told. told ≡ option_map (λ id. answered (Reply.HeadIs id)) (told_in head_in body.now)) }
+/// That a library is still as it was, to one who named a tag.
+fn same_told(order: &What, tag: Option<Tag>) -> Option<Outcome>
+    ensures value { result ≡ same_told order.now tag }
 {
+    match order {
+        What::Head(asked) => same_to(asked, tag),
+        _ => None,
+    }
+}
+
+fn same_to(asked: &Option<Tag>, tag: Option<Tag>) -> Option<Outcome>
+    ensures value { result ≡ same_to asked.now tag }
+{
+    match asked {
+        Some(_) => match tag {
+            Some(tag) => Some(Outcome::Same(tag)),
+            None => None,
+        },
+        None => None,
+    }
+}
+
+/// The commit that a library stands at, beside the tag of that state.
+fn head_is(alloc: Global, tag: Option<Tag>, body: &[u8]) -> Result<Option<Outcome>, AllocError>
+    ensures value { IfOk result (λ told. told ≡ state_told Reply.HeadIs tag (told_in head_in body.now)) }
+{
+    let tag = match tag {
+        Some(tag) => tag,
+        None => return Ok(None),
+    };
     match head_of(alloc, body)? {
-        Some(id) => Ok(Some(answered(Reply::HeadIs(id)))),
+        Some(id) => Ok(Some(Outcome::Plain(Reply::HeadIs(id), tag))),
         None => Ok(None),
     }
 }
 
-fn updated(alloc: Global, body: &[u8]) -> Result<Option<Outcome>, AllocError>
-    ensures value { IfOk result (λ told. told ≡ option_map (λ id. answered (Reply.Updated id)) (told_in head_in body.now)) }
+fn updated(alloc: Global, tag: Option<Tag>, body: &[u8]) -> Result<Option<Outcome>, AllocError>
+    ensures value { IfOk result (λ told. told ≡ state_told Reply.Updated tag (told_in head_in body.now)) }
 {
+    let tag = match tag {
+        Some(tag) => tag,
+        None => return Ok(None),
+    };
     match head_of(alloc, body)? {
-        Some(id) => Ok(Some(answered(Reply::Updated(id)))),
+        Some(id) => Ok(Some(Outcome::Plain(Reply::Updated(id), tag))),
         None => Ok(None),
     }
 }

@@ -5,7 +5,7 @@ ghost use Rattle.http_front.specs.Fields.{fields_at, found, found_at, values_of,
 ghost use Rattle.http_front.specs.NextHead.{IsTagIn};
 ghost use Rattle.http_front.specs.RequestHead.{wants_close};
 ghost use Rattle.http_client.specs.HeadReading.{IsJudgedBy, IsSeen, status_of};
-ghost use Rattle.http_client.specs.ReplyHead.{HasNoHead, IsTagged, size_due, status_number, tag_due};
+ghost use Rattle.http_client.specs.ReplyHead.{HasNoHead, IsTagged, size_due, status_number, tag_due, tag_field, tells_state};
 
 use http_front::{Seen, Status, What, look_for, number_in, read_tag_text, wants_close};
 use httparse::spans::{EMPTY_HEADER_SPAN, HeaderSpan, ResponseSpans, parse_response};
@@ -21,6 +21,8 @@ pub(crate) struct SeenHead {
     pub size: usize,
     /// The status, and how many bytes the body has; none where the head is not right.
     pub told: Option<(Status, u64)>,
+    /// The tag that is there once, if one is.
+    pub tag: Option<Tag>,
     /// Whether the connection ends after the reply.
     pub closes: bool,
 }
@@ -48,11 +50,13 @@ fn seen_head(order: &What, front: &[u8], spans: ResponseSpans, headers: &[Header
     requires fields { All (IsHeaderWithin (length front.now)) headers.now }
     ensures size { result.size ≡ spans.len }
     ensures told { IsJudgedBy order.now spans.code (fields_at front.now headers.now) result.told }
+    ensures found { IsTagIn (tag_field (fields_at front.now headers.now)) result.tag }
     ensures value { result.closes ≡ wants_close (fields_at front.now headers.now) }
 {
     SeenHead {
         size: spans.len,
         told: told_by(order, spans.code, front, headers),
+        tag: tag_in(front, headers),
         closes: wants_close(front, headers),
     }
 }
@@ -102,12 +106,23 @@ fn is_tagged(order: &What, status: Status, front: &[u8], headers: &[HeaderSpan])
     }
 }
 
-/// Whether a reply to an order with this status has to have a tag. No order has one so far, so it is so with 304 alone.
-fn tag_due(_order: &What, status: Status) -> bool
-    ensures value { (order : What) → result ≡ tag_due order status }
+/// Whether a reply to an order with this status has to have a tag.
+fn tag_due(order: &What, status: Status) -> bool
+    ensures value { result ≡ tag_due order.now status }
 {
     match status {
         Status::NotModified => true,
+        Status::Success => tells_state(order),
+        _ => false,
+    }
+}
+
+/// Whether what is replied to the order tells of a state of the library.
+fn tells_state(order: &What) -> bool
+    ensures value { result ≡ tells_state order.now }
+{
+    match order {
+        What::Head(_) | What::Update(_) => true,
         _ => false,
     }
 }
@@ -115,7 +130,7 @@ fn tag_due(_order: &What, status: Status) -> bool
 /// The tag that is there once.
 fn tag_in(front: &[u8], headers: &[HeaderSpan]) -> Option<Tag>
     requires fields { All (IsHeaderWithin (length front.now)) headers.now }
-    ensures value { IsTagIn (found (values_of (codes "etag") (fields_at front.now headers.now))) result }
+    ensures value { IsTagIn (tag_field (fields_at front.now headers.now)) result }
 {
     match look_for(b"etag", front, headers) {
         Seen::Once(span) => read_tag_text(span.of(front)),

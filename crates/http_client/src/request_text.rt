@@ -5,23 +5,24 @@ ghost use Rattle.hex.specs.Hex.{encode_lower};
 ghost use Rattle.ids.specs.Kind.{kind_word};
 ghost use Rattle.uuid.specs.Text.{hyphenated_text, lower};
 ghost use Rattle.http_front.specs.CallQuery.{check_query, days_query, ids_query, op_word, update_query};
+ghost use Rattle.http_front.specs.EntityTag.{tag_text};
 ghost use Rattle.http_front.specs.IdArray.{array_text};
 ghost use Rattle.http_front.specs.ReplyText.{close_line, line};
 ghost use Rattle.http_front.specs.Route.{method_in, path_in, under};
 ghost use Rattle.http_front.specs.Rows.{rows_text};
-ghost use Rattle.http_client.specs.RequestText.{HasRequest, IsHost, IsWithinLimit, length_line, library_route, method_word, missing_route, query_text, request_text, request_with, route_in, start_line, target_text, token_line};
+ghost use Rattle.http_client.specs.RequestText.{HasRequest, IsHost, IsWithinLimit, length_line, library_route, match_line, method_word, missing_route, named_tag, query_text, request_text, request_with, route_in, start_line, target_text, token_line};
 
-use http_front::{Method, Order, Row, What, array_bytes, write_rows};
+use http_front::{Method, Order, Row, What, array_bytes, write_rows, write_tag_text};
 use ids::{Bytes, Key, Kind, LibId, ObjId, Text};
 use itoa::Buffer;
-use library_state::{Op, Secret};
+use library_state::{Op, Secret, Tag};
 use std::alloc::{AllocError, Global};
 
 /// Room for the head of a request to a host with a name of usual length, so that what is made grows no more than once.
 const HEAD_ROOM: usize = 512;
 
 /// The bytes of the request that an order is written as, with `Connection: close` where the connection is to end after
-/// it: one request of HTTP/1.1 (RFC 9112) with the secret of the order as `Seafile-Repo-Token` and its path and query by the
+/// it: one request of HTTP/1.1 (RFC 9112) with the secret of the order as `Seafile-Repo-Token`, the tag that it names as `If-None-Match`, and its path and query by the
 /// table of calls. That a server reads it as this order, whatever follows, says the law
 /// `what_is_written_for_an_order_is_read_as_the_order`.
 ///
@@ -46,7 +47,7 @@ pub fn request_bytes(
         What::PutFs(rows) => rows_request(alloc, order, name, closes, rows.slice()),
         What::Version
         | What::Check(_)
-        | What::Head
+        | What::Head(_)
         | What::Update(_)
         | What::Get(_)
         | What::Ids(_, _)
@@ -99,6 +100,7 @@ fn write_request(
     push_start(&mut out, order, method)?;
     push_line(&mut out, b"Host: ", host)?;
     push_token(&mut out, &order.secret)?;
+    push_match(&mut out, named_tag(&order.what))?;
     push_length(&mut out, method, body.len())?;
     push_close(&mut out, closes)?;
     out.extend_from_slice(b"\r\n")?;
@@ -121,7 +123,9 @@ fn library_method(what: &What) -> Method
     ensures value { (lib : List ℕ) → result ≡ method_in (library_route lib what.now) }
 {
     match what {
-        What::Version | What::Check(_) | What::Head | What::Get(_) | What::Ids(_, _) => Method::Get,
+        What::Version | What::Check(_) | What::Head(_) | What::Get(_) | What::Ids(_, _) => {
+            Method::Get
+        }
         What::Update(_) | What::Put(_, _) | What::Limit(_) => Method::Put,
         What::Missing(kind, _) => method_of_missing(*kind),
         What::PutFs(_) | What::GetFs(_) | What::Collect => Method::Post,
@@ -178,7 +182,7 @@ fn push_library_path(out: &mut Vec<u8>, lib: &LibId, what: &What) -> Result<(), 
     match what {
         What::Version => push(out, b"/protocol-version"),
         What::Check(_) => push_word(out, lib, b"permission-check"),
-        What::Head | What::Update(_) => push_words(out, lib, b"commit", b"HEAD"),
+        What::Head(_) | What::Update(_) => push_words(out, lib, b"commit", b"HEAD"),
         What::Get(key) | What::Put(key, _) => push_object(out, lib, key),
         What::Missing(kind, _) => push_missing(out, lib, *kind),
         What::PutFs(_) => push_word(out, lib, b"recv-fs"),
@@ -249,7 +253,7 @@ fn push_query(out: &mut Vec<u8>, what: &What) -> Result<(), AllocError>
         What::Ids(server, client) => push_difference(out, server, client),
         What::Limit(days) => push_days(out, *days),
         What::Version
-        | What::Head
+        | What::Head(_)
         | What::Get(_)
         | What::Put(_, _)
         | What::Missing(_, _)
@@ -326,6 +330,37 @@ fn push_token(out: &mut Vec<u8>, secret: &Option<Secret>) -> Result<(), AllocErr
         Some(secret) => push_line(out, b"Seafile-Repo-Token: ", &secret.digits()),
         None => Ok(()),
     }
+}
+
+/// The tag that is named where the head is asked for.
+fn named_tag(what: &What) -> Option<Tag>
+    ensures value { result ≡ named_tag what.now }
+{
+    match what {
+        What::Head(tag) => *tag,
+        _ => None,
+    }
+}
+
+/// Appends the tag that the order names, if it names one.
+fn push_match(out: &mut Vec<u8>, tag: Option<Tag>) -> Result<(), AllocError>
+    ensures ok { OnOk result (out.new.items ≡ out.old.items ++ match_line tag) }
+{
+    match tag {
+        Some(tag) => push_tag(out, tag),
+        None => Ok(()),
+    }
+}
+
+/// Appends the line of a tag.
+#[tactic(auto, unfolding(http_front::specs::ReplyText::line))]
+fn push_tag(out: &mut Vec<u8>, tag: Tag) -> Result<(), AllocError>
+    ensures ok { OnOk result (out.new.items ≡ out.old.items ++ line (codes "If-None-Match: ") (tag_text tag)) }
+{
+    out.extend_from_slice(b"If-None-Match: ")?;
+    write_tag_text(out, tag)?;
+    out.extend_from_slice(b"\r\n")?;
+    Ok(())
 }
 
 /// Appends the length of the body, with a method that has one.

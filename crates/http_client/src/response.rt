@@ -34,7 +34,7 @@ pub enum Response {
 ///
 /// The head is one of HTTP/1.1 (RFC 9112, sections 2 to 5), of at most 16,384 bytes and 64 fields. Where the buffer holds
 /// none, `Need` says that one may still come, and `Bad` tells how many bytes of it go on as one. A head that is there has
-/// to be right: a status of ours, a `Content-Length` once, of 1 to 19 digits, and with 304 a tag; else `Bad` tells its
+/// to be right: a status of ours, a `Content-Length` once, of 1 to 19 digits, and a tag once where one is due, which is with 304 and where it tells where a library stands; else `Bad` tells its
 /// length. Then the body has to be there (`Need`), and to tell an outcome that the order can have (`Bad`, with the
 /// length of the head). A refusal has to come with its own status. An object is copied once. The buffer stays as it is, and
 /// nothing is kept from one call to the next, so that after `Need` the same bytes are read again, with more behind them. The
@@ -108,7 +108,7 @@ fn reply_with(
         return Ok(Response::Need);
     }
     let body = in_front(behind, size as usize);
-    match outcome_of(alloc, order, status, body)? {
+    match outcome_of(alloc, order, status, head.tag, body)? {
         Some(outcome) => Ok(Response::Whole {
             outcome,
             used: head.size as u64 + size,

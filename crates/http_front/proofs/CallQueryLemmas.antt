@@ -17,6 +17,7 @@ use Rattle.ids.proofs.DigitsLemmas as digits
 use Rattle.library_state.specs.declared.call.Op.{Op}
 use Rattle.library_state.specs.declared.call.Op.TheVariants.{Upload, Download}
 use Rattle.library_state.specs.declared.refusal.Refusal.{Refusal}
+use Rattle.library_state.specs.declared.tag.Tag.{Tag}
 use Rattle.http_front.specs.CallQuery.{IsClient, IsObjectId, check_query, days_query, ids_query, part_of, update_query}
 use Rattle.http_front.specs.Order.{IsOrder, asked_of, asks_to, asks_what_differs, limits, updates}
 use Rattle.http_front.specs.Query.{and_more, client_asked, day_count, days_asked, days_of, id_asked, op_asked, query_of, value_in, values_in, values_of}
@@ -187,29 +188,29 @@ days_read days short = rw (days_values days short) (text_read days short)
 
 -- ---- orders
 
-pub check_asked : (target lib : List ℕ) (op : Op) (secret : Option (List ℕ)) (body : List ℕ) (due : Result Order Refusal) → IsLibrary lib
-    → path_of target ≡ path_in (route.Check lib) → query_of target ≡ check_query op → IsOrder (method_in (route.Check lib)) target secret body due
+pub check_asked : (target lib : List ℕ) (op : Op) (secret : Option (List ℕ)) (tag : Option Tag) (body : List ℕ) (due : Result Order Refusal) → IsLibrary lib
+    → path_of target ≡ path_in (route.Check lib) → query_of target ≡ check_query op → IsOrder (method_in (route.Check lib)) target secret tag body due
     → due ≡ Ok (asked_of lib secret (what.Check op))
-check_asked target lib op secret body due is path query order =
+check_asked target lib op secret tag body due is path query order =
     (rw (path_names target (route.Check lib) is path, query) at order) ∙ ap (asks_to lib secret) (op_read op)
 
-pub update_asked : (target lib commit : List ℕ) (secret : Option (List ℕ)) (body : List ℕ) (due : Result Order Refusal) → IsLibrary lib → IsObjectId commit
-    → path_of target ≡ path_in (route.Update lib) → query_of target ≡ update_query commit → IsOrder (method_in (route.Update lib)) target secret body due
+pub update_asked : (target lib commit : List ℕ) (secret : Option (List ℕ)) (tag : Option Tag) (body : List ℕ) (due : Result Order Refusal) → IsLibrary lib → IsObjectId commit
+    → path_of target ≡ path_in (route.Update lib) → query_of target ≡ update_query commit → IsOrder (method_in (route.Update lib)) target secret tag body due
     → due ≡ Ok (asked_of lib secret (what.Update commit))
-update_asked target lib commit secret body due is commit_is path query order =
+update_asked target lib commit secret tag body due is commit_is path query order =
     (rw (path_names target (route.Update lib) is path, query) at order)
     ∙ ap (updates lib secret) (id_read_in (codes "head") (update_query commit) commit commit_is (update_values commit commit_is))
 
-pub limit_asked : (target lib : List ℕ) (days : ℤ) (secret : Option (List ℕ)) (body : List ℕ) (due : Result Order Refusal) → IsLibrary lib → unsigned_abs days < 10 ^ 18
-    → path_of target ≡ path_in (route.Limit lib) → query_of target ≡ days_query days → IsOrder (method_in (route.Limit lib)) target secret body due
+pub limit_asked : (target lib : List ℕ) (days : ℤ) (secret : Option (List ℕ)) (tag : Option Tag) (body : List ℕ) (due : Result Order Refusal) → IsLibrary lib → unsigned_abs days < 10 ^ 18
+    → path_of target ≡ path_in (route.Limit lib) → query_of target ≡ days_query days → IsOrder (method_in (route.Limit lib)) target secret tag body due
     → due ≡ Ok (asked_of lib secret (what.Limit days))
-limit_asked target lib days secret body due is short path query order =
+limit_asked target lib days secret tag body due is short path query order =
     (rw (path_names target (route.Limit lib) is path, query) at order) ∙ ap (limits lib secret) (days_read days short)
 
-pub ids_asked : (target lib server : List ℕ) (client secret : Option (List ℕ)) (body : List ℕ) (due : Result Order Refusal) → IsLibrary lib → IsObjectId server → IsClient client
-    → path_of target ≡ path_in (route.Ids lib) → query_of target ≡ ids_query server client → IsOrder (method_in (route.Ids lib)) target secret body due
+pub ids_asked : (target lib server : List ℕ) (client secret : Option (List ℕ)) (tag : Option Tag) (body : List ℕ) (due : Result Order Refusal) → IsLibrary lib → IsObjectId server → IsClient client
+    → path_of target ≡ path_in (route.Ids lib) → query_of target ≡ ids_query server client → IsOrder (method_in (route.Ids lib)) target secret tag body due
     → due ≡ Ok (asked_of lib secret (what.Ids server client))
-ids_asked target lib server client secret body due is server_is client_is path query order =
+ids_asked target lib server client secret tag body due is server_is client_is path query order =
     (rw (path_names target (route.Ids lib) is path, query) at order)
     ∙ ap (λ (s : Option (List ℕ)). asks_what_differs lib secret s (client_asked (ids_query server client)))
     (id_read_in (codes "server-head") (ids_query server client) server server_is (server_values server client server_is client_is))

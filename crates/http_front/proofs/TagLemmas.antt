@@ -1,16 +1,20 @@
--- The text of a tag, read and written: numbers in decimal, with a hyphen between them, in quotes.
-use Rattle.std.proofs.Common.{◌≡◌, ◌≢◌, ℕ, zero, suc, ◌+◌, ◌^◌, ◌<◌, ◌==◌, true, false, List, [], ◌∷◌, ◌++◌, length, get_or, take, drop, refl, sym, ap, subst, ◌∙◌, arith, length-append, Option, None, Some, MatchOption, IsUtf8, inl, inr, Bor, decimal}
+-- The text of a tag, read and written: numbers in decimal, with a hyphen between them, in quotes. One text is that of one tag:
+-- tag_once.
+use Rattle.std.proofs.Common.{◌≡◌, ◌≢◌, ℕ, zero, suc, ◌+◌, ◌^◌, ◌<◌, ◌==◌, true, false, List, [], ◌∷◌, ◌++◌, length, get_or, take, drop, refl, sym, ap, ap₂, subst, ◌∙◌, arith, length-append, Option, None, Some, MatchOption, IsUtf8, inl, inr, Bor, decimal}
 use Rattle.std.specs.List.{list_all, position_or_len}
 use Rattle.std.specs.Char.{is_ascii_digit}
 use Rattle.std.specs.Str.Parse.{IsNumeral, digits_value, without_leading_plus}
 use Rattle.std.proofs.lemmas.Bool.{and_parts}
 use Rattle.std.proofs.lemmas.Bool.Decides.{leb_tells}
-use Rattle.std.proofs.lemmas.Fmt.{decimal_is_IsNumeral, decimal-digits_value, decimal_digit, first_decimal, IsAscii-decimal}
-use Rattle.std.proofs.lemmas.List.{take_at, drop_at, get_or_at, get_or_append_left, drop-drop, take-append-drop, drop_more}
+use Rattle.std.proofs.lemmas.Fmt.{decimal_injective, decimal_is_IsNumeral, decimal-digits_value, decimal_digit, first_decimal, IsAscii-decimal}
+use Rattle.std.proofs.lemmas.List.{append_assoc, take_at, drop_at, get_or_at, get_or_append_left, drop-drop, take-append-drop, drop_more}
 use Rattle.std.proofs.lemmas.List.Sums.{AllPass-from_list_all, position_or_len_is}
 use Rattle.std.proofs.lemmas.Str.{IsUtf8-from_ascii}
 use Rattle.std.proofs.lemmas.Str.Parse.{without_leading_plus_none}
-use Rattle.http_front.specs.EntityTag.{quoted}
+use Rattle.library_state.specs.declared.tag.Tag.{Tag}
+use Rattle.http_front.specs.EntityTag.{quoted, tag_text}
+use Rattle.http_front.specs.Fields.{Found, once}
+use Rattle.http_front.specs.NextHead.{IsTag, IsTagIn}
 use Rattle.http_front.proofs.ElementLemmas.{test_fails}
 use Rattle.http_front.proofs.NumberLemmas.{decimal_digits, digit_in_range, own}
 
@@ -113,3 +117,47 @@ unquotes text rest None first none = λ inner same. none inner (tails rest (inne
     tails : (a b : List ℕ) → 34 ∷ a ≡ 34 ∷ b → a ≡ b
     tails a b same = cc
 unquotes text rest (Some x) first last = first ∙ ap (λ t. 34 ∷ t) last
+
+-- ---- one text is that of one tag
+
+-- what stands behind the quote at the front of a tag's text
+abbrev behind_quote : Tag → List ℕ
+behind_quote tag = decimal tag.opening ++ 45 ∷ (decimal tag.count ++ 34 ∷ [])
+
+text_tail : (a b : Tag) → tag_text a ≡ tag_text b → behind_quote a ≡ behind_quote b
+text_tail a b same =
+    sym (grouped (decimal a.opening) (decimal a.count)) ∙ (ap (drop 1) same ∙ grouped (decimal b.opening) (decimal b.count))
+  where
+    grouped : (o c : List ℕ) → ((o ++ 45 ∷ []) ++ c) ++ 34 ∷ [] ≡ o ++ 45 ∷ (c ++ 34 ∷ [])
+    grouped o c = append_assoc (o ++ 45 ∷ []) c (34 ∷ []) ∙ append_assoc o (45 ∷ []) (c ++ 34 ∷ [])
+
+-- what stands in front of one more byte
+without_last : (a b : List ℕ) → a ++ 34 ∷ [] ≡ b ++ 34 ∷ [] → a ≡ b
+without_last a b same =
+    let long = ap length same in
+    let size : length a ≡ length b = omega (arith, long, length-append a (34 ∷ []), length-append b (34 ∷ [])) in
+    sym (take_at a (34 ∷ []) (length a) refl) ∙ ap (take (length a)) same ∙ take_at b (34 ∷ []) (length a) (sym size)
+
+pub tag_text_once : (a b : Tag) → IsTag a → IsTag b → tag_text a ≡ tag_text b → a ≡ b
+tag_text_once a b fits also same =
+    let text = behind_quote a in
+    let place = position_or_len (λ c. c == 45) text in
+    let one = cut_at_hyphen text a.opening (decimal a.count ++ 34 ∷ []) place fits.opening refl refl in
+    let two = cut_at_hyphen text b.opening (decimal b.count ++ 34 ∷ []) place also.opening (text_tail a b same) refl in
+    let opening : a.opening ≡ b.opening = decimal_injective a.opening b.opening fits.opening also.opening (sym one.front_is ∙ two.front_is) in
+    let count : a.count ≡ b.count =
+    decimal_injective a.count b.count fits.count also.count (without_last (decimal a.count) (decimal b.count) (sym one.back_is ∙ two.back_is)) in
+    ap₂ (λ (o c : ℕ). tag_by o c) opening count
+  where
+    tag_by : ℕ → ℕ → Tag
+    tag_by o c = record { opening = o; count = c }
+
+-- a field tells one tag, or none
+pub tag_once : (field : Found) (a b : Option Tag) → IsTagIn field a → IsTagIn field b → a ≡ b
+tag_once field None None is also = refl
+tag_once field None (Some tag) none is = absurd (none tag is.0 is.1)
+tag_once field (Some tag) None is none = absurd (none tag is.0 is.1)
+tag_once field (Some tag) (Some other) is also = ap Some (tag_text_once tag other is.0 also.0 (value_same (sym is.1 ∙ also.1)))
+  where
+    value_same : {x y : List ℕ} → once x ≡ once y → x ≡ y
+    value_same e = cc

@@ -1,4 +1,4 @@
--- What a request asks for, by its method, target, secret and body. Our own. Read IsOrder first, then Route, Query, Rows,
+-- What a request asks for, by its method, target, secret, tag and body. Our own. Read IsOrder first, then Route, Query, Rows,
 -- IdArray.
 use Rattle.std.specs.Prelude.{◌≡◌, ⊤, ℕ, ℤ, Option, None, Some, Result, Ok, Err, List, codes}
 use Rattle.ids.specs.declared.key.Kind.{Kind}
@@ -8,6 +8,7 @@ use Rattle.json_words.specs.declared.answer.ReadFault.TheVariants.{Bad, NoMemory
 use Rattle.library_state.specs.declared.call.Op.{Op}
 use Rattle.library_state.specs.declared.refusal.Refusal.{Refusal}
 use Rattle.library_state.specs.declared.refusal.Refusal.TheVariants.{NoCall, BadMethod, BadQuery, BadBody}
+use Rattle.library_state.specs.declared.tag.Tag.{Tag}
 use Rattle.http_front.specs.IdArray.{ids_of}
 use Rattle.http_front.specs.Query.{client_asked, days_asked, id_asked, op_asked, query_of}
 use Rattle.http_front.specs.Route.{route_of}
@@ -76,27 +77,27 @@ refusal_without_call method.Put = NoCall
 refusal_without_call method.Post = NoCall
 refusal_without_call method.Other = BadMethod
 
--- the order of a call that the method and the path name, or why it is refused
-abbrev pub IsOrderAt : Option Route → Method → Option (List ℕ) → List ℕ → List ℕ → Result Order Refusal → Type 0
-IsOrderAt None m secret query body due = due ≡ Err (refusal_without_call m)
-IsOrderAt (Some route.Version) m secret query body due = due ≡ Ok (record { lib = None; secret = secret; what = what.Version })
-IsOrderAt (Some (route.Check lib)) m secret query body due = due ≡ asks_to lib secret (op_asked query)
-IsOrderAt (Some (route.Head lib)) m secret query body due = due ≡ Ok (asked_of lib secret what.Head)
-IsOrderAt (Some (route.Update lib)) m secret query body due = due ≡ updates lib secret (id_asked (codes "head") query)
-IsOrderAt (Some (route.Get lib key)) m secret query body due = due ≡ Ok (asked_of lib secret (what.Get key))
-IsOrderAt (Some (route.Put lib key)) m secret query body due = due ≡ Ok (asked_of lib secret (what.Put key body))
-IsOrderAt (Some (route.CheckFs lib)) m secret query body due = due ≡ asks_what_is_absent lib secret Fs (ids_of body)
-IsOrderAt (Some (route.CheckBlocks lib)) m secret query body due = due ≡ asks_what_is_absent lib secret Block (ids_of body)
-IsOrderAt (Some (route.PutFs lib)) m secret query body due = PutsRows lib secret body due
-IsOrderAt (Some (route.GetFs lib)) m secret query body due = due ≡ asks_objects lib secret (ids_of body)
-IsOrderAt (Some (route.Ids lib)) m secret query body due =
+-- the order of a call that the method and the path name, or why it is refused. The tag counts where the head is asked for
+abbrev pub IsOrderAt : Option Route → Method → Option (List ℕ) → Option Tag → List ℕ → List ℕ → Result Order Refusal → Type 0
+IsOrderAt None m secret tag query body due = due ≡ Err (refusal_without_call m)
+IsOrderAt (Some route.Version) m secret tag query body due = due ≡ Ok (record { lib = None; secret = secret; what = what.Version })
+IsOrderAt (Some (route.Check lib)) m secret tag query body due = due ≡ asks_to lib secret (op_asked query)
+IsOrderAt (Some (route.Head lib)) m secret tag query body due = due ≡ Ok (asked_of lib secret (what.Head tag))
+IsOrderAt (Some (route.Update lib)) m secret tag query body due = due ≡ updates lib secret (id_asked (codes "head") query)
+IsOrderAt (Some (route.Get lib key)) m secret tag query body due = due ≡ Ok (asked_of lib secret (what.Get key))
+IsOrderAt (Some (route.Put lib key)) m secret tag query body due = due ≡ Ok (asked_of lib secret (what.Put key body))
+IsOrderAt (Some (route.CheckFs lib)) m secret tag query body due = due ≡ asks_what_is_absent lib secret Fs (ids_of body)
+IsOrderAt (Some (route.CheckBlocks lib)) m secret tag query body due = due ≡ asks_what_is_absent lib secret Block (ids_of body)
+IsOrderAt (Some (route.PutFs lib)) m secret tag query body due = PutsRows lib secret body due
+IsOrderAt (Some (route.GetFs lib)) m secret tag query body due = due ≡ asks_objects lib secret (ids_of body)
+IsOrderAt (Some (route.Ids lib)) m secret tag query body due =
     due ≡ asks_what_differs lib secret (id_asked (codes "server-head") query) (client_asked query)
-IsOrderAt (Some (route.Limit lib)) m secret query body due = due ≡ limits lib secret (days_asked query)
-IsOrderAt (Some (route.Collect lib)) m secret query body due = due ≡ Ok (asked_of lib secret what.Collect)
+IsOrderAt (Some (route.Limit lib)) m secret tag query body due = due ≡ limits lib secret (days_asked query)
+IsOrderAt (Some (route.Collect lib)) m secret tag query body due = due ≡ Ok (asked_of lib secret what.Collect)
 
 -- what a request asks for, or why it is refused before any library is asked
-abbrev pub IsOrder : Method → List ℕ → Option (List ℕ) → List ℕ → Result Order Refusal → Type 0
-IsOrder m target secret body due = IsOrderAt (route_of m target) m secret (query_of target) body due
+abbrev pub IsOrder : Method → List ℕ → Option (List ℕ) → Option Tag → List ℕ → Result Order Refusal → Type 0
+IsOrder m target secret tag body due = IsOrderAt (route_of m target) m secret tag (query_of target) body due
 
 -- the answer is such a one, unless there was no memory for it
 abbrev pub OrdersAs : Result Order OrderFault → (Result Order Refusal → Type 0) → Type 0

@@ -68,22 +68,26 @@ octet_parts body = parts_by Success (codes "application/octet-stream") None body
 abbrev pub refused_parts : Refusal → Parts
 refused_parts refusal = json_parts (refused_status refusal) (refused_body refusal)
 
--- what is replied to a call
-abbrev pub reply_parts : Reply → Parts
-reply_parts reply.Checked = json_parts Success []
-reply_parts (reply.HeadIs id) = json_parts Success (head_body id)
-reply_parts (reply.Got bytes) = octet_parts bytes
-reply_parts (reply.Stored is_new) = json_parts Success []
-reply_parts (reply.Absent ids) = json_parts Success (array_text ids)
-reply_parts (reply.Updated id) = json_parts Success (head_body id)
-reply_parts reply.Limited = json_parts Success []
-reply_parts (reply.Listed ids) = json_parts Success (array_text ids)
-reply_parts (reply.Refused refusal) = refused_parts refusal
+-- a body that tells of a state, beside the tag of that
+abbrev pub tagged_parts : List ℕ → Tag → Parts
+tagged_parts body tag = parts_by Success (codes "application/json") (Some tag) body
+
+-- what is replied to a call, by an answer that tells of the state of this tag
+abbrev pub reply_parts : Reply → Tag → Parts
+reply_parts reply.Checked tag = json_parts Success []
+reply_parts (reply.HeadIs id) tag = tagged_parts (head_body id) tag
+reply_parts (reply.Got bytes) tag = octet_parts bytes
+reply_parts (reply.Stored is_new) tag = json_parts Success []
+reply_parts (reply.Absent ids) tag = json_parts Success (array_text ids)
+reply_parts (reply.Updated id) tag = tagged_parts (head_body id) tag
+reply_parts reply.Limited tag = json_parts Success []
+reply_parts (reply.Listed ids) tag = json_parts Success (array_text ids)
+reply_parts (reply.Refused refusal) tag = refused_parts refusal
 
 abbrev pub parts_of : Outcome → Parts
 parts_of Version = json_parts Success version_body
 parts_of (Same tag) = parts_by NotModified (codes "application/json") (Some tag) []
-parts_of (Plain reply tag) = reply_parts reply
+parts_of (Plain reply tag) = reply_parts reply tag
 parts_of (Packed rows) = octet_parts (rows_text rows)
 parts_of (Collected number removed) = json_parts Success (collected_body number removed)
 parts_of (Refused refusal) = refused_parts refusal

@@ -1,15 +1,17 @@
-//! The tag that a request names.
-ghost use Rattle.std.specs.Prelude.{◌≡◌, ◌<◌, ◌≤◌, ◌==◌, ℕ, List, slice_index, length, All, codes, MatchOption};
+//! The tag that a request names, and the text of a tag.
+ghost use Rattle.std.specs.Prelude.{◌≡◌, ◌<◌, ◌≤◌, ◌==◌, ◌++◌, ℕ, List, slice_index, length, All, codes, MatchOption, OnOk};
 ghost use Rattle.std.specs.List.{position_or_len};
 ghost use Rattle.httparse.specs.Spans.{IsHeaderWithin};
-ghost use Rattle.http_front.specs.EntityTag.{quoted};
+ghost use Rattle.http_front.specs.EntityTag.{quoted, tag_text};
 ghost use Rattle.http_front.specs.Fields.{fields_at, found, values_of};
 ghost use Rattle.http_front.specs.NextHead.{IsNumberText, IsNumbersText, IsTagIn, IsTagText};
 
 use crate::fields::{Seen, look_for};
 use crate::judgement::are_digits;
 use httparse::spans::HeaderSpan;
+use itoa::Buffer;
 use library_state::Tag;
+use std::alloc::AllocError;
 
 /// The tag that is there once.
 pub(crate) fn read_tag(bytes: &[u8], headers: &[HeaderSpan]) -> Option<Tag>
@@ -30,6 +32,20 @@ pub fn read_tag_text(text: &[u8]) -> Option<Tag>
         Some(inner) => read_numbers(inner),
         None => None,
     }
+}
+
+/// Appends the text of a tag. After an error some of it may stand there.
+pub fn write_tag_text(out: &mut Vec<u8>, tag: Tag) -> Result<(), AllocError>
+    ensures ok { OnOk result (out.new.items ≡ out.old.items ++ tag_text tag) }
+{
+    let mut opening = Buffer::new();
+    let mut count = Buffer::new();
+    out.extend_from_slice(b"\"")?;
+    out.extend_from_slice(opening.format(tag.opening).as_bytes())?;
+    out.extend_from_slice(b"-")?;
+    out.extend_from_slice(count.format(tag.count).as_bytes())?;
+    out.extend_from_slice(b"\"")?;
+    Ok(())
 }
 
 /// What stands between a quote at the front and one at the end.

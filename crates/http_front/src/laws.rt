@@ -3,6 +3,7 @@ ghost use Rattle.std.specs.Prelude.{◌≡◌, ◌+◌, ◌^◌, ◌<◌, ◌≤
 ghost use Rattle.ids.specs.declared.key.Kind.{Kind};
 ghost use Rattle.library_state.specs.declared.call.Op.{Op};
 ghost use Rattle.library_state.specs.declared.refusal.Refusal.{Refusal};
+ghost use Rattle.library_state.specs.declared.tag.Tag.{Tag};
 ghost use Rattle.http_front.specs.CallQuery.{IsClient, IsObjectId, check_query, days_query, ids_query, update_query};
 ghost use Rattle.http_front.specs.Limits.{body_limit, field_limit, head_limit, piece_limit, row_front, row_limit};
 ghost use Rattle.http_front.specs.Order.{IsOrder, asked_of};
@@ -77,38 +78,38 @@ pub fn a_call_is_named_by_its_own_method_and_path()
 
 /// A request asks for one thing, or is refused for one cause.
 pub fn a_request_asks_for_one_thing()
-    ensures { (method : Method) (target : List ℕ) (secret : Option (List ℕ)) (body : List ℕ) (due other : Result Order Refusal)
-        → IsOrder method target secret body due → IsOrder method target secret body other → due ≡ other }
+    ensures { (method : Method) (target : List ℕ) (secret : Option (List ℕ)) (tag : Option Tag) (body : List ℕ) (due other : Result Order Refusal)
+        → IsOrder method target secret tag body due → IsOrder method target secret tag body other → due ≡ other }
 {}
 
 /// Whether something may be done is asked by that path and query, whatever body there is.
 pub fn a_check_is_asked_for_by_its_own_query()
-    ensures { (target lib : List ℕ) (op : Op) (secret : Option (List ℕ)) (body : List ℕ) (due : Result Order Refusal) → IsLibrary lib
+    ensures { (target lib : List ℕ) (op : Op) (secret : Option (List ℕ)) (tag : Option Tag) (body : List ℕ) (due : Result Order Refusal) → IsLibrary lib
         → path_of target ≡ path_in (Route.Check lib) → query_of target ≡ check_query op
-        → IsOrder (method_in (Route.Check lib)) target secret body due
+        → IsOrder (method_in (Route.Check lib)) target secret tag body due
         → due ≡ Ok (asked_of lib secret (What.Check op)) }
 {}
 
 /// An update is asked for by that path and query.
 pub fn an_update_is_asked_for_by_its_own_query()
-    ensures { (target lib commit : List ℕ) (secret : Option (List ℕ)) (body : List ℕ) (due : Result Order Refusal) → IsLibrary lib → IsObjectId commit
+    ensures { (target lib commit : List ℕ) (secret : Option (List ℕ)) (tag : Option Tag) (body : List ℕ) (due : Result Order Refusal) → IsLibrary lib → IsObjectId commit
         → path_of target ≡ path_in (Route.Update lib) → query_of target ≡ update_query commit
-        → IsOrder (method_in (Route.Update lib)) target secret body due
+        → IsOrder (method_in (Route.Update lib)) target secret tag body due
         → due ≡ Ok (asked_of lib secret (What.Update commit)) }
 {}
 
 /// For how many days history is kept is set by that path and query, where the number has at most 18 digits.
 pub fn a_limit_is_asked_for_by_its_own_query()
-    ensures { (target lib : List ℕ) (days : ℤ) (secret : Option (List ℕ)) (body : List ℕ) (due : Result Order Refusal) → IsLibrary lib → unsigned_abs days < 10 ^ 18
+    ensures { (target lib : List ℕ) (days : ℤ) (secret : Option (List ℕ)) (tag : Option Tag) (body : List ℕ) (due : Result Order Refusal) → IsLibrary lib → unsigned_abs days < 10 ^ 18
         → path_of target ≡ path_in (Route.Limit lib) → query_of target ≡ days_query days
-        → IsOrder (method_in (Route.Limit lib)) target secret body due
+        → IsOrder (method_in (Route.Limit lib)) target secret tag body due
         → due ≡ Ok (asked_of lib secret (What.Limit days)) }
 {}
 
 /// What one commit needs, and another that may be left out does not, is asked for by that path and query.
 pub fn a_difference_is_asked_for_by_its_own_query()
-    ensures { (target lib server : List ℕ) (client secret : Option (List ℕ)) (body : List ℕ) (due : Result Order Refusal) → IsLibrary lib → IsObjectId server
+    ensures { (target lib server : List ℕ) (client secret : Option (List ℕ)) (tag : Option Tag) (body : List ℕ) (due : Result Order Refusal) → IsLibrary lib → IsObjectId server
         → IsClient client → path_of target ≡ path_in (Route.Ids lib) → query_of target ≡ ids_query server client
-        → IsOrder (method_in (Route.Ids lib)) target secret body due
+        → IsOrder (method_in (Route.Ids lib)) target secret tag body due
         → due ≡ Ok (asked_of lib secret (What.Ids server client)) }
 {}

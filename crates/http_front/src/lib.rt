@@ -36,7 +36,7 @@ mod token;
 
 pub use buffer::{Buffer, FillFault};
 pub use dial::Dial;
-pub use entity_tag::read_tag_text;
+pub use entity_tag::{read_tag_text, write_tag_text};
 pub use expectation::wants_close;
 pub use fields::{Seen, look_for};
 pub use head::{HEAD_LIMIT, Head, Next, next_head};

@@ -12,7 +12,7 @@ use crate::route::{Route, route_of};
 use crate::row::{Row, read_rows};
 use ids::{Bytes, IdList, Items, Key, Kind, LibId, ObjId};
 use json_words::ReadFault;
-use library_state::{Op, Refusal, Secret};
+use library_state::{Op, Refusal, Secret, Tag};
 use std::alloc::Global;
 
 /// What a request asks for, and of which library.
@@ -32,8 +32,8 @@ pub enum What {
     Version,
     /// Whether the one who asks may do this.
     Check(Op),
-    /// The commit that the library stands at.
-    Head,
+    /// The commit that the library stands at, or that it is still as this tag tells, where the request names one.
+    Head(Option<Tag>),
     /// That the library take in this commit.
     Update(ObjId),
     /// The bytes of an object.
@@ -63,24 +63,39 @@ pub enum OrderFault {
     NoMemory,
 }
 
-/// What a request asks for, by its head and its body. What a body holds is copied once.
+/// What a request asks for, by its head and its body. What a body holds is copied once. The tag of the head goes into an order
+/// for the head of a library, and counts for no other.
 ///
 /// The refusals, in the order in which they are looked for: `BadMethod` where the method is not GET, PUT or POST;
 /// `NoCall` where method and path stand in no row of docs/FORMATS.md, "Requests"; `BadQuery` where a value that the row
 /// asks for is not in the query, is there twice (equal or not), or is not of its form; `BadBody` where the body is not of
 /// the form that its row asks for. Whether the library is one that is served, the one who answers the order has to say.
 pub fn order_of(alloc: Global, head: &Head, body: &[u8]) -> Result<Order, OrderFault>
-    ensures value { OrdersAs result (IsOrder head.now.method head.now.target head.now.token body.now) }
+    ensures value { OrdersAs result (IsOrder head.now.method head.now.target head.now.token head.now.tag body.now) }
 {
-    order_in(alloc, head.method, head.target.slice(), head.token, body)
+    order_in(
+        alloc,
+        head.method,
+        head.target.slice(),
+        head.token,
+        head.tag,
+        body,
+    )
 }
 
 /// The same of a body that is handed over. The bytes of an object that is PUT under its key are moved into the order, not
 /// copied; rows are copied.
 pub fn order_of_own(alloc: Global, head: &Head, body: Bytes) -> Result<Order, OrderFault>
-    ensures value { OrdersAs result (IsOrder head.now.method head.now.target head.now.token body) }
+    ensures value { OrdersAs result (IsOrder head.now.method head.now.target head.now.token head.now.tag body) }
 {
-    own_order_in(alloc, head.method, head.target.slice(), head.token, body)
+    own_order_in(
+        alloc,
+        head.method,
+        head.target.slice(),
+        head.token,
+        head.tag,
+        body,
+    )
 }
 
 /// The same, by the parts of a head that count.
@@ -89,13 +104,14 @@ fn own_order_in(
     method: Method,
     target: &str,
     secret: Option<Secret>,
+    tag: Option<Tag>,
     body: Bytes,
 ) -> Result<Order, OrderFault>
-    ensures value { OrdersAs result (IsOrder method target.now secret body) }
+    ensures value { OrdersAs result (IsOrder method target.now secret tag body) }
 {
     match route_of(method, target) {
         None => Err(OrderFault::Refused(refusal_without_call(method))),
-        Some(route) => own_order_at(alloc, route, secret, query_of(target), body),
+        Some(route) => own_order_at(alloc, route, secret, tag, query_of(target), body),
     }
 }
 
@@ -103,14 +119,15 @@ fn own_order_at(
     alloc: Global,
     route: Route,
     secret: Option<Secret>,
+    tag: Option<Tag>,
     query: &str,
     body: Bytes,
 ) -> Result<Order, OrderFault>
-    ensures { OrdersAs result (IsOrderAt (Some route) Method.Get secret query.now body) }
+    ensures { OrdersAs result (IsOrderAt (Some route) Method.Get secret tag query.now body) }
 {
     match route {
         Route::Put(lib, key) => Ok(asked_of(lib, secret, What::Put(key, body))),
-        other => order_at(alloc, other, secret, query, body.slice()),
+        other => order_at(alloc, other, secret, tag, query, body.slice()),
     }
 }
 
@@ -120,13 +137,14 @@ fn order_in(
     method: Method,
     target: &str,
     secret: Option<Secret>,
+    tag: Option<Tag>,
     body: &[u8],
 ) -> Result<Order, OrderFault>
-    ensures value { OrdersAs result (IsOrder method target.now secret body.now) }
+    ensures value { OrdersAs result (IsOrder method target.now secret tag body.now) }
 {
     match route_of(method, target) {
         None => Err(OrderFault::Refused(refusal_without_call(method))),
-        Some(route) => order_at(alloc, route, secret, query_of(target), body),
+        Some(route) => order_at(alloc, route, secret, tag, query_of(target), body),
     }
 }
 
@@ -144,10 +162,11 @@ fn order_at(
     alloc: Global,
     route: Route,
     secret: Option<Secret>,
+    tag: Option<Tag>,
     query: &str,
     body: &[u8],
 ) -> Result<Order, OrderFault>
-    ensures { OrdersAs result (IsOrderAt (Some route) Method.Get secret query.now body.now) }
+    ensures { OrdersAs result (IsOrderAt (Some route) Method.Get secret tag query.now body.now) }
 {
     match route {
         Route::Version => Ok(Order {
@@ -156,7 +175,7 @@ fn order_at(
             what: What::Version,
         }),
         Route::Check(lib) => order_of_check(lib, secret, query),
-        Route::Head(lib) => Ok(asked_of(lib, secret, What::Head)),
+        Route::Head(lib) => Ok(asked_of(lib, secret, What::Head(tag))),
         Route::Update(lib) => order_of_update(lib, secret, query),
         Route::Get(lib, key) => Ok(asked_of(lib, secret, What::Get(key))),
         Route::Put(lib, key) => match Bytes::copy(alloc, body) {

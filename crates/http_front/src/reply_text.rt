@@ -3,9 +3,10 @@ ghost use Rattle.std.specs.Prelude.{◌≡◌, ◌++◌, [], codes, decimal, tru
 ghost use Rattle.http_front.specs.EntityTag.{tag_text};
 ghost use Rattle.http_front.specs.IdArray.{array_text};
 ghost use Rattle.http_front.specs.ReplyBody.{collected_body, head_body, version_body};
-ghost use Rattle.http_front.specs.ReplyText.{HasText, bad_body, bad_text, close_line, interim_text, is_bad_status, json_parts, length_line, line, octet_parts, parts_by, refused_parts, reply_front, reply_parts, tag_line, text, type_line, written};
+ghost use Rattle.http_front.specs.ReplyText.{HasText, bad_body, bad_text, close_line, interim_text, is_bad_status, json_parts, length_line, line, octet_parts, parts_by, refused_parts, reply_front, reply_parts, tag_line, tagged_parts, text, type_line, written};
 ghost use Rattle.http_front.specs.Rows.{FitRows, rows_text};
 
+use crate::entity_tag::write_tag_text;
 use crate::id_array::array_bytes;
 use crate::outcome::Outcome;
 use crate::refusal_text::{reason_body, refused_body, refused_status};
@@ -33,7 +34,7 @@ pub fn reply_bytes(alloc: Global, outcome: &Outcome, closes: bool) -> Result<Byt
     match outcome {
         Outcome::Version => version_bytes(alloc, closes),
         Outcome::Same(tag) => same_bytes(alloc, *tag, closes),
-        Outcome::Plain(reply, _) => answer_bytes(alloc, reply, closes),
+        Outcome::Plain(reply, tag) => answer_bytes(alloc, reply, *tag, closes),
         Outcome::Packed(rows) => packed_bytes(alloc, rows.slice(), closes),
         Outcome::Collected { number, removed } => {
             collected_bytes(alloc, *number, *removed, closes)
@@ -69,18 +70,18 @@ pub fn bad_bytes(alloc: Global, status: u16) -> Result<Bytes, AllocError>
     }
 }
 
-/// The reply to a call.
-fn answer_bytes(alloc: Global, reply: &Reply, closes: bool) -> Result<Bytes, AllocError>
-    ensures value { IfOk result (λ bytes. bytes ≡ written (reply_parts reply.now) closes) }
+/// The reply to a call, by an answer that tells of the state of this tag.
+fn answer_bytes(alloc: Global, reply: &Reply, tag: Tag, closes: bool) -> Result<Bytes, AllocError>
+    ensures value { IfOk result (λ bytes. bytes ≡ written (reply_parts reply.now tag) closes) }
 {
     match reply {
         Reply::Checked | Reply::Stored(_) | Reply::Limited => {
             json_bytes(alloc, Status::Success, &[], closes)
         }
-        Reply::HeadIs(id) => head_bytes(alloc, id, closes),
+        Reply::HeadIs(id) => head_bytes(alloc, id, tag, closes),
         Reply::Got(bytes) => octet_bytes(alloc, bytes.slice(), closes),
         Reply::Absent(ids) => ids_bytes(alloc, ids.slice(), closes),
-        Reply::Updated(id) => head_bytes(alloc, id, closes),
+        Reply::Updated(id) => head_bytes(alloc, id, tag, closes),
         Reply::Listed(ids) => ids_bytes(alloc, ids.slice(), closes),
         Reply::Refused(refusal) => refused_bytes(alloc, refusal, closes),
     }
@@ -108,11 +109,12 @@ fn same_bytes(alloc: Global, tag: Tag, closes: bool) -> Result<Bytes, AllocError
     )
 }
 
-fn head_bytes(alloc: Global, id: &ObjId, closes: bool) -> Result<Bytes, AllocError>
-    ensures value { IfOk result (λ bytes. bytes ≡ written (json_parts Status.Success (head_body id.now)) closes) }
+/// The reply that a library stands at a commit, beside the tag of that state.
+fn head_bytes(alloc: Global, id: &ObjId, tag: Tag, closes: bool) -> Result<Bytes, AllocError>
+    ensures value { IfOk result (λ bytes. bytes ≡ written (tagged_parts (head_body id.now) tag) closes) }
 {
     let body = head_body(alloc, id)?;
-    json_bytes(alloc, Status::Success, body.as_slice(), closes)
+    tagged_bytes(alloc, tag, body.as_slice(), closes)
 }
 
 fn ids_bytes(alloc: Global, ids: &[ObjId], closes: bool) -> Result<Bytes, AllocError>
@@ -162,6 +164,19 @@ fn json_bytes(alloc: Global, status: Status, body: &[u8], closes: bool) -> Resul
     ensures value { IfOk result (λ bytes. bytes ≡ written (json_parts status body.now) closes) }
 {
     write_reply(alloc, status, b"application/json", None, body, closes)
+}
+
+fn tagged_bytes(alloc: Global, tag: Tag, body: &[u8], closes: bool) -> Result<Bytes, AllocError>
+    ensures value { IfOk result (λ bytes. bytes ≡ written (tagged_parts body.now tag) closes) }
+{
+    write_reply(
+        alloc,
+        Status::Success,
+        b"application/json",
+        Some(tag),
+        body,
+        closes,
+    )
 }
 
 /// The reply of an object of these bytes.
@@ -287,13 +302,9 @@ fn push_tag(out: &mut Vec<u8>, tag: Option<Tag>) -> Result<(), AllocError>
 fn push_quoted(out: &mut Vec<u8>, tag: Tag) -> Result<(), AllocError>
     ensures ok { OnOk result (out.new.items ≡ out.old.items ++ line (codes "ETag: ") (tag_text tag)) }
 {
-    let mut opening = Buffer::new();
-    let mut count = Buffer::new();
-    out.extend_from_slice(b"ETag: \"")?;
-    out.extend_from_slice(opening.format(tag.opening).as_bytes())?;
-    out.extend_from_slice(b"-")?;
-    out.extend_from_slice(count.format(tag.count).as_bytes())?;
-    out.extend_from_slice(b"\"\r\n")?;
+    out.extend_from_slice(b"ETag: ")?;
+    write_tag_text(out, tag)?;
+    out.extend_from_slice(b"\r\n")?;
     Ok(())
 }
 

@@ -46,6 +46,7 @@ use Rattle.worker_server.specs.declared.host.Answer.{Answer}
 use Rattle.server_words.specs.declared.command.Location.{Location}
 use Rattle.server_words.specs.declared.command.Location.TheVariants.{Memory}
 use Rattle.library_server.specs.Answering.{AnswersOn, IsCaused, IsCausedReply}
+use Rattle.library_server.specs.Counting.{OpenedView}
 use Rattle.library_server.specs.Starting.{IsOfOpening, laid_commit, laid_text, memory_library}
 use Rattle.library_server.specs.Making.{first_of, new_commit}
 use Rattle.library_server.specs.declared.not_done.NotBrought.{NotBrought}
@@ -289,21 +290,21 @@ made_gives lib shows state moment shown same gives =
 module _ {S : Type 0} (contents : S → Option Contents) (may_give : S → Slot → Option (List ℕ) → Type 0) (texts faults : S → ℕ) (shows : ℕ → Type 0)
     (gives : Slot → Option (List ℕ) → Type 0) where
   -- a call on the library, or on another, which isn't there
-  pub call_caused : (u : DepotView S) (lib : List ℕ) (call : Call) (answer : Answer) (operations : List ⊤) (v : DepotView S) → Harmless gives (may_give u.store.shelf)
+  pub call_caused : (u : OpenedView S) (lib : List ℕ) (call : Call) (answer : Answer) (operations : List ⊤) (v : OpenedView S) → Harmless gives (may_give u.depot.store.shelf)
       → AtAMoment shows (AnswersOn contents may_give texts faults) u lib call answer operations v
-      → IsCausedReply gives answer.reply × Harmless gives (may_give v.store.shelf)
-  call_caused u lib call answer operations v harmless (moment, shown, answers) = by (bytes_eq lib u.state.lib) refl
+      → IsCausedReply gives answer.reply × Harmless gives (may_give v.depot.store.shelf)
+  call_caused u lib call answer operations v harmless (moment, shown, answers) = by (bytes_eq lib u.depot.state.lib) refl
     where
-      by : (b : Bool) → bytes_eq lib u.state.lib ≡ b → IsCausedReply gives answer.reply × Harmless gives (may_give v.store.shelf)
+      by : (b : Bool) → bytes_eq lib u.depot.state.lib ≡ b → IsCausedReply gives answer.reply × Harmless gives (may_give v.depot.store.shelf)
       by true same =
-          let answered = answers.here ((bytes_eq-Decides lib u.state.lib).0 same) in
-          let later = harmless_then gives (may_give u.store.shelf) (may_give v.store.shelf) u.state.lib call.act harmless answered.gives in (
-            reply_back gives (may_give v.store.shelf) later answer.reply
-                (answer_caused (may_give v.store.shelf) u.store.index call.act (decided u.state call) answer.reply (decided_undamaged u.state call) answered.serves.may_come),
+          let answered = answers.here ((bytes_eq-Decides lib u.depot.state.lib).0 same) in
+          let later = harmless_then gives (may_give u.depot.store.shelf) (may_give v.depot.store.shelf) u.depot.state.lib call.act harmless answered.gives in (
+            reply_back gives (may_give v.depot.store.shelf) later answer.reply
+                (answer_caused (may_give v.depot.store.shelf) u.depot.store.index call.act (decided u.depot.state call) answer.reply (decided_undamaged u.depot.state call) answered.serves.may_come),
             later,
           )
       by false other =
-          let none = answers.elsewhere (λ same. true≢false (sym ((bytes_eq-Decides lib u.state.lib).1 same) ∙ other)) in (
+          let none = answers.elsewhere (λ same. true≢false (sym ((bytes_eq-Decides lib u.depot.state.lib).1 same) ∙ other)) in (
             subst (IsCausedReply gives) (sym none.0) tt,
-            subst (λ (w : DepotView S). Harmless gives (may_give w.store.shelf)) (sym none.1) harmless,
+            subst (λ (w : OpenedView S). Harmless gives (may_give w.depot.store.shelf)) (sym none.1) harmless,
           )

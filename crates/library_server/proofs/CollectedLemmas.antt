@@ -23,6 +23,7 @@ use Rattle.object_store.specs.StoreView.{objects_of}
 use Rattle.object_store.specs.declared.shelf.Slot.{Slot}
 use Rattle.worker_server.specs.declared.host.Collected.TheVariants as collected
 use Rattle.library_server.specs.Collecting.{CollectsOn, EndsAs, TakesTurns, TellsTurns, TurnsOn, ended, endless, most_in_turn, number_running, told_removed}
+use Rattle.library_server.specs.Counting.{OpenedView}
 
 some_same : {A : Type 0} {x y : A} → Some x ≡ Some y → x ≡ y
 some_same e = cc
@@ -84,14 +85,14 @@ module _ {S : Type 0} (contents : S → Option Contents) (may_give : S → Slot 
       or_first (is_needed t.objects t.state.kept key) (is_fresh s.running key) first u.running key of (ap (λ (o : Option Running). is_fresh o key) (running_is contents faults u s told))
       (subst (λ (z : State). is_stored z.objects key ≡ true → (is_needed z.objects z.state.kept key || is_fresh s.running key) ≡ true) same clean stored)
 
-  turns_left : (first : Option Running) (u : DepotView S) (goal : Option ℕ) (before : List Turn) (number : ℕ) (v : DepotView S) (s : State) → state_of contents faults u ≡ Some s
-      → FreshOf first u.running → TurnsOn contents may_give texts faults shows u goal (before ++ Ended number ∷ []) v → IsLeft first v
-  turns_left first u goal [] number v s told of (moment, mid, shown, takes, good, same) =
-      subst (IsLeft first) (sym same) (ended_left first u goal moment number mid s told of takes)
-  turns_left first u goal (turn ∷ before) number v s told of (moment, mid, shown, takes, good, more) =
+  turns_left : (first : Option Running) (u : OpenedView S) (goal : Option ℕ) (before : List Turn) (number : ℕ) (v : OpenedView S) (s : State) → state_of contents faults u.depot ≡ Some s
+      → FreshOf first u.depot.running → TurnsOn contents may_give texts faults shows u goal (before ++ Ended number ∷ []) v → IsLeft first v.depot
+  turns_left first u goal [] number v s told of (moment, mid, shown, takes, good, counts, same) =
+      subst (λ (w : OpenedView S). IsLeft first w.depot) (sym same) (ended_left first u.depot goal moment number mid.depot s told of takes)
+  turns_left first u goal (turn ∷ before) number v s told of (moment, mid, shown, takes, good, counts, more) =
       let tells = takes.told s told in
-      turns_left first mid (number_running mid) before number v tells.state tells.left
-      (subst (FreshOf first) (sym takes.runs) (fresh_after (map.len u.store.index) first u.running turn of)) more
+      turns_left first mid (number_running mid.depot) before number v tells.state tells.left
+      (subst (FreshOf first) (sym takes.runs) (fresh_after (map.len u.depot.store.index) first u.depot.running turn of)) more
 
   -- ---- a collection that was told as done
 
@@ -108,27 +109,27 @@ module _ {S : Type 0} (contents : S → Option Contents) (may_give : S → Slot 
       by (Over n) at tells = absurd tells
       by (Refused why keys) at tells = cc
 
-  taken_left : (old : DepotView S) (number removed : ℕ) (new : DepotView S) (s : State) → state_of contents faults old ≡ Some s
-      → TakesTurns contents may_give texts faults shows old (collected.Done number removed) new → IsLeft s.running new
+  taken_left : (old : OpenedView S) (number removed : ℕ) (new : OpenedView S) (s : State) → state_of contents faults old.depot ≡ Some s
+      → TakesTurns contents may_give texts faults shows old (collected.Done number removed) new → IsLeft s.running new.depot
   taken_left old number removed new s told takes =
       let end = done_ends takes.0 number removed takes.2 in
-      turns_left s.running old None end.0 end.1 new s told (λ key fresh. ap (λ (o : Option Running). is_fresh o key) (running_is contents faults old s told) ∙ fresh)
+      turns_left s.running old None end.0 end.1 new s told (λ key fresh. ap (λ (o : Option Running). is_fresh o key) (running_is contents faults old.depot s told) ∙ fresh)
       (subst (λ turns. TurnsOn contents may_give texts faults shows old None turns new) end.2 takes.1)
 
-  pub left_needed : (old new : DepotView S) (lib : List ℕ) (secret : Option (List ℕ)) (number removed : ℕ) (lines : List ⊤) (s t : State)
-      → state_of contents faults old ≡ Some s → state_of contents faults new ≡ Some t
+  pub left_needed : (old new : OpenedView S) (lib : List ℕ) (secret : Option (List ℕ)) (number removed : ℕ) (lines : List ⊤) (s t : State)
+      → state_of contents faults old.depot ≡ Some s → state_of contents faults new.depot ≡ Some t
       → CollectsOn contents may_give texts faults shows old lib secret (collected.Done number removed) lines new
       → (key : Key) → is_stored t.objects key ≡ true → (is_needed t.objects t.state.kept key || is_fresh s.running key) ≡ true
   left_needed old new lib secret number removed lines s t told after collects key stored =
-      by (bytes_eq lib old.state.lib) (permits_collection (token_of old.state.tokens secret)) refl refl
+      by (bytes_eq lib old.depot.state.lib) (permits_collection (token_of old.depot.state.tokens secret)) refl refl
     where
-      by : (here may : Bool) → bytes_eq lib old.state.lib ≡ here → permits_collection (token_of old.state.tokens secret) ≡ may → (is_needed t.objects t.state.kept key || is_fresh s.running key) ≡ true
-      by true true same is = taken_left old number removed new s told (collects.here ((bytes_eq-Decides lib old.state.lib).0 same) is) t after key stored
-      by true false same is = let other = (collects.denied ((bytes_eq-Decides lib old.state.lib).0 same) is).0 in cc
-      by false may other is = let away = (collects.elsewhere (λ same. true≢false (sym ((bytes_eq-Decides lib old.state.lib).1 same) ∙ other))).0 in cc
+      by : (here may : Bool) → bytes_eq lib old.depot.state.lib ≡ here → permits_collection (token_of old.depot.state.tokens secret) ≡ may → (is_needed t.objects t.state.kept key || is_fresh s.running key) ≡ true
+      by true true same is = taken_left old number removed new s told (collects.here ((bytes_eq-Decides lib old.depot.state.lib).0 same) is) t after key stored
+      by true false same is = let other = (collects.denied ((bytes_eq-Decides lib old.depot.state.lib).0 same) is).0 in cc
+      by false may other is = let away = (collects.elsewhere (λ same. true≢false (sym ((bytes_eq-Decides lib old.depot.state.lib).1 same) ∙ other))).0 in cc
 
-  pub began_needed : (old new : DepotView S) (lib : List ℕ) (secret : Option (List ℕ)) (number removed : ℕ) (lines : List ⊤) (s t : State)
-      → state_of contents faults old ≡ Some s → state_of contents faults new ≡ Some t → s.running ≡ None
+  pub began_needed : (old new : OpenedView S) (lib : List ℕ) (secret : Option (List ℕ)) (number removed : ℕ) (lines : List ⊤) (s t : State)
+      → state_of contents faults old.depot ≡ Some s → state_of contents faults new.depot ≡ Some t → s.running ≡ None
       → CollectsOn contents may_give texts faults shows old lib secret (collected.Done number removed) lines new
       → (key : Key) → is_stored t.objects key ≡ true → is_needed t.objects t.state.kept key ≡ true
   began_needed old new lib secret number removed lines s t told after idle collects key stored =

@@ -16,6 +16,7 @@ use Rattle.object_store.specs.declared.shelf.Slot.{Slot}
 use Rattle.worker_server.specs.declared.host.Collected.{Collected}
 use Rattle.worker_server.specs.declared.host.Collected.TheVariants as collected
 use Rattle.library_server.specs.Collecting.{EndsAs, StepsSo, TakesTurns, TurnsOn, ended, endless, goes_on, most_in_turn, number_running, removed_by, told_removed}
+use Rattle.library_server.specs.Counting.{IsCounted, OpenedView}
 use Rattle.library_server.specs.declared.collecting.Step.TheVariants as step
 
 -- ---- one turn more
@@ -32,43 +33,45 @@ goal_then goal [] depot = goal
 goal_then goal (turn ∷ turns) depot = number_running depot
 
 module _ {S : Type 0} (contents : S → Option Contents) (may_give : S → Slot → Option (List ℕ) → Type 0) (texts faults : S → ℕ) (shows : ℕ → Type 0) where
-  pub turns_push : (u : DepotView S) (goal : Option ℕ) (turns : List Turn) (mid v : DepotView S) (moment : ℕ) (turn : Turn) → TurnsOn contents may_give texts faults shows u goal turns mid → shows moment
-      → TakesTurn contents may_give texts faults mid (goal_then goal turns mid) moment most_in_turn turn v → IsGood contents faults v → TurnsOn contents may_give texts faults shows u goal (turns ++ turn ∷ []) v
-  turns_push u goal [] mid v moment turn same shown takes good =
-      (moment, v, shown, subst (λ (w : DepotView S). TakesTurn contents may_give texts faults w goal moment most_in_turn turn v) same takes, good, refl)
-  turns_push u goal (t ∷ turns) mid v moment turn (first_moment, first, first_shown, first_takes, first_good, rest) shown takes good =
-      (first_moment, first, first_shown, first_takes, first_good, turns_push first (number_running first) turns mid v moment turn rest shown (by turns rest takes) good)
+  pub turns_push : (u : OpenedView S) (goal : Option ℕ) (turns : List Turn) (mid v : OpenedView S) (moment : ℕ) (turn : Turn) → TurnsOn contents may_give texts faults shows u goal turns mid → shows moment
+      → TakesTurn contents may_give texts faults mid.depot (goal_then goal turns mid.depot) moment most_in_turn turn v.depot → IsGood contents faults v.depot → IsCounted contents faults mid v → TurnsOn contents may_give texts faults shows u goal (turns ++ turn ∷ []) v
+  turns_push u goal [] mid v moment turn same shown takes good counts =
+      let at = subst (λ (w : OpenedView S). TakesTurn contents may_give texts faults w.depot goal moment most_in_turn turn v.depot × IsCounted contents faults w v) same (takes, counts) in
+      (moment, v, shown, at.0, good, at.1, refl)
+  turns_push u goal (t ∷ turns) mid v moment turn (first_moment, first, first_shown, first_takes, first_good, first_counts, rest) shown takes good counts =
+      (first_moment, first, first_shown, first_takes, first_good, first_counts, turns_push first (number_running first.depot) turns mid v moment turn rest shown (by turns rest takes) good counts)
     where
-      by : (ts : List Turn) → TurnsOn contents may_give texts faults shows first (number_running first) ts mid → TakesTurn contents may_give texts faults mid (number_running mid) moment most_in_turn turn v
-          → TakesTurn contents may_give texts faults mid (goal_then (number_running first) ts mid) moment most_in_turn turn v
-      by [] same taken = subst (λ (w : DepotView S). TakesTurn contents may_give texts faults mid (number_running w) moment most_in_turn turn v) same taken
+      by : (ts : List Turn) → TurnsOn contents may_give texts faults shows first (number_running first.depot) ts mid
+          → TakesTurn contents may_give texts faults mid.depot (number_running mid.depot) moment most_in_turn turn v.depot
+          → TakesTurn contents may_give texts faults mid.depot (goal_then (number_running first.depot) ts mid.depot) moment most_in_turn turn v.depot
+      by [] same taken = subst (λ (w : OpenedView S). TakesTurn contents may_give texts faults mid.depot (number_running w.depot) moment most_in_turn turn v.depot) same taken
       by (x ∷ ts) more taken = taken
 
   -- ---- the turns so far
 
   -- so many turns were taken, each of which went on, and so many objects were removed
-  pub record IsCollecting (old : DepotView S) (goal : Option ℕ) (removed taken : ℕ) (now : DepotView S) : Type 0 where
+  pub record IsCollecting (old : OpenedView S) (goal : Option ℕ) (removed taken : ℕ) (now : OpenedView S) : Type 0 where
     pub turns : List Turn
     pub on : TurnsOn contents may_give texts faults shows old None turns now
     pub goes : AllByRecursion (λ turn. goes_on turn ≡ true) turns
-    pub goal_is : goal ≡ goal_then None turns now
+    pub goal_is : goal ≡ goal_then None turns now.depot
     pub sum : removed ≡ told_removed turns
     pub count : length turns ≡ taken
 
-  pub none_taken : (old : DepotView S) → IsCollecting old None 0 0 old
+  pub none_taken : (old : OpenedView S) → IsCollecting old None 0 0 old
   none_taken old = record { turns = []; on = refl; goes = tt; goal_is = refl; sum = refl; count = refl }
 
-  module _ (old mid v : DepotView S) (goal : Option ℕ) (removed taken moment : ℕ) (turn : Turn) (so_far : IsCollecting old goal removed taken mid) (shown : shows moment)
-      (takes : TakesTurn contents may_give texts faults mid goal moment most_in_turn turn v) (good : IsGood contents faults v) where
+  module _ (old mid v : OpenedView S) (goal : Option ℕ) (removed taken moment : ℕ) (turn : Turn) (so_far : IsCollecting old goal removed taken mid) (shown : shows moment)
+      (takes : TakesTurn contents may_give texts faults mid.depot goal moment most_in_turn turn v.depot) (good : IsGood contents faults v.depot) (counts : IsCounted contents faults mid v) where
     on_then : TurnsOn contents may_give texts faults shows old None (so_far.turns ++ turn ∷ []) v
     on_then = turns_push old None so_far.turns mid v moment turn so_far.on shown
-        (subst (λ (g : Option ℕ). TakesTurn contents may_give texts faults mid g moment most_in_turn turn v) so_far.goal_is takes) good
+        (subst (λ (g : Option ℕ). TakesTurn contents may_give texts faults mid.depot g moment most_in_turn turn v.depot) so_far.goal_is takes) good counts
 
     told_push : min 18446744073709551615 (removed + length (removed_in turn)) ≡ told_removed (so_far.turns ++ turn ∷ [])
     told_push = let sum = so_far.sum in let more = removed_push so_far.turns turn in omega (arith, sum, more)
 
     -- another follows
-    pub one_more : (next : Option ℕ) (sum : ℕ) → next ≡ number_running v → StepsSo turn removed (step.Goes sum) → IsCollecting old next sum (taken + 1) v
+    pub one_more : (next : Option ℕ) (sum : ℕ) → next ≡ number_running v.depot → StepsSo turn removed (step.Goes sum) → IsCollecting old next sum (taken + 1) v
     one_more next sum is (goes, told) = record {
       turns = so_far.turns ++ turn ∷ [];
       on = on_then;
@@ -78,7 +81,7 @@ module _ {S : Type 0} (contents : S → Option Contents) (may_give : S → Slot 
       count = length-append so_far.turns (turn ∷ []) ∙ ap (λ n. n + 1) so_far.count;
     }
       where
-        goal_after : (ts : List Turn) → number_running v ≡ goal_then None (ts ++ turn ∷ []) v
+        goal_after : (ts : List Turn) → number_running v.depot ≡ goal_then None (ts ++ turn ∷ []) v.depot
         goal_after [] = refl
         goal_after (t ∷ ts) = refl
 
@@ -89,20 +92,20 @@ module _ {S : Type 0} (contents : S → Option Contents) (may_give : S → Slot 
         -- with the collection that runs as its goal no turn is over
         never_over : (number : ℕ) → turn ≡ Over number → ⊥
         never_over number over =
-            let taken_over = subst (λ (t : Turn). TakesTurn contents may_give texts faults mid goal moment most_in_turn t v) over takes in
+            let taken_over = subst (λ (t : Turn). TakesTurn contents may_give texts faults mid.depot goal moment most_in_turn t v.depot) over takes in
             let may = taken_over.may_come.may in
             runs_then so_far.turns number (sym so_far.goal_is ∙ may.0) may.1
           where
             same_number : {a b : ℕ} → Some a ≡ Some b → a ≡ b
             same_number e = cc
 
-            runs_at : (o : Option Running) (n : ℕ) → option_map (λ running. mid.state.collection) o ≡ Some n → (IsRunning o mid.state.collection n → ⊥) → ⊥
+            runs_at : (o : Option Running) (n : ℕ) → option_map (λ running. mid.depot.state.collection) o ≡ Some n → (IsRunning o mid.depot.state.collection n → ⊥) → ⊥
             runs_at None n e apart = cc e
             runs_at (Some r) n e apart = apart (sym (same_number e))
 
-            runs_then : (ts : List Turn) (n : ℕ) → goal_then None ts mid ≡ Some n → (IsRunning mid.running mid.state.collection n → ⊥) → ⊥
+            runs_then : (ts : List Turn) (n : ℕ) → goal_then None ts mid.depot ≡ Some n → (IsRunning mid.depot.running mid.depot.state.collection n → ⊥) → ⊥
             runs_then [] n e apart = cc e
-            runs_then (t ∷ ts) n e apart = runs_at mid.running n e apart
+            runs_then (t ∷ ts) n e apart = runs_at mid.depot.running n e apart
 
         removed_at : length (removed_in turn) ≡ 0 → removed ≡ told_removed (so_far.turns ++ turn ∷ [])
         removed_at none = let sum = so_far.sum in let more = removed_push so_far.turns turn in omega (arith, sum, more, none)
@@ -116,6 +119,6 @@ module _ {S : Type 0} (contents : S → Option Contents) (may_give : S → Slot 
         by other is none = absurd none
 
   -- as many turns as no memory holds marks for
-  pub ends_never : (old : DepotView S) (goal : Option ℕ) (removed taken : ℕ) (now : DepotView S) (ends : Collected) → IsCollecting old goal removed taken now → taken ≡ 18446744073709551615
+  pub ends_never : (old : OpenedView S) (goal : Option ℕ) (removed taken : ℕ) (now : OpenedView S) (ends : Collected) → IsCollecting old goal removed taken now → taken ≡ 18446744073709551615
       → ends ≡ collected.Refused refusal.NoMemory → TakesTurns contents may_give texts faults shows old ends now
   ends_never old goal removed taken now ends so_far all is = (so_far.turns, so_far.on, endless so_far.goes (so_far.count ∙ all) is)

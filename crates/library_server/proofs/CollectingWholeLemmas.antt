@@ -31,6 +31,7 @@ use Rattle.worker_server.specs.declared.host.Collected.{Collected}
 use Rattle.worker_server.specs.declared.host.Collected.TheVariants as collected
 use Rattle.library_server.specs.Answering.{NamesIn, NeverFails, is_of_storage}
 use Rattle.library_server.specs.Collecting.{CollectsOn, EndsAs, TakesTurns, TellsTurns, TurnsOn, ended, endless, is_storage_end, most_in_turn, number_running, told_removed}
+use Rattle.library_server.specs.Counting.{OpenedView}
 use Rattle.library_server.proofs.WholeLemmas.{names_of, refusal_whole}
 
 -- ---- what a step of a collection leaves
@@ -91,12 +92,12 @@ module _ {S : Type 0} (contents : S → Option Contents) (may_give : S → Slot 
           (subst (λ n. Counts 0 n (reply.Refused why)) (steady v.store.shelf) (subst (λ n. Counts n (faults v.store.shelf) (reply.Refused why)) (steady u.store.shelf) taken.count)) (taken.damage names.0 names.1)
       by other taken = refl
 
-  turns_whole : (u : DepotView S) (goal : Option ℕ) (turns : List Turn) (v : DepotView S) → TurnsOn contents may_give texts faults shows u goal turns v → NamesIn contents u
-      → AllByRecursion (λ turn. is_storage_turn turn ≡ false) turns × NamesIn contents v
-  turns_whole u goal [] v same names = (tt, subst (NamesIn contents) (sym same) names)
-  turns_whole u goal (turn ∷ turns) v (moment, mid, shown, takes, good, more) names =
-      let first = turn_whole u goal moment turn mid takes names in
-      let rest = turns_whole mid (number_running mid) turns v more first.1 in
+  turns_whole : (u : OpenedView S) (goal : Option ℕ) (turns : List Turn) (v : OpenedView S) → TurnsOn contents may_give texts faults shows u goal turns v → NamesIn contents u.depot
+      → AllByRecursion (λ turn. is_storage_turn turn ≡ false) turns × NamesIn contents v.depot
+  turns_whole u goal [] v same names = (tt, subst (λ (w : OpenedView S). NamesIn contents w.depot) (sym same) names)
+  turns_whole u goal (turn ∷ turns) v (moment, mid, shown, takes, good, counts, more) names =
+      let first = turn_whole u.depot goal moment turn mid.depot takes names in
+      let rest = turns_whole mid (number_running mid.depot) turns v more first.1 in
       ((first.0, rest.0), rest.1)
 
   end_whole : (turns : List Turn) (ends : Collected) → TellsTurns turns ends → AllByRecursion (λ turn. is_storage_turn turn ≡ false) turns → is_storage_end ends ≡ false
@@ -114,8 +115,8 @@ module _ {S : Type 0} (contents : S → Option Contents) (may_give : S → Slot 
 
 -- ---- all of a collection that is asked for
 
-module _ {S : Type 0} (contents : S → Option Contents) (may_give : S → Slot → Option (List ℕ) → Type 0) (texts faults : S → ℕ) (shows : ℕ → Type 0) (old : DepotView S) (lib : List ℕ) (secret : Option (List ℕ)) where
-  pub collects_here : (ends : Collected) (new : DepotView S) → lib ≡ old.state.lib → permits_collection (token_of old.state.tokens secret) ≡ true
+module _ {S : Type 0} (contents : S → Option Contents) (may_give : S → Slot → Option (List ℕ) → Type 0) (texts faults : S → ℕ) (shows : ℕ → Type 0) (old : OpenedView S) (lib : List ℕ) (secret : Option (List ℕ)) where
+  pub collects_here : (ends : Collected) (new : OpenedView S) → lib ≡ old.depot.state.lib → permits_collection (token_of old.depot.state.tokens secret) ≡ true
       → TakesTurns contents may_give texts faults shows old ends new → CollectsOn contents may_give texts faults shows old lib secret ends [] new
   collects_here ends new same may takes = record {
     here = λ is_lib permits. takes;
@@ -127,7 +128,7 @@ module _ {S : Type 0} (contents : S → Option Contents) (may_give : S → Slot 
     no_lines = refl;
   }
 
-  pub collects_denied : lib ≡ old.state.lib → permits_collection (token_of old.state.tokens secret) ≡ false
+  pub collects_denied : lib ≡ old.depot.state.lib → permits_collection (token_of old.depot.state.tokens secret) ≡ false
       → CollectsOn contents may_give texts faults shows old lib secret (collected.Refused refusal.Denied) [] old
   collects_denied same denied = record {
     here = λ is_lib permits. absurd (true≢false (sym permits ∙ denied));
@@ -137,7 +138,7 @@ module _ {S : Type 0} (contents : S → Option Contents) (may_give : S → Slot 
     no_lines = refl;
   }
 
-  pub collects_elsewhere : lib ≢ old.state.lib → CollectsOn contents may_give texts faults shows old lib secret (collected.Refused refusal.NoLibrary) [] old
+  pub collects_elsewhere : lib ≢ old.depot.state.lib → CollectsOn contents may_give texts faults shows old lib secret (collected.Refused refusal.NoLibrary) [] old
   collects_elsewhere other = record {
     here = λ is_lib permits. absurd (other is_lib);
     denied = λ is_lib denies. absurd (other is_lib);

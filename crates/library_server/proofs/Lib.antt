@@ -1,4 +1,6 @@
 pub mod StandingLemmas
+pub mod CountingLemmas
+pub mod LookingLemmas
 pub mod DepotLemmas
 pub mod LeftLemmas
 pub mod StartingLemmas

@@ -7,7 +7,6 @@ use Rattle.folder_storage.specs.Ground.{MayGive}
 use Rattle.library_rules.specs.Creation.{opening_commit}
 use Rattle.object_store.specs.declared.shelf.Slot.{Slot}
 use Rattle.object_store.specs.Shelf.{Contents}
-use Rattle.depot.specs.DepotView.{DepotView}
 use Rattle.server_words.specs.Lines.{fault_status, line_text, status_of as line_status}
 use Rattle.server_words.specs.declared.command.Command.{Command}
 use Rattle.server_words.specs.declared.command.Command.TheVariants.{Create, Token, Inetd, Help, Version, Usage}
@@ -17,6 +16,7 @@ use Rattle.server_words.specs.declared.line.Line.TheVariants as line
 use Rattle.worker_server.specs.declared.served.Served.{Served}
 use Rattle.worker_server.specs.declared.served.Served.TheVariants as served
 use Rattle.library_server.specs.Connections.{LinkView, ServesOpened, opened, status_of, unbrought}
+use Rattle.library_server.specs.Counting.{OpenedView, opened_now}
 use Rattle.library_server.specs.Lines.{fault_of_not_added, fault_of_not_made, fault_of_not_brought}
 use Rattle.server_words.specs.declared.command.Location.{Location}
 use Rattle.library_server.specs.Adding.{IsAddedTo, IsNotAdded, is_unadded_counted}
@@ -70,9 +70,9 @@ usage_alone Version printed e two = absurd (zero_two (sym (ap (λ z. z.status) (
 usage_alone Usage printed e two = (refl, ap (λ z. z.text) (unwrapped (line_printed line.Usage) printed e))
 
 module _ {S : Type 0} (contents : S → Option Contents) (may_give : S → Slot → Option (List ℕ) → Type 0) (texts faults : S → ℕ) (gives : MayGive) (shows : ℕ → Type 0) where
-  no_service : (depot after : DepotView S) (before now : LinkView) (status : ℕ)
-      → ServesOpened contents may_give texts faults shows depot after before now status → status ≡ 2 → ⊥
-  no_service depot after before now status service two = no_end service.how (sym service.status_is ∙ two)
+  no_service : (library after : OpenedView S) (before now : LinkView) (status : ℕ)
+      → ServesOpened contents may_give texts faults shows library after before now status → status ≡ 2 → ⊥
+  no_service library after before now status service two = no_end service.how (sym service.status_is ∙ two)
 
   -- the status 2 comes with the usage line alone
   pub runs_usage : (command : Command) (old new : GroundView) (before now : LinkView) (out_before out_now : SinkView) (status : ℕ)
@@ -83,7 +83,7 @@ module _ {S : Type 0} (contents : S → Option Contents) (may_give : S → Slot 
   runs_usage command old new before now out_before out_now status (adds location lib token is added left) two =
       absurd (no_print (line_printed (added_line added.added)) out_before out_now status added.prints (no_addition added.added) two)
   runs_usage command old new before now out_before out_now status (serves location lib is (opened depot after state opens given none service caused good back) out) two =
-      absurd (no_service depot after before now status service two)
+      absurd (no_service (opened_now depot) after before now status service two)
   runs_usage command old new before now out_before out_now status (serves location lib is (unbrought why refused code left) out) two =
       absurd (no_fault (fault_of_not_brought why) (sym code ∙ two))
   runs_usage command old new before now out_before out_now status (prints printed is (whole put kept code) same left) two =

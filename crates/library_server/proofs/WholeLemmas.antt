@@ -45,12 +45,13 @@ use Rattle.object_store.specs.declared.error.StoreFault.TheVariants as store
 use Rattle.object_store.specs.declared.shelf.ShelfFailed.{ShelfFailed}
 use Rattle.object_store.specs.declared.shelf.ShelfFailed.TheVariants as shelf
 use Rattle.object_store.specs.declared.shelf.Slot.{Slot}
-use Rattle.worker_server.specs.Calls.{AnsweredSo, HostRules, Told, Ran, call_asked, collection_asked, rules_at}
+use Rattle.worker_server.specs.Calls.{AnsweredSo, HostRules, Told, Ran, call_asked, collection_asked, look_asked, rules_at}
 use Rattle.library_server.proofs.DepotLemmas.{mapped_from}
 use Rattle.library_server.proofs.NamesLemmas.{names_new, names_stepped}
 use Rattle.library_server.proofs.TokenLemmas.{freed}
-use Rattle.library_server.specs.Answering.{AnswersOn, AsksTooMuch, NamesIn, NeverFails, is_storage_reply}
+use Rattle.library_server.specs.Answering.{AnswersOn, AsksTooMuch, LooksOn, NamesIn, NeverFails, is_storage_reply}
 use Rattle.library_server.specs.Collecting.{CollectsOn}
+use Rattle.library_server.specs.Counting.{OpenedView}
 use Rattle.library_server.specs.Starting.{IsDueOpening, IsOpenedFrom, is_unstarted_counted, opening_refusal, read_refusal}
 use Rattle.library_server.specs.Lines.{fault_of_make, fault_of_not_added, fault_of_not_made, fault_of_not_started, fault_of_shelf, fault_of_store, fault_of_token, fault_of_tree, is_storage_fault}
 use Rattle.library_server.specs.Making.{no_objects}
@@ -230,19 +231,20 @@ added_whole (Err why) whole = whole
 -- ---- connections
 
 module _ {S : Type 0} (contents : S → Option Contents) (may_give : S → Slot → Option (List ℕ) → Type 0) (texts faults : S → ℕ) (shows : ℕ → Type 0) where
-  abbrev pub depot_rules : HostRules (DepotView S) ⊤
-  depot_rules = rules_at shows (AnswersOn contents may_give texts faults) AsksTooMuch (CollectsOn contents may_give texts faults)
+  abbrev pub opened_rules : HostRules (OpenedView S) ⊤
+  opened_rules = rules_at shows (AnswersOn contents may_give texts faults) AsksTooMuch (CollectsOn contents may_give texts faults) LooksOn
 
   -- a call and a collection leave objects under their own names, and tell no refusal by storage that never fails
-  told_whole : (depot after : DepotView S) (t : Told ⊤) → NeverFails faults → NamesIn contents depot → AnsweredSo depot_rules depot t after
-      → (tells_storage t ≡ false) × NamesIn contents after
-  told_whole depot after (call_asked lib call answer lines) steady names answered = answered.2.steady steady names
-  told_whole depot after (collection_asked lib secret ends lines) steady names answered = answered.steady steady names
+  told_whole : (library after : OpenedView S) (t : Told ⊤) → NeverFails faults → NamesIn contents library.depot → AnsweredSo opened_rules library t after
+      → (tells_storage t ≡ false) × NamesIn contents after.depot
+  told_whole library after (call_asked lib call answer lines) steady names answered = answered.2.steady steady names
+  told_whole library after (collection_asked lib secret ends lines) steady names answered = answered.steady steady names
+  told_whole library after (look_asked lib secret tag same lines) steady names looked = (refl, subst (λ (w : OpenedView S). NamesIn contents w.depot) (sym looked.2) names)
 
   -- no reply is a refusal by storage that never fails
-  pub calls_whole : (depot after : DepotView S) (calls : List (Told ⊤)) → NeverFails faults → NamesIn contents depot → Ran depot_rules depot calls after
+  pub calls_whole : (library after : OpenedView S) (calls : List (Told ⊤)) → NeverFails faults → NamesIn contents library.depot → Ran opened_rules library calls after
       → NoneOfStorage calls
-  calls_whole depot after [] steady names ran = tt
-  calls_whole depot after (t ∷ calls) steady names ran =
-      let whole = told_whole depot ran.0 t steady names ran.1 in
+  calls_whole library after [] steady names ran = tt
+  calls_whole library after (t ∷ calls) steady names ran =
+      let whole = told_whole library ran.0 t steady names ran.1 in
       (whole.0, calls_whole ran.0 after calls steady whole.1 ran.2)

@@ -13,14 +13,16 @@ use Rattle.library_state.specs.declared.refusal.Refusal.{Refusal}
 use Rattle.library_state.specs.declared.refusal.Refusal.TheVariants as refusal
 use Rattle.library_state.specs.declared.reply.Reply.{Reply}
 use Rattle.library_state.specs.declared.reply.Reply.TheVariants as reply
+use Rattle.library_state.specs.declared.tag.Tag.{Tag}
 use Rattle.object_store.specs.Shelf.{Contents}
 use Rattle.object_store.specs.Store.{HasNames, IsDamage}
 use Rattle.object_store.specs.StoreView.{objects_of}
 use Rattle.object_store.specs.declared.shelf.Slot.{Slot}
-use Rattle.worker_server.specs.Calls.{Told, call_asked, collection_asked}
+use Rattle.worker_server.specs.Calls.{Told, call_asked, collection_asked, look_asked, tag_of}
 use Rattle.worker_server.specs.declared.host.Answer.{Answer}
 use Rattle.worker_server.specs.declared.host.Collected.{Collected}
 use Rattle.worker_server.specs.declared.host.Collected.TheVariants as collected
+use Rattle.library_server.specs.Counting.{IsCounted, OpenedView, is_current, tag_at}
 
 -- ---- the cause of damage
 
@@ -55,6 +57,7 @@ abbrev pub AreCaused : (Slot → Option (List ℕ) → Type 0) → List (Told �
 AreCaused gives [] = ⊤
 AreCaused gives (call_asked lib call answer operations ∷ calls) = IsCausedReply gives answer.reply × AreCaused gives calls
 AreCaused gives (collection_asked lib secret ends operations ∷ calls) = IsCausedEnd (OrNothing gives) ends × AreCaused (after_collection ends gives) calls
+AreCaused gives (look_asked lib secret tag same operations ∷ calls) = AreCaused gives calls
 
 -- ---- storage that never fails
 
@@ -79,20 +82,25 @@ NamesIn contents depot = (objects : Objects) × (objects_of contents depot.store
 -- ---- all of it
 
 -- a call on a library, asked at a moment: the library that is served answers it, and there is no other. It keeps no record
--- of operations and no count of changes. Where the storage never fails and objects lie under their own names, no answer is a
--- refusal by the storage, and so they lie afterwards
+-- of operations. The answer has the tag of the state that it leaves, and of no state where there is no such library. Where the
+-- storage never fails and objects lie under their own names, no answer is a refusal by the storage, and so they lie afterwards
 pub record AnswersOn {S : Type 0} (contents : S → Option Contents) (may_give : S → Slot → Option (List ℕ) → Type 0) (texts faults : S → ℕ)
-    (old : DepotView S) (lib : List ℕ) (call : Call) (moment : ℕ) (answer : Answer) (lines : List ⊤) (new : DepotView S) : Type 0 where
-  pub here : lib ≡ old.state.lib → IsAnswered contents may_give texts faults old call moment answer.reply new
-  pub elsewhere : lib ≢ old.state.lib → (answer.reply ≡ reply.Refused refusal.NoLibrary) × (new ≡ old)
-  pub steady : NeverFails faults → NamesIn contents old → (is_storage_reply answer.reply ≡ false) × NamesIn contents new
+    (old : OpenedView S) (lib : List ℕ) (call : Call) (moment : ℕ) (answer : Answer) (lines : List ⊤) (new : OpenedView S) : Type 0 where
+  pub here : lib ≡ old.depot.state.lib → IsAnswered contents may_give texts faults old.depot call moment answer.reply new.depot
+  pub tagged : lib ≡ old.depot.state.lib → tag_of answer ≡ tag_at new
+  pub counts : IsCounted contents faults old new
+  pub elsewhere : lib ≢ old.depot.state.lib → (answer.reply ≡ reply.Refused refusal.NoLibrary) × (new ≡ old)
+  pub untagged : lib ≢ old.depot.state.lib → tag_of answer ≡ record { opening = 0; count = 0 }
+  pub steady : NeverFails faults → NamesIn contents old.depot → (is_storage_reply answer.reply ≡ false) × NamesIn contents new.depot
   pub no_lines : lines ≡ []
-  pub opening : answer.opening ≡ 0
-  pub place : answer.place ≡ 0
 
 -- the library is served, one who may ask asks it for these files and directories, and its index knows them to have together
 -- more than so many bytes
-abbrev pub AsksTooMuch : {S : Type 0} → DepotView S → List ℕ → Option (List ℕ) → List (List ℕ) → ℕ → Type 0
-AsksTooMuch depot lib secret [] most = ⊥
-AsksTooMuch depot lib secret (id ∷ ids) most =
-    (lib ≡ depot.state.lib) × (permits (token_of depot.state.tokens secret) (fs_get id) ≡ true) × (most < sizes_of depot.store.index (id ∷ ids))
+abbrev pub AsksTooMuch : {S : Type 0} → OpenedView S → List ℕ → Option (List ℕ) → List (List ℕ) → ℕ → Type 0
+AsksTooMuch library lib secret [] most = ⊥
+AsksTooMuch library lib secret (id ∷ ids) most =
+    (lib ≡ library.depot.state.lib) × (permits (token_of library.depot.state.tokens secret) (fs_get id) ≡ true) × (most < sizes_of library.depot.store.index (id ∷ ids))
+
+-- a look tells whether the library is still in the state of the tag, and leaves it as it is
+abbrev pub LooksOn : {S : Type 0} → OpenedView S → List ℕ → Option (List ℕ) → Tag → Bool → List ⊤ → OpenedView S → Type 0
+LooksOn old lib secret tag same lines new = (same ≡ is_current old lib secret tag) × (lines ≡ []) × (new ≡ old)

@@ -15,6 +15,7 @@ use Rattle.object_store.specs.declared.shelf.Slot.{Slot}
 use Rattle.worker_server.specs.declared.host.Collected.{Collected}
 use Rattle.worker_server.specs.declared.host.Collected.TheVariants as collected
 use Rattle.library_server.specs.Answering.{NamesIn, NeverFails, is_of_storage}
+use Rattle.library_server.specs.Counting.{IsCounted, OpenedView}
 use Rattle.library_server.specs.declared.collecting.Step.{Step}
 use Rattle.library_server.specs.declared.collecting.Step.TheVariants as step
 
@@ -28,12 +29,12 @@ number_running depot = option_map (λ running. depot.state.collection) depot.run
 
 module _ {S : Type 0} (contents : S → Option Contents) (may_give : S → Slot → Option (List ℕ) → Type 0) (texts faults : S → ℕ) (shows : ℕ → Type 0) where
   -- these turns were taken one after another, each at a moment that the clock shows, and each but the first with the collection
-  -- that the one before it left as its goal
-  abbrev pub TurnsOn : DepotView S → Option ℕ → List Turn → DepotView S → Type 0
+  -- that the one before it left as its goal; and each that changed the library was counted
+  abbrev pub TurnsOn : OpenedView S → Option ℕ → List Turn → OpenedView S → Type 0
   TurnsOn u goal [] v = v ≡ u
   TurnsOn u goal (turn ∷ turns) v =
-      (moment : ℕ) × (mid : DepotView S) × shows moment × TakesTurn contents may_give texts faults u goal moment most_in_turn turn mid × IsGood contents faults mid
-      × TurnsOn mid (number_running mid) turns v
+      (moment : ℕ) × (mid : OpenedView S) × shows moment × TakesTurn contents may_give texts faults u.depot goal moment most_in_turn turn mid.depot
+      × IsGood contents faults mid.depot × IsCounted contents faults u mid × TurnsOn mid (number_running mid.depot) turns v
 
 -- ---- what is told of them
 
@@ -80,7 +81,7 @@ pub record IsLastOf (turns : List Turn) (ends : Collected) : Type 0 where
 
 -- turns that tell this were taken
 abbrev pub TakesTurns : {S : Type 0} → (S → Option Contents) → (S → Slot → Option (List ℕ) → Type 0) → (texts faults : S → ℕ) → (ℕ → Type 0)
-    → DepotView S → Collected → DepotView S → Type 0
+    → OpenedView S → Collected → OpenedView S → Type 0
 TakesTurns contents may_give texts faults shows old ends new =
     (turns : List Turn) × TurnsOn contents may_give texts faults shows old None turns new × TellsTurns turns ends
 
@@ -103,11 +104,11 @@ is_storage_end (collected.Refused why) = is_of_storage why
 -- keeps no record of operations. Where the storage never fails and objects lie under their own names, no end is a refusal by
 -- the storage, and so they lie afterwards
 pub record CollectsOn {S : Type 0} (contents : S → Option Contents) (may_give : S → Slot → Option (List ℕ) → Type 0) (texts faults : S → ℕ) (shows : ℕ → Type 0)
-    (old : DepotView S) (lib : List ℕ) (secret : Option (List ℕ)) (ends : Collected) (lines : List ⊤) (new : DepotView S) : Type 0 where
-  pub here : lib ≡ old.state.lib → permits_collection (token_of old.state.tokens secret) ≡ true → TakesTurns contents may_give texts faults shows old ends new
-  pub denied : lib ≡ old.state.lib → permits_collection (token_of old.state.tokens secret) ≡ false → (ends ≡ collected.Refused refusal.Denied) × (new ≡ old)
-  pub elsewhere : lib ≢ old.state.lib → (ends ≡ collected.Refused refusal.NoLibrary) × (new ≡ old)
-  pub steady : NeverFails faults → NamesIn contents old → (is_storage_end ends ≡ false) × NamesIn contents new
+    (old : OpenedView S) (lib : List ℕ) (secret : Option (List ℕ)) (ends : Collected) (lines : List ⊤) (new : OpenedView S) : Type 0 where
+  pub here : lib ≡ old.depot.state.lib → permits_collection (token_of old.depot.state.tokens secret) ≡ true → TakesTurns contents may_give texts faults shows old ends new
+  pub denied : lib ≡ old.depot.state.lib → permits_collection (token_of old.depot.state.tokens secret) ≡ false → (ends ≡ collected.Refused refusal.Denied) × (new ≡ old)
+  pub elsewhere : lib ≢ old.depot.state.lib → (ends ≡ collected.Refused refusal.NoLibrary) × (new ≡ old)
+  pub steady : NeverFails faults → NamesIn contents old.depot → (is_storage_end ends ≡ false) × NamesIn contents new.depot
   pub no_lines : lines ≡ []
 
 -- ---- for a private clause

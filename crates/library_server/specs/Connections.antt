@@ -15,8 +15,9 @@ use Rattle.worker_server.specs.Calls.{Told, Ran, rules_at}
 use Rattle.worker_server.specs.ServedConnection.{CountsEnd, EndsAsked, SessionInTime}
 use Rattle.worker_server.specs.declared.served.Served.{Served}
 use Rattle.worker_server.specs.declared.served.Served.TheVariants.{Ended, Limit, Cut, Refused, ReadFault, WriteFault, NoMemory}
-use Rattle.library_server.specs.Answering.{AnswersOn, AreCaused, AsksTooMuch}
+use Rattle.library_server.specs.Answering.{AnswersOn, AreCaused, AsksTooMuch, LooksOn}
 use Rattle.library_server.specs.Collecting.{CollectsOn}
+use Rattle.library_server.specs.Counting.{OpenedView, opened_now}
 use Rattle.library_server.specs.Starting.{IsNotBrought, IsOfOpening, IsOpenedState, OpensTo, RefusesOpening, is_unbrought_counted}
 use Rattle.library_server.specs.Lines.{fault_of_not_brought}
 use Rattle.library_server.specs.Making.{RoseWhere}
@@ -41,11 +42,11 @@ status_of NoMemory = 3
 
 -- one connection with a library that was opened; the connection's end gives the status
 pub record ServesOpened {S : Type 0} (contents : S → Option Contents) (may_give : S → Slot → Option (List ℕ) → Type 0) (texts faults : S → ℕ)
-    (shows : ℕ → Type 0) (depot after : DepotView S) (before now : LinkView) (status : ℕ) : Type 0 where
+    (shows : ℕ → Type 0) (library after : OpenedView S) (before now : LinkView) (status : ℕ) : Type 0 where
   pub how : Served
   pub session : (input : List ℕ) → before.left ≡ Some input
-      → SessionInTime (rules_at shows (AnswersOn contents may_give texts faults) AsksTooMuch (CollectsOn contents may_give texts faults)) input before.tells now.tells depot after how
-  pub ran : (calls : List (Told ⊤)) × Ran (rules_at shows (AnswersOn contents may_give texts faults) AsksTooMuch (CollectsOn contents may_give texts faults)) depot calls after × AreCaused (may_give depot.store.shelf) calls
+      → SessionInTime (rules_at shows (AnswersOn contents may_give texts faults) AsksTooMuch (CollectsOn contents may_give texts faults) LooksOn) input before.tells now.tells library after how
+  pub ran : (calls : List (Told ⊤)) × Ran (rules_at shows (AnswersOn contents may_give texts faults) AsksTooMuch (CollectsOn contents may_give texts faults) LooksOn) library calls after × AreCaused (may_give library.depot.store.shelf) calls
   pub count : CountsEnd before.faults now.faults how
   pub last : EndsAsked how before.tells now.tells now.left
   pub status_is : status ≡ status_of how
@@ -65,13 +66,13 @@ pub record IsUnbrought {S : Type 0} (contents : S → Option Contents) (gives : 
 -- library might give as it was handed out
 pub data ServesLocation {S : Type 0} (contents : S → Option Contents) (may_give : S → Slot → Option (List ℕ) → Type 0) (texts faults : S → ℕ) (gives : MayGive)
     (location : Location) (lib : List ℕ) (shows : ℕ → Type 0) (old new : GroundView) (before now : LinkView) (status : ℕ) : Type 0 where
-  opened : (depot after : DepotView S) → IsOpenedState (gives (location_text location) lib) location lib shows depot.state
+  opened : (depot : DepotView S) (after : OpenedView S) → IsOpenedState (gives (location_text location) lib) location lib shows depot.state
       → ((standing : Standing) → old.stands (location_text location) lib ≡ Some standing → (s : State) × (state_of contents faults depot ≡ Some s) × OpensTo location lib shows standing s)
       → GivesBy (IsOfOpening location lib shows depot.state) (gives (location_text location) lib) (may_give depot.store.shelf)
       → HasNoStray contents depot.store
-      → (service : ServesOpened contents may_give texts faults shows depot after before now status)
+      → (service : ServesOpened contents may_give texts faults shows (opened_now depot) after before now status)
       → AreCaused (gives (location_text location) lib) service.ran.0
-      → IsGood contents faults after → ComesBack old.stands new.stands (location_text location) lib (contents after.store.shelf)
+      → IsGood contents faults after.depot → ComesBack old.stands new.stands (location_text location) lib (contents after.depot.store.shelf)
       → ServesLocation contents may_give texts faults gives location lib shows old new before now status
   unbrought : (why : NotBrought) → IsUnbrought contents (gives (location_text location) lib) location lib shows old new why
       → status ≡ fault_status (fault_of_not_brought why) → now ≡ before

@@ -1,5 +1,6 @@
 pub mod Lines
 pub mod Standing
+pub mod Counting
 pub mod Answering
 pub mod Collecting
 pub mod Whole

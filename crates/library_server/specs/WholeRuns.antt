@@ -8,7 +8,7 @@ use Rattle.server_words.specs.declared.command.Command.{Command}
 use Rattle.server_words.specs.declared.command.Location.{Location}
 use Rattle.server_words.specs.declared.line.Line.{Line}
 use Rattle.server_words.specs.declared.line.Line.TheVariants as line
-use Rattle.worker_server.specs.Calls.{Told, call_asked, collection_asked}
+use Rattle.worker_server.specs.Calls.{Told, call_asked, collection_asked, look_asked}
 use Rattle.library_server.specs.Answering.{is_storage_reply}
 use Rattle.library_server.specs.Collecting.{is_storage_end}
 use Rattle.library_server.specs.Connections.{LinkView, ServesLocation, opened, unbrought}
@@ -25,6 +25,7 @@ is_storage_line other = false
 abbrev pub tells_storage : Told ⊤ → Bool
 tells_storage (call_asked lib call answer lines) = is_storage_reply answer.reply
 tells_storage (collection_asked lib secret ends lines) = is_storage_end ends
+tells_storage (look_asked lib secret tag same lines) = false
 
 -- the replies of some calls are no refusals by the storage
 abbrev pub NoneOfStorage : List (Told ⊤) → Type 0

@@ -2,14 +2,12 @@
 ghost use Rattle.std.specs.Prelude.{[]};
 ghost use Rattle.library_server.specs.Collecting.{CollectsOn, StepsSo};
 
-use depot::{Depot, Turn};
+use crate::counting::{OpenedLibrary, take_turn};
+use depot::Turn;
 use ids::LibId;
 use library_state::{Clock, Refusal, Secret};
 use object_store::Shelf;
 use worker_server::Collected;
-
-/// The most objects of one turn.
-const MOST: u64 = 1_000;
 
 /// What follows a turn.
 pub(crate) enum Step {
@@ -24,27 +22,27 @@ pub(crate) enum Step {
 ///
 /// A collection that runs already is gone on with, and then ended.
 pub(crate) fn collect<S: Shelf, C: Clock>(
-    depot: &mut Depot<S>,
+    library: &mut OpenedLibrary<S>,
     lib: LibId,
     secret: &Option<Secret>,
     clock: &C,
 ) -> Collected
-    ensures value { CollectsOn S.contents S.may_give S.texts S.faults (C.shows clock.now) depot.old lib secret.now result [] depot.new }
+    ensures value { CollectsOn S.contents S.may_give S.texts S.faults (C.shows clock.now) library.old lib secret.now result [] library.new }
 {
-    if lib != depot.lib() {
+    if lib != library.depot.lib() {
         return Collected::Refused(Refusal::NoLibrary);
     }
-    if !depot.may_collect(secret) {
+    if !library.depot.may_collect(secret) {
         return Collected::Refused(Refusal::Denied);
     }
     let mut goal = None;
     let mut removed = 0;
     for _taken in 0..u64::MAX {
-        match step_of(depot.turn_of_collection(goal, clock.now(), MOST), removed) {
+        match step_of(take_turn(library, goal, clock.now()), removed) {
             Step::Goes(sum) => removed = sum,
             Step::Ends(told) => return told,
         }
-        goal = depot.running();
+        goal = library.depot.running();
     }
     // No memory holds the marks of so many turns.
     Collected::Refused(Refusal::NoMemory)

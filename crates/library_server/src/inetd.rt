@@ -9,9 +9,9 @@ ghost use Rattle.library_server.specs.Standing.{GroundView, OthersGiveNoMore};
 ghost use Rattle.library_server.specs.Whole.{IsWhole};
 ghost use Rattle.library_server.specs.WholeRuns.{ServesWhole};
 
+use crate::counting::{Counted, OpenedLibrary};
 use crate::serving::serve_link;
 use crate::starting::{bring_back, folder_word, start_library};
-use depot::Depot;
 use folder_storage::Ground;
 use http_front::Link;
 use ids::LibId;
@@ -39,11 +39,13 @@ pub(crate) fn inetd<G: Ground, L: Link, C: Clock>(
         → ServesWhole service) }
     ensures others { OthersGiveNoMore (G.may_give libraries.old) (G.may_give libraries.new) (location_text location.now) lib }
 {
-    let mut depot = match start_library(alloc, libraries, location, lib, clock) {
+    let depot = match start_library(alloc, libraries, location, lib, clock) {
         Ok(depot) => depot,
         Err(fault) => return Line::Fault(fault.fault()).status(),
     };
-    let status = serve_opened(alloc, &mut depot, link, clock);
+    let mut library = Counted { depot, changes: 0 };
+    let status = serve_opened(alloc, &mut library, link, clock);
+    let Counted { depot, changes: _ } = library;
     bring_back(libraries, folder_word(location), lib, depot);
     status
 }
@@ -51,15 +53,15 @@ pub(crate) fn inetd<G: Ground, L: Link, C: Clock>(
 /// Serves one connection with a library that was started.
 fn serve_opened<S: Shelf, L: Link, C: Clock>(
     alloc: Global,
-    depot: &mut Depot<S>,
+    library: &mut OpenedLibrary<S>,
     link: &mut L,
     clock: &C,
 ) -> u8
-    ensures serves { ServesOpened S.contents S.may_give S.texts S.faults (C.shows clock.now) depot.old depot.new
+    ensures serves { ServesOpened S.contents S.may_give S.texts S.faults (C.shows clock.now) library.old library.new
         (record { left = L.left link.old; tells = told_by L.taken L.given L.asked link.old; faults = L.faults link.old })
         (record { left = L.left link.new; tells = told_by L.taken L.given L.asked link.new; faults = L.faults link.new }) result }
 {
-    status_of(serve_link(alloc, depot, link, clock))
+    status_of(serve_link(alloc, library, link, clock))
 }
 
 /// The status of a connection's end.

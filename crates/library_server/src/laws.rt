@@ -1,11 +1,15 @@
 //! What holds of every collection that is asked for: theorems on the definitions, with no code.
 ghost use Rattle.std.specs.Prelude.{◌≡◌, ◌+◌, ◌*◌, ◌≤◌, ◌<◌, ◌^◌, ◌||◌, ℕ, List, length, Option, None, Some, true, ⊤};
 ghost use Rattle.ids.specs.declared.key.Key.{Key};
-ghost use Rattle.depot.specs.DepotView.{DepotView, state_of};
+ghost use Rattle.depot.specs.DepotView.{state_of};
+ghost use Rattle.depot.specs.Story.{IsSame};
 ghost use Rattle.library_rules.specs.LibraryState.{State, is_fresh, is_needed, is_stored};
 ghost use Rattle.worker_server.specs.declared.host.Collected.{Collected};
 ghost use Rattle.worker_server.specs.declared.host.Collected.TheVariants.{Done};
+ghost use Rattle.worker_server.specs.Calls.{Ran, Told, rules_at};
+ghost use Rattle.library_server.specs.Answering.{AnswersOn, AsksTooMuch, LooksOn};
 ghost use Rattle.library_server.specs.Collecting.{CollectsOn, IsLastOf, TakesTurns, begun_over};
+ghost use Rattle.library_server.specs.Counting.{OpenedView, is_current, last_count, tag_at};
 
 use library_state::Clock;
 use object_store::Shelf;
@@ -13,12 +17,12 @@ use object_store::Shelf;
 /// After a collection that is told as done each stored object is needed by a kept commit, or was fresh in the collection that
 /// ran as this one was asked for. So where none ran, nothing is left but what is needed.
 pub fn what_is_left_of_a_collection_that_began_here_is_needed<S: Shelf, C: Clock>()
-    ensures left { (clock : C) (old new : DepotView S) (lib : List ℕ) (secret : Option (List ℕ)) (number removed : ℕ) (lines : List ⊤) (s t : State)
-        → state_of S.contents S.faults old ≡ Some s → state_of S.contents S.faults new ≡ Some t
+    ensures left { (clock : C) (old new : OpenedView S) (lib : List ℕ) (secret : Option (List ℕ)) (number removed : ℕ) (lines : List ⊤) (s t : State)
+        → state_of S.contents S.faults old.depot ≡ Some s → state_of S.contents S.faults new.depot ≡ Some t
         → CollectsOn S.contents S.may_give S.texts S.faults (C.shows clock) old lib secret (Done number removed) lines new
         → (key : Key) → is_stored t.objects key ≡ true → (is_needed t.objects t.state.kept key || is_fresh s.running key) ≡ true }
-    ensures idle { (clock : C) (old new : DepotView S) (lib : List ℕ) (secret : Option (List ℕ)) (number removed : ℕ) (lines : List ⊤) (s t : State)
-        → state_of S.contents S.faults old ≡ Some s → state_of S.contents S.faults new ≡ Some t → s.running ≡ None
+    ensures idle { (clock : C) (old new : OpenedView S) (lib : List ℕ) (secret : Option (List ℕ)) (number removed : ℕ) (lines : List ⊤) (s t : State)
+        → state_of S.contents S.faults old.depot ≡ Some s → state_of S.contents S.faults new.depot ≡ Some t → s.running ≡ None
         → CollectsOn S.contents S.may_give S.texts S.faults (C.shows clock) old lib secret (Done number removed) lines new
         → (key : Key) → is_stored t.objects key ≡ true → is_needed t.objects t.state.kept key ≡ true }
 {}
@@ -26,8 +30,23 @@ pub fn what_is_left_of_a_collection_that_began_here_is_needed<S: Shelf, C: Clock
 /// A collection that is asked for takes at most two turns for each object that was known as it began, and two more. So where
 /// fewer than 2^62 were, its last turn ended it or was refused.
 pub fn a_collection_that_is_asked_for_takes_few_turns<S: Shelf, C: Clock>()
-    ensures few { (clock : C) (old new : DepotView S) (ends : Collected) (s : State) → state_of S.contents S.faults old ≡ Some s
-        → (takes : TakesTurns S.contents S.may_give S.texts S.faults (C.shows clock) old ends new) → length takes.0 ≤ 2 * begun_over old + 2 }
-    ensures last { (clock : C) (old new : DepotView S) (ends : Collected) (s : State) → state_of S.contents S.faults old ≡ Some s → begun_over old < 2 ^ 62
+    ensures few { (clock : C) (old new : OpenedView S) (ends : Collected) (s : State) → state_of S.contents S.faults old.depot ≡ Some s
+        → (takes : TakesTurns S.contents S.may_give S.texts S.faults (C.shows clock) old ends new) → length takes.0 ≤ 2 * begun_over old.depot + 2 }
+    ensures last { (clock : C) (old new : OpenedView S) (ends : Collected) (s : State) → state_of S.contents S.faults old.depot ≡ Some s → begun_over old.depot < 2 ^ 62
         → (takes : TakesTurns S.contents S.may_give S.texts S.faults (C.shows clock) old ends new) → IsLastOf takes.0 ends }
+{}
+
+/// Through calls, collections and looks the count of changes never falls. Where it is as it was, below the largest count, the
+/// library is the same in all that has its place in a history: so no two states show one tag, and a look tells that a library is
+/// still in the state of a tag only where it is.
+pub fn a_tag_tells_one_state_of_an_opened_library<S: Shelf, C: Clock>()
+    ensures bound { (clock : C) (old new : OpenedView S) (calls : List (Told ⊤)) → old.changes ≤ last_count
+        → Ran (rules_at (C.shows clock) (AnswersOn S.contents S.may_give S.texts S.faults) AsksTooMuch (CollectsOn S.contents S.may_give S.texts S.faults) LooksOn) old calls new
+        → old.changes ≤ new.changes }
+    ensures same { (clock : C) (old new : OpenedView S) (calls : List (Told ⊤)) → old.changes < last_count
+        → Ran (rules_at (C.shows clock) (AnswersOn S.contents S.may_give S.texts S.faults) AsksTooMuch (CollectsOn S.contents S.may_give S.texts S.faults) LooksOn) old calls new
+        → tag_at new ≡ tag_at old → IsSame S.contents S.faults old.depot new.depot }
+    ensures told { (clock : C) (old new : OpenedView S) (calls : List (Told ⊤)) (lib : List ℕ) (secret : Option (List ℕ)) → old.changes ≤ last_count
+        → Ran (rules_at (C.shows clock) (AnswersOn S.contents S.may_give S.texts S.faults) AsksTooMuch (CollectsOn S.contents S.may_give S.texts S.faults) LooksOn) old calls new
+        → is_current new lib secret (tag_at old) ≡ true → IsSame S.contents S.faults old.depot new.depot }
 {}

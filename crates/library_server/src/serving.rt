@@ -1,25 +1,25 @@
 //! One connection with a library that answers alone.
-ghost use Rattle.std.specs.Prelude.{◌≡◌, ◌≢◌, ◌∷◌, ℕ, List, Some, ⊤, false};
+ghost use Rattle.std.specs.Prelude.{◌≡◌, ◌∷◌, ℕ, List, [], Some, ⊤};
 ghost use Rattle.depot.specs.FirstGet.{fs_call};
-ghost use Rattle.depot.specs.Story.{IsAnswered};
 ghost use Rattle.ids.specs.FaultCount.{Rose};
 ghost use Rattle.worker_server.specs.Calls.{Told, Ran, rules_at};
 ghost use Rattle.http_front.specs.Link.{told_by};
 ghost use Rattle.worker_server.specs.ServedConnection.{CountsEnd, EndsAsked, SessionInTime};
-ghost use Rattle.library_server.specs.Answering.{AnswersOn, AreCaused, AsksTooMuch, NamesIn, NeverFails, is_storage_reply};
+ghost use Rattle.library_server.specs.Answering.{AnswersOn, AreCaused, AsksTooMuch, LooksOn};
 ghost use Rattle.library_server.specs.Collecting.{CollectsOn};
 
 use crate::collecting::collect;
-use depot::Depot;
+use crate::counting::{OpenedLibrary, count_after, told_at};
+use crate::looking::is_current;
 use http_front::Link;
 use ids::{LibId, ObjId};
-use library_state::{Call, Clock, Refusal, Reply, Secret};
+use library_state::{Call, Clock, Refusal, Reply, Secret, Tag};
 use object_store::Shelf;
 use std::alloc::Global;
 use std::marker::PhantomData;
 use worker_server::{Answer, Collected, Host, Served, serve_session};
 
-/// The host of a library that nobody else asks, with a clock. It keeps no record of operations.
+/// The host of a library that nobody else asks, with a clock. It keeps no record of operations, and counts changes.
 #[derive(Drop)]
 struct Alone<'a, S, C> {
     clock: &'a C,
@@ -28,17 +28,17 @@ struct Alone<'a, S, C> {
 
 impl<S: Shelf, C: Clock> Host for Alone<'_, S, C> {
     ghost use Rattle.std.specs.Prelude.{⊤};
-    ghost use Rattle.depot.specs.DepotView.{DepotView};
-    ghost use Rattle.library_server.specs.Answering.{AnswersOn, AsksTooMuch};
+    ghost use Rattle.library_server.specs.Counting.{OpenedView};
+    ghost use Rattle.library_server.specs.Answering.{AnswersOn, AsksTooMuch, LooksOn};
     ghost use Rattle.library_server.specs.Collecting.{CollectsOn};
 
-    type Pass = Depot<S>;
+    type Pass = OpenedLibrary<S>;
 
     ghost Operation = { ⊤ };
 
-    ghost View = { DepotView S };
+    ghost View = { OpenedView S };
 
-    ghost view = { λ depot. depot };
+    ghost view = { λ library. library };
 
     ghost ready = { λ _ _. ⊤ };
 
@@ -50,20 +50,18 @@ impl<S: Shelf, C: Clock> Host for Alone<'_, S, C> {
 
     ghost collects = { CollectsOn S.contents S.may_give S.texts S.faults };
 
-    fn ask(&self, alloc: Global, pass: &mut Depot<S>, lib: LibId, call: Call) -> Answer {
+    ghost looks = { LooksOn };
+
+    fn ask(&self, alloc: Global, pass: &mut OpenedLibrary<S>, lib: LibId, call: Call) -> Answer {
         let _ = alloc;
         let moment = self.clock.now();
-        Answer {
-            reply: answer(pass, lib, call, moment),
-            opening: 0,
-            place: 0,
-        }
+        answer(pass, lib, call, moment)
     }
 
     fn ask_first(
         &self,
         alloc: Global,
-        pass: &mut Depot<S>,
+        pass: &mut OpenedLibrary<S>,
         lib: LibId,
         secret: Option<Secret>,
         id: ObjId,
@@ -72,58 +70,74 @@ impl<S: Shelf, C: Clock> Host for Alone<'_, S, C> {
     ) -> Answer {
         let _ = alloc;
         let moment = self.clock.now();
-        Answer {
-            reply: answer_first(pass, lib, &secret, id, more, most, moment),
-            opening: 0,
-            place: 0,
-        }
+        answer_first(pass, lib, &secret, id, more, most, moment)
     }
 
     fn collect(
         &self,
         alloc: Global,
-        pass: &mut Depot<S>,
+        pass: &mut OpenedLibrary<S>,
         lib: LibId,
         secret: Option<Secret>,
     ) -> Collected {
         let _ = alloc;
         collect(pass, lib, &secret, self.clock)
     }
-}
 
-/// The reply to a call on a library. `NoLibrary` comes exactly where it is not the one that is served.
-fn answer<S: Shelf>(depot: &mut Depot<S>, lib: LibId, call: Call, moment: u64) -> Reply
-    ensures here { lib ≡ depot.old.state.lib → IsAnswered S.contents S.may_give S.texts S.faults depot.old call moment result depot.new }
-    ensures elsewhere { lib ≢ depot.old.state.lib → (result ≡ Reply.Refused Refusal.NoLibrary) × (depot.new ≡ depot.old) }
-    ensures steady { NeverFails S.faults → NamesIn S.contents depot.old → (is_storage_reply result ≡ false) × NamesIn S.contents depot.new }
-{
-    if lib != depot.lib() {
-        drop(call);
-        return Reply::Refused(Refusal::NoLibrary);
+    fn look(
+        &self,
+        pass: &mut OpenedLibrary<S>,
+        lib: LibId,
+        secret: &Option<Secret>,
+        tag: Tag,
+    ) -> bool {
+        is_current(pass, lib, secret, tag)
     }
-    depot.answer_own(call, moment)
 }
 
-/// The reply to a call for a file or directory, after which more will be asked for. `NoLibrary` comes exactly where the
+/// The answer to a call on a library. `NoLibrary` comes exactly where it is not the one that is served.
+fn answer<S: Shelf>(library: &mut OpenedLibrary<S>, lib: LibId, call: Call, moment: u64) -> Answer
+    ensures value { AnswersOn S.contents S.may_give S.texts S.faults library.old lib call moment result [] library.new }
+{
+    if lib != library.depot.lib() {
+        drop(call);
+        return elsewhere();
+    }
+    let (reply, changed) = library.depot.tell_own(call, moment);
+    library.changes = count_after(library.changes, changed);
+    told_at(library, reply)
+}
+
+/// The answer to a call for a file or directory, after which more will be asked for. `NoLibrary` comes exactly where the
 /// library is not the one that is served.
 fn answer_first<S: Shelf>(
-    depot: &mut Depot<S>,
+    library: &mut OpenedLibrary<S>,
     lib: LibId,
     secret: &Option<Secret>,
     id: ObjId,
     more: &[ObjId],
     most: u64,
     moment: u64,
-) -> Reply
-    ensures here { lib ≡ depot.old.state.lib → IsAnswered S.contents S.may_give S.texts S.faults depot.old (fs_call secret.now id) moment result depot.new }
-    ensures elsewhere { lib ≢ depot.old.state.lib → (result ≡ Reply.Refused Refusal.NoLibrary) × (depot.new ≡ depot.old) }
-    ensures steady { NeverFails S.faults → NamesIn S.contents depot.old → (is_storage_reply result ≡ false) × NamesIn S.contents depot.new }
-    ensures bound { AsksTooMuch depot.old lib secret.now (id ∷ more.now) most → (result ≡ Reply.Refused Refusal.NoMemory) × (depot.new ≡ depot.old) }
+) -> Answer
+    ensures value { AnswersOn S.contents S.may_give S.texts S.faults library.old lib (fs_call secret.now id) moment result [] library.new }
+    ensures bound { AsksTooMuch library.old lib secret.now (id ∷ more.now) most → (result.reply ≡ Reply.Refused Refusal.NoMemory) × (library.new ≡ library.old) }
 {
-    if lib == depot.lib() {
-        depot.get_first(secret, id, more, most, moment)
-    } else {
-        Reply::Refused(Refusal::NoLibrary)
+    if lib != library.depot.lib() {
+        return elsewhere();
+    }
+    let (reply, changed) = library.depot.tell_first(secret, id, more, most, moment);
+    library.changes = count_after(library.changes, changed);
+    told_at(library, reply)
+}
+
+/// The answer where the library is not the one that is served.
+fn elsewhere() -> Answer
+    ensures value { result ≡ record { reply = Reply.Refused Refusal.NoLibrary; opening = 0; place = 0 } }
+{
+    Answer {
+        reply: Reply::Refused(Refusal::NoLibrary),
+        opening: 0,
+        place: 0,
     }
 }
 
@@ -135,20 +149,20 @@ fn answer_first<S: Shelf>(
 /// together to have more bytes than one reply packs, the reply is want of memory, and the library is as it was.
 pub fn serve_link<S: Shelf, L: Link, C: Clock>(
     alloc: Global,
-    depot: &mut Depot<S>,
+    library: &mut OpenedLibrary<S>,
     link: &mut L,
     clock: &C,
 ) -> Served
     // Where the link tells what it has left: the bytes given are the texts of the library's replies to the requests
     // that those bytes spell. Where it tells what it was asked besides: no reply waited for more input.
     ensures session { (input : List ℕ) → L.left link.old ≡ Some input
-        → SessionInTime (rules_at (C.shows clock.now) (AnswersOn S.contents S.may_give S.texts S.faults) AsksTooMuch (CollectsOn S.contents S.may_give S.texts S.faults)) input
-        (told_by L.taken L.given L.asked link.old) (told_by L.taken L.given L.asked link.new) depot.old depot.new result }
+        → SessionInTime (rules_at (C.shows clock.now) (AnswersOn S.contents S.may_give S.texts S.faults) AsksTooMuch (CollectsOn S.contents S.may_give S.texts S.faults) LooksOn) input
+        (told_by L.taken L.given L.asked link.old) (told_by L.taken L.given L.asked link.new) library.old library.new result }
 
     // Of every link and every shelf: the calls and collections that were asked. Damage that a reply tells has its cause in what the shelf may
     // give as it is handed in.
-    ensures ran { (calls : List (Told ⊤)) × Ran (rules_at (C.shows clock.now) (AnswersOn S.contents S.may_give S.texts S.faults) AsksTooMuch (CollectsOn S.contents S.may_give S.texts S.faults)) depot.old calls depot.new
-        × AreCaused (S.may_give depot.old.store.shelf) calls }
+    ensures ran { (calls : List (Told ⊤)) × Ran (rules_at (C.shows clock.now) (AnswersOn S.contents S.may_give S.texts S.faults) AsksTooMuch (CollectsOn S.contents S.may_give S.texts S.faults) LooksOn) library.old calls library.new
+        × AreCaused (S.may_give library.old.depot.store.shelf) calls }
 
     // The link's count of faults rose in the first two cases, and stayed in every other.
     ensures read_fault { result ≡ Served.ReadFault → Rose (L.faults link.old) (L.faults link.new) }
@@ -163,5 +177,5 @@ pub fn serve_link<S: Shelf, L: Link, C: Clock>(
         clock,
         shelf: PhantomData,
     };
-    serve_session(alloc, &host, depot, link)
+    serve_session(alloc, &host, library, link)
 }

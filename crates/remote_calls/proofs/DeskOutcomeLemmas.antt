@@ -6,6 +6,8 @@ use Rattle.std.specs.Prelude.{⊤}
 use Rattle.std.specs.Str.{bytes_eq}
 use Rattle.std.proofs.lemmas.Bool.{false≢true, true≢false}
 use Rattle.std.proofs.lemmas.Slice.Eq.{bytes_eq-Decides}
+use Rattle.library_state.specs.declared.call.Act.TheVariants as act
+use Rattle.library_state.specs.declared.tag.Tag.{Tag}
 use Rattle.library_state.specs.declared.call.Act.{Act}
 use Rattle.library_state.specs.declared.call.Call.{Call}
 use Rattle.library_rules.specs.Calls.{token_of}
@@ -26,7 +28,7 @@ use Rattle.http_front.specs.declared.outcome.Outcome.TheVariants.{Refused}
 use Rattle.http_front.specs.declared.row.Row.{Row}
 use Rattle.http_client.specs.OrderOutcome.{CanAnswer, CanHave, asks_library, asks_object, can_refuse, row_id}
 use Rattle.http_client.specs.RequestText.{HasRequest, IsAsked, NamesLibrary}
-use Rattle.worker_server.specs.Calls.{AskedSo, GetsEach, HostRules, NotAsked, PutsEach, ServedAt, ServedBy, ServesOrder, call_of, collected_outcome, get_of, is_got, put_of}
+use Rattle.worker_server.specs.Calls.{AskedSo, GetsEach, HeadSo, HostRules, LooksSo, NotAsked, PutsEach, ServedAt, ServedBy, ServesOrder, call_of, collected_outcome, get_of, goes_on, is_got, not_modified, put_of}
 use Rattle.worker_server.specs.declared.host.Answer.{Answer}
 use Rattle.worker_server.specs.declared.host.Collected.{Collected}
 use Rattle.worker_server.specs.declared.host.Collected.TheVariants as collected
@@ -84,9 +86,22 @@ module _ {V Operation : Type 0} (rules : HostRules V Operation)
         ]
       ]
 
+  -- the head, or that the library is still in the state of a tag that was named
+  looked_can : (tag : Tag) (lib : List ℕ) (secret : Option (List ℕ)) (u : V) (o : Outcome) (lines : List Operation) (v : V)
+      → LooksSo rules u lib secret tag o lines v → CanHave (what.Head (Some tag)) o
+  looked_can tag lib secret u o lines v (not_modified same is) = subst (CanHave (what.Head (Some tag))) (sym is) tt
+  looked_can tag lib secret u o lines v (goes_on mid first more other asked is) =
+      one_can (what.Head (Some tag)) act.Head mid lib secret o more v tt refl (λ e. absurd (false≢true e)) asked
+
+  head_can : (tag : Option Tag) (lib : List ℕ) (secret : Option (List ℕ)) (u : V) (o : Outcome) (lines : List Operation) (v : V)
+      → HeadSo rules u lib secret tag o lines v → CanHave (what.Head tag) o
+  head_can None lib secret u o lines v is = one_can (what.Head None) act.Head u lib secret o lines v tt refl (λ e. absurd (false≢true e)) is
+  head_can (Some tag) lib secret u o lines v is = looked_can tag lib secret u o lines v is
+
   library_can : (w : What) (lib : List ℕ) (secret : Option (List ℕ)) (u : V) (o : Outcome) (lines : List Operation) (v : V) → IsAsked w
       → ServedBy rules lib secret w u o lines v → CanHave w o
   library_can what.Version lib secret u o lines v asked is = subst (CanHave what.Version) (sym is.0) refl
+  library_can (what.Head tag) lib secret u o lines v asked is = head_can tag lib secret u o lines v is
   library_can (what.Get key) lib secret u o lines v asked is = one_can (what.Get key) _ u lib secret o lines v asked refl (λ e. e) is
   library_can (what.PutFs rows) lib secret u o lines v asked is = rows_can rows lib secret rows u o lines v is
   library_can (what.GetFs ids) lib secret u o lines v asked is = ids_can ids lib secret ids [] u o lines v refl is.0
@@ -98,7 +113,7 @@ module _ {V Operation : Type 0} (rules : HostRules V Operation)
       → ServedAt rules lib secret w u o lines v → CanHave w o
   named_can None secret what.Version u o lines v names asked is = subst (CanHave what.Version) (sym is.0) refl
   named_can None secret (what.Check op) u o lines v names asked is = absurd names
-  named_can None secret what.Head u o lines v names asked is = absurd names
+  named_can None secret (what.Head tag) u o lines v names asked is = absurd names
   named_can None secret (what.Update commit) u o lines v names asked is = absurd names
   named_can None secret (what.Get key) u o lines v names asked is = absurd names
   named_can None secret (what.Put key bytes) u o lines v names asked is = absurd names

@@ -22,7 +22,7 @@ use Rattle.remote_calls.specs.declared.reply_reading.ReadReply.{ReadReply}
 
 -- what a whole reply tells, the order can have
 pub whole_can : (what : What) (held : List ℕ) (outcome : Outcome) (used : ℕ) (ends : Bool) → IsWhole what held outcome used ends → CanHave what outcome
-whole_can what held outcome used ends is = outcome_can what is.status (body_behind held is.head is.size) outcome is.outcome_is
+whole_can what held outcome used ends is = outcome_can what is.status is.tag (body_behind held is.head is.size) outcome is.outcome_is
 
 -- a whole reply has no more bytes than are held
 pub used_there : (what : What) (held : List ℕ) (outcome : Outcome) (used : ℕ) (ends : Bool) → IsWhole what held outcome used ends → used ≤ length held

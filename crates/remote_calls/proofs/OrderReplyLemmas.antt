@@ -218,8 +218,8 @@ module _ (index : Index) (gives : Slot → Option (List ℕ) → Type 0) (state 
   reply_can (what.Check o) a token r asked asks is =
       token_can (what.Check o) (act.Check o) r token refl (λ t it e. subst (MayReply (what.Check o)) (same_from_some reply.Checked it e) refl) (λ t e m. absurd m)
       (subst (λ (x : Act). MayAnswer index gives x (token_decided state x token) r) asks is)
-  reply_can what.Head a token r asked asks is =
-      token_can what.Head act.Head r token refl (λ t it e. subst (MayReply what.Head) (same_from_some (reply.HeadIs (head_of state.kept)) it e) refl) (λ t e m. absurd m)
+  reply_can (what.Head tag) a token r asked asks is =
+      token_can (what.Head tag) act.Head r token refl (λ t it e. subst (MayReply (what.Head tag)) (same_from_some (reply.HeadIs (head_of state.kept)) it e) refl) (λ t e m. absurd m)
       (subst (λ (x : Act). MayAnswer index gives x (token_decided state x token) r) asks is)
   reply_can (what.Update commit) a token r asked asks is =
       token_can (what.Update commit) (act.Update commit) r token refl (λ t it e. update_said state t commit it e) (λ t e m. update_can index gives commit r m)

@@ -1,6 +1,6 @@
 -- A library in memory as a remote: what it answers, at which moment, and which orders are to fail. Our own. Read DeskView
 -- first, then DeskAnswers, and DesksOver, at the end.
-use Rattle.std.specs.Prelude.{ℕ, ◌≡◌, ◌≢◌, ◌<◌, true, false, List, [], ◌∷◌, Option, Some, Ok, Err, ⊤, refl}
+use Rattle.std.specs.Prelude.{ℕ, ◌≡◌, ◌≢◌, ◌<◌, Bool, true, false, List, [], ◌∷◌, Option, Some, Ok, Err, ⊤, refl}
 use Rattle.std.specs.Coded.{Coded, code_by, coded×, coded_list, coded_result, coded_ℕ}
 use Rattle.ids.specs.FaultCount.{counted, is_due}
 use Rattle.http_front.specs.contracts.order.Order as order_contracts
@@ -11,6 +11,7 @@ use Rattle.library_state.specs.declared.call.Call.{Call}
 use Rattle.library_state.specs.declared.refusal.Refusal.TheVariants as refusal
 use Rattle.library_state.specs.declared.reply.Reply.{Reply}
 use Rattle.library_state.specs.declared.reply.Reply.TheVariants as reply
+use Rattle.library_state.specs.declared.tag.Tag.{Tag}
 use Rattle.depot.specs.Answering.{Serves, permits}
 use Rattle.depot.specs.CollectionTurns.{permits_collection}
 use Rattle.depot.specs.DepotView.{DepotView, IsGood, depot_code}
@@ -81,6 +82,10 @@ pub record DeskCollects {S : Type 0} (old : DepotView S) (lib : List ℕ) (secre
   pub stays : new ≡ old
   pub no_lines : lines ≡ []
 
+-- a look tells nothing, since no count of changes is kept
+abbrev pub DeskLooks : {S : Type 0} → DepotView S → List ℕ → Option (List ℕ) → Tag → Bool → List ⊤ → DepotView S → Type 0
+DeskLooks old lib secret tag same lines new = (same ≡ false) × (lines ≡ []) × (new ≡ old)
+
 -- the moment of an order is the number of orders that were taken before
 abbrev pub IsAt : ℕ → ℕ → Type 0
 IsAt count moment = moment ≡ count
@@ -101,7 +106,7 @@ faults_of shelf = shelf.faults
 
 -- the rules of a library in memory, which is asked at this moment
 abbrev pub desk_rules : ℕ → HostRules (DepotView MemoryShelfState) ⊤
-desk_rules moment = rules_at (IsAt moment) (DeskAnswers told_contents gives_told texts_of faults_of) AsksTooMuch (λ _. DeskCollects)
+desk_rules moment = rules_at (IsAt moment) (DeskAnswers told_contents gives_told texts_of faults_of) AsksTooMuch (λ _. DeskCollects) DeskLooks
 
 -- ---- a send
 

@@ -15,7 +15,7 @@ use Rattle.worker_server.specs.Calls.{get_of, put_of}
 abbrev pub Asks : What → Act → Type 0
 Asks what.Version a = ⊥
 Asks (what.Check op) a = a ≡ act.Check op
-Asks what.Head a = a ≡ act.Head
+Asks (what.Head tag) a = a ≡ act.Head
 Asks (what.Update commit) a = a ≡ act.Update commit
 Asks (what.Get key) a = a ≡ act.Get key
 Asks (what.Put key bytes) a = a ≡ act.Put key bytes

@@ -7,7 +7,7 @@ ghost use Rattle.remote_calls.specs.DeskRemote.{AsksTooMuch, DeskReplies};
 
 use depot::Depot;
 use ids::{LibId, ObjId};
-use library_state::{Call, Refusal, Reply, Secret};
+use library_state::{Call, Refusal, Reply, Secret, Tag};
 use object_store::Shelf;
 use std::alloc::Global;
 use std::marker::PhantomData;
@@ -26,7 +26,7 @@ pub(crate) struct DeskHost<S> {
 impl<S: Shelf> Host for DeskHost<S> {
     ghost use Rattle.std.specs.Prelude.{⊤};
     ghost use Rattle.depot.specs.DepotView.{DepotView};
-    ghost use Rattle.remote_calls.specs.DeskRemote.{AsksTooMuch, DeskAnswers, DeskCollects, IsAt};
+    ghost use Rattle.remote_calls.specs.DeskRemote.{AsksTooMuch, DeskAnswers, DeskCollects, DeskLooks, IsAt};
 
     type Pass = Depot<S>;
 
@@ -45,6 +45,8 @@ impl<S: Shelf> Host for DeskHost<S> {
     ghost too_much = { AsksTooMuch };
 
     ghost collects = { λ _. DeskCollects };
+
+    ghost looks = { DeskLooks };
 
     fn ask(&self, alloc: Global, pass: &mut Depot<S>, lib: LibId, call: Call) -> Answer {
         let _ = alloc;
@@ -84,6 +86,14 @@ impl<S: Shelf> Host for DeskHost<S> {
     ) -> Collected {
         let _ = alloc;
         Collected::Refused(uncollected(pass, lib, &secret))
+    }
+
+    fn look(&self, pass: &mut Depot<S>, lib: LibId, secret: &Option<Secret>, tag: Tag) -> bool {
+        let _ = pass;
+        let _ = lib;
+        let _ = secret;
+        let _ = tag;
+        false
     }
 }
 

@@ -25,7 +25,7 @@ fn copy_what(alloc: Global, what: &What) -> Result<What, AllocError>
     match what {
         What::Version => Ok(What::Version),
         What::Check(op) => Ok(What::Check(*op)),
-        What::Head => Ok(What::Head),
+        What::Head(tag) => Ok(What::Head(*tag)),
         What::Update(commit) => Ok(What::Update(*commit)),
         What::Get(key) => Ok(What::Get(*key)),
         What::Put(key, bytes) => match Bytes::copy(alloc, bytes.slice()) {

@@ -4,7 +4,7 @@ ghost use Rattle.std.specs.Prelude.{◌≤◌};
 use crate::library::library_on;
 use http_front::MemoryLink;
 use ids::{Bytes, Items};
-use library_server::serve_link;
+use library_server::{Counted, serve_link};
 use library_state::ListClock;
 use std::alloc::{AllocError, Global};
 use worker_server::Served;
@@ -113,8 +113,9 @@ fn link_of(
 /// How a connection with a new library ends.
 fn end_of(alloc: Global, link: &mut MemoryLink) -> Result<Served, AllocError> {
     let clock = ListClock::new(Items::copy(alloc, &[1_700_000_000])?);
-    let mut depot = library_on(alloc, &[])?;
-    Ok(serve_link(alloc, &mut depot, link, &clock))
+    let depot = library_on(alloc, &[])?;
+    let mut library = Counted { depot, changes: 0 };
+    Ok(serve_link(alloc, &mut library, link, &clock))
 }
 
 /// Whether this was given after the block's reply.

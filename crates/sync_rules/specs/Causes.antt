@@ -113,7 +113,7 @@ pub record FindsSome (more : List Sent) : Type 0 where
   pub asked : Order
   pub head : List ℕ
   pub tag : Tag
-  pub asks : asked.what ≡ what.Head
+  pub asks : asked.what ≡ what.Head None
   pub got : Order
   pub bytes : List ℕ
   pub later : Tag

@@ -104,7 +104,7 @@ abbrev pub Head : Type 0
 Head = List ℕ × Option (List ℕ)
 
 abbrev pub head_after : What → Ending → Option Head → Option Head
-head_after what.Head (Ok (Plain (reply.HeadIs id) tag)) before = Some (id, None)
+head_after (what.Head asked) (Ok (Plain (reply.HeadIs id) tag)) before = Some (id, None)
 head_after (what.Update pushed) (Ok (Plain (reply.Updated id) tag)) before = Some (id, Some pushed)
 head_after _ _ before = before
 
@@ -116,7 +116,7 @@ last_head (sent ∷ more) before = last_head more (head_after sent.0.what sent.1
 -- the head that was asked since the last upload check, which begins a round
 abbrev pub asked_after : What → Ending → Option (List ℕ) → Option (List ℕ)
 asked_after (what.Check op.Upload) ending before = None
-asked_after what.Head (Ok (Plain (reply.HeadIs id) tag)) before = Some id
+asked_after (what.Head asked) (Ok (Plain (reply.HeadIs id) tag)) before = Some id
 asked_after _ _ before = before
 
 abbrev pub asked_head : List Sent → Option (List ℕ) → Option (List ℕ)

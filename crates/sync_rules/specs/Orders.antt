@@ -30,7 +30,7 @@ use Rattle.sync_rules.specs.Offer.{offer_words}
 -- an order of a sync: of its library, with its secret, and nothing but what a sync asks
 abbrev pub is_sync_what : What → Bool
 is_sync_what (what.Check op) = true
-is_sync_what what.Head = true
+is_sync_what (what.Head None) = true
 is_sync_what (what.Get key) = true
 is_sync_what (what.GetFs ids) = true
 is_sync_what (what.Missing kind ids) = true

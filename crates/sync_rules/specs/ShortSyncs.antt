@@ -21,7 +21,7 @@ check_sent lib secret tag = (asked_of lib (Some secret) (what.Check op.Upload), 
 
 -- the library stands at this commit
 abbrev pub head_sent : (lib secret : List ℕ) → (id : List ℕ) → Tag → Sent
-head_sent lib secret id tag = (asked_of lib (Some secret) what.Head, Ok (Plain (reply.HeadIs id) tag))
+head_sent lib secret id tag = (asked_of lib (Some secret) (what.Head None), Ok (Plain (reply.HeadIs id) tag))
 
 abbrev pub two_sent : (lib secret : List ℕ) → (id : List ℕ) → (first later : Tag) → List Sent
 two_sent lib secret id first later = check_sent lib secret first ∷ head_sent lib secret id later ∷ []

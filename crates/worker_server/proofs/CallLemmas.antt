@@ -1,8 +1,10 @@
 -- What follows of a request and its outcome: Serves-refused_for_memory, Serves-ran, Serves-fits, ServesOrder-packs.
-use Rattle.std.proofs.Common.{◌≡◌, ◌⊎◌, ℕ, arith, List, [], ◌∷◌, ◌++◌, Option, None, Some, Result, Ok, Err, inl, inr, refl, subst}
+use Rattle.std.proofs.Common.{◌≡◌, ◌⊎◌, ℕ, Bool, true, false, arith, List, [], ◌∷◌, ◌++◌, Option, None, Some, Result, Ok, Err, inl, inr, refl, subst}
+use Rattle.library_state.specs.declared.call.Act.TheVariants as act
 use Rattle.library_state.specs.declared.call.Call.{Call}
 use Rattle.library_state.specs.declared.refusal.Refusal.{Refusal}
 use Rattle.library_state.specs.declared.refusal.Refusal.TheVariants.{NoMemory}
+use Rattle.library_state.specs.declared.tag.Tag.{Tag}
 use Rattle.http_front.specs.declared.order.Order.{Order}
 use Rattle.http_front.specs.Order.{OrdersAs}
 use Rattle.http_front.specs.declared.order.OrderFault.{OrderFault}
@@ -10,12 +12,12 @@ use Rattle.http_front.specs.declared.order.OrderFault.TheVariants as fault
 use Rattle.http_front.specs.declared.order.What.{What}
 use Rattle.http_front.specs.declared.order.What.TheVariants as what
 use Rattle.http_front.specs.declared.outcome.Outcome.{Outcome}
-use Rattle.http_front.specs.declared.outcome.Outcome.TheVariants.{Packed, Refused}
+use Rattle.http_front.specs.declared.outcome.Outcome.TheVariants.{Packed, Refused, Same}
 use Rattle.http_front.specs.declared.row.Row.{Row}
 use Rattle.http_front.specs.Rows.{row_with}
 use Rattle.worker_server.specs.declared.host.Collected.{Collected}
 use Rattle.worker_server.specs.declared.host.Collected.TheVariants as collected
-use Rattle.worker_server.specs.Calls.{FitReply, HostRules, Told, Ran, call_asked, collected_outcome, collection_asked, ServedAt, ServedBy, ServedSo, ServesOrder, AskedSo, PutsEach, GetsEach, NotAsked, Serves, SparesReading, told, unwritten, unready, call_of, get_of, outcome_without_library, put_of, refusal_of}
+use Rattle.worker_server.specs.Calls.{FitReply, HeadSo, HostRules, LooksSo, Told, Ran, call_asked, collected_outcome, collection_asked, goes_on, look_asked, not_modified, ServedAt, ServedBy, ServedSo, ServesOrder, AskedSo, PutsEach, GetsEach, NotAsked, Serves, SparesReading, told, unwritten, unready, call_of, get_of, outcome_without_library, put_of, refusal_of}
 use Rattle.worker_server.proofs.EachLemmas.{GetsEach-fits}
 
 module _ {V Operation : Type 0} (rules : HostRules V Operation) where
@@ -63,11 +65,35 @@ module _ {V Operation : Type 0} (rules : HostRules V Operation) where
         ]
       ]
 
+  LooksSo-ran : (u : V) (lib : List ℕ) (secret : Option (List ℕ)) (tag : Tag) (o : Outcome) (operations : List Operation) (v : V) → LooksSo rules u lib secret tag o operations v
+      → (calls : List (Told Operation)) × Ran rules u calls v
+  LooksSo-ran u lib secret tag o operations v (not_modified same is) = (look_asked lib secret tag true operations ∷ [], (v, same, refl))
+  LooksSo-ran u lib secret tag o operations v (goes_on mid first more other asked is) =
+      let rest = AskedSo-ran mid lib (call_of secret act.Head) o more v asked in
+      (look_asked lib secret tag false first ∷ rest.0, (mid, other, rest.1))
+
+  HeadSo-ran : (u : V) (lib : List ℕ) (secret : Option (List ℕ)) (tag : Option Tag) (o : Outcome) (operations : List Operation) (v : V) → HeadSo rules u lib secret tag o operations v
+      → (calls : List (Told Operation)) × Ran rules u calls v
+  HeadSo-ran u lib secret None o operations v h = AskedSo-ran u lib (call_of secret act.Head) o operations v h
+  HeadSo-ran u lib secret (Some tag) o operations v h = LooksSo-ran u lib secret tag o operations v h
+
+  -- what a look told, and what came of it
+  pub HeadSo-same : (u v : V) (lib : List ℕ) (secret : Option (List ℕ)) (tag : Tag) (same : Bool) (operations : List Operation) → same ≡ true
+      → rules.looks u lib secret tag same operations v → HeadSo rules u lib secret (Some tag) (Same tag) operations v
+  HeadSo-same u v lib secret tag same operations is looks =
+      not_modified (subst (λ (b : Bool). rules.looks u lib secret tag b operations v) is looks) refl
+
+  pub HeadSo-other : (u mid v : V) (lib : List ℕ) (secret : Option (List ℕ)) (tag : Tag) (same : Bool) (o : Outcome) (first more : List Operation) → same ≡ false
+      → rules.looks u lib secret tag same first mid → AskedSo rules.asks mid lib (call_of secret act.Head) o more v
+      → HeadSo rules u lib secret (Some tag) o (first ++ more) v
+  HeadSo-other u mid v lib secret tag same o first more is looks asked =
+      goes_on mid first more (subst (λ (b : Bool). rules.looks u lib secret tag b first mid) is looks) asked refl
+
   ServedBy-ran : (lib : List ℕ) (secret : Option (List ℕ)) (w : What) (u : V) (o : Outcome) (operations : List Operation) (v : V)
       → ServedBy rules lib secret w u o operations v → (calls : List (Told Operation)) × Ran rules u calls v
   ServedBy-ran lib secret what.Version u o operations v h = ([], h.2)
   ServedBy-ran lib secret (what.Check op) u o operations v h = AskedSo-ran u lib _ o operations v h
-  ServedBy-ran lib secret what.Head u o operations v h = AskedSo-ran u lib _ o operations v h
+  ServedBy-ran lib secret (what.Head tag) u o operations v h = HeadSo-ran u lib secret tag o operations v h
   ServedBy-ran lib secret (what.Update commit) u o operations v h = AskedSo-ran u lib _ o operations v h
   ServedBy-ran lib secret (what.Get key) u o operations v h = AskedSo-ran u lib _ o operations v h
   ServedBy-ran lib secret (what.Put key bytes) u o operations v h = AskedSo-ran u lib _ o operations v h
@@ -107,7 +133,15 @@ module _ {V Operation : Type 0} (rules : HostRules V Operation) where
       → ServedBy rules lib secret w u (Packed rows) operations v → FitReply rows
   ServedBy-fits lib secret what.Version u rows operations v h = absurd (cc h.0)
   ServedBy-fits lib secret (what.Check op) u rows operations v h = absurd (cc h.2)
-  ServedBy-fits lib secret what.Head u rows operations v h = absurd (cc h.2)
+  ServedBy-fits lib secret (what.Head tag) u rows operations v h = absurd (not_head tag h)
+    where
+      not_looked : (tag : Tag) → LooksSo rules u lib secret tag (Packed rows) operations v → ⊥
+      not_looked tag (not_modified same is) = cc is
+      not_looked tag (goes_on mid first more other asked is) = cc asked.2
+
+      not_head : (tag : Option Tag) → HeadSo rules u lib secret tag (Packed rows) operations v → ⊥
+      not_head None h = cc h.2
+      not_head (Some tag) h = not_looked tag h
   ServedBy-fits lib secret (what.Update commit) u rows operations v h = absurd (cc h.2)
   ServedBy-fits lib secret (what.Get key) u rows operations v h = absurd (cc h.2)
   ServedBy-fits lib secret (what.Put key bytes) u rows operations v h = absurd (cc h.2)
@@ -142,7 +176,7 @@ module _ {V Operation : Type 0} (rules : HostRules V Operation) where
       version_or_none : (w : What) → Packed rows ≡ outcome_without_library w → ⊥
       version_or_none what.Version e = cc e
       version_or_none (what.Check op) e = cc e
-      version_or_none what.Head e = cc e
+      version_or_none (what.Head tag) e = cc e
       version_or_none (what.Update commit) e = cc e
       version_or_none (what.Get key) e = cc e
       version_or_none (what.Put key bytes) e = cc e

@@ -223,6 +223,7 @@ StandsAt-from_head buffer piece head request given now is fits gave =
         method = is.method;
         target = is.target;
         shows = is.token;
+        names = is.tag;
       },
       gave ∙ ap (append_known given) (interim_is (front_of buffer) head request is),
     )

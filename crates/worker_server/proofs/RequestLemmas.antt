@@ -62,22 +62,24 @@ closes_as n bytes h r after s closed is = is ∙ ap (λ b. b || n == 9999) s.clo
 module _ {V Operation : Type 0} (rules : HostRules V Operation) where
   pub Answers-from_head : (bytes : List ℕ) (h : Head) (r : Request) (after : List ℕ) → StandsAt bytes h r after
       → (u v : V) (o : Outcome) (operations : List Operation)
-      → Serves rules u (IsOrder h.method h.target h.token (slice_range bytes h.used (h.used + h.body))) o operations v
+      → Serves rules u (IsOrder h.method h.target h.token h.tag (slice_range bytes h.used (h.used + h.body))) o operations v
       → Answers rules u (record { request = r; outcome = o; operations = operations }) v
   Answers-from_head bytes h r after s u v o operations served =
       let body = body_is bytes h r after s in (
         h.token,
         s.shows,
-        subst (λ z. Serves rules u (IsOrder z r.head.target h.token r.body) o operations v) s.method
-            (subst (λ z. Serves rules u (IsOrder h.method z h.token r.body) o operations v) s.target
-            (subst (λ z. Serves rules u (IsOrder h.method h.target h.token z) o operations v) body served)),
+        h.tag,
+        s.names,
+        subst (λ z. Serves rules u (IsOrder z r.head.target h.token h.tag r.body) o operations v) s.method
+            (subst (λ z. Serves rules u (IsOrder h.method z h.token h.tag r.body) o operations v) s.target
+            (subst (λ z. Serves rules u (IsOrder h.method h.target h.token h.tag z) o operations v) body served)),
       )
 
   -- the request whose reply was made
   unfoldable pub AnswersNext-from_reply : (bytes : List ℕ) (left : Option (List ℕ)) (rest : List ℕ) (h : Head) (r : Request) (after : List ℕ)
       → StandsAt bytes h r after → to_read bytes left ≡ Some rest
       → (u v : V) (o : Outcome) (operations : List Operation)
-      → Serves rules u (IsOrder h.method h.target h.token (slice_range bytes h.used (h.used + h.body))) o operations v
+      → Serves rules u (IsOrder h.method h.target h.token h.tag (slice_range bytes h.used (h.used + h.body))) o operations v
       → AnswersNext rules rest u (record { request = r; outcome = o; operations = operations }) v
   AnswersNext-from_reply bytes left rest h r after s e u v o operations served =
       let ahead = to_read-some bytes left rest e in
@@ -100,7 +102,7 @@ module _ {V Operation : Type 0} (rules : HostRules V Operation) where
   pub OneMore-from_reply : (n : ℕ) (buffer bytes skipped : List ℕ) (left still : Option (List ℕ)) (rest : List ℕ) (h : Head) (r : Request) (after : List ℕ)
       → StandsAt bytes h r after → to_read bytes left ≡ Some rest → skipped ≡ drop (h.used + h.body) bytes → still ≡ left
       → (u v : V) (o : Outcome) (operations : List Operation)
-      → Serves rules u (IsOrder h.method h.target h.token (slice_range bytes h.used (h.used + h.body))) o operations v
+      → Serves rules u (IsOrder h.method h.target h.token h.tag (slice_range bytes h.used (h.used + h.body))) o operations v
       → (closed : Bool) → closed ≡ (h.closes || n == 9999)
       → (old mid new : LinkTells) → mid.given ≡ append_known old.given (interim_of r.head) → new.given ≡ append_known mid.given (text o closed)
       → new.taken ≡ mid.taken → new.asked ≡ mid.asked → AsksUnfinished ⊥ buffer bytes old mid

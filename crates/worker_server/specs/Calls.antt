@@ -2,7 +2,7 @@
 -- between a request and its reply. `asks` is a host's relation: from what it shows before, a library and a call to
 -- an answer, the operations that the call left and what it shows after. Of a host with a clock it is AtAMoment. `too_much` says
 -- of what a host shows which files and directories it knows to have together more than so many bytes, and `collects` what it
--- tells of a collection. All three are its rules.
+-- tells of a collection; `looks` is what a look whether a library is still in a state leaves. All four are its rules.
 use Rattle.std.specs.Prelude.{ℕ, ◌≡◌, ◌<◌, ◌≤◌, ◌⊎◌, Bool, true, false, List, [], ◌∷◌, ◌++◌, length, sum_by, ⊤, Option, None, Some, Result, Ok, Err}
 use Rattle.ids.specs.declared.key.Kind.TheVariants.{Fs}
 use Rattle.library_state.specs.declared.call.Act.{Act}
@@ -75,10 +75,12 @@ abbrev pub collected_outcome : Collected → Outcome
 collected_outcome (collected.Done number removed) = outcome.Collected number removed
 collected_outcome (collected.Refused why) = Refused why
 
--- a call that was asked and its answer, or a collection and what was told of it; with the operations that it left
+-- a call that was asked and its answer, a collection and what was told of it, or a look and what it told; with the operations
+-- that it left
 pub data Told (Operation : Type 0) : Type 0 where
   call_asked : (lib : List ℕ) (call : Call) (answer : Answer) (operations : List Operation) → Told Operation
   collection_asked : (lib : List ℕ) (secret : Option (List ℕ)) (ends : Collected) (operations : List Operation) → Told Operation
+  look_asked : (lib : List ℕ) (secret : Option (List ℕ)) (tag : Tag) (same : Bool) (operations : List Operation) → Told Operation
 
 -- what is replied where no library is named: no order but that for the version is without one
 abbrev pub outcome_without_library : What → Outcome
@@ -100,12 +102,14 @@ pub record HostRules (V Operation : Type 0) : Type 1 where
   pub asks : V → List ℕ → Call → Answer → List Operation → V → Type 0
   pub too_much : V → List ℕ → Option (List ℕ) → List (List ℕ) → ℕ → Type 0
   pub collects : V → List ℕ → Option (List ℕ) → Collected → List Operation → V → Type 0
+  pub looks : V → List ℕ → Option (List ℕ) → Tag → Bool → List Operation → V → Type 0
 
 -- the same of a host with a clock
 abbrev pub rules_at : {V Operation : Type 0} → (ℕ → Type 0) → (V → List ℕ → Call → ℕ → Answer → List Operation → V → Type 0)
     → (V → List ℕ → Option (List ℕ) → List (List ℕ) → ℕ → Type 0)
-    → ((ℕ → Type 0) → V → List ℕ → Option (List ℕ) → Collected → List Operation → V → Type 0) → HostRules V Operation
-rules_at shows asks too_much collects = record { asks = AtAMoment shows asks; too_much = too_much; collects = collects shows }
+    → ((ℕ → Type 0) → V → List ℕ → Option (List ℕ) → Collected → List Operation → V → Type 0)
+    → (V → List ℕ → Option (List ℕ) → Tag → Bool → List Operation → V → Type 0) → HostRules V Operation
+rules_at shows asks too_much collects looks = record { asks = AtAMoment shows asks; too_much = too_much; collects = collects shows; looks = looks }
 
 -- the outcome is want of memory
 abbrev pub IsWant : Outcome → Type 0
@@ -154,12 +158,13 @@ module _ {V Operation : Type 0} (asks : V → List ℕ → Call → Answer → L
       ⊎ ((is_got answer.reply ≡ false) × (o ≡ told_of answer) × (more ≡ []) × (v ≡ mid))))
 
 module _ {V Operation : Type 0} (rules : HostRules V Operation) where
-  -- a call or a collection was answered so
+  -- a call, a collection or a look was answered so
   abbrev pub AnsweredSo : V → Told Operation → V → Type 0
   AnsweredSo u (call_asked lib call answer operations) v = rules.asks u lib call answer operations v
   AnsweredSo u (collection_asked lib secret ends operations) v = rules.collects u lib secret ends operations v
+  AnsweredSo u (look_asked lib secret tag same operations) v = rules.looks u lib secret tag same operations v
 
-  -- these calls and collections were asked, one after another
+  -- these calls, collections and looks were asked, one after another
   abbrev pub Ran : V → List (Told Operation) → V → Type 0
   Ran u [] v = v ≡ u
   Ran u (t ∷ ts) v = (mid : V) × AnsweredSo u t mid × Ran mid ts v
@@ -168,11 +173,23 @@ module _ {V Operation : Type 0} (rules : HostRules V Operation) where
   abbrev pub CollectedSo : V → List ℕ → Option (List ℕ) → Outcome → List Operation → V → Type 0
   CollectedSo u lib secret o operations v = (ends : Collected) × rules.collects u lib secret ends operations v × (o ≡ collected_outcome ends)
 
+  -- whether the library is still in the state of a tag was looked at first. It is, and this is the outcome; or it isn't, and then the
+  -- head was asked for
+  pub data LooksSo (u : V) (lib : List ℕ) (secret : Option (List ℕ)) (tag : Tag) (o : Outcome) (operations : List Operation) (v : V) : Type 0 where
+    not_modified : rules.looks u lib secret tag true operations v → o ≡ outcome.Same tag → LooksSo u lib secret tag o operations v
+    goes_on : (mid : V) (first more : List Operation) → rules.looks u lib secret tag false first mid
+        → AskedSo rules.asks mid lib (call_of secret act.Head) o more v → operations ≡ first ++ more → LooksSo u lib secret tag o operations v
+
+  -- the head was asked for, by one who names this tag or none
+  abbrev pub HeadSo : V → List ℕ → Option (List ℕ) → Option Tag → Outcome → List Operation → V → Type 0
+  HeadSo u lib secret None o operations v = AskedSo rules.asks u lib (call_of secret act.Head) o operations v
+  HeadSo u lib secret (Some tag) o operations v = LooksSo u lib secret tag o operations v
+
   -- what was asked of a library has this outcome
   abbrev pub ServedBy : List ℕ → Option (List ℕ) → What → V → Outcome → List Operation → V → Type 0
   ServedBy lib secret what.Version u o operations v = NotAsked u Version o operations v
   ServedBy lib secret (what.Check op) u o operations v = AskedSo rules.asks u lib (call_of secret (act.Check op)) o operations v
-  ServedBy lib secret what.Head u o operations v = AskedSo rules.asks u lib (call_of secret act.Head) o operations v
+  ServedBy lib secret (what.Head tag) u o operations v = HeadSo u lib secret tag o operations v
   ServedBy lib secret (what.Update commit) u o operations v = AskedSo rules.asks u lib (call_of secret (act.Update commit)) o operations v
   ServedBy lib secret (what.Get key) u o operations v = AskedSo rules.asks u lib (call_of secret (act.Get key)) o operations v
   ServedBy lib secret (what.Put key bytes) u o operations v = AskedSo rules.asks u lib (call_of secret (act.Put key bytes)) o operations v

@@ -16,7 +16,7 @@ use Rattle.http_front.specs.RequestHead.{closes, method_of}
 use Rattle.http_front.specs.TargetFront.{MayBecomeHead}
 use Rattle.http_front.specs.RequestStream.{Request, IsCutAfter, IsLookedAt, IsRefused, IsRequest, IsUnfinished}
 use Rattle.worker_server.specs.Calls.{HostRules}
-use Rattle.worker_server.specs.ServedConnection.{Exchange, Shows, Answers, CameLast, EndsAsked, FailedLast, Stops, CountsEnd, closes_at, text_at}
+use Rattle.worker_server.specs.ServedConnection.{Exchange, NamesTag, Shows, Answers, CameLast, EndsAsked, FailedLast, Stops, CountsEnd, closes_at, text_at}
 use Rattle.worker_server.specs.declared.reading.End.{End}
 use Rattle.worker_server.specs.declared.reading.End.TheVariants as end
 use Rattle.worker_server.specs.declared.reading.Look.{Look}
@@ -33,6 +33,7 @@ pub record StandsAt (bytes : List ℕ) (h : Head) (r : Request) (after : List �
   pub method : h.method ≡ method_of r.head.method
   pub target : h.target ≡ r.head.target
   pub shows : Shows r h.token
+  pub names : NamesTag r h.tag
 
 -- where the input ends with these bytes unused, it ends between two requests or within one
 abbrev pub end_at : List ℕ → End

@@ -5,12 +5,13 @@ use Rattle.std.specs.Io.KnownBytes.{IsAtEnd, append_known}
 use Rattle.httparse.specs.Grammar.{RequestHead}
 use Rattle.ids.specs.FaultCount.{Rose}
 use Rattle.library_state.specs.declared.refusal.Refusal.{Refusal}
+use Rattle.library_state.specs.declared.tag.Tag.{Tag}
 use Rattle.http_front.specs.declared.order.Order.{Order}
 use Rattle.http_front.specs.declared.outcome.Outcome.{Outcome}
 use Rattle.http_front.specs.Fields.{found, values_of}
 use Rattle.http_front.specs.Link.{Asked, GivesFront, LinkTells}
 use Rattle.http_front.specs.Limits.{piece_limit}
-use Rattle.http_front.specs.NextHead.{IsTokenIn}
+use Rattle.http_front.specs.NextHead.{IsTagIn, IsTokenIn}
 use Rattle.http_front.specs.Order.{IsOrder}
 use Rattle.http_front.specs.ReplyText.{text, bad_text}
 use Rattle.http_front.specs.RequestHead.{closes, expects, fields_of, judge, method_of}
@@ -23,9 +24,13 @@ use Rattle.worker_server.specs.declared.served.Served.TheVariants.{Ended, Limit,
 abbrev pub Shows : Request → Option (List ℕ) → Type 0
 Shows r secret = IsTokenIn (found (values_of (codes "seafile-repo-token") (fields_of r.head))) secret
 
--- what a request that shows this secret is read as
-abbrev pub IsOrderFor : Request → Option (List ℕ) → Result Order Refusal → Type 0
-IsOrderFor r secret = IsOrder (method_of r.head.method) r.head.target secret r.body
+-- the tag that it names, if it names one in its form
+abbrev pub NamesTag : Request → Option Tag → Type 0
+NamesTag r tag = IsTagIn (found (values_of (codes "if-none-match") (fields_of r.head))) tag
+
+-- what a request that shows this secret and names this tag is read as
+abbrev pub IsOrderFor : Request → Option (List ℕ) → Option Tag → Result Order Refusal → Type 0
+IsOrderFor r secret tag = IsOrder (method_of r.head.method) r.head.target secret tag r.body
 
 -- a request that was answered, its outcome, and the operations that its calls left
 pub record Exchange (Operation : Type 0) : Type 0 where
@@ -122,8 +127,8 @@ module _ {V Operation : Type 0} (rules : HostRules V Operation) where
   -- a request and its outcome
   abbrev pub Answers : V → Exchange Operation → V → Type 0
   Answers u x v =
-      (secret : Option (List ℕ)) × Shows x.request secret
-      × Serves rules u (IsOrderFor x.request secret) x.outcome x.operations v
+      (secret : Option (List ℕ)) × Shows x.request secret × (tag : Option Tag) × NamesTag x.request tag
+      × Serves rules u (IsOrderFor x.request secret tag) x.outcome x.operations v
 
   -- each request in its turn
   abbrev pub Run : V → List (Exchange Operation) → V → Type 0

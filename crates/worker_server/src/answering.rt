@@ -7,6 +7,7 @@ ghost use Rattle.worker_server.specs.Calls.{Serves, ServesOrder, collected_outco
 
 use crate::asking::{ask_one, get_each, put_each};
 use crate::host::{Collected, Host};
+use crate::looking::head_of;
 use http_front::{
     Buffer, Head, Order, OrderFault, Outcome, ReplyBytes, What, order_of, order_of_own, reply_own,
 };
@@ -29,7 +30,7 @@ pub fn reply_to<H: Host>(
     requires fits { head.now.used + head.now.body ≤ length buffer.old }
     ensures ready { H.ready host.now pass.new }
     ensures serves { (outcome : Outcome) × (operations : List H.Operation)
-        × Serves (rules_at (H.shows host.now) H.asks H.too_much H.collects) (H.view pass.old) (IsOrder head.now.method head.now.target head.now.token (slice_range buffer.old head.now.used (head.now.used + head.now.body))) outcome operations (H.view pass.new)
+        × Serves (rules_at (H.shows host.now) H.asks H.too_much H.collects H.looks) (H.view pass.old) (IsOrder head.now.method head.now.target head.now.token head.now.tag (slice_range buffer.old head.now.used (head.now.used + head.now.body))) outcome operations (H.view pass.new)
         × IfSome result (λ reply. reply.front ++ reply.object ≡ text outcome closes) }
     ensures left { buffer.new ≡ drop (head.now.used + head.now.body) buffer.old }
 {
@@ -62,7 +63,7 @@ fn outcome_of<H: Host>(
     requires fits { head.now.used + head.now.body ≤ length buffer.old }
     ensures ready { H.ready host.now pass.new }
     ensures serves { (operations : List H.Operation)
-        × Serves (rules_at (H.shows host.now) H.asks H.too_much H.collects) (H.view pass.old) (IsOrder head.now.method head.now.target head.now.token (slice_range buffer.old head.now.used (head.now.used + head.now.body))) result operations (H.view pass.new) }
+        × Serves (rules_at (H.shows host.now) H.asks H.too_much H.collects H.looks) (H.view pass.old) (IsOrder head.now.method head.now.target head.now.token head.now.tag (slice_range buffer.old head.now.used (head.now.used + head.now.body))) result operations (H.view pass.new) }
     ensures left { buffer.new ≡ drop (head.now.used + head.now.body) buffer.old }
 {
     match next_order(alloc, head, buffer) {
@@ -77,7 +78,7 @@ const MOST_LENT: usize = 65_536;
 /// What the request with this head asks for, which stands at the front of the buffer and is used.
 fn next_order(alloc: Global, head: &Head, buffer: &mut Buffer) -> Result<Order, OrderFault>
     requires fits { head.now.used + head.now.body ≤ length buffer.old }
-    ensures value { OrdersAs result (IsOrder head.now.method head.now.target head.now.token (slice_range buffer.old head.now.used (head.now.used + head.now.body))) }
+    ensures value { OrdersAs result (IsOrder head.now.method head.now.target head.now.token head.now.tag (slice_range buffer.old head.now.used (head.now.used + head.now.body))) }
     ensures left { buffer.new ≡ drop (head.now.used + head.now.body) buffer.old }
 {
     let size = head.body as usize;
@@ -95,7 +96,7 @@ fn next_order(alloc: Global, head: &Head, buffer: &mut Buffer) -> Result<Order, 
 /// The same of a long body: it is taken out of the buffer, and so the object of a PUT is not copied.
 fn own_order(alloc: Global, head: &Head, buffer: &mut Buffer) -> Result<Order, OrderFault>
     requires fits { head.now.used + head.now.body ≤ length buffer.old }
-    ensures value { OrdersAs result (IsOrder head.now.method head.now.target head.now.token (slice_range buffer.old head.now.used (head.now.used + head.now.body))) }
+    ensures value { OrdersAs result (IsOrder head.now.method head.now.target head.now.token head.now.tag (slice_range buffer.old head.now.used (head.now.used + head.now.body))) }
     ensures left { buffer.new ≡ drop (head.now.used + head.now.body) buffer.old }
 {
     let size = head.body as usize;
@@ -124,7 +125,7 @@ fn refusal_of(fault: OrderFault) -> Refusal
 pub fn answer_order<H: Host>(alloc: Global, host: &H, pass: &mut H::Pass, order: Order) -> Outcome
     requires ready { H.ready host.now pass.old }
     ensures ready { H.ready host.now pass.new }
-    ensures serves { (operations : List H.Operation) × ServesOrder (rules_at (H.shows host.now) H.asks H.too_much H.collects) (H.view pass.old) order result operations (H.view pass.new) }
+    ensures serves { (operations : List H.Operation) × ServesOrder (rules_at (H.shows host.now) H.asks H.too_much H.collects H.looks) (H.view pass.old) order result operations (H.view pass.new) }
 {
     let Order { lib, secret, what } = order;
     match lib {
@@ -155,12 +156,12 @@ fn outcome_by<H: Host>(
     requires ready { H.ready host.now pass.old }
     ensures ready { H.ready host.now pass.new }
     ensures serves { (operations : List H.Operation)
-        × ServesOrder (rules_at (H.shows host.now) H.asks H.too_much H.collects) (H.view pass.old) (record { lib = Some lib; secret = secret; what = what }) result operations (H.view pass.new) }
+        × ServesOrder (rules_at (H.shows host.now) H.asks H.too_much H.collects H.looks) (H.view pass.old) (record { lib = Some lib; secret = secret; what = what }) result operations (H.view pass.new) }
 {
     match what {
         What::Version => Outcome::Version,
         What::Check(op) => ask_one(alloc, host, pass, lib, secret, Act::Check(op)),
-        What::Head => ask_one(alloc, host, pass, lib, secret, Act::Head),
+        What::Head(tag) => head_of(alloc, host, pass, lib, secret, tag),
         What::Update(commit) => ask_one(alloc, host, pass, lib, secret, Act::Update(commit)),
         What::Get(key) => ask_one(alloc, host, pass, lib, secret, Act::Get(key)),
         What::Put(key, bytes) => ask_one(alloc, host, pass, lib, secret, Act::Put(key, bytes)),

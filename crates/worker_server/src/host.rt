@@ -1,6 +1,6 @@
 //! What calls are asked of: one library, or a participant in the history of many.
 use ids::{LibId, ObjId};
-use library_state::{Call, Refusal, Reply, Secret};
+use library_state::{Call, Refusal, Reply, Secret, Tag};
 use std::alloc::Global;
 
 /// A library's answer to a call.
@@ -31,13 +31,14 @@ pub enum Collected {
 /// view before, the moment at which it is asked, the answer, the operations that it left (a record of
 /// operations, empty where none is kept) and the view after.
 pub trait Host {
-    ghost use Rattle.std.specs.Prelude.{◌≡◌, ◌∷◌, List, Option, ℕ};
+    ghost use Rattle.std.specs.Prelude.{◌≡◌, ◌∷◌, Bool, List, Option, ℕ};
     ghost use Rattle.worker_server.specs.Calls.{AtAMoment, call_of, get_of};
     ghost use Rattle.library_state.specs.declared.refusal.Refusal.TheVariants.{NoMemory};
     ghost use Rattle.library_state.specs.declared.reply.Reply.TheVariants as reply;
     ghost use Rattle.library_state.specs.declared.call.Call.{Call};
     ghost use Rattle.worker_server.specs.declared.host.Answer.{Answer};
     ghost use Rattle.worker_server.specs.declared.host.Collected.{Collected};
+    ghost use Rattle.library_state.specs.declared.tag.Tag.{Tag};
 
     type Pass;
 
@@ -64,6 +65,10 @@ pub trait Host {
 
     // A library, asked by the one of this secret, may be collected so, in turns at moments of this kind.
     ghost collects: { (ℕ → Type 0) → View → List ℕ → Option (List ℕ) → Collected → List Operation → View → Type 0 };
+
+    // A look by the one of this secret whether a library is still in the state of this tag may tell that it is, or that it
+    // isn't or that it can't be told.
+    ghost looks: { View → List ℕ → Option (List ℕ) → Tag → Bool → List Operation → View → Type 0 };
 
     /// Asks a call of a library, at a moment that the clock shows.
     fn ask(&self, alloc: Global, pass: &mut Self::Pass, lib: LibId, call: Call) -> Answer
@@ -105,4 +110,12 @@ pub trait Host {
         ensures ready { ready self.now pass.new }
         ensures asks { (operations : List Operation)
             × collects (shows self.now) (view pass.old) lib secret result operations (view pass.new) };
+
+    /// Whether a library is still in the state of this tag. Where it isn't, where there is no such library, and where who
+    /// asks may not, it is not told; what is asked after it says why.
+    fn look(&self, pass: &mut Self::Pass, lib: LibId, secret: &Option<Secret>, tag: Tag) -> bool
+        requires ready { ready self.now pass.old }
+        ensures ready { ready self.now pass.new }
+        ensures asks { (operations : List Operation)
+            × looks (view pass.old) lib secret.now tag result operations (view pass.new) };
 }

@@ -18,7 +18,7 @@ pub fn the_limits_are_these()
 /// The files and directories that one reply packs have together no more bytes than fit, whatever was asked for and whatever
 /// the host holds.
 pub fn a_packed_reply_has_a_bound<H: Host>()
-    ensures { (host : H) (u v : H.View) (exchange : Exchange H.Operation) (rows : List Row) → Answers (rules_at (H.shows host) H.asks H.too_much H.collects) u exchange v
+    ensures { (host : H) (u v : H.View) (exchange : Exchange H.Operation) (rows : List Row) → Answers (rules_at (H.shows host) H.asks H.too_much H.collects H.looks) u exchange v
         → exchange.outcome ≡ Packed rows → packed_size rows ≤ most_packed }
 {}
 

@@ -11,6 +11,7 @@ mod connection;
 mod giving;
 mod host;
 pub mod laws;
+mod looking;
 mod reading;
 mod requesting;
 mod served;

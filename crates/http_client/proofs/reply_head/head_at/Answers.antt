@@ -12,7 +12,7 @@ returns-then-spans-eq1 c =
     let few : length (take spans.headers headers) ≤ 64 = omega (arith, length-take spans.headers headers, c.parse_response.auto.headers) in
     record {
       value = seen_by c.args.order.now c.args.front.now headers spans c.seen_head.result told.complete.0 told.complete.1 c.if-spans-eq1.true few
-          told.within.section.len_fits c.seen_head.ensures.size c.seen_head.ensures.told c.seen_head.ensures.value;
+          told.within.section.len_fits c.seen_head.ensures.size c.seen_head.ensures.told c.seen_head.ensures.found c.seen_head.ensures.value;
     }
 
 pub returns-else-spans-eq1 : goal.returns-else-spans-eq1

@@ -16,12 +16,12 @@ pub returns-in-Some : goal.returns-in-Some
 returns-in-Some c = record {
   value = whole_by c.args.order.now c.args.buffer.now c.args.head c.requires.part c.args.status c.args.size c.requires.told
       c.behind-behind.result.now c.in_front-body.result.now c.behind-behind.ensures.value c.in_front-body.ensures.value (c.is_cut.ensures.whole c.if-is_cut.false)
-      c.in-Some.outcome (subst (IsOutcome c.args.order.now c.args.status c.in_front-body.result.now) c.in-Some.is c.in_ok-outcome.ensures.value);
+      c.in-Some.outcome (subst (IsOutcome c.args.order.now c.args.status c.args.head.tag c.in_front-body.result.now) c.in-Some.is c.in_ok-outcome.ensures.value);
 }
 
 pub returns-in-None : goal.returns-in-None
 returns-in-None c = record {
   value = bad_body_by c.args.order.now c.args.buffer.now c.args.head c.requires.part c.args.status c.args.size c.requires.told
       c.behind-behind.result.now c.in_front-body.result.now c.behind-behind.ensures.value c.in_front-body.ensures.value (c.is_cut.ensures.whole c.if-is_cut.false)
-      (subst (IsOutcome c.args.order.now c.args.status c.in_front-body.result.now) c.in-None.is c.in_ok-outcome.ensures.value);
+      (subst (IsOutcome c.args.order.now c.args.status c.args.head.tag c.in_front-body.result.now) c.in-None.is c.in_ok-outcome.ensures.value);
 }
