@@ -1,4 +1,4 @@
--- What was asked and put of a folder has its files. The key lemma is asked_had.
+-- What was asked and put of a folder has its files. The key lemmas are names_append and asked_had.
 use Rattle.std.proofs.Common.{◌≡◌, inl, inr, ℕ, List, [], ◌∷◌, ◌++◌, map, Option, None, Some, IsSome, is_some, refl, sym, ap, ◌∙◌, subst, append_assoc}
 use Rattle.std.specs.Prelude.{unwrap_or}
 use Rattle.std.specs.FinMap as fin
@@ -26,7 +26,7 @@ use Rattle.tree_push.proofs.KnownBytesLemmas.{bytes_of, known_block}
 use Rattle.tree_push.proofs.OfferedHadLemmas.{had_changed, keeps_made}
 use Rattle.tree_push.proofs.TraceLemmas.{all_append}
 
-names_append : (first later : List Sent) → flat_map names_in (first ++ later) ≡ flat_map names_in first ++ flat_map names_in later
+pub names_append : (first later : List Sent) → flat_map names_in (first ++ later) ≡ flat_map names_in first ++ flat_map names_in later
 names_append [] later = refl
 names_append (sent ∷ first) later =
     ap (λ (names : List Named). names_in sent ++ names) (names_append first later) ∙ sym (append_assoc (names_in sent) (flat_map names_in first) (flat_map names_in later))

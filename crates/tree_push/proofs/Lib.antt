@@ -2,6 +2,7 @@ pub mod MappedLemmas
 pub mod OfferedEntryLemmas
 pub mod NotedLemmas
 pub mod TraceLemmas
+pub mod EndingLemmas
 pub mod LackingLemmas
 pub mod PutsLemmas
 pub mod HadLemmas

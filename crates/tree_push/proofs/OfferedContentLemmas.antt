@@ -46,7 +46,7 @@ use Rattle.tree_push.specs.OfferedNames.{HasOffered, HasOwn, IsThere, object_of}
 use Rattle.tree_push.specs.OfferedEntries.{IsSeenFolder, changed_entry, file_entry, is_kept, offered_entry}
 
 module _ (objects : Objects) (here : List ℕ → Type 0) (is_clear : IsClear here) where
-  the_same : (key : Key) (bytes : List ℕ) → here bytes → IsThere objects here key bytes → fin.get objects key ≡ Some bytes
+  pub the_same : (key : Key) (bytes : List ℕ) → here bytes → IsThere objects here key bytes → fin.get objects key ≡ Some bytes
   the_same key bytes own is = is.there ∙ ap Some (is_clear.same is.stored bytes is.clear own is.named)
 
   block_is : (x : List ℕ) → here x → IsThere objects here (block_key (sha1 x)) x → block_bytes objects (sha1 x) ≡ x
@@ -60,7 +60,7 @@ module _ (objects : Objects) (here : List ℕ → Type 0) (is_clear : IsClear he
         ap₂ (λ (a b : List ℕ). a ++ b) (block_is x (pieces x (IsPieceOf.chunk (in_file x first))) (has.blocks x (in_file x first)))
         (joined_is xs (λ other there. in_file other (contains_more x other xs there)))
 
-    all_some : (xs : List (List ℕ)) → ((x : List ℕ) → Contains xs x → Contains (chunks_of cuts bytes) x) → All (λ id. id ≢ nil) (map sha1 xs)
+    pub all_some : (xs : List (List ℕ)) → ((x : List ℕ) → Contains xs x → Contains (chunks_of cuts bytes) x) → All (λ id. id ≢ nil) (map sha1 xs)
     all_some [] in_file = All-nil (λ id. id ≢ nil)
     all_some (x ∷ xs) in_file =
         All-cons (λ id. id ≢ nil) (sha1 x) (map sha1 xs) (is_clear.not_nil x (pieces x (IsPieceOf.chunk (in_file x (0, omega arith, refl)))))

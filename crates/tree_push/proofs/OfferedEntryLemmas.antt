@@ -1,8 +1,10 @@
 -- What is offered of a folder has objects: each entry stands in a directory, and files have modes of files. The key lemmas are
--- sound_offered and if_ok.
-use Rattle.std.proofs.Common.{◌≡◌, ℕ, ℤ, Bool, true, false, if◌then◌else◌, List, [], ◌∷◌, ◌++◌, Option, None, Some, IsSome, option_map, Result, Ok, Err, IfOk, refl, sym, ap, ◌∙◌, subst}
+-- sound_offered, seen_zeros and if_ok.
+use Rattle.std.proofs.Common.{◌≡◌, ◌↔◌, ℕ, ℤ, Bool, true, false, if◌then◌else◌, List, [], ◌∷◌, ◌++◌, Option, None, Some, IsSome, option_map, Result, Ok, Err, IfOk, refl, sym, ap, ◌∙◌, subst}
 use Rattle.std.specs.FinMap as fin
 use Rattle.std.specs.Str.{bytes_eq}
+use Rattle.ids.specs.ObjectId.{nil}
+use Rattle.tree_model.specs.Path.{PathV}
 use Rattle.fs_objects.specs.Mode.{is_file_mode}
 use Rattle.object_graph.specs.declared.entry.Entry.{Entry}
 use Rattle.object_graph.specs.declared.entry.Entry.TheVariants as entry
@@ -62,3 +64,15 @@ sound_offered moment user knowns seens entries are folder = record {
   modes = λ path file there.
       mode_offered file.id file.mode file.mtime file.modifier file.size moment user (fin.get knowns path) (fin.get seens path) (folder.modes path) (sym (are path) ∙ there);
 }
+
+-- the root is forty zeros where nothing was seen
+none_of : {X Y : Type 0} (f : X → Y) (o : Option X) → option_map f o ≡ None → o ≡ None
+none_of f None is = refl
+none_of f (Some x) is = absurd (cc)
+
+pub seen_zeros : (moment : ℕ) (user : List ℕ) (knowns : KnownPaths) (seens : SeenPaths) (entries : Entries) → AreOffered moment user knowns seens entries → (root : List ℕ)
+    → (root ≡ nil) ↔ ((path : PathV) → fin.get entries path ≡ None) → (root ≡ nil) ↔ ((path : PathV) → fin.get seens path ≡ None)
+seen_zeros moment user knowns seens entries are root zeros = (
+  λ none path. none_of (offered_entry moment user (fin.get knowns path)) (fin.get seens path) (sym (are path) ∙ zeros.0 none path),
+  λ none. zeros.1 (λ path. are path ∙ ap (option_map (offered_entry moment user (fin.get knowns path))) (none path)),
+)

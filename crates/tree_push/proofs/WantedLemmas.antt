@@ -18,9 +18,10 @@ use Rattle.object_graph.specs.Unchanged.{Keeps}
 use Rattle.folder_side.specs.declared.scan_report.Seen.{Seen}
 use Rattle.folder_side.specs.declared.scan_report.Seen.TheVariants as seen
 use Rattle.folder_side.proofs.SortedEntryLemmas.{Rises-entries, found_of, skip_first}
+use Rattle.local_index.specs.OwnIds.{own_id}
 use Rattle.local_index.specs.declared.index.Known.{Known}
-use Rattle.tree_push.specs.OfferedEntries.{KnownPaths, SeenPaths}
-use Rattle.tree_push.specs.Wanted.{AddsBlocksOf, AddsIds, AreOwnNamed, AreSeenBlocks, Blocks, Grows, HasFiles, HasSeen, IsIn, IsKept, IsOneOf, IsSeenBlock, file_text}
+use Rattle.tree_push.specs.OfferedEntries.{KnownPaths, SeenPaths, is_kept}
+use Rattle.tree_push.specs.Wanted.{AddsChanged, AddsIds, AddsOf, AddsText, AddsUnless, AreOwnNamed, Blocks, Grows, HasFiles, HasSeen, IsChangedBlock, IsChangedObject, IsIn, IsKept, IsObjectOf, IsOneOf, file_text}
 use Rattle.tree_push.specs.declared.wanted.Wanted.{Wanted}
 
 -- ---- ids
@@ -113,36 +114,50 @@ pub record IsAddingFiles (knowns : KnownPaths) (seens : SeenPaths) (rest : List 
   pub grows : Grows old now
   pub done : (path : PathV) (s : Seen) → fin.get seens path ≡ Some s → (fin.find path_cmp path rest ≡ Some s) ⊎ HasSeen now (fin.get knowns path) s
   pub are : AllByRecursion (λ e. fin.get seens e.0 ≡ Some e.1) rest
-  pub within : AreSeenBlocks seens old → AreSeenBlocks seens now
+  pub within : AddsChanged knowns seens old now
+
+-- each entry of a table is what it has there
+all_seen : (seens : SeenPaths) (es : List (PathV × Seen)) → ((e : PathV × Seen) → In e es → fin.get seens e.0 ≡ Some e.1) → AllByRecursion (λ e. fin.get seens e.0 ≡ Some e.1) es
+all_seen seens [] is = tt
+all_seen seens (e ∷ es) is = (is e (inl refl), all_seen seens es (λ other there. is other (inr there)))
+
+pub entries_are : (seens : SeenPaths) → AllByRecursion (λ e. fin.get seens e.0 ≡ Some e.1) (fin.entries seens)
+entries_are seens = all_seen seens (fin.entries seens) (λ e there. fin.get-entries seens e.0 ∙ found_of (fin.entries seens) e (Rises-entries seens) there)
 
 module _ (knowns : KnownPaths) (seens : SeenPaths) where
-  all_seen : (es : List (PathV × Seen)) → ((e : PathV × Seen) → In e es → fin.get seens e.0 ≡ Some e.1) → AllByRecursion (λ e. fin.get seens e.0 ≡ Some e.1) es
-  all_seen [] is = tt
-  all_seen (e ∷ es) is = (is e (inl refl), all_seen es (λ other there. is other (inr there)))
-
   pub files_start : (old : Wanted) → IsAddingFiles knowns seens (fin.entries seens) old old
   files_start old = record {
     grows = grows_none old;
     done = λ path s is. inl (sym (fin.get-entries seens path) ∙ is);
-    are = all_seen (fin.entries seens) (λ e there. fin.get-entries seens e.0 ∙ found_of (fin.entries seens) e (Rises-entries seens) there);
-    within = λ are. are;
+    are = entries_are seens;
+    within = record { blocks = λ key there. inl there; objects = λ key there. inl there };
   }
 
-  seen_blocks : (path : PathV) (s : Seen) (now new : Wanted) → fin.get seens path ≡ Some s → AddsBlocksOf s now new → AreSeenBlocks seens now → AreSeenBlocks seens new
-  seen_blocks path seen.Dir now new is adds are = λ key there. are key (adds key there)
-  seen_blocks path (seen.File blocks size) now new is adds are = λ key there. by key (adds key there)
+  changed_adds : (path : PathV) (s : Seen) (old now new : Wanted) → fin.get seens path ≡ Some s → AddsOf (fin.get knowns path) s now new → AddsChanged knowns seens old now
+      → AddsChanged knowns seens old new
+  changed_adds path seen.Dir old now new is adds are = record { blocks = λ key there. are.blocks key (adds.blocks key there); objects = λ key there. are.objects key (adds.objects key there) }
+  changed_adds path (seen.File blocks size) old now new is adds are = at (is_kept (fin.get knowns path) (own_id blocks size)) refl adds
     where
-      by : (key : Key) → IsSome (fin.get now.blocks key) ⊎ IsOneOf blocks key → IsSeenBlock seens key
-      by key (inl there) = are key there
-      by key (inr one) = record { path = path; blocks = blocks; size = size; seen = is; id = one.0; is = one.1; there = one.2 }
+      at : (b : Bool) → is_kept (fin.get knowns path) (own_id blocks size) ≡ b → AddsUnless b blocks size now new → AddsChanged knowns seens old new
+      at true kept none = record { blocks = λ key there. are.blocks key (none.blocks key there); objects = λ key there. are.objects key (none.objects key there) }
+      at false changed more = record { blocks = λ key there. block key (more.blocks_of key there); objects = λ key there. object key (more.object_of key there) }
+        where
+          block : (key : Key) → IsSome (fin.get now.blocks key) ⊎ IsOneOf blocks key → IsSome (fin.get old.blocks key) ⊎ IsChangedBlock knowns seens key
+          block key (inl there) = are.blocks key there
+          block key (inr one) =
+              inr (record { block = record { path = path; blocks = blocks; size = size; seen = is; id = one.0; is = one.1; there = one.2 }; changed = changed })
+
+          object : (key : Key) → IsSome (fin.get now.made key) ⊎ IsObjectOf blocks size key → IsSome (fin.get old.made key) ⊎ IsChangedObject knowns seens key
+          object key (inl there) = are.objects key there
+          object key (inr one) = inr (record { path = path; blocks = blocks; size = size; seen = is; changed = changed; some = one.0; is = one.1 })
 
   pub files_more : (path : PathV) (s : Seen) (was : Option Known) (rest : List (PathV × Seen)) (old now new : Wanted) → IsAddingFiles knowns seens ((path, s) ∷ rest) old now
-      → was ≡ fin.get knowns path → HasSeen new was s → Grows now new → AddsBlocksOf s now new → IsAddingFiles knowns seens rest old new
+      → was ≡ fin.get knowns path → HasSeen new was s → Grows now new → AddsOf was s now new → IsAddingFiles knowns seens rest old new
   files_more path s was rest old now new is known has grows adds = record {
     grows = grows_then old now new is.grows grows;
     done = λ q t there. by q t there (is.done q t there);
     are = is.are.1;
-    within = λ are. seen_blocks path s now new is.are.0 adds (is.within are);
+    within = changed_adds path s old now new is.are.0 (subst (λ (k : Option Known). AddsOf k s now new) known adds) is.within;
   }
     where
       one : (x y : Seen) → Some x ≡ Some y → x ≡ y
@@ -176,6 +191,13 @@ module _ (old new : Objects) (key : Key) (text : List ℕ) (is : key ≡ fs_key 
   module _ (more : new ≡ fin.insert old key text) where
     got_object : (q : Key) → fin.get new q ≡ cond (same_key q key) (Some text) (fin.get old q)
     got_object q = ap (λ (m : Objects). fin.get m q) more ∙ fin.get-insert key_cmp_total old key text q
+
+    pub only_new : AddsText text old new
+    only_new q there = by (same_key q key) refl (subst (λ (o : Option (List ℕ)). IsSome o) (got_object q) there)
+      where
+        by : (b : Bool) → same_key q key ≡ b → IsSome (cond (same_key q key) (Some text) (fin.get old q)) → IsSome (fin.get old q) ⊎ (q ≡ fs_key (sha1 text))
+        by true same some = inr (same_key-true q key same ∙ is)
+        by false apart some = inl (subst (λ (b : Bool). IsSome (cond b (Some text) (fin.get old q))) apart some)
 
     pub kept_new : IsKept text new
     kept_new =

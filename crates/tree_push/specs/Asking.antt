@@ -1,4 +1,4 @@
--- What is sent while a folder is pushed, and what comes of it. Our own. Read IsSend and Went first, then AsksIds.
+-- What is sent while a folder is pushed, and what comes of it. Our own. Read IsUploadWhat, IsSend and Went first, then AsksIds.
 use Rattle.std.specs.Prelude.{ℕ, ◌≡◌, ◌≤◌, ◌⊎◌, Bool, true, false, All, List, [], ◌∷◌, ◌++◌, length, Some, Result, Ok, Err, ⊤}
 use Rattle.std.specs.List.{AllByRecursion}
 use Rattle.sha1.specs.Sha1.{sha1}
@@ -7,7 +7,8 @@ use Rattle.ids.specs.declared.key.Kind.{Kind}
 use Rattle.ids.specs.declared.key.Kind.TheVariants as kind
 use Rattle.library_state.specs.declared.reply.Reply.{Reply}
 use Rattle.library_state.specs.declared.reply.Reply.TheVariants as reply
-use Rattle.http_client.specs.OrderOutcome.{CanAnswer}
+use Rattle.http_client.specs.OrderOutcome.{CanAnswer, are_among}
+use Rattle.http_client.specs.RequestText.{body_in}
 use Rattle.http_front.specs.declared.order.Order.{Order}
 use Rattle.http_front.specs.declared.order.What.{What}
 use Rattle.http_front.specs.declared.order.What.TheVariants as what
@@ -17,7 +18,8 @@ use Rattle.http_front.specs.declared.row.Row.{Row}
 use Rattle.remote_calls.specs.Sends.{Ending, Sent}
 use Rattle.remote_calls.specs.declared.error.RemoteFault.{RemoteFault}
 use Rattle.remote_calls.specs.declared.error.RemoteFault.TheVariants as remote
-use Rattle.sync_rules.specs.Named.{is_block}
+use Rattle.sync_rules.specs.Causes.{ends_sync}
+use Rattle.sync_rules.specs.Named.{is_block, put_by}
 use Rattle.sync_rules.specs.Orders.{IsRowNamed, most_asked}
 use Rattle.sync_rules.specs.declared.fault.SyncFault.{SyncFault}
 use Rattle.sync_rules.specs.declared.fault.SyncFault.TheVariants as fault
@@ -72,36 +74,59 @@ AsksSo library asked old new (Err f) = ((f ≡ fault.NoMemory) × (new ≡ old))
 
 -- ---- orders of an upload, one after another
 
--- what is uploaded before a library is asked to stand at it: lists of ids that aren't too long, and objects under their names
+-- it can be asked which ids of the kind name nothing
+abbrev pub is_listed : Kind → Bool
+is_listed kind.Commit = false
+is_listed _ = true
+
+-- the bytes of files and directories that are put at once, or there is one alone
+abbrev pub most_bytes : ℕ
+most_bytes = 1048576
+
+abbrev pub IsSmall : List Row → Type 0
+IsSmall rows = (length (body_in (what.PutFs rows)) ≤ most_bytes) ⊎ (length rows ≡ 1)
+
+-- what is uploaded before a library is asked to stand at it: lists of ids that aren't too long, and blocks, files and directories under
+-- their names
 abbrev pub IsUploadWhat : What → Type 0
-IsUploadWhat (what.Missing kind ids) = length ids ≤ most_asked
-IsUploadWhat (what.Put key bytes) = sha1 bytes ≡ key.id
-IsUploadWhat (what.PutFs rows) = All IsRowNamed rows
+IsUploadWhat (what.Missing kind ids) = (is_listed kind ≡ true) × (length ids ≤ most_asked)
+IsUploadWhat (what.Put key bytes) = (is_block key.kind ≡ true) × (sha1 bytes ≡ key.id)
+IsUploadWhat (what.PutFs rows) = All IsRowNamed rows × IsSmall rows
 IsUploadWhat _ = ⊥
+
+-- all that an order puts is such that it may be
+abbrev pub PutsOf : (may : Key → Bool) → What → Type 0
+PutsOf may asked = AllByRecursion (λ (key : Key). may key ≡ true) (put_by asked)
+
+-- nothing may be put
+abbrev pub no_key : Key → Bool
+no_key key = false
 
 abbrev pub is_refused : Reply → Bool
 is_refused (reply.Refused why) = true
 is_refused _ = false
 
 -- a send that went well
-pub record IsSend (library : Library) (sent : Sent) : Type 0 where
+pub record IsSend (library : Library) (may : Key → Bool) (sent : Sent) : Type 0 where
   pub order : sent.0 ≡ order_for library sent.0.what
   pub uploads : IsUploadWhat sent.0.what
+  pub puts : PutsOf may sent.0.what
   pub told : Reply
   pub replied : Replies sent.1 told
   pub well : is_refused told ≡ false
 
--- a fault that an ending tells
-abbrev pub EndsBy : Ending → SyncFault → Type 0
-EndsBy ending (fault.Remote why) = ending ≡ Err why
-EndsBy ending (fault.Refused why) = Replies ending (reply.Refused why)
-EndsBy ending _ = ⊥
+-- a fault that the ending of an order tells: no refusal by which a sync goes on
+abbrev pub EndsBy : What → Ending → SyncFault → Type 0
+EndsBy asked ending (fault.Remote why) = ending ≡ Err why
+EndsBy asked ending (fault.Refused why) = Replies ending (reply.Refused why) × (ends_sync asked why ≡ true)
+EndsBy asked ending _ = ⊥
 
 -- the send that told it
-pub record IsEnd (library : Library) (f : SyncFault) (sent : Sent) : Type 0 where
+pub record IsEnd (library : Library) (may : Key → Bool) (f : SyncFault) (sent : Sent) : Type 0 where
   pub order : sent.0 ≡ order_for library sent.0.what
   pub uploads : IsUploadWhat sent.0.what
-  pub ends : EndsBy sent.1 f
+  pub puts : PutsOf may sent.0.what
+  pub ends : EndsBy sent.0.what sent.1 f
 
 -- a fault that no send tells: of the folder, of what stands in it, and want of memory
 abbrev pub is_own : SyncFault → Bool
@@ -111,26 +136,26 @@ is_own fault.NoMemory = true
 is_own _ = false
 
 -- each send went well, until one told the fault, or it came without one
-abbrev pub Stops : Library → SyncFault → List Sent → Type 0
-Stops library f [] = is_own f ≡ true
-Stops library f (sent ∷ more) = (IsSend library sent × Stops library f more) ⊎ (IsEnd library f sent × (more ≡ []))
+abbrev pub Stops : Library → (may : Key → Bool) → SyncFault → List Sent → Type 0
+Stops library may f [] = is_own f ≡ true
+Stops library may f (sent ∷ more) = (IsSend library may sent × Stops library may f more) ⊎ (IsEnd library may f sent × (more ≡ []))
 
--- sends that went well, and of which this holds
-pub record Ran (library : Library) (wanted : List Sent → Type 0) (old new : List Sent) : Type 0 where
+-- sends that went well and put nothing but what may be, and of which this holds
+pub record Ran (library : Library) (may : Key → Bool) (wanted : List Sent → Type 0) (old new : List Sent) : Type 0 where
   pub more : List Sent
   pub grown : new ≡ old ++ more
-  pub went : AllByRecursion (IsSend library) more
+  pub went : AllByRecursion (IsSend library may) more
   pub are : wanted more
 
 -- sends until a fault
-pub record Stopped (library : Library) (f : SyncFault) (old new : List Sent) : Type 0 where
+pub record Stopped (library : Library) (may : Key → Bool) (f : SyncFault) (old new : List Sent) : Type 0 where
   pub more : List Sent
   pub grown : new ≡ old ++ more
-  pub stops : Stops library f more
+  pub stops : Stops library may f more
 
-abbrev pub Went : {T : Type 0} → Library → (List Sent → Type 0) → List Sent → List Sent → Result T SyncFault → Type 0
-Went library wanted old new (Ok x) = Ran library wanted old new
-Went library wanted old new (Err f) = Stopped library f old new
+abbrev pub Went : {T : Type 0} → Library → (may : Key → Bool) → (List Sent → Type 0) → List Sent → List Sent → Result T SyncFault → Type 0
+Went library may wanted old new (Ok x) = Ran library may wanted old new
+Went library may wanted old new (Err f) = Stopped library may f old new
 
 -- the only fault is want of memory
 abbrev pub IsFree : {T : Type 0} → Result T SyncFault → Type 0
@@ -149,12 +174,7 @@ IsOrderFault _ = ⊥
 abbrev pub key_of : Kind → List ℕ → Key
 key_of kind id = record { kind = kind; id = id }
 
--- it can be asked which ids of the kind name nothing
-abbrev pub is_listed : Kind → Bool
-is_listed kind.Commit = false
-is_listed _ = true
-
--- what is replied where that is asked: the ids, or a refusal
+-- what is replied where it is asked which ids name nothing: the ids, or a refusal
 abbrev pub IsAbsentReply : Reply → Type 0
 IsAbsentReply (reply.Absent ids) = ⊤
 IsAbsentReply (reply.Refused why) = ⊤
@@ -165,6 +185,7 @@ pub record AsksList (library : Library) (kind : Kind) (ids : List (List ℕ)) (s
   pub asked : sent.0 ≡ order_for library (what.Missing kind ids)
   pub absent : List (List ℕ)
   pub told : Replies sent.1 (reply.Absent absent)
+  pub among : are_among ids absent ≡ true
 
 -- the same in lists, one after another
 abbrev pub AsksIds : Library → Kind → List (List ℕ) → List Sent → Type 0
@@ -193,6 +214,3 @@ abbrev pub StoresSo : Reply → Result ⊤ SyncFault → Type 0
 StoresSo (reply.Stored is_new) result = result ≡ Ok tt
 StoresSo (reply.Refused why) result = result ≡ Err (fault.Refused why)
 StoresSo _ result = ⊥
-
-abbrev pub AreRowsNamed : List Row → Type 0
-AreRowsNamed rows = All IsRowNamed rows

@@ -5,3 +5,4 @@ pub mod Lacking
 pub mod Puts
 pub mod Standing
 pub mod Wanted
+pub mod OfferedTree

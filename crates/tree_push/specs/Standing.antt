@@ -15,7 +15,7 @@ use Rattle.remote_calls.specs.Sends.{Ending, Sent}
 use Rattle.sync_rules.specs.Offer.{offer_words}
 use Rattle.sync_rules.specs.declared.fault.SyncFault.{SyncFault}
 use Rattle.sync_rules.specs.declared.fault.SyncFault.TheVariants as fault
-use Rattle.tree_push.specs.Asking.{EndsBy, Replies, is_own, order_for}
+use Rattle.tree_push.specs.Asking.{EndsBy, Replies, order_for}
 use Rattle.tree_push.specs.declared.asking.Library.{Library}
 use Rattle.tree_push.specs.declared.standing.Pushed.{Pushed}
 use Rattle.tree_push.specs.declared.standing.Pushed.TheVariants.{Installed, Late}
@@ -32,7 +32,7 @@ pub record IsOwnCommit (library : Library) (root parent user : List ℕ) (moment
 
 -- an order that came to nothing: memory was wanting, and it isn't listed; or its ending tells the fault
 abbrev pub Fails : Library → What → List Sent → List Sent → SyncFault → Type 0
-Fails library asked old new f = ((is_own f ≡ true) × (new ≡ old)) ⊎ ((ending : Ending) × (new ≡ old ++ (order_for library asked, ending) ∷ []) × EndsBy ending f)
+Fails library asked old new f = ((f ≡ fault.NoMemory) × (new ≡ old)) ⊎ ((ending : Ending) × (new ≡ old ++ (order_for library asked, ending) ∷ []) × EndsBy asked ending f)
 
 -- one order, which was replied to so
 abbrev pub Asked : Library → What → (Reply → Type 0) → List Sent → List Sent → Type 0

@@ -1,6 +1,6 @@
 -- The objects and the blocks of the files that are new or changed, of which a library is asked what it lacks. Our own. Read HasFile,
 -- then HasFiles.
-use Rattle.std.specs.Prelude.{◌≡◌, ◌⊎◌, ◌==◌, ℕ, false, List, [], ◌∷◌, Option, Some, IsSome, Ok, ⊤}
+use Rattle.std.specs.Prelude.{◌≡◌, ◌⊎◌, ◌==◌, ℕ, Bool, true, false, List, [], ◌∷◌, Option, Some, IsSome, Ok, ⊤}
 use Rattle.std.specs.FinMap as fin
 use Rattle.sha1.specs.Sha1.{sha1}
 use Rattle.ids.specs.Key.{Objects, key_cmp}
@@ -71,6 +71,29 @@ pub record IsSeenBlock (seens : SeenPaths) (key : Key) : Type 0 where
   pub is : key ≡ block_key id
   pub there : IsIn id blocks
 
+-- the file isn't kept as it is known
+pub record IsChangedBlock (knowns : KnownPaths) (seens : SeenPaths) (key : Key) : Type 0 where
+  pub block : IsSeenBlock seens key
+  pub changed : is_kept (fin.get knowns block.path) (own_id block.blocks block.size) ≡ false
+
+-- a key is that of the object of a file that was seen, has bytes, and isn't kept as it is known
+pub record IsChangedObject (knowns : KnownPaths) (seens : SeenPaths) (key : Key) : Type 0 where
+  pub path : PathV
+  pub blocks : List (List ℕ)
+  pub size : ℕ
+  pub seen : fin.get seens path ≡ Some (seen.File blocks size)
+  pub changed : is_kept (fin.get knowns path) (own_id blocks size) ≡ false
+  pub some : (size == 0) ≡ false
+  pub is : key ≡ fs_key (sha1 (file_text blocks size))
+
+-- no more is wanted than the blocks and the objects of files that are new or changed
+pub record AddsChanged (knowns : KnownPaths) (seens : SeenPaths) (old new : Wanted) : Type 0 where
+  pub blocks : (key : Key) → IsSome (fin.get new.blocks key) → IsSome (fin.get old.blocks key) ⊎ IsChangedBlock knowns seens key
+  pub objects : (key : Key) → IsSome (fin.get new.made key) → IsSome (fin.get old.made key) ⊎ IsChangedObject knowns seens key
+
+abbrev pub AreChangedBlocks : KnownPaths → SeenPaths → Wanted → Type 0
+AreChangedBlocks knowns seens wanted = (key : Key) → IsSome (fin.get wanted.blocks key) → IsChangedBlock knowns seens key
+
 -- nothing else is wanted
 abbrev pub AreSeenBlocks : SeenPaths → Wanted → Type 0
 AreSeenBlocks seens wanted = (key : Key) → IsSome (fin.get wanted.blocks key) → IsSeenBlock seens key
@@ -104,10 +127,31 @@ pub record AddsIds (ids : List (List ℕ)) (old new : Blocks) : Type 0 where
   pub all : (id : List ℕ) → IsIn id ids → IsSome (fin.get new (block_key id))
   pub only : (key : Key) → IsSome (fin.get new key) → IsSome (fin.get old key) ⊎ IsOneOf ids key
 
--- no blocks are wanted more but those of what was seen
-abbrev pub AddsBlocksOf : Seen → Wanted → Wanted → Type 0
-AddsBlocksOf seen.Dir old new = (key : Key) → IsSome (fin.get new.blocks key) → IsSome (fin.get old.blocks key)
-AddsBlocksOf (seen.File blocks size) old new = (key : Key) → IsSome (fin.get new.blocks key) → IsSome (fin.get old.blocks key) ⊎ IsOneOf blocks key
+-- no more is wanted than the blocks of a file, and its object, if it has bytes
+abbrev pub IsObjectOf : List (List ℕ) → ℕ → Key → Type 0
+IsObjectOf blocks size key = ((size == 0) ≡ false) × (key ≡ fs_key (sha1 (file_text blocks size)))
+
+pub record AddsFile (blocks : List (List ℕ)) (size : ℕ) (old new : Wanted) : Type 0 where
+  pub blocks_of : (key : Key) → IsSome (fin.get new.blocks key) → IsSome (fin.get old.blocks key) ⊎ IsOneOf blocks key
+  pub object_of : (key : Key) → IsSome (fin.get new.made key) → IsSome (fin.get old.made key) ⊎ IsObjectOf blocks size key
+
+-- nothing is wanted more
+pub record AddsNone (old new : Wanted) : Type 0 where
+  pub blocks : (key : Key) → IsSome (fin.get new.blocks key) → IsSome (fin.get old.blocks key)
+  pub objects : (key : Key) → IsSome (fin.get new.made key) → IsSome (fin.get old.made key)
+
+-- what was seen is wanted, unless it is kept as it is known, and no more
+abbrev pub AddsUnless : (kept : Bool) → List (List ℕ) → ℕ → Wanted → Wanted → Type 0
+AddsUnless true blocks size old new = AddsNone old new
+AddsUnless false blocks size old new = AddsFile blocks size old new
+
+abbrev pub AddsOf : Option Known → Seen → Wanted → Wanted → Type 0
+AddsOf was seen.Dir old new = AddsNone old new
+AddsOf was (seen.File blocks size) old new = AddsUnless (is_kept was (own_id blocks size)) blocks size old new
+
+-- no object is there more but one of this text's name
+abbrev pub AddsText : List ℕ → Objects → Objects → Type 0
+AddsText text old new = (key : Key) → IsSome (fin.get new key) → IsSome (fin.get old key) ⊎ (key ≡ fs_key (sha1 text))
 
 -- something of this text's name was made
 abbrev pub IsKept : List ℕ → Objects → Type 0

@@ -1,8 +1,8 @@
 //! Orders to the library to which a folder is pushed.
-ghost use Rattle.std.specs.Prelude.{◌≡◌, IfOk, true};
+ghost use Rattle.std.specs.Prelude.{◌≡◌, IfErr, IfOk, true};
 ghost use Rattle.http_client.specs.OrderOutcome.{CanHave};
 ghost use Rattle.remote_calls.specs.Sends.{SendsOne};
-ghost use Rattle.tree_push.specs.Asking.{AsksSo, IsReply, Tells, is_asked, order_for, remote_fault};
+ghost use Rattle.tree_push.specs.Asking.{AsksSo, IsOrderFault, IsReply, Tells, is_asked, order_for, remote_fault};
 
 use http_front::{Order, Outcome, What};
 use ids::LibId;
@@ -29,6 +29,7 @@ pub(crate) fn ask<R: Remote>(
 ) -> Result<Reply, SyncFault>
     requires asked { is_asked what ≡ true }
     ensures value { AsksSo library.now what (R.sends remote.old) (R.sends remote.new) result }
+    ensures faults { IfErr result IsOrderFault }
     ensures stays { R.peer remote.new ≡ R.peer remote.old }
 {
     match send(alloc, remote, library, what) {
@@ -74,6 +75,7 @@ fn reply_in(outcome: Outcome) -> Reply
 /// The fault of an order that has no outcome.
 fn remote_fault(fault: RemoteFault) -> SyncFault
     ensures value { result ≡ remote_fault fault }
+    ensures faults { IsOrderFault result }
 {
     match fault {
         RemoteFault::NoMemory => SyncFault::NoMemory,

@@ -1,8 +1,8 @@
 //! What the library lacks.
-ghost use Rattle.std.specs.Prelude.{◌≡◌, ◌≤◌, IfOk, length, true};
+ghost use Rattle.std.specs.Prelude.{◌≡◌, ◌≤◌, IfErr, IfOk, length, true};
 ghost use Rattle.std.specs.FinMap as map;
 ghost use Rattle.sync_rules.specs.Orders.{most_asked};
-ghost use Rattle.tree_push.specs.Asking.{IsAbsentReply, Went, is_listed};
+ghost use Rattle.tree_push.specs.Asking.{IsAbsentReply, IsOrderFault, Went, is_listed, no_key};
 ghost use Rattle.tree_push.specs.Lacking.{AsksNoting, NotesIds, NotesSo};
 ghost use Rattle.tree_push.specs.Wanted.{ids_in};
 
@@ -29,7 +29,8 @@ pub fn ask_lacking<R: Remote>(
     lacking: &mut KeyTable<()>,
 ) -> Result<(), SyncFault>
     requires listed { is_listed kind ≡ true }
-    ensures value { Went library.now (AsksNoting library.now kind ids.now lacking.old lacking.new) (R.sends remote.old) (R.sends remote.new) result }
+    ensures value { Went library.now no_key (AsksNoting library.now kind ids.now lacking.old lacking.new) (R.sends remote.old) (R.sends remote.new) result }
+    ensures faults { IfErr result IsOrderFault }
     ensures stays { R.peer remote.new ≡ R.peer remote.old }
 {
     let mut left = ids;
@@ -56,7 +57,8 @@ fn ask_list<R: Remote>(
 ) -> Result<(), SyncFault>
     requires listed { is_listed kind ≡ true }
     requires few { length ids.now ≤ most_asked }
-    ensures value { Went library.now (AsksNoting library.now kind ids.now lacking.old lacking.new) (R.sends remote.old) (R.sends remote.new) result }
+    ensures value { Went library.now no_key (AsksNoting library.now kind ids.now lacking.old lacking.new) (R.sends remote.old) (R.sends remote.new) result }
+    ensures faults { IfErr result IsOrderFault }
     ensures stays { R.peer remote.new ≡ R.peer remote.old }
 {
     let asked = match IdList::copy(alloc, ids) {
@@ -73,6 +75,7 @@ fn ask_list<R: Remote>(
 fn note(kind: Kind, reply: Reply, lacking: &mut KeyTable<()>) -> Result<(), SyncFault>
     requires told { IsAbsentReply reply }
     ensures value { NotesSo kind reply lacking.old lacking.new result }
+    ensures faults { IfErr result IsOrderFault }
 {
     match reply {
         Reply::Absent(ids) => note_ids(kind, ids.slice(), lacking),
@@ -84,6 +87,7 @@ fn note(kind: Kind, reply: Reply, lacking: &mut KeyTable<()>) -> Result<(), Sync
 /// Notes these ids.
 fn note_ids(kind: Kind, ids: &[ObjId], lacking: &mut KeyTable<()>) -> Result<(), SyncFault>
     ensures value { NotesIds kind ids.now lacking.old lacking.new result }
+    ensures faults { IfErr result IsOrderFault }
 {
     for id in ids {
         match lacking.put(Key { kind, id: *id }, ()) {

@@ -1,7 +1,8 @@
 //! What a folder offers to a library: its tree as objects, what the library lacks of it, and the commit that it is asked to stand at.
 //!
-//! Shown upward: `offer`, `offered_tree`, `add_files`, `ask_lacking`, `put_objects`, `stand_at`, and laws.rt. Definitions:
-//! specs/OfferedEntries.antt, OfferedNames.antt, Wanted.antt, Asking.antt, Lacking.antt, Puts.antt, Standing.antt. It reads no folder.
+//! Shown upward: `offer`, `offered_tree`, `Wanted`, `add_files`, `ask_lacking`, `put_objects`, `put_block`,
+//! `stand_at`, `Library`, `Pushed`, and laws.rt. Definitions: specs/OfferedEntries.antt, OfferedNames.antt,
+//! Wanted.antt, OfferedTree.antt, Asking.antt, Lacking.antt, Puts.antt, Standing.antt.
 #![tactic(auto)]
 
 mod asking;

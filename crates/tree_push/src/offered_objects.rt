@@ -1,12 +1,14 @@
 //! The tree that is offered, as objects.
-ghost use Rattle.std.specs.Prelude.{◌≡◌, ℕ, IfErr, IfOk, List, option_map};
+ghost use Rattle.std.specs.Prelude.{◌≡◌, ◌↔◌, ℕ, Err, IfErr, IfOk, List, None, option_map};
 ghost use Rattle.std.specs.FinMap as map;
 ghost use Rattle.ids.specs.Key.{Objects};
+ghost use Rattle.ids.specs.ObjectId.{nil};
 ghost use Rattle.tree_model.specs.Path.{PathV};
 ghost use Rattle.object_graph.specs.Objects.{entry_below};
 ghost use Rattle.object_graph.specs.Unchanged.{Keeps};
-ghost use Rattle.tree_merge.specs.TreeBuilding.{AreNamed, IsCausedInBuild};
-ghost use Rattle.tree_push.specs.OfferedEntries.{IsSeenFolder, offered_entry};
+ghost use Rattle.tree_merge.specs.TreeBuilding.{AreDirectories, AreNamed, HasMade, IsCausedInBuild, IsClash, IsDirectoryOf, IsNilOrMade};
+ghost use Rattle.tree_merge.specs.declared.tree_builder.BuildFault.TheVariants.{Taken};
+ghost use Rattle.tree_push.specs.OfferedEntries.{AreOffered, Entries, IsSeenFolder, offered_entry};
 
 use crate::offered_entries::offered_entries;
 use folder_side::Seen;
@@ -28,7 +30,16 @@ pub fn offered_tree(
 ) -> Result<BuiltTree, BuildFault>
     ensures value { IfOk result (λ built. IsSeenFolder knowns.now paths.now → (objects : Objects) → Keeps built.made objects
         → (path : PathV) → entry_below objects path built.root ≡ option_map (offered_entry moment user.now (map.get knowns.now path)) (map.get paths.now path)) }
+    ensures needed { IfOk result (λ built. IsSeenFolder knowns.now paths.now → (id : List ℕ) → HasMade built.made id
+        → (objects : Objects) → Keeps built.made objects → IsDirectoryOf objects built.root id) }
+    ensures dirs { IfOk result (λ built. IsSeenFolder knowns.now paths.now → (entries : Entries) × AreOffered moment user.now knowns.now paths.now entries
+        × AreDirectories entries built.made × IsNilOrMade built.made built.root) }
+    ensures zeros { IfOk result (λ built. IsSeenFolder knowns.now paths.now → (built.root ≡ nil) ↔ ((path : PathV) → map.get paths.now path ≡ None)) }
     ensures named { IfOk result (λ built. AreNamed built.made) }
+
+    // The refusal. Want of memory may come in its place.
+    ensures taken { (id : List ℕ) → result ≡ Err (Taken id) → IsSeenFolder knowns.now paths.now
+        → (entries : Entries) × AreOffered moment user.now knowns.now paths.now entries × IsClash entries id }
     ensures cause { IfErr result IsCausedInBuild }
 {
     match offered_entries(alloc, paths, knowns, moment, user) {

@@ -1,13 +1,15 @@
 //! What a folder offers: its tree, and what a library may lack of it.
-ghost use Rattle.std.specs.Prelude.{◌≡◌, IfErr, IfOk, option_map};
+ghost use Rattle.std.specs.Prelude.{◌≡◌, ℕ, Err, IfErr, IfOk, List, option_map};
 ghost use Rattle.std.specs.FinMap as map;
 ghost use Rattle.ids.specs.Key.{Objects};
 ghost use Rattle.tree_model.specs.Path.{PathV};
 ghost use Rattle.object_graph.specs.Objects.{entry_below};
 ghost use Rattle.object_graph.specs.Unchanged.{Keeps};
-ghost use Rattle.tree_merge.specs.TreeBuilding.{IsCausedInBuild};
-ghost use Rattle.tree_push.specs.OfferedEntries.{IsSeenFolder, offered_entry};
-ghost use Rattle.tree_push.specs.Wanted.{AreOwnNamed, AreSeenBlocks, HasFiles};
+ghost use Rattle.tree_merge.specs.TreeBuilding.{IsCausedInBuild, IsClash};
+ghost use Rattle.tree_merge.specs.declared.tree_builder.BuildFault.TheVariants.{Taken};
+ghost use Rattle.tree_push.specs.OfferedEntries.{AreOffered, Entries, IsSeenFolder, offered_entry};
+ghost use Rattle.tree_push.specs.OfferedTree.{IsMadeOf};
+ghost use Rattle.tree_push.specs.Wanted.{AreChangedBlocks, AreOwnNamed, HasFiles};
 
 use crate::offered_objects::offered_tree;
 use crate::wanted::{Wanted, add_files};
@@ -39,8 +41,13 @@ pub fn offer(
     ensures value { IfOk result (λ offered. IsSeenFolder knowns.now paths.now → (objects : Objects) → Keeps offered.wanted.made objects
         → (path : PathV) → entry_below objects path offered.root ≡ option_map (offered_entry moment user.now (map.get knowns.now path)) (map.get paths.now path)) }
     ensures ok { IfOk result (λ offered. HasFiles knowns.now paths.now offered.wanted) }
-    ensures within { IfOk result (λ offered. AreSeenBlocks paths.now offered.wanted) }
+    ensures within { IfOk result (λ offered. AreChangedBlocks knowns.now paths.now offered.wanted) }
+    ensures tree { IfOk result (λ offered. IsSeenFolder knowns.now paths.now → IsMadeOf moment user.now knowns.now paths.now offered.root offered.wanted.made) }
     ensures named { IfOk result (λ offered. AreOwnNamed offered.wanted.made) }
+
+    // The refusal. Want of memory may come in its place.
+    ensures taken { (id : List ℕ) → result ≡ Err (Taken id) → IsSeenFolder knowns.now paths.now
+        → (entries : Entries) × AreOffered moment user.now knowns.now paths.now entries × IsClash entries id }
     ensures cause { IfErr result IsCausedInBuild }
 {
     let BuiltTree { root, made } = match offered_tree(alloc, paths, knowns, moment, user) {

@@ -1,10 +1,12 @@
 //! What is put into the library.
-ghost use Rattle.std.specs.Prelude.{◌≡◌, ◌++◌, ◌∷◌, [], IfErr, OnOk, true};
+ghost use Rattle.std.specs.Prelude.{◌≡◌, ◌+◌, ◌-◌, ◌^◌, ◌++◌, ◌∷◌, [], IfErr, OnOk, length, min, true};
 ghost use Rattle.sha1.specs.Sha1.{sha1};
-ghost use Rattle.tree_push.specs.Asking.{AreRowsNamed, IsFree, IsOrderFault, IsStoredReply, IsUploadWhat, StoresSo, Went, is_asked, is_put};
-ghost use Rattle.tree_push.specs.Puts.{PutsInto, PutsKeys, PutsMade, PutsSome, row_of};
+ghost use Rattle.tree_push.specs.Asking.{IsFree, IsOrderFault, IsStoredReply, IsUploadWhat, StoresSo, Went, is_asked, is_put};
+ghost use Rattle.tree_push.specs.Lacking.{has_key};
+ghost use Rattle.tree_push.specs.Puts.{HasRoom, IsBatch, PutsInto, PutsKeys, PutsMade, PutsSome, row_keys, row_of};
 ghost use Rattle.tree_push.specs.Wanted.{AreOwnNamed};
 ghost use Rattle.object_graph.specs.Objects.{block_key};
+ghost use Rattle.object_graph.specs.Traversal.{is_in};
 ghost use Rattle.sync_rules.specs.Named.{put_by};
 
 use crate::asking::{Library, ask};
@@ -19,8 +21,8 @@ use sync_rules::SyncFault;
 /// So many bytes has the body of an order that puts files and directories, or it has one alone.
 const MOST_BYTES: u64 = 1_048_576;
 
-/// So many bytes has a row of such a body in front of its object: an id and a length.
-const ROW_BYTES: u64 = 44;
+/// So many bytes has a row of such a body for the length of its object.
+const LENGTH_BYTES: u64 = 4;
 
 /// Files and directories that are to be put together, and how many bytes their rows have.
 #[derive(Drop)]
@@ -41,7 +43,8 @@ pub fn put_objects<R: Remote>(
     lacking: &KeyTable<()>,
 ) -> Result<(), SyncFault>
     requires named { AreOwnNamed made.now }
-    ensures value { Went library.now (PutsMade made.now lacking.now) (R.sends remote.old) (R.sends remote.new) result }
+    ensures value { Went library.now (has_key lacking.now) (PutsMade made.now lacking.now) (R.sends remote.old) (R.sends remote.new) result }
+    ensures faults { IfErr result IsOrderFault }
     ensures stays { R.peer remote.new ≡ R.peer remote.old }
 {
     let mut batch = Batch {
@@ -68,9 +71,10 @@ fn put_object<R: Remote>(
     batch: &mut Batch,
 ) -> Result<(), SyncFault>
     requires named { AreOwnNamed made.now }
-    requires ready { AreRowsNamed batch.old.rows }
-    ensures value { Went library.now (PutsInto made.now (key.now ∷ []) batch.old.rows batch.new.rows) (R.sends remote.old) (R.sends remote.new) result }
-    ensures named { OnOk result (AreRowsNamed batch.new.rows) }
+    requires ready { IsBatch batch.old.rows batch.old.size }
+    ensures value { Went library.now (is_in (row_keys batch.old.rows)) (PutsInto made.now (key.now ∷ []) batch.old.rows batch.new.rows) (R.sends remote.old) (R.sends remote.new) result }
+    ensures after { OnOk result (IsBatch batch.new.rows batch.new.size) }
+    ensures faults { IfErr result IsOrderFault }
     ensures stays { R.peer remote.new ≡ R.peer remote.old }
 {
     let Some(bytes) = made.get(key) else {
@@ -80,21 +84,33 @@ fn put_object<R: Remote>(
         Ok(copied) => copied,
         Err(AllocError) => return Err(SyncFault::NoMemory),
     };
-    match make_room(alloc, remote, library, copied.len() as u64, batch) {
-        Ok(()) => add(batch, key.id, copied),
+    let size = row_size(&key.id, copied.slice());
+    match make_room(alloc, remote, library, size, batch) {
+        Ok(()) => add(batch, key.id, copied, size),
         Err(fault) => Err(fault),
     }
 }
 
-/// Takes an object into the batch.
-fn add(batch: &mut Batch, id: ObjId, bytes: Bytes) -> Result<(), SyncFault>
-    requires ready { AreRowsNamed batch.old.rows }
-    requires named { sha1 bytes ≡ id }
-    ensures free { IsFree result }
-    ensures ok { OnOk result (batch.new.rows ≡ batch.old.rows ++ row_of id bytes ∷ []) }
-    ensures named { OnOk result (AreRowsNamed batch.new.rows) }
+/// So many bytes has the row of an object, or 2^64 - 1 where that is more.
+fn row_size(id: &ObjId, bytes: &[u8]) -> u64
+    ensures value { result ≡ min (44 + length bytes.now) (2 ^ 64 - 1) }
+    ensures digits { length id.now ≡ 20 }
 {
-    let size = (bytes.len() as u64).saturating_add(ROW_BYTES);
+    (bytes.len() as u64).saturating_add(LENGTH_BYTES + 2 * id.as_bytes().len() as u64)
+}
+
+/// Takes an object into the batch, whose row has this size.
+fn add(batch: &mut Batch, id: ObjId, bytes: Bytes, size: u64) -> Result<(), SyncFault>
+    requires ready { IsBatch batch.old.rows batch.old.size }
+    requires named { sha1 bytes ≡ id }
+    requires digits { length id ≡ 20 }
+    requires sized { size ≡ min (44 + length bytes) (2 ^ 64 - 1) }
+    requires room { HasRoom batch.old.rows batch.old.size size }
+    ensures free { IsFree result }
+    ensures faults { IfErr result IsOrderFault }
+    ensures ok { OnOk result (batch.new.rows ≡ batch.old.rows ++ row_of id bytes ∷ []) }
+    ensures after { OnOk result (IsBatch batch.new.rows batch.new.size) }
+{
     batch.size = batch.size.saturating_add(size);
     match batch.rows.push(Row { id, bytes }) {
         Ok(()) => Ok(()),
@@ -102,8 +118,8 @@ fn add(batch: &mut Batch, id: ObjId, bytes: Bytes) -> Result<(), SyncFault>
     }
 }
 
-/// Puts the batch where an object of so many bytes more would be too many.
-#[tactic(auto, using(crate::proofs::PutsLemmas::put_none))]
+/// Puts the batch where a row of so many bytes more would be too many.
+#[tactic(auto, using(crate::proofs::PutsLemmas::put_none, crate::proofs::PutsLemmas::room_left, crate::proofs::PutsLemmas::room_after))]
 fn make_room<R: Remote>(
     alloc: Global,
     remote: &mut R,
@@ -111,29 +127,32 @@ fn make_room<R: Remote>(
     size: u64,
     batch: &mut Batch,
 ) -> Result<(), SyncFault>
-    requires ready { AreRowsNamed batch.old.rows }
-    ensures value { Went library.now (PutsSome batch.old.rows batch.new.rows) (R.sends remote.old) (R.sends remote.new) result }
-    ensures named { OnOk result (AreRowsNamed batch.new.rows) }
+    requires ready { IsBatch batch.old.rows batch.old.size }
+    ensures value { Went library.now (is_in (row_keys batch.old.rows)) (PutsSome batch.old.rows batch.new.rows) (R.sends remote.old) (R.sends remote.new) result }
+    ensures after { OnOk result (IsBatch batch.new.rows batch.new.size) }
+    ensures room { OnOk result (HasRoom batch.new.rows batch.new.size size) }
+    ensures faults { IfErr result IsOrderFault }
     ensures stays { R.peer remote.new ≡ R.peer remote.old }
 {
-    if batch.size.saturating_add(size.saturating_add(ROW_BYTES)) <= MOST_BYTES {
+    if batch.size.saturating_add(size) <= MOST_BYTES {
         return Ok(());
     }
     put_batch(alloc, remote, library, batch)
 }
 
 /// Puts what the batch has, if it has anything.
-#[tactic(auto, using(crate::proofs::PutsLemmas::put_none, crate::proofs::PutsLemmas::put_waiting))]
+#[tactic(auto, using(crate::proofs::PutsLemmas::no_batch, crate::proofs::PutsLemmas::put_none, crate::proofs::PutsLemmas::put_waiting, crate::proofs::PutsLemmas::small_left))]
 fn put_batch<R: Remote>(
     alloc: Global,
     remote: &mut R,
     library: &Library,
     batch: &mut Batch,
 ) -> Result<(), SyncFault>
-    requires ready { AreRowsNamed batch.old.rows }
-    ensures value { Went library.now (PutsSome batch.old.rows batch.new.rows) (R.sends remote.old) (R.sends remote.new) result }
-    ensures after { batch.new.rows ≡ [] }
-    ensures named { AreRowsNamed batch.new.rows }
+    requires ready { IsBatch batch.old.rows batch.old.size }
+    ensures value { Went library.now (is_in (row_keys batch.old.rows)) (PutsSome batch.old.rows batch.new.rows) (R.sends remote.old) (R.sends remote.new) result }
+    ensures none { batch.new.rows ≡ [] }
+    ensures after { IsBatch batch.new.rows batch.new.size }
+    ensures faults { IfErr result IsOrderFault }
     ensures stays { R.peer remote.new ≡ R.peer remote.old }
 {
     if batch.rows.is_empty() {
@@ -153,7 +172,7 @@ pub fn put_block<R: Remote>(
     bytes: Bytes,
 ) -> Result<(), SyncFault>
     requires named { sha1 bytes ≡ id }
-    ensures value { Went library.now (PutsKeys (block_key id ∷ [])) (R.sends remote.old) (R.sends remote.new) result }
+    ensures value { Went library.now (is_in (block_key id ∷ [])) (PutsKeys (block_key id ∷ [])) (R.sends remote.old) (R.sends remote.new) result }
     ensures faults { IfErr result IsOrderFault }
     ensures stays { R.peer remote.new ≡ R.peer remote.old }
 {
@@ -174,7 +193,7 @@ fn put<R: Remote>(
     requires asked { is_asked what ≡ true }
     requires ready { is_put what ≡ true }
     requires named { IsUploadWhat what }
-    ensures value { Went library.now (PutsKeys (put_by what)) (R.sends remote.old) (R.sends remote.new) result }
+    ensures value { Went library.now (is_in (put_by what)) (PutsKeys (put_by what)) (R.sends remote.old) (R.sends remote.new) result }
     ensures faults { IfErr result IsOrderFault }
     ensures stays { R.peer remote.new ≡ R.peer remote.old }
 {

@@ -1,6 +1,7 @@
 //! The commit of an offer, and the library that is asked to stand at it.
-ghost use Rattle.std.specs.Prelude.{◌≡◌, ◌≢◌, IfOk};
+ghost use Rattle.std.specs.Prelude.{◌≡◌, ◌≢◌, IfErr, IfOk};
 ghost use Rattle.ids.specs.ObjectId.{nil};
+ghost use Rattle.tree_push.specs.Asking.{IsOrderFault};
 ghost use Rattle.tree_push.specs.Standing.{IsOwnCommit, IsUpdateReply, PutsCommit, PutsThenUpdates, RefusesSo, StandsSo, TakesSo, UpdatesSo};
 
 use crate::asking::{Library, ask};
@@ -47,6 +48,7 @@ pub fn stand_at<R: Remote>(
 ) -> Result<Pushed, SyncFault>
     requires some { parent ≢ nil }
     ensures value { StandsSo library.now root parent user.now moment (R.sends remote.old) (R.sends remote.new) result }
+    ensures faults { IfErr result IsOrderFault }
     ensures stays { R.peer remote.new ≡ R.peer remote.old }
 {
     let made = match make(alloc, library, root, parent, user, moment) {
@@ -95,6 +97,7 @@ fn put_and_update<R: Remote>(
     made: Made,
 ) -> Result<Pushed, SyncFault>
     ensures value { PutsThenUpdates library.now made.id made.text (R.sends remote.old) (R.sends remote.new) result }
+    ensures faults { IfErr result IsOrderFault }
     ensures stays { R.peer remote.new ≡ R.peer remote.old }
 {
     let id = made.id;
@@ -113,6 +116,7 @@ fn put_commit<R: Remote>(
     text: Bytes,
 ) -> Result<(), SyncFault>
     ensures value { PutsCommit library.now id text (R.sends remote.old) (R.sends remote.new) result }
+    ensures faults { IfErr result IsOrderFault }
     ensures stays { R.peer remote.new ≡ R.peer remote.old }
 {
     let key = Key {
@@ -133,6 +137,7 @@ fn update<R: Remote>(
     id: ObjId,
 ) -> Result<Pushed, SyncFault>
     ensures value { UpdatesSo library.now id (R.sends remote.old) (R.sends remote.new) result }
+    ensures faults { IfErr result IsOrderFault }
     ensures stays { R.peer remote.new ≡ R.peer remote.old }
 {
     match ask(alloc, remote, library, What::Update(id)) {
@@ -145,6 +150,7 @@ fn update<R: Remote>(
 fn taken(id: ObjId, reply: Reply) -> Result<Pushed, SyncFault>
     requires told { IsUpdateReply reply }
     ensures value { TakesSo id reply result }
+    ensures faults { IfErr result IsOrderFault }
 {
     match reply {
         Reply::Updated(head) => Ok(Pushed::Installed { commit: id, head }),
@@ -155,6 +161,7 @@ fn taken(id: ObjId, reply: Reply) -> Result<Pushed, SyncFault>
 
 fn refused(why: Refusal) -> Result<Pushed, SyncFault>
     ensures value { RefusesSo why result }
+    ensures faults { IfErr result IsOrderFault }
 {
     match why {
         Refusal::Stale { last: _, now } => Ok(Pushed::Late { now }),

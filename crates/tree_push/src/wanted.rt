@@ -1,11 +1,11 @@
 //! The objects and the blocks of the files that are new or changed.
-ghost use Rattle.std.specs.Prelude.{◌≡◌, OnOk, Some, option_copied};
+ghost use Rattle.std.specs.Prelude.{◌≡◌, OnOk, false, Some, option_copied};
 ghost use Rattle.folder_side.specs.declared.scan_report.Seen.TheVariants as seen;
 ghost use Rattle.object_graph.specs.Objects.{fs_key};
 ghost use Rattle.object_graph.specs.Unchanged.{Keeps};
 ghost use Rattle.sha1.specs.Sha1.{sha1};
 ghost use Rattle.tree_push.specs.OfferedEntries.{is_kept};
-ghost use Rattle.tree_push.specs.Wanted.{AddsBlocksOf, AddsIds, AreOwnNamed, AreSeenBlocks, Grows, HasFile, HasFiles, HasObject, HasSeen, IsKept};
+ghost use Rattle.tree_push.specs.Wanted.{AddsChanged, AddsFile, AddsIds, AddsOf, AddsText, AddsUnless, AreOwnNamed, Grows, HasFile, HasFiles, HasObject, HasSeen, IsKept, file_text};
 
 use folder_side::Seen;
 use fs_objects::{FileObject, FsObject};
@@ -30,7 +30,7 @@ pub fn add_files(
 ) -> Result<(), AllocError>
     ensures ok { OnOk result (HasFiles knowns.now paths.now wanted.new) }
     ensures stays { OnOk result (Grows wanted.old wanted.new) }
-    ensures within { OnOk result (AreSeenBlocks paths.now wanted.old → AreSeenBlocks paths.now wanted.new) }
+    ensures within { OnOk result (AddsChanged knowns.now paths.now wanted.old wanted.new) }
 {
     for (path, seen) in paths.iter() {
         match add_seen(alloc, seen, knowns.get(path), wanted) {
@@ -50,7 +50,7 @@ fn add_seen(
 ) -> Result<(), AllocError>
     ensures ok { OnOk result (HasSeen wanted.new (option_copied was.entry) seen.now) }
     ensures stays { OnOk result (Grows wanted.old wanted.new) }
-    ensures within { OnOk result (AddsBlocksOf seen.now wanted.old wanted.new) }
+    ensures within { OnOk result (AddsOf (option_copied was.entry) seen.now wanted.old wanted.new) }
 {
     match seen {
         Seen::Dir => Ok(()),
@@ -68,10 +68,25 @@ fn add_file(
 ) -> Result<(), AllocError>
     ensures ok { OnOk result (HasSeen wanted.new (option_copied was.entry) (seen.File blocks.now size)) }
     ensures stays { OnOk result (Grows wanted.old wanted.new) }
-    ensures within { OnOk result (AddsBlocksOf (seen.File blocks.now size) wanted.old wanted.new) }
+    ensures within { OnOk result (AddsOf (option_copied was.entry) (seen.File blocks.now size) wanted.old wanted.new) }
 {
     let own = own_id(alloc, blocks, size)?;
-    if is_kept(was, &own) {
+    add_unless(alloc, is_kept(was, &own), blocks, size, wanted)
+}
+
+/// Adds those of a file, unless it is kept.
+fn add_unless(
+    alloc: Global,
+    kept: bool,
+    blocks: &[ObjId],
+    size: u64,
+    wanted: &mut Wanted,
+) -> Result<(), AllocError>
+    ensures ok { OnOk result (kept ≡ false → HasFile wanted.new blocks.now size) }
+    ensures stays { OnOk result (Grows wanted.old wanted.new) }
+    ensures within { OnOk result (AddsUnless kept blocks.now size wanted.old wanted.new) }
+{
+    if kept {
         return Ok(());
     }
     add_changed(alloc, blocks, size, wanted)
@@ -85,7 +100,7 @@ fn add_changed(
 ) -> Result<(), AllocError>
     ensures ok { OnOk result (HasFile wanted.new blocks.now size) }
     ensures stays { OnOk result (Grows wanted.old wanted.new) }
-    ensures within { OnOk result (AddsBlocksOf (seen.File blocks.now size) wanted.old wanted.new) }
+    ensures within { OnOk result (AddsFile blocks.now size wanted.old wanted.new) }
 {
     add_blocks(blocks, &mut wanted.blocks)?;
     if size == 0 {
@@ -138,6 +153,7 @@ fn add_object(
     ensures ok { OnOk result (HasObject made.new blocks.now size) }
     ensures stays { OnOk result (Keeps made.old made.new) }
     ensures named { OnOk result (AreOwnNamed made.old → AreOwnNamed made.new) }
+    ensures only { OnOk result (AddsText (file_text blocks.now size) made.old made.new) }
 {
     let object = FsObject::File(FileObject {
         blocks: Items::copy(alloc, blocks)?,
@@ -152,6 +168,7 @@ fn keep(text: Bytes, made: &mut KeyTable<Bytes>) -> Result<(), AllocError>
     ensures ok { OnOk result (IsKept text made.new) }
     ensures stays { OnOk result (Keeps made.old made.new) }
     ensures named { OnOk result (AreOwnNamed made.old → AreOwnNamed made.new) }
+    ensures only { OnOk result (AddsText text made.old made.new) }
 {
     let key = Key {
         kind: Kind::Fs,
@@ -165,6 +182,7 @@ fn keep_at(key: Key, text: Bytes, made: &mut KeyTable<Bytes>) -> Result<(), Allo
     ensures ok { OnOk result (IsKept text made.new) }
     ensures stays { OnOk result (Keeps made.old made.new) }
     ensures named { OnOk result (AreOwnNamed made.old → AreOwnNamed made.new) }
+    ensures only { OnOk result (AddsText text made.old made.new) }
 {
     if made.has(&key) {
         return Ok(());

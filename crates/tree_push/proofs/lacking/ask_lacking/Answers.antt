@@ -1,6 +1,6 @@
 -- One list more was asked for.
 use Rattle.std.proofs.Common.{◌∙◌}
-use Rattle.tree_push.proofs.TraceLemmas.{asking_end, asking_more, asking_start, asking_stop}
+use Rattle.tree_push.proofs.TraceLemmas.{asking_more, asking_stop}
 use Rattle.tree_push.proofs.lacking.ask_lacking.Goals as goal
 
 pub returns-in-Err-clause-value : goal.returns-in-Err-clause-value

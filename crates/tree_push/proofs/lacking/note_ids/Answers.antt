@@ -18,8 +18,7 @@ loop-id-preserved c =
     noting_more c.args.kind ids (drop (i + 1) ids) c.id-item.result c.args.lacking.now c.loop-id.lacking c.put.new.self
     (subst (λ (rest : List (List ℕ)). IsNoting c.args.kind ids rest c.args.lacking.now c.loop-id.lacking) next c.loop-id.invariant) c.in-Ok.ensures.ok
 
-pub returns : goal.returns
-returns c = record {
-  value = noting_end c.args.kind c.args.ids.now c.args.lacking.now c.loop-id.lacking
-      (subst (λ (rest : List (List ℕ)). IsNoting c.args.kind c.args.ids.now rest c.args.lacking.now c.loop-id.lacking) (drop_all c.loop-id.id-index c.args.ids.now (omega arith)) c.loop-id.invariant);
-}
+pub returns-clause-value : goal.returns-clause-value
+returns-clause-value c =
+    noting_end c.args.kind c.args.ids.now c.args.lacking.now c.loop-id.lacking
+    (subst (λ (rest : List (List ℕ)). IsNoting c.args.kind c.args.ids.now rest c.args.lacking.now c.loop-id.lacking) (drop_all c.loop-id.id-index c.args.ids.now (omega arith)) c.loop-id.invariant)

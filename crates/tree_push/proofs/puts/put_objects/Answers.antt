@@ -6,14 +6,14 @@ use Rattle.std.specs.Map.Iter.{deref_pair}
 use Rattle.std.proofs.lemmas.Map.Iter.{rest_more}
 use Rattle.ids.specs.declared.key.Key.{Key}
 use Rattle.tree_push.specs.Asking.{Ran}
-use Rattle.tree_push.proofs.PutsLemmas.{IsLeft, no_rows, putting_end, putting_more, putting_start}
-use Rattle.tree_push.proofs.TraceLemmas.{stopped_later}
+use Rattle.tree_push.proofs.PutsLemmas.{IsLeft, no_batch, putting_end, putting_more, putting_start, putting_stop}
+use Rattle.tree_push.specs.Lacking.{has_key}
 use Rattle.tree_push.proofs.puts.put_objects.Goals as goal
 
 pub loop-key-init : goal.loop-key-init
 loop-key-init g c = record {
   peer = refl;
-  rows = no_rows c.new.result c.new.ensures.value;
+  rows = no_batch c.new.result 0 c.new.ensures.value refl;
   ran = putting_start c.args.library.now c.args.made.now c.args.lacking.now c.into_iter-key-iterator.result c.new.result _
       (c.into_iter-key-iterator.ensures.into_iter_gives ∙ c.iter-key-items.ensures.value) c.new.ensures.value;
 }
@@ -24,17 +24,17 @@ loop-key-preserved g c =
     = rest_more deref_pair _ _ _ (c.in-Some.key, c.in-Some.field-0-1) c.in-Some.is c.next.ensures.steps in
     record {
       peer = c.in-Ok.ensures.stays ∙ c.loop-key.invariant.peer;
-      rows = c.in-Ok.ensures.named;
-      ran = putting_more c.args.library.now c.args.made.now (fin.keys c.args.lacking.now) c.in-Some.key.now c.next.new.self c.loop-key.batch.rows c.put_object.new.batch.rows _ _ _
-          (subst (λ (left : List (Key × ⊤)). Ran c.args.library.now (IsLeft c.args.made.now (fin.keys c.args.lacking.now) left c.loop-key.batch.rows) (g.R.Remote.sends c.args.remote.now) (g.R.Remote.sends c.loop-key.remote))
+      rows = c.in-Ok.ensures.after;
+      ran = putting_more c.args.library.now c.args.made.now c.args.lacking.now c.in-Some.key.now c.next.new.self c.loop-key.batch.rows c.put_object.new.batch.rows _ _ _
+          (subst (λ (left : List (Key × ⊤)). Ran c.args.library.now (has_key c.args.lacking.now) (IsLeft c.args.made.now (fin.keys c.args.lacking.now) left c.loop-key.batch.rows) (g.R.Remote.sends c.args.remote.now) (g.R.Remote.sends c.loop-key.remote))
           next c.loop-key.invariant.ran)
           c.in-Ok.ensures.value;
     }
 
 pub returns-in-Err-clause-value : goal.returns-in-Err-clause-value
-returns-in-Err-clause-value g c = stopped_later c.args.library.now _ _ _ _ c.in-Err.fault c.loop-key.invariant.ran c.in-Err.ensures.value
+returns-in-Err-clause-value g c = putting_stop c.args.library.now c.args.made.now c.args.lacking.now c.loop-key.key-iterator c.loop-key.batch.rows _ _ _ c.in-Err.fault c.loop-key.invariant.ran c.in-Err.ensures.value
 
 pub returns-clause-value : goal.returns-clause-value
 returns-clause-value g c =
-    putting_end c.args.library.now c.args.made.now (fin.keys c.args.lacking.now) c.loop-key.key-iterator c.loop-key.batch.rows c.put_batch.new.batch.rows _ _ _ c.put_batch.result c.in-None.ensures.steps.0
-    c.put_batch.ensures.after c.loop-key.invariant.ran c.put_batch.ensures.value
+    putting_end c.args.library.now c.args.made.now c.args.lacking.now c.loop-key.key-iterator c.loop-key.batch.rows c.put_batch.new.batch.rows _ _ _ c.put_batch.result c.in-None.ensures.steps.0
+    c.put_batch.ensures.none c.loop-key.invariant.ran c.put_batch.ensures.value
