@@ -14,3 +14,4 @@ pub mod KeyEntryLemmas
 pub mod OfferedHadLemmas
 pub mod AskedHadLemmas
 pub mod OfferingLemmas
+pub mod BlockUploadLemmas

@@ -6,3 +6,4 @@ pub mod Puts
 pub mod Standing
 pub mod Wanted
 pub mod OfferedTree
+pub mod BlockUpload

@@ -1,11 +1,12 @@
 //! What a folder offers to a library: its tree as objects, what the library lacks of it, and the commit that it is asked to stand at.
 //!
 //! Shown upward: `offer`, `offered_tree`, `Wanted`, `add_files`, `ask_lacking`, `put_objects`, `put_block`,
-//! `stand_at`, `Library`, `Pushed`, and laws.rt. Definitions: specs/OfferedEntries.antt, OfferedNames.antt,
-//! Wanted.antt, OfferedTree.antt, Asking.antt, Lacking.antt, Puts.antt, Standing.antt.
+//! `put_blocks`, `stand_at`, `Library`, `Pushed`, and laws.rt. Definitions: specs/OfferedEntries.antt, OfferedNames.antt,
+//! Wanted.antt, OfferedTree.antt, Asking.antt, Lacking.antt, Puts.antt, BlockUpload.antt, Standing.antt.
 #![tactic(auto)]
 
 mod asking;
+mod block_upload;
 mod lacking;
 pub mod laws;
 mod offered_entries;
@@ -16,6 +17,7 @@ mod standing;
 mod wanted;
 
 pub use asking::Library;
+pub use block_upload::put_blocks;
 pub use lacking::{ask_lacking, ids_of};
 pub use offered_objects::offered_tree;
 pub use offering::{Offered, offer};
