@@ -15,3 +15,13 @@ pub mod OfferedHadLemmas
 pub mod AskedHadLemmas
 pub mod OfferingLemmas
 pub mod BlockUploadLemmas
+pub mod RoundLemmas
+pub mod UploadLemmas
+pub mod UploadEndLemmas
+pub mod StoodLemmas
+pub mod PushLemmas
+pub mod NamingLemmas
+pub mod NamedKeyLemmas
+pub mod ReachLemmas
+pub mod OfferLemmas
+pub mod PushEndLemmas

@@ -7,3 +7,5 @@ pub mod Standing
 pub mod Wanted
 pub mod OfferedTree
 pub mod BlockUpload
+pub mod Upload
+pub mod Pushing

@@ -1,0 +1,38 @@
+-- The offer, what was uploaded of it, and the commit at which the library is asked to stand.
+use Rattle.std.proofs.Common.{[], sym}
+use Rattle.std.proofs.lemmas.List.{append-nil}
+use Rattle.tree_push.proofs.PushEndLemmas.{stood_push, stopped_push}
+use Rattle.tree_push.proofs.PushLemmas.{push_none}
+use Rattle.tree_push.proofs.UploadEndLemmas.{orders_stay}
+use Rattle.tree_push.proofs.pushing.push.Goals as goal
+
+pub returns-in-Err-clause-value : goal.returns-in-Err-clause-value
+returns-in-Err-clause-value g c = (
+  [],
+  sym (append-nil (g.R.Remote.sends c.args.remote.now)),
+  push_none c.args.library.now c.args.user.now c.args.moment c.args.parent (g.F.Folder.told c.args.folder.now) c.args.cuts c.args.index.now c.args.scan.now,
+)
+
+pub returns-in-Err-piece_buffer-clause-value : goal.returns-in-Err-piece_buffer-clause-value
+returns-in-Err-piece_buffer-clause-value g c = (
+  [],
+  sym (append-nil (g.R.Remote.sends c.args.remote.now)),
+  push_none c.args.library.now c.args.user.now c.args.moment c.args.parent (g.F.Folder.told c.args.folder.now) c.args.cuts c.args.index.now c.args.scan.now,
+)
+
+pub returns-in-Err-upload-clause-value : goal.returns-in-Err-upload-clause-value
+returns-in-Err-upload-clause-value g c =
+    stopped_push c.args.library.now c.args.user.now c.args.moment c.args.parent (g.F.Folder.told c.args.folder.now) c.args.cuts c.args.index.now c.args.scan.now c.in-Ok.offered.wanted _ _
+    c.in-Err-upload.fault c.in-Err-upload.ensures.value c.in-Err-upload.ensures.cause
+
+pub returns-clause-value : goal.returns-clause-value
+returns-clause-value g c =
+    stood_push c.args.library.now c.args.user.now c.args.moment c.args.parent (g.F.Folder.told c.args.folder.now) c.args.cuts c.args.index.now c.args.scan.now c.in-Ok.offered.root
+    c.in-Ok.offered.wanted c.in-Ok.ensures.ok c.in-Ok.ensures.within c.in-Ok.ensures.named c.in-Ok.ensures.value c.in-Ok.ensures.tree c.requires.library _ _ _ c.in-Ok-upload.ensures.value
+    c.stand_at.result c.stand_at.ensures.value c.stand_at.ensures.faults
+
+pub returns-clause-faults : goal.returns-clause-faults
+returns-clause-faults g c = orders_stay _ _ c.stand_at.result c.in-Ok-upload.ensures.faults c.stand_at.ensures.faults
+
+pub upload-requires-clause-seen : goal.upload-requires-clause-seen
+upload-requires-clause-seen g c = λ key there. (c.in-Ok.ensures.within key there).block

@@ -1,0 +1,19 @@
+-- A directory has no blocks.
+use Rattle.std.proofs.Common.{[], refl, subst, sym}
+use Rattle.folder_side.specs.declared.scan_report.Seen.{Seen}
+use Rattle.tree_push.specs.Asking.{Ran}
+use Rattle.tree_push.specs.Upload.{blocks_of}
+use Rattle.tree_push.specs.BlockUpload.{PutsOff}
+use Rattle.tree_push.specs.Lacking.{has_key}
+use Rattle.tree_push.proofs.BlockUploadLemmas.{off_none}
+use Rattle.tree_push.proofs.TraceLemmas.{ran_none}
+use Rattle.tree_push.proofs.upload.put_seen.Goals as goal
+
+pub returns-in-Dir-clause-value : goal.returns-in-Dir-clause-value
+returns-in-Dir-clause-value g c =
+    subst
+    (λ (s : Seen). Ran c.args.library.now (has_key c.args.lacking.now) (PutsOff (blocks_of s) c.args.lacking.now c.args.lacking.now) (g.R.Remote.sends c.args.remote.now)
+    (g.R.Remote.sends c.args.remote.now))
+    (sym c.in-Dir.is)
+    (ran_none c.args.library.now (has_key c.args.lacking.now) (PutsOff [] c.args.lacking.now c.args.lacking.now) (g.R.Remote.sends c.args.remote.now) (g.R.Remote.sends c.args.remote.now) refl
+    (off_none c.args.lacking.now))

@@ -1,0 +1,64 @@
+-- What the push of one round sends, and what comes of it. Our own. Read PushesSo, at the end.
+use Rattle.std.specs.Prelude.{ℕ, ◌≡◌, Bool, true, false, All, List, [], ◌∷◌, ◌++◌, Option, None, Some, Result, Ok, Err, IfErr, ⊤}
+use Rattle.ids.specs.Key.{Objects}
+use Rattle.ids.specs.declared.key.Key.{Key}
+use Rattle.tree_model.specs.Tree.{Tree}
+use Rattle.block_chunker.specs.declared.cuts.Cuts.{Cuts}
+use Rattle.folder_side.specs.Folder.{Contents, IsFolder}
+use Rattle.folder_side.specs.ScanReport.{IsScan, IsWithinLimits}
+use Rattle.folder_side.specs.declared.scan_report.Scan.{Scan}
+use Rattle.local_index.specs.declared.index.Index.{Index}
+use Rattle.http_front.specs.declared.order.Order.{Order}
+use Rattle.http_front.specs.declared.order.What.TheVariants as what
+use Rattle.http_front.specs.declared.outcome.Outcome.TheVariants.{Plain}
+use Rattle.library_state.specs.declared.refusal.Refusal.TheVariants as refusal
+use Rattle.library_state.specs.declared.reply.Reply.TheVariants as reply
+use Rattle.library_state.specs.declared.tag.Tag.{Tag}
+use Rattle.remote_calls.specs.Sends.{Ending, Sent}
+use Rattle.sync_rules.specs.Causes.{CausedBy, GoesWell, IsRefusedBy, WentWell, is_of_order, stale_count}
+use Rattle.sync_rules.specs.Named.{IsHad, is_upload}
+use Rattle.sync_rules.specs.Offer.{IsOffer}
+use Rattle.sync_rules.specs.Orders.{GoesInRounds, IsSyncOrder, MadeSo, PutsLacked}
+use Rattle.sync_rules.specs.Orders.Stage.{Uploads}
+use Rattle.sync_rules.specs.Premises.{Over}
+use Rattle.sync_rules.specs.Uploads.{IsUploadOf}
+use Rattle.sync_rules.specs.declared.fault.SyncFault.{SyncFault}
+use Rattle.sync_rules.specs.declared.fault.SyncFault.TheVariants as fault
+use Rattle.tree_push.specs.declared.asking.Library.{Library}
+use Rattle.tree_push.specs.declared.standing.Pushed.{Pushed}
+use Rattle.tree_push.specs.declared.standing.Pushed.TheVariants.{Installed, Late}
+
+-- a fault that no order tells
+abbrev pub IsPushFault : SyncFault → Type 0
+IsPushFault fault.Folder = ⊤
+IsPushFault (fault.Changed path) = ⊤
+IsPushFault _ = ⊥
+
+abbrev pub is_change : SyncFault → Bool
+is_change (fault.Changed path) = true
+is_change _ = false
+
+-- the library stands at the commit, or it came too late; or the push stopped
+abbrev pub EndsPush : List Sent → Result Pushed SyncFault → Type 0
+EndsPush more (Ok (Installed commit head)) = All WentWell more × (first : List Sent) × (order : Order) × (tag : Tag) × (more ≡ first ++ (order, Ok (Plain (reply.Updated head) tag)) ∷ [])
+    × (order.what ≡ what.Update commit) × (stale_count more ≡ 0)
+EndsPush more (Ok (Late now)) = All WentWell more × (first : List Sent) × (order : Order) × (ending : Ending) × (id : List ℕ) × (last : ℕ) × (more ≡ first ++ (order, ending) ∷ [])
+    × (order.what ≡ what.Update id) × IsRefusedBy ending (refusal.Stale last now) × (stale_count first ≡ 0)
+EndsPush more (Err f) = GoesWell more × CausedBy IsPushFault more f × (is_of_order f ≡ false → All WentWell more) × (stale_count more ≡ 0)
+
+-- wherever a library is asked to stand at a commit, that is the offer, over what was named before
+abbrev pub OffersOnce : Cuts → Contents → Index → (user : List ℕ) → (moment : ℕ) → (parent : List ℕ) → List Sent → Type 0
+OffersOnce cuts c index user moment parent more = (first : List Sent) (sent : Sent) (later : List Sent) (id : List ℕ) → more ≡ first ++ sent ∷ later → sent.0.what ≡ what.Update id
+    → (had : List (Key × List ℕ)) × IsHad first had × ((objects : Objects) (base : Tree) → Over objects cuts c index base had
+    → IsOffer objects cuts c index moment user (Some parent) id × IsUploadOf objects index first id)
+
+pub record PushesSo (library : Library) (user : List ℕ) (moment : ℕ) (parent : List ℕ) (told : Option Contents) (cuts : Cuts) (index : Index) (scan : Scan) (more : List Sent)
+    (result : Result Pushed SyncFault) : Type 0 where
+  pub asks : All (IsSyncOrder library.lib library.secret) more
+  pub uploads : All (λ (sent : Sent). is_upload sent.0.what ≡ true) more
+  pub made : MadeSo library.lib user (λ other. other ≡ moment) (Some parent) None what.Version more
+  pub puts : PutsLacked [] more
+  pub rounds : GoesInRounds Uploads more
+  pub ends : EndsPush more result
+  pub offers : (c : Contents) → told ≡ Some c → IsFolder c → IsScan cuts c scan → OffersOnce cuts c index user moment parent more
+  pub no_change : (c : Contents) → told ≡ Some c → IsFolder c → IsScan cuts c scan → IsWithinLimits c → IfErr result (λ f. is_change f ≡ false)

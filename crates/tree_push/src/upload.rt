@@ -1,0 +1,234 @@
+//! All that a library lacks of what is offered, put.
+ghost use Rattle.std.specs.Prelude.{◌≡◌, ◌<◌, Some, IfErr, length, option_and_then, true};
+ghost use Rattle.std.specs.FinMap as map;
+ghost use Rattle.std.specs.List.{list_any};
+ghost use Rattle.ids.specs.FaultCount.{FailsBy};
+ghost use Rattle.ids.specs.declared.key.Kind.TheVariants as kind;
+ghost use Rattle.folder_side.specs.Folder.{Contents, at};
+ghost use Rattle.folder_side.specs.ScanReport.{seen_of};
+ghost use Rattle.folder_side.specs.declared.scan_report.Seen.TheVariants as seen;
+ghost use Rattle.object_graph.specs.Objects.{block_key};
+ghost use Rattle.sync_rules.specs.Causes.{is_folder_fault};
+ghost use Rattle.tree_push.specs.Asking.{IsOrderFault, Went, is_listed, no_key};
+ghost use Rattle.tree_push.specs.BlockUpload.{NotChanged, PutsOff};
+ghost use Rattle.tree_push.specs.Lacking.{AsksNoting, has_key};
+ghost use Rattle.tree_push.specs.Upload.{IsUploadFault, SeesFolder, UploadsSo, blocks_in, blocks_of};
+ghost use Rattle.tree_push.specs.Wanted.{AreOwnNamed, AreSeenBlocks, ids_in};
+
+use crate::asking::Library;
+use crate::block_upload::put_blocks;
+use crate::lacking::{ask_lacking, ids_of};
+use crate::puts::put_objects;
+use crate::wanted::Wanted;
+use block_chunker::Cuts;
+use folder_side::{Folder, Seen};
+use ids::{Key, KeyTable, Kind, ObjId};
+use remote_calls::Remote;
+use std::alloc::{AllocError, Global};
+use sync_rules::SyncFault;
+use tree_model::{Path, PathTable};
+
+/// Asks what is lacking of what is wanted, and puts it: each file of which a block is lacking is read again.
+///
+/// `Folder` where the folder failed, `Changed` where a file was changed since the scan, `Remote` and `Refused` by the last order.
+pub(crate) fn upload<F: Folder, R: Remote>(
+    alloc: Global,
+    folder: &mut F,
+    remote: &mut R,
+    library: &Library,
+    paths: &PathTable<Seen>,
+    wanted: &Wanted,
+    cuts: Cuts,
+    buffer: &mut [u8],
+) -> Result<(), SyncFault>
+    requires some { 0 < length buffer.old }
+    requires named { AreOwnNamed wanted.now.made }
+    requires seen { AreSeenBlocks paths.now wanted.now }
+    ensures value { UploadsSo library.now wanted.now (R.sends remote.old) (R.sends remote.new) result }
+    ensures cause { (c : Contents) → F.told folder.old ≡ Some c → SeesFolder cuts c paths.now → NotChanged result }
+    ensures stays { (F.told folder.new ≡ F.told folder.old) × (F.spare folder.new ≡ F.spare folder.old) × (R.peer remote.new ≡ R.peer remote.old) }
+    ensures faults { FailsBy is_folder_fault (F.faults folder.old) (F.faults folder.new) result }
+    ensures bad { IfErr result IsUploadFault }
+{
+    let mut objects = KeyTable::new(alloc);
+    match ask_objects(alloc, remote, library, wanted, &mut objects) {
+        Ok(()) => {}
+        Err(fault) => return Err(fault),
+    }
+    let mut blocks = KeyTable::new(alloc);
+    match ask_blocks(alloc, remote, library, wanted, &mut blocks) {
+        Ok(()) => {}
+        Err(fault) => return Err(fault),
+    }
+    match put_files(
+        alloc,
+        folder,
+        remote,
+        library,
+        paths,
+        cuts,
+        buffer,
+        &mut blocks,
+    ) {
+        Ok(()) => {}
+        Err(fault) => return Err(fault),
+    }
+    put_objects(alloc, remote, library, &wanted.made, &objects)
+}
+
+/// Asks which of the objects are lacking, and notes those.
+fn ask_objects<R: Remote>(
+    alloc: Global,
+    remote: &mut R,
+    library: &Library,
+    wanted: &Wanted,
+    lacking: &mut KeyTable<()>,
+) -> Result<(), SyncFault>
+    ensures value { Went library.now no_key (AsksNoting library.now kind.Fs (ids_in (map.entries wanted.now.made)) lacking.old lacking.new) (R.sends remote.old) (R.sends remote.new) result }
+    ensures faults { IfErr result IsOrderFault }
+    ensures stays { R.peer remote.new ≡ R.peer remote.old }
+{
+    ask_wanted(alloc, remote, library, Kind::Fs, &wanted.made, lacking)
+}
+
+/// The same of blocks.
+fn ask_blocks<R: Remote>(
+    alloc: Global,
+    remote: &mut R,
+    library: &Library,
+    wanted: &Wanted,
+    lacking: &mut KeyTable<()>,
+) -> Result<(), SyncFault>
+    ensures value { Went library.now no_key (AsksNoting library.now kind.Block (ids_in (map.entries wanted.now.blocks)) lacking.old lacking.new) (R.sends remote.old) (R.sends remote.new) result }
+    ensures faults { IfErr result IsOrderFault }
+    ensures stays { R.peer remote.new ≡ R.peer remote.old }
+{
+    ask_wanted(alloc, remote, library, Kind::Block, &wanted.blocks, lacking)
+}
+
+/// Asks which ids of a table's keys name nothing, and notes those.
+fn ask_wanted<V, R: Remote>(
+    alloc: Global,
+    remote: &mut R,
+    library: &Library,
+    kind: Kind,
+    wanted: &KeyTable<V>,
+    lacking: &mut KeyTable<()>,
+) -> Result<(), SyncFault>
+    requires listed { is_listed kind ≡ true }
+    ensures value { Went library.now no_key (AsksNoting library.now kind (ids_in (map.entries wanted.now)) lacking.old lacking.new) (R.sends remote.old) (R.sends remote.new) result }
+    ensures faults { IfErr result IsOrderFault }
+    ensures stays { R.peer remote.new ≡ R.peer remote.old }
+{
+    match ids_of(alloc, wanted) {
+        Ok(ids) => ask_lacking(alloc, remote, library, kind, ids.slice(), lacking),
+        Err(AllocError) => Err(SyncFault::NoMemory),
+    }
+}
+
+/// Goes over all files that were seen, and reads those again of which a block is lacking. Afterwards none is.
+fn put_files<F: Folder, R: Remote>(
+    alloc: Global,
+    folder: &mut F,
+    remote: &mut R,
+    library: &Library,
+    paths: &PathTable<Seen>,
+    cuts: Cuts,
+    buffer: &mut [u8],
+    lacking: &mut KeyTable<()>,
+) -> Result<(), SyncFault>
+    requires some { 0 < length buffer.old }
+    ensures value { Went library.now (has_key lacking.old) (PutsOff (blocks_in (map.entries paths.now)) lacking.old lacking.new) (R.sends remote.old) (R.sends remote.new) result }
+    ensures cause { (c : Contents) → F.told folder.old ≡ Some c → SeesFolder cuts c paths.now → NotChanged result }
+    ensures stays { (F.told folder.new ≡ F.told folder.old) × (F.spare folder.new ≡ F.spare folder.old) × (R.peer remote.new ≡ R.peer remote.old) }
+    ensures faults { FailsBy is_folder_fault (F.faults folder.old) (F.faults folder.new) result }
+    ensures bad { IfErr result IsUploadFault }
+{
+    for (path, seen) in paths.iter() {
+        match put_seen(
+            alloc, folder, remote, library, path, seen, cuts, buffer, lacking,
+        ) {
+            Ok(()) => {}
+            Err(fault) => return Err(fault),
+        }
+    }
+    Ok(())
+}
+
+/// Reads a file again, if a block of it is lacking, and puts its blocks that are.
+fn put_seen<F: Folder, R: Remote>(
+    alloc: Global,
+    folder: &mut F,
+    remote: &mut R,
+    library: &Library,
+    path: &Path,
+    seen: &Seen,
+    cuts: Cuts,
+    buffer: &mut [u8],
+    lacking: &mut KeyTable<()>,
+) -> Result<(), SyncFault>
+    requires some { 0 < length buffer.old }
+    ensures value { Went library.now (has_key lacking.old) (PutsOff (blocks_of seen.now) lacking.old lacking.new) (R.sends remote.old) (R.sends remote.new) result }
+    ensures cause { (c : Contents) → F.told folder.old ≡ Some c → Some seen.now ≡ option_and_then (seen_of cuts) (at c path.now) → NotChanged result }
+    ensures stays { (F.told folder.new ≡ F.told folder.old) × (F.spare folder.new ≡ F.spare folder.old) × (R.peer remote.new ≡ R.peer remote.old) }
+    ensures faults { FailsBy is_folder_fault (F.faults folder.old) (F.faults folder.new) result }
+    ensures bad { IfErr result IsUploadFault }
+{
+    match seen {
+        Seen::Dir => Ok(()),
+        Seen::File { blocks, size } => put_lacking_of(
+            alloc,
+            folder,
+            remote,
+            library,
+            path,
+            blocks.slice(),
+            *size,
+            cuts,
+            buffer,
+            lacking,
+        ),
+    }
+}
+
+fn put_lacking_of<F: Folder, R: Remote>(
+    alloc: Global,
+    folder: &mut F,
+    remote: &mut R,
+    library: &Library,
+    path: &Path,
+    blocks: &[ObjId],
+    size: u64,
+    cuts: Cuts,
+    buffer: &mut [u8],
+    lacking: &mut KeyTable<()>,
+) -> Result<(), SyncFault>
+    requires some { 0 < length buffer.old }
+    ensures value { Went library.now (has_key lacking.old) (PutsOff blocks.now lacking.old lacking.new) (R.sends remote.old) (R.sends remote.new) result }
+    ensures cause { (c : Contents) → F.told folder.old ≡ Some c → Some (seen.File blocks.now size) ≡ option_and_then (seen_of cuts) (at c path.now) → NotChanged result }
+    ensures stays { (F.told folder.new ≡ F.told folder.old) × (F.spare folder.new ≡ F.spare folder.old) × (R.peer remote.new ≡ R.peer remote.old) }
+    ensures faults { FailsBy is_folder_fault (F.faults folder.old) (F.faults folder.new) result }
+    ensures bad { IfErr result IsUploadFault }
+{
+    if !is_lacking(blocks, lacking) {
+        return Ok(());
+    }
+    put_blocks(
+        alloc, folder, remote, library, path, blocks, size, cuts, buffer, lacking,
+    )
+}
+
+/// Whether one of these blocks is lacking.
+fn is_lacking(blocks: &[ObjId], lacking: &KeyTable<()>) -> bool
+    ensures value { result ≡ list_any (λ id. has_key lacking.now (block_key id)) blocks.now }
+{
+    for id in blocks {
+        if lacking.has(&Key {
+            kind: Kind::Block,
+            id: *id,
+        }) {
+            return true;
+        }
+    }
+    false
+}
