@@ -1,0 +1,88 @@
+-- What the calls of the second half come to, put together. The key lemmas are stops_by, out_by, knows_by, brings_by, finishes_by and
+-- halts_by.
+use Rattle.std.proofs.Common.{◌≡◌, ℕ, Bool, true, false, IsTrue, ◌↔◌, List, Option, Result, Ok, Err, refl, sym, ap, subst, ◌∙◌, inl, inr, true≢false}
+use Rattle.std.specs.FinMap as fin
+use Rattle.tree_model.specs.Path.{PathV, path_cmp}
+use Rattle.block_chunker.specs.declared.cuts.Cuts.{Cuts}
+use Rattle.commit_objects.specs.declared.commit.Commit.{Commit}
+use Rattle.folder_side.specs.Folder.{Contents}
+use Rattle.folder_side.specs.declared.scan_report.Scan.{Scan}
+use Rattle.local_index.specs.declared.index.Index.{Index}
+use Rattle.local_index.specs.declared.index.Known.{Known}
+use Rattle.object_graph.specs.declared.entry.Entry.{Entry}
+use Rattle.remote_calls.specs.Sends.{Sent}
+use Rattle.sync_rules.specs.declared.fault.SyncFault.{SyncFault}
+use Rattle.sync_rules.specs.declared.synced.Synced.{Synced}
+use Rattle.tree_checkout.specs.CheckingOut.{ChecksOut, StopsOut}
+use Rattle.tree_checkout.specs.declared.planning.Plan.{Plan}
+use Rattle.tree_checkout.specs.declared.steps.Write.{Write}
+use Rattle.tree_fetch.specs.Fetching.{FetchesCommit}
+use Rattle.tree_fetch.specs.declared.asker.Asker.{Asker}
+use Rattle.tree_fetch.specs.declared.tree.FetchedTree.{FetchedTree}
+use Rattle.sync_daemon.specs.Bringing.{BringsSo, ChangesNot, ChangesSo, FinishesAs, IsDone, IsReady, KnowsAs, StopsChange, index_of, is_pushed, source_of, tells_conflict, with_owns}
+use Rattle.sync_daemon.specs.declared.bringing.Done.{Done}
+use Rattle.sync_daemon.specs.declared.round.Settled.{Settled}
+
+-- a checkout of what is to go and of what is written, as it was handed on
+module _ (asker : Asker) (cuts : Cuts) (scan : Scan) (plan : Plan) (writes : List Write) (doomed : List PathV) (handed : List Write) (gone : doomed ≡ plan.doomed) (same : handed ≡ writes)
+    (old new : List Sent) (told now : Option Contents) where
+  pub stops_by : (f : SyncFault) → StopsOut (source_of asker) doomed handed scan cuts old new told now f → ChangesNot cuts scan doomed handed told f
+      → StopsChange asker cuts scan plan writes old new told now f
+  stops_by f stops none = inr (inl (
+    subst (λ (d : List PathV). StopsOut (source_of asker) d writes scan cuts old new told now f) gone
+        (subst (λ (w : List Write). StopsOut (source_of asker) doomed w scan cuts old new told now f) same stops),
+    subst (λ (d : List PathV). ChangesNot cuts scan d writes told f) gone (subst (λ (w : List Write). ChangesNot cuts scan doomed w told f) same none),
+  ))
+
+  pub out_by : (owns : List (List ℕ)) → ChecksOut (source_of asker) doomed handed cuts old new told now owns → ChecksOut (source_of asker) plan.doomed writes cuts old new told now owns
+  out_by owns out =
+      subst (λ (d : List PathV). ChecksOut (source_of asker) d writes cuts old new told now owns) gone
+      (subst (λ (w : List Write). ChecksOut (source_of asker) doomed w cuts old new told now owns) same out)
+
+pub knows_by : (scan : Scan) (writes handed : List Write) (owns told : List (List ℕ)) (entries : fin.FinMap path_cmp Entry) (index : fin.FinMap path_cmp Known) → handed ≡ writes → told ≡ owns
+    → KnowsAs scan (with_owns fin.empty handed told) entries index → KnowsAs scan (with_owns fin.empty writes owns) entries index
+knows_by scan writes handed owns told entries index same are knows =
+    subst (λ (w : List Write). KnowsAs scan (with_owns fin.empty w owns) entries index) same
+    (subst (λ (o : List (List ℕ)). KnowsAs scan (with_owns fin.empty handed o) entries index) are knows)
+
+pub brings_by : (asker : Asker) (cuts : Cuts) (scan : Scan) (index : Index) (pushed : Bool) (root : List ℕ) (old mid new : List Sent) (told now : Option Contents) (tree : FetchedTree)
+    (plan : Plan) (writes : List Write) (result : Result Done SyncFault) → IsReady asker scan index pushed old mid root tree plan writes
+    → ChangesSo asker cuts scan tree.entries plan writes mid new told now result → BringsSo asker cuts scan index pushed root old new told now result
+brings_by asker cuts scan index pushed root old mid new told now tree plan writes (Ok done) ready changes = (mid, tree, plan, writes, ready, changes)
+brings_by asker cuts scan index pushed root old mid new told now tree plan writes (Err f) ready stops = inr (inr (mid, tree, plan, writes, ready, stops))
+
+-- what is told where the folder was brought to the head
+abbrev pub told_of : Settled → (conflict : Bool) → Done → Synced
+told_of settled conflict done = record {
+  head = settled.head;
+  pushed = settled.pushed;
+  conflict = conflict;
+  written = done.written;
+  removed = done.removed;
+  skipped = settled.scan.skipped;
+  held = done.held;
+}
+
+-- it is not so, where a test of it fails
+pub not_so : {P : Type 0} (b : Bool) → IsTrue b ↔ P → b ≡ false → P → ⊥
+not_so b test none is = true≢false (sym (test.1 is) ∙ none)
+
+module _ (asker : Asker) (cuts : Cuts) (settled : Settled) (old mid new : List Sent) (told now : Option Contents) (index : Index) (commit : Commit)
+    (fetched : FetchesCommit asker old mid settled.head (Ok commit)) (pushed : Bool) (pushed_is : pushed ≡ is_pushed settled.pushed) where
+  pub finishes_by : (done : Done) (conflict : Bool) → conflict ≡ tells_conflict settled.pushed settled.head commit.conflict → (IsDone settled index → ⊥)
+      → BringsSo asker cuts settled.scan index pushed commit.root mid new told now (Ok done)
+      → FinishesAs asker cuts settled old new told now index (index_of index settled done) (Ok (told_of settled conflict done))
+  finishes_by done conflict conflict_is apart brings = inr (
+    apart,
+    mid,
+    commit,
+    done,
+    fetched,
+    subst (λ (b : Bool). BringsSo asker cuts settled.scan index b commit.root mid new told now (Ok done)) pushed_is brings,
+    refl,
+    ap (λ (b : Bool). told_of settled b done) conflict_is,
+  )
+
+  pub halts_by : (f : SyncFault) → BringsSo asker cuts settled.scan index pushed commit.root mid new told now (Err f)
+      → FinishesAs asker cuts settled old new told now index index (Err f)
+  halts_by f brings = (refl, inr (mid, commit, fetched, subst (λ (b : Bool). BringsSo asker cuts settled.scan index b commit.root mid new told now (Err f)) pushed_is brings))

@@ -1,0 +1,168 @@
+-- A whole sync, from where its rounds left it. The key lemmas are finish_all, refused_as, finished_as and synced_as.
+use Rattle.std.proofs.Common.{◌≡◌, ℕ, false, List, ◌++◌, map, Option, Some, Result, Ok, Err, refl, sym, ap, subst, ◌∙◌, append_assoc, inl, inr}
+use Rattle.std.specs.List.{IsDistinct}
+use Rattle.std.specs.Ordering.{eq_by_cmp}
+use Rattle.ids.specs.Key.{Objects}
+use Rattle.tree_model.specs.Path.{path_cmp}
+use Rattle.block_chunker.specs.declared.cuts.Cuts.{Cuts}
+use Rattle.commit_objects.specs.declared.commit.Commit.{Commit}
+use Rattle.folder_side.specs.Folder.{Contents}
+use Rattle.local_index.specs.declared.index.Index.{Index}
+use Rattle.object_graph.specs.Unchanged.{Keeps}
+use Rattle.remote_calls.specs.Sends.{Sent}
+use Rattle.sync_rules.specs.Checkout.{Step, run}
+use Rattle.sync_rules.specs.Offer.{IsUsual}
+use Rattle.sync_rules.specs.declared.fault.SyncFault.{SyncFault}
+use Rattle.sync_rules.specs.declared.fault.SyncFault.TheVariants as fault
+use Rattle.sync_rules.specs.declared.synced.Synced.{Synced}
+use Rattle.tree_checkout.specs.Planning.{LooksScanned}
+use Rattle.tree_checkout.specs.Writing.{is_change}
+use Rattle.tree_checkout.specs.declared.planning.Plan.{Plan}
+use Rattle.tree_checkout.specs.declared.steps.Write.{Write}
+use Rattle.tree_checkout.proofs.AskLemmas.{planned_looks, planned_paths}
+use Rattle.tree_fetch.specs.declared.asker.Asker.{Asker}
+use Rattle.tree_fetch.specs.declared.tree.FetchedTree.{FetchedTree}
+use Rattle.sync_daemon.specs.Bringing.{AreMade, BringsSo, ChangesNot, FinishesAs, IsDone, IsPlanned, StopsChange, index_of, is_pushed, synced_of}
+use Rattle.sync_daemon.specs.Finishing.{Finishes, FinishesSo}
+use Rattle.sync_daemon.specs.Going.{Stops, Sync}
+use Rattle.sync_daemon.specs.Rounds.{IsSettled, RoundsSo, sync_of}
+use Rattle.sync_daemon.specs.Syncing.{SyncedAs}
+use Rattle.sync_daemon.specs.declared.bringing.Done.{Done}
+use Rattle.sync_daemon.specs.declared.round.Settled.{Settled}
+use Rattle.sync_daemon.proofs.BroughtLemmas.{brought_finishes}
+use Rattle.sync_daemon.proofs.FinishLemmas.{refused_finishes, spared_finishes}
+use Rattle.sync_daemon.proofs.GotTreeLemmas.{HasCommit, HasTree, commit_got, commit_halts, tree_got, tree_halts}
+use Rattle.sync_daemon.proofs.ReadingLemmas.{reading_begins}
+use Rattle.sync_daemon.proofs.CheckoutFaultLemmas.{stops_all}
+use Rattle.sync_daemon.proofs.StoppedLemmas.{none_halts, plan_halts, stopped_finishes}
+use Rattle.sync_daemon.proofs.WrittenLemmas.{made_for}
+
+keeps_itself : (objects : Objects) → Keeps objects objects
+keeps_itself objects = record { kept = λ key bytes is. is }
+
+module _ (asker : Asker) (user : List ℕ) (shows : ℕ → Type 0) (cuts : Cuts) (told : Option Contents) (index : Index) (start : List Sent) (settled : Settled) where
+  abbrev this : Sync
+  this = sync_of asker user shows cuts told index
+
+  -- a sync that stopped before its folder was touched
+  pub all_stopped : (new : List Sent) (now : Option Contents) (f : SyncFault) → now ≡ told → Stops this start new f → FinishesSo this now index start new (Err f)
+  all_stopped new now f same (more, grown, refuses) =
+      (more, grown, subst (λ (held : Option Contents). Finishes this held index more (Err f)) (sym same) (refused_finishes this more f refuses))
+
+  -- no change is told over a folder that tells what it holds
+  unchanged : (before : List Sent) (commit : Commit) (tree : FetchedTree) → HasTree this before settled commit tree → (plan : Plan) (writes : List Write)
+      → IsPlanned settled.scan index tree.entries (is_pushed settled.pushed) plan → AreMade tree.objects plan.writes writes → (f : SyncFault) → ChangesNot cuts settled.scan plan.doomed writes told f
+      → (c : Contents) → told ≡ Some c → is_change f ≡ false
+  unchanged before commit tree got plan writes planned made f none c is =
+      let seen = got.reading.seen c is in
+      let looks : LooksScanned cuts c settled.scan plan = planned.looks cuts c seen.scanned seen.within in
+      let for = made_for tree.objects tree.objects (keeps_itself tree.objects) plan.writes writes made in
+      none c is looks.gone_once looks.gone
+      (subst (IsDistinct (eq_by_cmp path_cmp)) (planned_paths tree.objects plan.writes writes for) looks.due_once)
+      (planned_looks tree.objects cuts (run (map Step.Removed plan.doomed) c) settled.scan plan.writes writes for looks.due)
+
+  stop_grown : (old new more before : List Sent) → old ≡ start ++ before → new ≡ old ++ more → new ≡ start ++ (before ++ more)
+  stop_grown old new more before begun grown = grown ∙ ap (λ (sends : List Sent). sends ++ more) begun ∙ append_assoc start before more
+
+  -- the checkout stopped, or memory was wanting before or behind it
+  change_stopped : (before : List Sent) (commit : Commit) (tree : FetchedTree) → HasTree this before settled commit tree → (plan : Plan) (writes : List Write)
+      → IsPlanned settled.scan index tree.entries (is_pushed settled.pushed) plan → AreMade tree.objects plan.writes writes → (old new : List Sent) (now : Option Contents) (f : SyncFault)
+      → old ≡ start ++ before → StopsChange asker cuts settled.scan plan writes old new told now f → FinishesSo this now index start new (Err f)
+  unfolding stops_all
+  change_stopped before commit tree got plan writes planned made old new now f begun (inl (same, held, is)) =
+      subst (λ (g : SyncFault). FinishesSo this now index start new (Err g)) (sym is)
+      (all_stopped new now fault.NoMemory held (before, same ∙ begun, none_halts asker user shows cuts told index before settled commit tree got))
+  change_stopped before commit tree got plan writes planned made old new now f begun (inr (inl (stops, none))) = (
+    before ++ stops.more,
+    stop_grown old new stops.more before begun stops.grown,
+    stopped_finishes asker user shows cuts told index before settled commit tree got plan writes planned made old new now f stops
+        (unchanged before commit tree got plan writes planned made f none),
+  )
+  change_stopped before commit tree got plan writes planned made old new now f begun (inr (inr (owns, out, is))) =
+      subst (λ (g : SyncFault). FinishesSo this now index start new (Err g)) (sym is) (
+        before ++ out.more,
+        stop_grown old new out.more before begun out.grown,
+        stopped_finishes asker user shows cuts told index before settled commit tree got plan writes planned made old new now fault.NoMemory
+            (stops_all asker plan.doomed writes settled.scan cuts old new told now owns out) (λ c told_is. refl),
+      )
+
+  -- from where the commit was got
+  bring_stopped : (first : List Sent) (commit : Commit) → HasCommit this first settled commit → (old new : List Sent) (now : Option Contents) (f : SyncFault) → old ≡ start ++ first
+      → BringsSo asker cuts settled.scan index (is_pushed settled.pushed) commit.root old new told now (Err f) → FinishesSo this now index start new (Err f)
+  bring_stopped first commit has old new now f begun (inl (halts, same)) =
+      all_stopped new now f same (tree_halts asker user shows cuts told index start first settled commit has old new f begun halts)
+  bring_stopped first commit has old new now f begun (inr (inl (tree, fetched, same, inl un))) =
+      let got = tree_got asker user shows cuts told index start first settled commit has old new tree begun fetched in
+      all_stopped new now f same (got.0, got.1, plan_halts asker user shows cuts told index got.0 settled commit tree got.2 f un)
+  bring_stopped first commit has old new now f begun (inr (inl (tree, fetched, same, inr is))) =
+      let got = tree_got asker user shows cuts told index start first settled commit has old new tree begun fetched in
+      subst (λ (g : SyncFault). FinishesSo this now index start new (Err g)) (sym is)
+      (all_stopped new now fault.NoMemory same (got.0, got.1, none_halts asker user shows cuts told index got.0 settled commit tree got.2))
+  bring_stopped first commit has old new now f begun (inr (inr (mid, tree, plan, writes, ready, stops))) =
+      let got = tree_got asker user shows cuts told index start first settled commit has old mid tree begun ready.fetched in
+      change_stopped got.0 commit tree got.2 plan writes ready.planned ready.made mid new now f got.1 stops
+
+  bring_done : (first : List Sent) (commit : Commit) → HasCommit this first settled commit → (IsDone settled index → ⊥) → (old new : List Sent) (now : Option Contents) (done : Done)
+      → old ≡ start ++ first → BringsSo asker cuts settled.scan index (is_pushed settled.pushed) commit.root old new told now (Ok done)
+      → FinishesSo this now (index_of index settled done) start new (Ok (synced_of settled commit done))
+  bring_done first commit has apart old new now done begun (mid, tree, plan, writes, ready, changes) =
+      let got = tree_got asker user shows cuts told index start first settled commit has old mid tree begun ready.fetched in (
+        got.0 ++ changes.out.more,
+        stop_grown mid new changes.out.more got.0 got.1 changes.out.grown,
+        brought_finishes asker user shows cuts told index got.0 settled commit tree got.2 apart plan writes ready.planned ready.made mid new now done changes,
+      )
+
+  -- all of it
+  pub finish_all : (first old new : List Sent) (now : Option Contents) (later : Index) (result : Result Synced SyncFault) → IsSettled this first settled → old ≡ start ++ first
+      → FinishesAs asker cuts settled old new told now index later result → FinishesSo this now later start new result
+  finish_all first old new now later (Ok s) is begun (inl (done, same, held, kept, tells)) = (
+    first,
+    same ∙ begun,
+    subst (λ (x : Option Contents). Finishes this x later first (Ok s)) (sym held)
+        (subst (λ (x : Index). Finishes this told x first (Ok s)) (sym kept)
+        (subst (λ (x : Synced). Finishes this told index first (Ok x)) (sym tells) (spared_finishes this first settled is done.0 done.1))),
+  )
+  finish_all first old new now later (Ok s) is begun (inr (apart, mid, commit, done, fetched, brings, later_is, tells)) =
+      let got = commit_got asker user shows cuts told index start first settled (reading_begins this first settled is) old mid commit begun fetched in
+      subst (λ (x : Index). FinishesSo this now x start new (Ok s)) (sym later_is)
+      (subst (λ (x : Synced). FinishesSo this now (index_of index settled done) start new (Ok x)) (sym tells)
+      (bring_done got.0 commit got.2 apart mid new now done got.1 brings))
+  finish_all first old new now later (Err f) is begun (kept, inl (halts, same)) =
+      subst (λ (x : Index). FinishesSo this now x start new (Err f)) (sym kept)
+      (all_stopped new now f same (commit_halts asker user shows cuts told index start first settled (reading_begins this first settled is) old new f begun halts))
+  finish_all first old new now later (Err f) is begun (kept, inr (mid, commit, fetched, brings)) =
+      let got = commit_got asker user shows cuts told index start first settled (reading_begins this first settled is) old mid commit begun fetched in
+      subst (λ (x : Index). FinishesSo this now x start new (Err f)) (sym kept) (bring_stopped got.0 commit got.2 mid new now f got.1 brings)
+
+-- what is promised of a sync
+pub synced_as : (secret user : List ℕ) (shows : ℕ → Type 0) (cuts : Cuts) → IsUsual cuts → (told now : Option Contents) (index later : Index) (start new : List Sent)
+    (result : Result Synced SyncFault) → FinishesSo (sync_of (record { lib = index.lib; secret = secret }) user shows cuts told index) now later start new result
+    → SyncedAs secret user shows told now index later start new result
+synced_as secret user shows cuts usual told now index later start new result (more, grown, is) = record {
+  cuts = cuts;
+  usual = usual;
+  more = more;
+  grown = grown;
+  orders = is.orders;
+  ends = is.ends;
+  leaves = is.leaves;
+  over = is.over;
+}
+
+-- a sync that its rounds refused
+pub refused_as : (asker : Asker) (user : List ℕ) (shows : ℕ → Type 0) (cuts : Cuts) (told now : Option Contents) (index : Index) (start new : List Sent) (f : SyncFault) → now ≡ told
+    → Stops (sync_of asker user shows cuts told index) start new f → FinishesSo (sync_of asker user shows cuts told index) now index start new (Err f)
+refused_as asker user shows cuts told now index start new f same (more, grown, refuses) = (
+  more,
+  grown,
+  subst (λ (held : Option Contents). Finishes (sync_of asker user shows cuts told index) held index more (Err f)) (sym same)
+      (refused_finishes (sync_of asker user shows cuts told index) more f refuses),
+)
+
+-- one that went on from its rounds
+pub finished_as : (asker : Asker) (user : List ℕ) (shows : ℕ → Type 0) (cuts : Cuts) (told mid now : Option Contents) (index later : Index) (start old new : List Sent) (settled : Settled)
+    (result : Result Synced SyncFault) → mid ≡ told → RoundsSo (sync_of asker user shows cuts told index) start old (Ok settled)
+    → FinishesAs asker cuts settled old new mid now index later result → FinishesSo (sync_of asker user shows cuts told index) now later start new result
+finished_as asker user shows cuts told mid now index later start old new settled result same (more, grown, is) brings =
+    finish_all asker user shows cuts told index start settled more old new now later result is grown
+    (subst (λ (held : Option Contents). FinishesAs asker cuts settled old new held now index later result) same brings)

@@ -1,0 +1,54 @@
+//! One sync of a folder with a library.
+ghost use Rattle.std.specs.Prelude.{◌≡◌};
+ghost use Rattle.sync_rules.specs.Causes.{FolderRose};
+ghost use Rattle.sync_daemon.specs.Syncing.{SyncedAs};
+
+use crate::finishing::finish;
+use crate::round::rounds;
+use block_chunker::Cuts;
+use folder_side::Folder;
+use ids::Text;
+use library_state::{Clock, Secret};
+use local_index::Index;
+use remote_calls::Remote;
+use std::alloc::Global;
+use sync_rules::{SyncFault, Synced};
+use tree_fetch::Asker;
+
+/// Syncs a folder with the library of its index.
+///
+/// In this order: whether one may upload is asked, and where that is denied, whether one may download. The folder is scanned.
+/// Where the index has no base, the head is asked for and is the base; `NotEmpty` where folder and head both have something.
+/// What changed since the index is pushed as one commit on the base, by this user; the scan begins anew where a collection
+/// began meanwhile, up to three times. Where nothing changed the head is asked for. The head's tree is got, unless nothing
+/// was pushed and it is the index's base. Then the folder is changed, by the steps of a plan: removals, deepest first, and
+/// then directories and files in byte order of path.
+///
+/// After an error the index is as it was. The folder is as it was, or, once the plan was begun, each path holds its old
+/// contents, the head's, or nothing where the head has nothing or another kind. Memory: at most one block, one chunk and two
+/// pieces of files, beside the scan, the index, the tree's directories and files and the objects that are made.
+/// Source: our own; the orders are those of the Seafile sync protocol.
+pub fn sync_once<F: Folder, R: Remote, C: Clock>(
+    alloc: Global,
+    folder: &mut F,
+    index: &mut Index,
+    remote: &mut R,
+    secret: Secret,
+    user: &Text,
+    clock: &C,
+) -> Result<Synced, SyncFault>
+    ensures value { SyncedAs secret user.now (C.shows clock.now) (F.told folder.old) (F.told folder.new) index.old index.new (R.sends remote.old) (R.sends remote.new) result }
+    ensures stays { R.peer remote.new ≡ R.peer remote.old }
+    ensures faults { FolderRose (F.faults folder.old) (F.faults folder.new) result }
+{
+    let cuts = Cuts::usual();
+    let asker = Asker {
+        lib: index.lib,
+        secret,
+    };
+    let settled = match rounds(alloc, folder, remote, &asker, index, user, clock, cuts) {
+        Ok(settled) => settled,
+        Err(fault) => return Err(fault),
+    };
+    finish(alloc, folder, index, remote, &asker, cuts, settled)
+}
