@@ -1,0 +1,217 @@
+//! A folder of the file system.
+ghost use Rattle.std.specs.Prelude.{◌≡◌, ◌≤◌, ◌<◌, [], IfOk, IsTrue, length};
+ghost use Rattle.folder_side.specs.Folder.{FolderFails};
+ghost use Rattle.local_folder.specs.Steps.{Does, DoesAll, Empties, Wrote, made, moved_in, taken};
+
+use crate::changes::{make_at, move_spare, new_spare, remove_at, sweep};
+use crate::counting::answer;
+use crate::directory_calls::DirectoryCalls;
+use crate::entries::{Reading, listing_at, no_entry, read_at};
+use folder_side::{Folder, FolderFault, Listing};
+use std::alloc::Global;
+use std::io;
+use tree_model::Path;
+
+/// A folder of the file system, which tells nothing of what it holds, and counts the calls that failed.
+///
+/// Each part of a path is opened from the directory before it, and no link is followed, also one that is put there
+/// meanwhile; only the path of the folder itself may lead through links. The spare is the file `.seaf-cli.spare` in the
+/// folder: no listing has it, and a path that begins with it is a fault. What a run that was killed left of it is taken
+/// away as the folder is opened. A file is read from the handle that its first bytes came from. After each change the
+/// names of its directory are durable, and so are the bytes of a file that was moved in.
+///
+/// The folder is locked (flock) as long as it is open, so that one client at a time has it; the system gives the lock up
+/// with the process. It fails once another folder, or none, stands at its path.
+#[derive(Drop)]
+pub struct LocalFolder<C: DirectoryCalls> {
+    calls: C,
+    path: String,
+    root: C::Dir,
+    reading: Option<Reading<C::File>>,
+    spare: Option<C::File>,
+    faults: u64,
+    pub ghost at_root: { IsTrue (C.stands_at root []) },
+}
+
+impl<C: DirectoryCalls + Drop> LocalFolder<C> {
+    /// Opens the folder at a path, which is there. A folder that another has open is a failure.
+    pub fn open(calls: C, path: &str) -> io::Result<LocalFolder<C>>
+        ensures faults { IfOk result (λ folder. folder.faults ≡ 0) }
+    {
+        let mut calls = calls;
+        let path = String::from_str(calls.alloc(), path)?;
+        let root = calls.open_folder(path.as_str())?;
+        calls.lock(&root)?;
+        sweep(&mut calls, &root)?;
+        Ok(LocalFolder {
+            calls,
+            path,
+            root,
+            reading: None,
+            spare: None,
+            faults: 0,
+        })
+    }
+
+    /// Closes the folder, and takes a spare that was not moved away, if it can be. The answer is the count of faults.
+    pub fn end(self) -> u64
+        ensures value { result ≡ self.faults }
+    {
+        let LocalFolder {
+            calls,
+            path: _,
+            root,
+            reading: _,
+            spare,
+            faults,
+        } = self;
+        let mut calls = calls;
+        if spare.is_some() {
+            let _ = sweep(&mut calls, &root);
+        }
+        faults
+    }
+
+    /// The calls by which it works.
+    pub fn calls(&self) -> &C {
+        &self.calls
+    }
+}
+
+impl<C: DirectoryCalls + Drop> Folder for LocalFolder<C> {
+    ghost use Rattle.std.specs.Prelude.{None};
+
+    ghost told = { λ _. None };
+
+    ghost spare = { λ _. None };
+
+    ghost faults = { λ folder. folder.faults };
+
+    fn list(&mut self, alloc: Global, dir: &Path) -> Result<Listing, FolderFault>
+        ensures faults { FolderFails self.old.faults self.new.faults result }
+
+        // Nothing is changed.
+        ensures stays { C.steps self.new.calls ≡ C.steps self.old.calls }
+    {
+        let listed = listing_at(&mut self.calls, alloc, &self.root, dir.names());
+        let listed = self.if_there(dir, listed);
+        answer(&mut self.faults, listed)
+    }
+
+    fn read(&mut self, file: &Path, place: u64, into: &mut [u8]) -> Result<usize, FolderFault>
+        requires some { 0 < length into.old }
+        ensures bound { IfOk result (λ count. count ≤ length into.new) }
+        ensures faults { FolderFails self.old.faults self.new.faults result }
+
+        // Nothing is changed.
+        ensures stays { C.steps self.new.calls ≡ C.steps self.old.calls }
+    {
+        let read = read_at(
+            &mut self.calls,
+            &self.root,
+            &mut self.reading,
+            file,
+            place,
+            into,
+        );
+        answer(&mut self.faults, read)
+    }
+
+    fn spare_clear(&mut self) -> Result<(), FolderFault>
+        ensures faults { FolderFails self.old.faults self.new.faults result }
+
+        // An empty spare is made, once one that is there is taken away.
+        ensures order { Empties (C.steps self.old.calls) (C.steps self.new.calls) result }
+    {
+        self.spare = None;
+        match new_spare(&mut self.calls, &self.root) {
+            Ok(spare) => {
+                self.spare = Some(spare);
+                Ok(())
+            }
+            Err(failure) => answer(&mut self.faults, Err(failure)),
+        }
+    }
+
+    fn spare_add(&mut self, bytes: &[u8]) -> Result<(), FolderFault>
+        ensures faults { FolderFails self.old.faults self.new.faults result }
+
+        // The bytes are appended.
+        ensures order { Does (Wrote bytes.now) (C.steps self.old.calls) (C.steps self.new.calls) result }
+    {
+        let added = self.add_to_spare(bytes);
+        answer(&mut self.faults, added)
+    }
+
+    fn spare_move(&mut self, file: &Path) -> Result<(), FolderFault>
+        ensures faults { FolderFails self.old.faults self.new.faults result }
+
+        // The bytes are durable before the file takes its path, and its name after.
+        ensures order { DoesAll (moved_in file.now) (C.steps self.old.calls) (C.steps self.new.calls) result }
+    {
+        self.reading = None;
+        let moved = self.move_to(file);
+        answer(&mut self.faults, moved)
+    }
+
+    fn make_dir(&mut self, dir: &Path) -> Result<(), FolderFault>
+        ensures faults { FolderFails self.old.faults self.new.faults result }
+
+        // It is made, and its name is durable.
+        ensures order { DoesAll (made dir.now) (C.steps self.old.calls) (C.steps self.new.calls) result }
+    {
+        self.reading = None;
+        let made = make_at(&mut self.calls, &self.root, dir.names());
+        answer(&mut self.faults, made)
+    }
+
+    fn remove(&mut self, path: &Path) -> Result<(), FolderFault>
+        ensures faults { FolderFails self.old.faults self.new.faults result }
+
+        // It is taken away, durably.
+        ensures order { DoesAll (taken path.now) (C.steps self.old.calls) (C.steps self.new.calls) result }
+    {
+        self.reading = None;
+        let removed = remove_at(&mut self.calls, &self.root, path.names());
+        answer(&mut self.faults, removed)
+    }
+}
+
+impl<C: DirectoryCalls> LocalFolder<C> {
+    /// A listing of the root counts only where the folder still stands at its path: one that was removed lists nothing.
+    fn if_there(&mut self, dir: &Path, listed: io::Result<Listing>) -> io::Result<Listing>
+        ensures faults { self.new.faults ≡ self.old.faults }
+        ensures stays { C.steps self.new.calls ≡ C.steps self.old.calls }
+    {
+        let listing = listed?;
+        if dir.names().is_empty() && !self.calls.is_at(&self.root, self.path.as_str())? {
+            return Err(no_entry());
+        }
+        Ok(listing)
+    }
+
+    /// Appends to the spare, if there is one.
+    fn add_to_spare(&mut self, bytes: &[u8]) -> io::Result<()>
+        ensures faults { self.new.faults ≡ self.old.faults }
+        ensures order { Does (Wrote bytes.now) (C.steps self.old.calls) (C.steps self.new.calls) result }
+    {
+        match &mut self.spare {
+            Some(spare) => self.calls.write(spare, bytes),
+            None => Err(no_entry()),
+        }
+    }
+
+    /// Moves the spare to a path, if there is one; it is none afterwards.
+    fn move_to(&mut self, file: &Path) -> io::Result<()>
+        ensures faults { self.new.faults ≡ self.old.faults }
+        ensures order { DoesAll (moved_in file.now) (C.steps self.old.calls) (C.steps self.new.calls) result }
+    {
+        match self.spare.take() {
+            Some(spare) => {
+                let mut spare = spare;
+                move_spare(&mut self.calls, &self.root, &mut spare, file.names())
+            }
+            None => Err(no_entry()),
+        }
+    }
+}

@@ -1,0 +1,228 @@
+//! The directories of the runtime's file system.
+use crate::directory_calls::{DirectoryCalls, EntryKind, EntryNames};
+use std::alloc::{AllocError, Global};
+use std::fs::{DirBuilder, DirEntry, File, Files, Metadata, OpenOptions};
+use std::io::{ErrorKind, Write};
+use std::os::fd::AsRawFd;
+use std::os::unix::fs::{DirBuilderExt, FileExt, MetadataExt, OpenOptionsExt};
+use std::{fs, io};
+
+/// Who may use the files and directories that are made.
+#[derive(Clone, Copy, Debug, PartialEq, Eq)]
+pub enum Permissions {
+    /// Their owner alone: 0600 and 0700.
+    OwnersAlone,
+    /// Whom the process allows it to: 0666 and 0777 without the bits of its mask.
+    Usual,
+}
+
+impl Permissions {
+    /// The mode of a file.
+    fn of_file(&self) -> u32 {
+        match self {
+            Permissions::OwnersAlone => 0o600,
+            Permissions::Usual => 0o666,
+        }
+    }
+
+    /// The mode of a directory.
+    fn of_directory(&self) -> u32 {
+        match self {
+            Permissions::OwnersAlone => 0o700,
+            Permissions::Usual => 0o777,
+        }
+    }
+}
+
+/// The directories of the runtime's file system.
+///
+/// An entry of an open directory is reached by `/proc/self/fd`, which Linux has, so that no other part of a path is walked.
+/// What was opened is kept only where the entry itself is the same file of the same device, so that no link was
+/// followed.
+#[derive(Drop)]
+pub struct SystemDirectories<R> {
+    rt: R,
+    permissions: Permissions,
+}
+
+impl<R> SystemDirectories<R> {
+    /// The directories of this runtime; what is made in them has these permissions.
+    pub fn new(rt: R, permissions: Permissions) -> SystemDirectories<R> {
+        SystemDirectories { rt, permissions }
+    }
+}
+
+impl<R: Files<File = File> + AllocGlobal + Clone + Drop> DirectoryCalls for SystemDirectories<R> {
+    ghost use Rattle.std.specs.Prelude.{None, true};
+
+    type Dir = File;
+
+    type File = File;
+
+    ghost stands_at = { λ _ _. true };
+
+    ghost steps = { λ _. None };
+
+    fn alloc(&self) -> Global {
+        self.rt.alloc()
+    }
+
+    fn open_folder(&mut self, path: &str) -> io::Result<File> {
+        let inside = format!(in self.rt.alloc(); "{path}/.")?;
+        File::open(&self.rt, inside.as_str())
+    }
+
+    fn another(&mut self, dir: &File) -> io::Result<File> {
+        dir.try_clone()
+    }
+
+    fn is_at(&mut self, dir: &File, path: &str) -> io::Result<bool> {
+        let standing = fs::metadata(&self.rt, path)?;
+        Ok(is_same(&dir.metadata()?, &standing))
+    }
+
+    fn lock(&mut self, dir: &File) -> io::Result<()> {
+        dir.try_lock()?;
+        Ok(())
+    }
+
+    fn open_directory(&mut self, dir: &File, name: &str) -> io::Result<File> {
+        let path = entry_path(self.rt.alloc(), dir, name)?;
+        let inside = format!(in self.rt.alloc(); "{}/.", path.as_str())?;
+        let opened = File::open(&self.rt, inside.as_str())?;
+        itself(&self.rt, opened, path.as_str())
+    }
+
+    fn look(&mut self, dir: &File, name: &str) -> io::Result<Option<EntryKind>> {
+        let path = entry_path(self.rt.alloc(), dir, name)?;
+        match fs::symlink_metadata(&self.rt, path.as_str()) {
+            Ok(metadata) => Ok(Some(kind_of(&metadata))),
+            Err(failure) if failure.kind() == ErrorKind::NotFound => Ok(None),
+            Err(failure) => Err(failure),
+        }
+    }
+
+    fn list(&mut self, dir: &File) -> io::Result<EntryNames> {
+        let path = entry_path(self.rt.alloc(), dir, "")?;
+        let mut found = EntryNames {
+            names: Vec::new(self.rt.alloc()),
+            nameless: 0,
+        };
+        for entry in fs::read_dir(&self.rt, path.as_str())? {
+            add_name(self.rt.alloc(), entry, &mut found)?;
+        }
+        Ok(found)
+    }
+
+    fn open_file(&mut self, dir: &File, name: &str) -> io::Result<File> {
+        let path = entry_path(self.rt.alloc(), dir, name)?;
+        if !fs::symlink_metadata(&self.rt, path.as_str())?.is_file() {
+            return Err(io::Error::from(ErrorKind::InvalidInput));
+        }
+        let opened = File::open(&self.rt, path.as_str())?;
+        itself(&self.rt, opened, path.as_str())
+    }
+
+    fn read(&mut self, file: &mut File, place: u64, into: &mut [u8]) -> io::Result<usize> {
+        file.read_at(into, place)
+    }
+
+    fn create(&mut self, dir: &File, name: &str) -> io::Result<File> {
+        let path = entry_path(self.rt.alloc(), dir, name)?;
+        let mut how = OpenOptions::new();
+        how.write(true)
+            .create_new(true)
+            .mode(self.permissions.of_file());
+        how.open(&self.rt, path.as_str())
+    }
+
+    fn write(&mut self, file: &mut File, bytes: &[u8]) -> io::Result<()> {
+        file.write_all(bytes)
+    }
+
+    fn sync_file(&mut self, file: &mut File) -> io::Result<()> {
+        file.sync_all()
+    }
+
+    fn sync_names(&mut self, dir: &File) -> io::Result<()> {
+        dir.sync_all()
+    }
+
+    fn rename(&mut self, from: &File, old: &str, to: &File, new: &str) -> io::Result<()> {
+        let from = entry_path(self.rt.alloc(), from, old)?;
+        let to = entry_path(self.rt.alloc(), to, new)?;
+        fs::rename(&self.rt, from.as_str(), to.as_str())
+    }
+
+    fn make_directory(&mut self, dir: &File, name: &str) -> io::Result<()> {
+        let path = entry_path(self.rt.alloc(), dir, name)?;
+        let mut how = DirBuilder::new();
+        how.mode(self.permissions.of_directory());
+        how.create(&self.rt, path.as_str())
+    }
+
+    fn remove_file(&mut self, dir: &File, name: &str) -> io::Result<()> {
+        let path = entry_path(self.rt.alloc(), dir, name)?;
+        fs::remove_file(&self.rt, path.as_str())
+    }
+
+    fn remove_directory(&mut self, dir: &File, name: &str) -> io::Result<()> {
+        let path = entry_path(self.rt.alloc(), dir, name)?;
+        fs::remove_dir(&self.rt, path.as_str())
+    }
+}
+
+/// The path of an entry by the number of its open directory.
+fn entry_path(alloc: Global, dir: &File, name: &str) -> Result<String, AllocError> {
+    format!(in alloc; "/proc/self/fd/{}/{name}", dir.as_raw_fd())
+}
+
+/// What was opened at a path, where it is the entry itself and not what a link leads to.
+fn itself<R: Files>(rt: &R, opened: File, path: &str) -> io::Result<File> {
+    let entry = fs::symlink_metadata(rt, path)?;
+    if is_same(&opened.metadata()?, &entry) {
+        return Ok(opened);
+    }
+    Err(io::Error::from(ErrorKind::FilesystemLoop))
+}
+
+/// Whether two tell of the same file of the same device.
+fn is_same(one: &Metadata, other: &Metadata) -> bool {
+    one.ino() == other.ino() && one.dev() == other.dev()
+}
+
+/// What the system tells, in our words.
+fn kind_of(metadata: &Metadata) -> EntryKind {
+    if metadata.is_file() {
+        EntryKind::File
+    } else if metadata.is_dir() {
+        EntryKind::Directory
+    } else {
+        EntryKind::Other
+    }
+}
+
+/// Adds an entry's name, or counts it where it is no text.
+fn add_name<R: Files<File = File> + Drop>(
+    alloc: Global,
+    entry: io::Result<DirEntry<R>>,
+    found: &mut EntryNames,
+) -> io::Result<()> {
+    match entry {
+        Ok(entry) => Ok(
+            found
+                .names
+                .push(String::from_str(alloc, entry.file_name())?)?,
+        ),
+        Err(failure) if is_no_text(&failure) => {
+            found.nameless = found.nameless.saturating_add(1);
+            Ok(())
+        }
+        Err(failure) => Err(failure),
+    }
+}
+
+/// Whether an entry has a name that is no text.
+fn is_no_text(failure: &io::Error) -> bool {
+    failure.kind() == ErrorKind::InvalidFilename && failure.raw_os_error().is_none()
+}
