@@ -1,6 +1,6 @@
 -- What the calls of the second half come to, put together. The key lemmas are stops_by, out_by, knows_by, brings_by, finishes_by and
 -- halts_by.
-use Rattle.std.proofs.Common.{◌≡◌, ℕ, Bool, true, false, IsTrue, ◌↔◌, List, Option, Result, Ok, Err, refl, sym, ap, subst, ◌∙◌, inl, inr, true≢false}
+use Rattle.std.proofs.Common.{◌≡◌, ℕ, Bool, false, IsTrue, ◌↔◌, List, Option, Result, Ok, Err, refl, sym, ap, subst, ◌∙◌, inl, inr, true≢false}
 use Rattle.std.specs.FinMap as fin
 use Rattle.tree_model.specs.Path.{PathV, path_cmp}
 use Rattle.block_chunker.specs.declared.cuts.Cuts.{Cuts}

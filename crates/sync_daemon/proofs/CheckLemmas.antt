@@ -1,5 +1,5 @@
 -- What the checks of a round leave, gone well or failed. The key lemmas are checks_go, checks_fail, fails_so and scan_fails.
-use Rattle.std.proofs.Common.{◌≡◌, ◌≤◌, ◌+◌, ◌⊎◌, ℕ, Bool, true, false, not, ◌||◌, All, List, [], ◌∷◌, ◌++◌, Option, None, Some, Ok, Err, refl, sym, ap, subst, ◌∙◌, append_assoc, inl, inr, true≢false}
+use Rattle.std.proofs.Common.{◌≡◌, ◌≤◌, ◌⊎◌, ℕ, Bool, true, false, not, ◌||◌, All, List, [], ◌∷◌, ◌++◌, Option, None, Some, Ok, Err, refl, sym, ap, subst, ◌∙◌, append_assoc, inl, inr, true≢false}
 use Rattle.std.proofs.lemmas.List.Elements.{All-nil, Contains-push, Contains-append_left}
 use Rattle.ids.specs.declared.key.Key.{Key}
 use Rattle.block_chunker.specs.declared.cuts.Cuts.{Cuts}

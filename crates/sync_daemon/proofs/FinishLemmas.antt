@@ -1,6 +1,6 @@
 -- A sync that is refused before the folder is touched, one that comes too late three times, and one that has nothing to do. The key
 -- lemmas are refused_finishes, stale_ends and spared_finishes.
-use Rattle.std.proofs.Common.{◌≡◌, ◌≤◌, ◌⊎◌, ℕ, true, false, All, List, [], Option, None, Some, is_some, Ok, Err, refl, sym, ap, subst, ◌∙◌, inl, inr, true≢false}
+use Rattle.std.proofs.Common.{◌≡◌, ◌≤◌, ◌⊎◌, ℕ, All, List, [], Option, None, Some, is_some, Ok, Err, refl, sym, ap, subst, ◌∙◌, inl, inr, true≢false}
 use Rattle.std.specs.List.{Contains}
 use Rattle.std.proofs.lemmas.List.Elements.{All-contains, All-nil}
 use Rattle.ids.specs.Key.{Objects}

@@ -16,7 +16,7 @@ use Rattle.tree_model.specs.declared.node.Node.{Node}
 use Rattle.tree_model.specs.declared.node.Node.TheVariants as node
 use Rattle.block_chunker.specs.declared.cuts.Cuts.{Cuts}
 use Rattle.folder_side.specs.Folder.{Contents, IsFolder, at}
-use Rattle.folder_side.specs.declared.holding.Holding.TheVariants.{Dir, File}
+use Rattle.folder_side.specs.declared.holding.Holding.TheVariants.{File}
 use Rattle.local_index.specs.declared.index.Index.{Index}
 use Rattle.local_index.specs.declared.index.Known.{Known}
 use Rattle.local_index.specs.declared.index.Known.TheVariants as known

@@ -15,7 +15,6 @@ use Rattle.folder_side.specs.Folder.{Contents}
 use Rattle.folder_side.specs.ScanReport.{IsPastLimit, IsWithinLimits}
 use Rattle.folder_side.specs.declared.error.ScanFault.{ScanFault}
 use Rattle.folder_side.specs.declared.error.ScanFault.TheVariants as scan
-use Rattle.folder_side.specs.declared.scan_report.Scan.{Scan}
 use Rattle.http_front.specs.declared.order.What.{What}
 use Rattle.http_front.specs.declared.order.What.TheVariants as what
 use Rattle.http_front.specs.declared.outcome.Outcome.TheVariants.{Plain}

@@ -22,7 +22,7 @@ use Rattle.object_graph.specs.Reached.{ReachedFrom}
 use Rattle.object_graph.specs.Traversal.{is_in}
 use Rattle.remote_calls.specs.Sends.{Ending, Sent}
 use Rattle.sync_rules.specs.Causes.{CausedBy, FindsSome, HasPath, IsRefusedBy, IsSoHere, WentWell, is_stale, stale_count}
-use Rattle.sync_rules.specs.Named.{Head, IsHad, IsHadFor, Named, asked_by, asked_head, got_by, head_after, if_named, is_block, keys_asked, keys_named, last_head, last_round, named_by, names_in}
+use Rattle.sync_rules.specs.Named.{IsHad, IsHadFor, Named, asked_by, asked_head, got_by, head_after, if_named, is_block, keys_asked, keys_named, last_head, last_round, named_by, names_in}
 use Rattle.sync_rules.specs.Offer.{IsOffer}
 use Rattle.sync_rules.specs.OneSync.{ComesInOrder, GoesInOrder, HasNotBegun, NeedsNoTree}
 use Rattle.sync_rules.specs.Orders.{GoesInRounds, OrdersSo, Stage, stage_after}

@@ -1,6 +1,6 @@
 -- The steps of a round behind its scan: the first meeting with a library, and the head where nothing changed. The key lemmas are
 -- join_goes, join_fails, same_goes, same_fails and denied.
-use Rattle.std.proofs.Common.{◌≡◌, ◌+◌, ◌==◌, ℕ, Bool, true, false, not, cond, List, [], ◌∷◌, ◌++◌, length, Option, None, Some, is_some, is_ok, option_map, Ok, Err, refl, sym, ap, subst, ◌∙◌, append_assoc, inl, inr, true≢false}
+use Rattle.std.proofs.Common.{◌≡◌, ◌==◌, ℕ, Bool, true, false, not, cond, List, [], ◌∷◌, ◌++◌, length, Option, None, Some, is_some, is_ok, option_map, Ok, Err, refl, sym, ap, subst, ◌∙◌, append_assoc, inl, inr, true≢false}
 use Rattle.std.specs.FinMap as fin
 use Rattle.std.specs.List.{Contains, flat_map}
 use Rattle.std.proofs.lemmas.Bool.{eqb-true}

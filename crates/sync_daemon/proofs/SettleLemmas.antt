@@ -1,6 +1,6 @@
 -- The end of a round: nothing changed, an upload is denied, or what changed was pushed. The key lemmas are same_goes, same_fails,
 -- denied, push_goes, push_late, push_fails and stale_ends.
-use Rattle.std.proofs.Common.{◌≡◌, ◌+◌, ℕ, Bool, true, false, List, [], ◌∷◌, ◌++◌, Option, None, Some, is_some, Ok, Err, refl, sym, ap, subst, ◌∙◌, append_assoc, inl, inr, true≢false, arith}
+use Rattle.std.proofs.Common.{◌≡◌, ℕ, Bool, true, false, List, [], ◌∷◌, ◌++◌, Option, None, Some, is_some, Ok, Err, refl, sym, ap, subst, ◌∙◌, append_assoc, inl, inr, true≢false, arith}
 use Rattle.std.specs.List.{Contains, flat_map}
 use Rattle.std.proofs.lemmas.Grind.{flat_map-append}
 use Rattle.std.proofs.lemmas.List.Elements.{Contains-append_right}
@@ -10,7 +10,7 @@ use Rattle.folder_side.specs.declared.scan_report.Scan.{Scan}
 use Rattle.http_front.specs.declared.order.Order.{Order}
 use Rattle.http_front.specs.declared.order.What.{What}
 use Rattle.http_front.specs.declared.order.What.TheVariants as what
-use Rattle.http_front.specs.declared.outcome.Outcome.TheVariants.{Plain, Refused}
+use Rattle.http_front.specs.declared.outcome.Outcome.TheVariants.{Plain}
 use Rattle.library_state.specs.declared.refusal.Refusal.TheVariants as refusal
 use Rattle.library_state.specs.declared.reply.Reply.TheVariants as reply
 use Rattle.library_state.specs.declared.tag.Tag.{Tag}

@@ -11,7 +11,7 @@ use Rattle.http_client.specs.OrderOutcome.{is_commit}
 use Rattle.http_front.specs.declared.order.What.{What}
 use Rattle.http_front.specs.declared.order.What.TheVariants as what
 use Rattle.object_graph.specs.Objects.{commit_at, commit_key, fs_key}
-use Rattle.object_graph.specs.Reached.{ReachedFrom, named, named_by_commit, own_keys}
+use Rattle.object_graph.specs.Reached.{ReachedFrom, named_by_commit, own_keys}
 use Rattle.object_graph.specs.Traversal.{is_in}
 use Rattle.object_graph.proofs.ReachingLemmas.{in_first}
 use Rattle.remote_calls.specs.Sends.{Sent}

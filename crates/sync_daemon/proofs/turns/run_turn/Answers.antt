@@ -1,5 +1,5 @@
 -- One job more.
-use Rattle.std.proofs.Common.{◌≡◌, ◌<◌, ◌∙◌, ◌++◌, ◌∷◌, List, Result, [], ap, append-nil, append_assoc, arith, length, map, refl, sym}
+use Rattle.std.proofs.Common.{◌<◌, ◌∙◌, ◌++◌, ◌∷◌, List, Result, [], ap, append-nil, append_assoc, arith, length, map, refl, sym}
 use Rattle.sync_rules.specs.declared.fault.SyncFault.{SyncFault}
 use Rattle.sync_rules.specs.declared.synced.Synced.{Synced}
 use Rattle.sync_daemon.specs.Turns.{state_of}
