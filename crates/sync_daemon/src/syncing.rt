@@ -19,13 +19,13 @@ use tree_fetch::Asker;
 ///
 /// In this order: whether one may upload is asked, and where that is denied, whether one may download. The folder is scanned.
 /// Where the index has no base, the head is asked for and is the base; `NotEmpty` where folder and head both have something.
-/// What changed since the index is pushed as one commit on the base, by this user; the scan begins anew where a collection
-/// began meanwhile, up to three times. Where nothing changed the head is asked for. The head's tree is got, unless nothing
+/// What changed since the index is pushed as one commit on the base, by this user; all begins anew, from the first check, where a
+/// collection began meanwhile, in three rounds at most. Where nothing changed the head is asked for. The head's tree is got, unless nothing
 /// was pushed and it is the index's base. Then the folder is changed, by the steps of a plan: removals, deepest first, and
 /// then directories and files in byte order of path.
 ///
 /// After an error the index is as it was. The folder is as it was, or, once the plan was begun, each path holds its old
-/// contents, the head's, or nothing where the head has nothing or another kind. Memory: at most one block, one chunk and two
+/// contents, the head's, or nothing where the head has nothing or another kind. Memory: at most one block, one chunk and a block more in the chunker, and two
 /// pieces of files, beside the scan, the index, the tree's directories and files and the objects that are made.
 /// Source: our own; the orders are those of the Seafile sync protocol.
 pub fn sync_once<F: Folder, R: Remote, C: Clock>(
