@@ -89,11 +89,11 @@ pub trait DirectoryCalls {
     fn create(&mut self, dir: &Self::Dir, name: &str) -> io::Result<Self::File>
         ensures order { (path : PathV) → IsTrue (stands_at dir.now path) → Does (Created (path ++ name.now ∷ [])) (steps self.old) (steps self.new) result };
 
-    /// Appends to the file that was made last.
+    /// Appends to an open file; no clause says to which.
     fn write(&mut self, file: &mut Self::File, bytes: &[u8]) -> io::Result<()>
         ensures order { Does (Wrote bytes.now) (steps self.old) (steps self.new) result };
 
-    /// Makes the bytes of the file that was made last durable.
+    /// Makes the bytes of an open file durable; no clause says of which.
     fn sync_file(&mut self, file: &mut Self::File) -> io::Result<()>
         ensures order { Does SyncedFile (steps self.old) (steps self.new) result };
 

@@ -17,11 +17,12 @@ use tree_model::Path;
 /// Each part of a path is opened from the directory before it, and no link is followed, also one that is put there
 /// meanwhile; only the path of the folder itself may lead through links. The spare is the file `.seaf-cli.spare` in the
 /// folder: no listing has it, and a path that begins with it is a fault. What a run that was killed left of it is taken
-/// away as the folder is opened. A file is read from the handle that its first bytes came from. After each change the
-/// names of its directory are durable, and so are the bytes of a file that was moved in.
+/// away as the folder is opened. A file is read from the handle that its first bytes came from. After a move, a making
+/// and a removal the names of its directory are durable, and so are the bytes of a file that was moved in.
 ///
 /// The folder is locked (flock) as long as it is open, so that one client at a time has it; the system gives the lock up
-/// with the process. It fails once another folder, or none, stands at its path.
+/// with the process. A listing of the root fails once another folder, or none, stands at its path; all else goes on in the
+/// folder that was opened.
 #[derive(Drop)]
 pub struct LocalFolder<C: DirectoryCalls> {
     calls: C,

@@ -27,7 +27,7 @@ use tree_fetch::Asker;
 /// After an error the index is as it was. The folder is as it was, or, once the plan was begun, each path holds its old
 /// contents, the head's, or nothing where the head has nothing or another kind. Memory: at most one block, one chunk and a block more in the chunker, and two
 /// pieces of files, beside the scan, the index, the tree's directories and files and the objects that are made.
-/// Source: our own; the orders are those of the Seafile sync protocol.
+/// Source: our own; the orders are those of `http_client`'s table.
 pub fn sync_once<F: Folder, R: Remote, C: Clock>(
     alloc: Global,
     folder: &mut F,
