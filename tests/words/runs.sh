@@ -66,7 +66,7 @@ connect() {
 opened_as() {
     before=0
     [ ! -e "$1" ] || before=$(sed -n 's/.*"opening":\([0-9]*\).*/\1/p' "$1")
-    number=$((${before:-0} + 1))
+    opening_told=$((${before:-0} + 1))
 }
 
 # given: what the connection is sent. A row may send it in another way.
@@ -88,9 +88,9 @@ hang_up() {
 # among those that were given.
 tag() {
     grep -a '^ETag: "' got | sed 's/^[^-]*-\([0-9]*\).*/\1/' > counts || :
-    grep -an '^ETag: "@-' "$1" | cut -d : -f 1 > lines || :
+    grep -an '^ETag: "@-' "$1" | sed 's/:.*//' > lines || :
     paste -d ' ' lines counts | while read -r at given_count; do
-        [ -z "$at" ] || printf '%ss/@-/%s-/;%ss/-[*]/-%s/\n' "$at" "$number" "$at" "${given_count:-none}"
+        [ -z "$at" ] || printf '%ss/@-/%s-/;%ss/-[*]/-%s/\n' "$at" "$opening_told" "$at" "${given_count:-none}"
     done > tags
     sed -f tags "$1" > with_tags
     mv with_tags "$1"
