@@ -8,9 +8,11 @@ use Rattle.library_state.specs.declared.call.Call.{Call}
 use Rattle.library_state.specs.declared.tag.Tag.{Tag}
 use Rattle.object_store.specs.Shelf.{Contents}
 use Rattle.object_store.specs.declared.shelf.Slot.{Slot}
+use Rattle.depot.specs.DepotView.{DepotView}
 use Rattle.turnstile.specs.PassView.{drawn_of, parts_of, passes_of}
-use Rattle.sync_calls.specs.Asking.{AsksOne, AsksSo}
+use Rattle.sync_calls.specs.Asking.{AsksSo}
 use Rattle.sync_calls.specs.Collecting.{CollectsOne, CollectsSo}
+use Rattle.sync_calls.specs.FirstAsking.{AsksOne, SparesReading}
 use Rattle.sync_calls.specs.Hall.{AreReady, HallOf, IsReadyAt, LibraryRoom, PassOf, drawn_by, made_with, passes_in, rooms_of, shares_of, shown_by}
 use Rattle.sync_calls.specs.Looking.{GlancesOne, GlancesSo}
 use Rattle.sync_calls.specs.Operations.{Line}
@@ -47,22 +49,23 @@ module _ {S : Type 0} (contents : S → Option Contents) (may_give : S → Slot 
       (subst (λ (n : ℕ). IsReadyAt contents may_give texts faults (shares_of pass) n room new) here.among
       (subst (λ (n : ℕ). IsReadyAt contents may_give texts faults n (passes_of to) room new) here.share so)))
 
-  pub asks_again : (lib : List ℕ) (call : Call) (moment : ℕ) (answer : Answer) (new : LibraryPass S) → IsRoomOf (rooms_of hall) lib place
-      → AsksOne contents may_give texts faults (shown_of to) call moment answer (shown_of new) (drawn_of new)
-      → (lines : List Line) × AsksSo contents may_give texts faults (shown_by pass) lib call moment answer lines (shown_by (with_pass pass place new)) (drawn_by (with_pass pass place new))
-  asks_again lib call moment answer new found so =
+  pub asks_again : (too_much : DepotView S → Type 0) (lib : List ℕ) (call : Call) (moment : ℕ) (answer : Answer) (new : LibraryPass S) → IsRoomOf (rooms_of hall) lib place
+      → AsksOne contents may_give texts faults too_much (shown_of to) call moment answer (shown_of new) (drawn_of new)
+      → (lines : List Line) × (asks : AsksSo contents may_give texts faults (shown_by pass) lib call moment answer lines (shown_by (with_pass pass place new)) (drawn_by (with_pass pass place new)))
+      × SparesReading too_much asks
+  asks_again too_much lib call moment answer new found so =
       let ok = pass.passes.ok.0 in
       let size = ready.size in
       let drawn = length-map (passes_in pass) drawn_of in
       let below : place < length (drawn_by pass) = omega arith in
-      let told = asks_lift contents may_give texts faults (shown_by pass) (drawn_by pass) lib place (shown_of (slice_index_or (passes_in pass) place to)) (shown_of new) (drawn_of new) call moment answer
+      let told = asks_lift contents may_give texts faults too_much (shown_by pass) (drawn_by pass) lib place (shown_of (slice_index_or (passes_in pass) place to)) (shown_of new) (drawn_of new) call moment answer
       (named_at contents may_give texts faults hall pass ready lib place room to found) below
-      (subst (λ (p : LibraryPass S). AsksOne contents may_give texts faults (shown_of p) call moment answer (shown_of new) (drawn_of new)) at so) in (
-        told.0,
-        subst (λ us. AsksSo contents may_give texts faults (shown_by pass) lib call moment answer told.0 us (drawn_by (with_pass pass place new))) (sym (map-set shown_of (passes_in pass) place new))
-            (subst (λ draws. AsksSo contents may_give texts faults (shown_by pass) lib call moment answer told.0 (slice_set (shown_by pass) place (shown_of new)) draws)
-            (sym (map-set drawn_of (passes_in pass) place new)) told.1),
-      )
+      (subst (λ (p : LibraryPass S). AsksOne contents may_give texts faults too_much (shown_of p) call moment answer (shown_of new) (drawn_of new)) at so) in
+      let all = subst (λ us. (asks : AsksSo contents may_give texts faults (shown_by pass) lib call moment answer told.0 us (drawn_by (with_pass pass place new))) × SparesReading too_much asks)
+      (sym (map-set shown_of (passes_in pass) place new))
+      (subst (λ draws. (asks : AsksSo contents may_give texts faults (shown_by pass) lib call moment answer told.0 (slice_set (shown_by pass) place (shown_of new)) draws) × SparesReading too_much asks)
+      (sym (map-set drawn_of (passes_in pass) place new)) (told.1, told.2)) in
+      (told.0, all.0, all.1)
 
   pub looks_again : (lib : List ℕ) (secret : Option (List ℕ)) (tag : Tag) (found : Glance) (new : LibraryPass S) → IsRoomOf (rooms_of hall) lib place
       → GlancesOne (shown_of to) secret tag found (shown_of new)

@@ -11,10 +11,11 @@ use Rattle.library_state.specs.declared.tag.Tag.{Tag}
 use Rattle.object_store.specs.Shelf.{Contents}
 use Rattle.object_store.specs.declared.shelf.Slot.{Slot}
 use Rattle.depot.specs.DepotView.{DepotView}
-use Rattle.sync_calls.specs.Asking.{AsksOne, AsksSo, IsAt, IsNowhere}
-use Rattle.sync_calls.specs.Asking.AsksOne.{denied as one_denied, spent as one_spent, took as one_took}
+use Rattle.sync_calls.specs.Asking.{AsksSo, IsAt, IsNowhere}
 use Rattle.sync_calls.specs.Asking.AsksSo.{denied, spent, took}
 use Rattle.turnstile.specs.PassView.{IsPassOf, parts_of, passes_of, start_of}
+use Rattle.sync_calls.specs.FirstAsking.{AsksOne, SparesReading}
+use Rattle.sync_calls.specs.FirstAsking.AsksOne.{one_denied, one_spent, one_took}
 use Rattle.sync_calls.specs.Hall.{AreReady, ExitPass, HallOf, IsReadyAt, LibraryRoom, PassOf, made_with, passes_in, rooms_of, shares_of, shown_by}
 use Rattle.sync_calls.specs.Looking.{GlancesOne, GlancesSo}
 use Rattle.sync_calls.specs.Looking.GlancesOne.{denied as one_unseen, looked as one_looked}
@@ -130,25 +131,17 @@ module _ {S : Type 0} (contents : S → Option Contents) (may_give : S → Slot 
         }
 
   -- what was done at one library, told of all
-  pub asks_lift : (us : List (Shown S)) (draws : List ℕ) (lib : List ℕ) (library : ℕ) (u v : Shown S) (drawn : ℕ) (call : Call) (moment : ℕ) (answer : Answer) → IsAt us lib library u
-      → library < length draws → AsksOne contents may_give texts faults u call moment answer v drawn
-      → (lines : List Line) × AsksSo contents may_give texts faults us lib call moment answer lines (slice_set us library v) (slice_set draws library drawn)
-  asks_lift us draws lib library u v drawn call moment answer at below (one_denied may is same) =
-      ([], denied library u at may is refl (set_again us library u v at.at same))
-  asks_lift us draws lib library u v drawn call moment answer at below (one_spent may most is same) =
-      ([], spent library u at may (get_set draws library drawn below ∙ ap Some most) is refl (set_again us library u v at.at same))
-  asks_lift us draws lib library u v drawn call moment answer at below (one_took may less place done opening size) = (
+  pub asks_lift : (too_much : DepotView S → Type 0) (us : List (Shown S)) (draws : List ℕ) (lib : List ℕ) (library : ℕ) (u v : Shown S) (drawn : ℕ) (call : Call) (moment : ℕ) (answer : Answer)
+      → IsAt us lib library u → library < length draws → AsksOne contents may_give texts faults too_much u call moment answer v drawn
+      → (lines : List Line) × (asks : AsksSo contents may_give texts faults us lib call moment answer lines (slice_set us library v) (slice_set draws library drawn)) × SparesReading too_much asks
+  asks_lift too_much us draws lib library u v drawn call moment answer at below (one_denied may is same) =
+      ([], denied library u at may is refl (set_again us library u v at.at same), tt)
+  asks_lift too_much us draws lib library u v drawn call moment answer at below (one_spent may most is same) =
+      ([], spent library u at may (get_set draws library drawn below ∙ ap Some most) is refl (set_again us library u v at.at same), tt)
+  asks_lift too_much us draws lib library u v drawn call moment answer at below (one_took may less place done spares opening size) = (
     record { library = library; place = place; deed = Called call moment answer.reply } ∷ [],
-    took library u at may drawn (get_set draws library drawn below) less
-        record {
-          line = record { library = library; place = place; deed = Called call moment answer.reply };
-          one = refl;
-          asked = refl;
-          moves = record { before = u; was = at.at; after = v; is = refl; done = done };
-          opening = opening;
-          place = size;
-        }
-        refl,
+    took library u at may drawn (get_set draws library drawn below) less (record { place = place; after = v; done = done; is = refl; one = refl; opening = opening; told = size }),
+    spares,
   )
 
   pub looks_lift : (us : List (Shown S)) (lib : List ℕ) (library : ℕ) (u v : Shown S) (secret : Option (List ℕ)) (tag : Tag) (found : Glance) → IsAt us lib library u

@@ -83,6 +83,13 @@ module _ {S : Type 0} (contents : S → Option Contents) (may_give : S → Slot 
         reads = record { there = last.there; stood = stood_at w start x place begins last is; before = x; same = last.same; after = y; does = does; stays = stays };
       }
 
+  -- it was done on the library of the turn
+  pub reads_on : (u w : Shown S) (start x y : DepotView S) (place : ℕ) (deed : Deed) (up : CatchesUp u w) (begins : w.start ≡ Some start) (leads : LeadsTo contents may_give texts faults start w.seen x)
+      (is : place ≡ length w.seen) (does : Does contents may_give texts faults x deed y) (stays : IsSame contents faults x y)
+      → (reads_so u w start x y place deed up begins leads is does stays).reads.before ≡ x
+  unfolding reads_so
+  reads_on u w start x y place deed up begins leads is does stays = refl
+
   -- a deed that made a change
   pub changes_so : (u w : Shown S) (start x y : DepotView S) (place : ℕ) (deed : Deed) (change : Change (DepotView S)) → CatchesUp u w → w.start ≡ Some start
       → LeadsTo contents may_give texts faults start w.seen x → place ≡ length w.seen → IsEntryOf x deed y change → Does contents may_give texts faults x deed y → IsOther contents faults x y
@@ -104,6 +111,13 @@ module _ {S : Type 0} (contents : S → Option Contents) (may_give : S → Slot 
         follows = subst (λ (b : DepotView S). IsSame contents faults last.there b) (sym entry.from) last.same;
         links = linked change deed x y entry does other;
       }
+
+  -- which is the one that was published
+  pub changes_by : (u w : Shown S) (start x y : DepotView S) (place : ℕ) (deed : Deed) (change : Change (DepotView S)) (up : CatchesUp u w) (begins : w.start ≡ Some start)
+      (leads : LeadsTo contents may_give texts faults start w.seen x) (is : place ≡ length w.seen) (entry : IsEntryOf x deed y change) (does : Does contents may_give texts faults x deed y)
+      (other : IsOther contents faults x y) → (changes_so u w start x y place deed change up begins leads is entry does other).change ≡ change
+  unfolding changes_so
+  changes_by u w start x y place deed change up begins leads is entry does other = refl
 
   pub leads_changed : (start x y : DepotView S) (seen : List (Change (DepotView S))) (deed : Deed) (change : Change (DepotView S)) → LeadsTo contents may_give texts faults start seen x
       → IsEntryOf x deed y change → Does contents may_give texts faults x deed y → IsOther contents faults x y → LeadsTo contents may_give texts faults start (seen ++ change ∷ []) y

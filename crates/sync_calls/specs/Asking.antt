@@ -1,5 +1,5 @@
 -- What a hall answers to a call, and what it leaves. Our own. Read AsksSo, then IsAt and TakesTurnAt.
-use Rattle.std.specs.Prelude.{◌≡◌, ◌≢◌, ℕ, ◌<◌, true, false, List, [], ◌∷◌, length, Option, Some}
+use Rattle.std.specs.Prelude.{◌≡◌, ◌≢◌, ℕ, ◌<◌, true, false, List, [], ◌∷◌, length, slice_set, Option, Some}
 use Rattle.std.specs.List.{slice_get}
 use Rattle.library_state.specs.declared.call.Call.{Call}
 use Rattle.library_state.specs.declared.refusal.Refusal.{Refusal}
@@ -9,7 +9,7 @@ use Rattle.object_store.specs.Shelf.{Contents}
 use Rattle.object_store.specs.declared.shelf.Slot.{Slot}
 use Rattle.turnstile.specs.Rule.{most_turns}
 use Rattle.sync_calls.specs.Door.{admitted}
-use Rattle.sync_calls.specs.Operations.{Called, IsDone, Line, Moves}
+use Rattle.sync_calls.specs.Operations.{Called, IsDone, Line}
 use Rattle.sync_calls.specs.Shown.{Shown, lib_of, opening_of}
 use Rattle.sync_calls.specs.declared.asking.Answer.{Answer}
 
@@ -28,14 +28,16 @@ abbrev pub without_turn : Refusal → Answer
 without_turn why = record { reply = reply.Refused why; opening = 0; place = 0 }
 
 module _ {S : Type 0} (contents : S → Option Contents) (may_give : S → Slot → Option (List ℕ) → Type 0) (texts faults : S → ℕ) where
-  -- one turn was taken at one library, by one who may, and its answer tells of the history as long as it is then
-  pub record TakesTurnAt (us : List (Shown S)) (call : Call) (moment : ℕ) (answer : Answer) (lines : List Line) (vs : List (Shown S)) : Type 0 where
-    pub line : Line
-    pub one : lines ≡ line ∷ []
-    pub asked : line.deed ≡ Called call moment answer.reply
-    pub moves : Moves contents may_give texts faults us line vs
-    pub opening : opening_of moves.before ≡ Some answer.opening
-    pub place : answer.place ≡ length moves.after.seen
+  -- one turn was taken at the library with this number, of which this was shown; what is shown of the others stays, and the answer
+  -- tells of the history as long as it is then
+  pub record TakesTurnAt (library : ℕ) (u : Shown S) (us : List (Shown S)) (call : Call) (moment : ℕ) (answer : Answer) (lines : List Line) (vs : List (Shown S)) : Type 0 where
+    pub place : ℕ
+    pub after : Shown S
+    pub done : IsDone contents may_give texts faults u place (Called call moment answer.reply) after
+    pub is : vs ≡ slice_set us library after
+    pub one : lines ≡ record { library = library; place = place; deed = Called call moment answer.reply } ∷ []
+    pub opening : opening_of u ≡ Some answer.opening
+    pub told : answer.place ≡ length after.seen
 
   -- there is no such library; or who asks may not, by the tokens with which the library began; or the last turn of its lock was
   -- drawn, as the pass has read; or one turn was taken. The numbers that were drawn are those after the call
@@ -47,11 +49,4 @@ module _ {S : Type 0} (contents : S → Option Contents) (may_give : S → Slot 
         → answer ≡ without_turn refusal.Spent → lines ≡ [] → vs ≡ us → AsksSo us lib call moment answer lines vs draws
     took : (library : ℕ) (u : Shown S) → IsAt us lib library u → admitted u.start call.secret call.act ≡ true
         → (drawn : ℕ) → slice_get draws library ≡ Some drawn → drawn < most_turns
-        → (turn : TakesTurnAt us call moment answer lines vs) → turn.line.library ≡ library → AsksSo us lib call moment answer lines vs draws
-
-  -- the same of one library, for private clauses
-  pub data AsksOne (u : Shown S) (call : Call) (moment : ℕ) (answer : Answer) (v : Shown S) (drawn : ℕ) : Type 0 where
-    denied : admitted u.start call.secret call.act ≡ false → answer ≡ without_turn refusal.Denied → v ≡ u → AsksOne u call moment answer v drawn
-    spent : admitted u.start call.secret call.act ≡ true → drawn ≡ most_turns → answer ≡ without_turn refusal.Spent → v ≡ u → AsksOne u call moment answer v drawn
-    took : admitted u.start call.secret call.act ≡ true → drawn < most_turns → (place : ℕ) → IsDone contents may_give texts faults u place (Called call moment answer.reply) v
-        → opening_of u ≡ Some answer.opening → answer.place ≡ length v.seen → AsksOne u call moment answer v drawn
+        → TakesTurnAt library u us call moment answer lines vs → AsksSo us lib call moment answer lines vs draws

@@ -6,6 +6,7 @@ pub mod Hall
 pub mod ServedTurn
 pub mod CollectTurn
 pub mod Asking
+pub mod FirstAsking
 pub mod Collecting
 pub mod Looking
 pub mod Joining

@@ -1,18 +1,20 @@
-//! A call that is asked of a hall.
-ghost use Rattle.std.specs.Prelude.{◌≡◌, ◌≢◌, ◌<◌, ℕ, List, length, slice_index_or, IfNone, IfSome};
+//! A call that is asked of a hall: one that is lent, one that is handed over, or the first of several.
+ghost use Rattle.std.specs.Prelude.{◌≡◌, ◌≢◌, ◌<◌, ◌∷◌, ℕ, List, length, slice_index_or, IfNone, IfSome};
+ghost use Rattle.depot.specs.FirstGet.{fs_call};
 ghost use Rattle.turnstile.specs.PassView.{drawn_of, parts_of, passes_of};
-ghost use Rattle.sync_calls.specs.Asking.{AsksOne, AsksSo, without_turn};
+ghost use Rattle.sync_calls.specs.Asking.{AsksSo, without_turn};
+ghost use Rattle.sync_calls.specs.FirstAsking.{AsksOne, AsksTooMuch, SparesReading};
 ghost use Rattle.sync_calls.specs.Hall.{AreReady, IsReadyAt, LibraryRoom, drawn_by, made_with, shares_of, shown_by};
 ghost use Rattle.sync_calls.specs.Operations.{Line};
 ghost use Rattle.sync_calls.specs.RoomPlace.{HasNoRoom, IsRoomOf};
 ghost use Rattle.sync_calls.specs.Shown.{shown_of};
 
-use crate::door::admits;
 use crate::hall::{Hall, HallPass, Room};
+use crate::question::{First, Lent, Own, Question};
 use crate::served_turn::ask_one;
 use depot::Depot;
-use ids::LibId;
-use library_state::{Call, Refusal, Reply};
+use ids::{LibId, ObjId};
+use library_state::{Call, Refusal, Reply, Secret};
 use object_store::Shelf;
 use std::sync::Wait;
 use turnstile::{Pass, Turnstile};
@@ -49,36 +51,108 @@ impl<S: Shelf> Hall<S> {
         ensures asks { (lines : List Line)
             × AsksSo S.contents S.may_give S.texts S.faults (shown_by pass.old) lib call.now moment result lines (shown_by pass.new) (drawn_by pass.new) }
     {
-        let place = match place_of(self.rooms.as_slice(), &lib) {
-            Some(place) => place,
-            None => return without_turn(Refusal::NoLibrary),
+        ask_by(rt, self, pass, lib, Lent { call }, moment)
+    }
+
+    /// Asks a call that is handed over, as `ask` does. A block that is put lies on a shelf in memory where it lay in the call.
+    pub fn ask_own<R: Wait>(
+        &self,
+        rt: &R,
+        pass: &mut HallPass<S>,
+        lib: LibId,
+        call: Call,
+        moment: u64,
+    ) -> Answer
+        requires ready { AreReady S.contents S.may_give S.texts S.faults self.now pass.old }
+        ensures ready { AreReady S.contents S.may_give S.texts S.faults self.now pass.new }
+        ensures size { (shares_of pass.new ≡ shares_of pass.old) × (made_with pass.new ≡ made_with pass.old) }
+        ensures asks { (lines : List Line)
+            × AsksSo S.contents S.may_give S.texts S.faults (shown_by pass.old) lib call moment result lines (shown_by pass.new) (drawn_by pass.new) }
+    {
+        ask_by(rt, self, pass, lib, Own { call }, moment)
+    }
+
+    /// Asks for a file or directory, as `ask` does, after which `more` will be asked for, one after another.
+    ///
+    /// Where the index of the library, as it stands in this turn, knows that they have together more than `most` bytes, each as
+    /// often as it is named, one who may ask is answered with want of memory, and the library is as it was.
+    pub fn ask_first<R: Wait>(
+        &self,
+        rt: &R,
+        pass: &mut HallPass<S>,
+        lib: LibId,
+        secret: &Option<Secret>,
+        id: ObjId,
+        more: &[ObjId],
+        most: u64,
+        moment: u64,
+    ) -> Answer
+        requires ready { AreReady S.contents S.may_give S.texts S.faults self.now pass.old }
+        ensures ready { AreReady S.contents S.may_give S.texts S.faults self.now pass.new }
+        ensures size { (shares_of pass.new ≡ shares_of pass.old) × (made_with pass.new ≡ made_with pass.old) }
+        ensures asks { (lines : List Line)
+            × (asks : AsksSo S.contents S.may_give S.texts S.faults (shown_by pass.old) lib (fs_call secret.now id) moment result lines (shown_by pass.new) (drawn_by pass.new))
+            × SparesReading (AsksTooMuch secret.now (id ∷ more.now) most) asks }
+    {
+        let question = First {
+            secret,
+            id,
+            more,
+            most,
         };
-        ask_at(
-            rt,
-            &self.rooms[place],
-            &mut pass.passes[place],
-            call,
-            moment,
-        )
+        ask_by(rt, self, pass, lib, question, moment)
     }
 }
 
-/// Asks a call of the library of a room.
-fn ask_at<S: Shelf, R: Wait>(
+/// Asks a question of a library of a hall.
+fn ask_by<S: Shelf, R: Wait, Q: Question<S>>(
+    rt: &R,
+    hall: &Hall<S>,
+    pass: &mut HallPass<S>,
+    lib: LibId,
+    question: Q,
+    moment: u64,
+) -> Answer
+    requires ready { AreReady S.contents S.may_give S.texts S.faults hall.now pass.old }
+    ensures ready { AreReady S.contents S.may_give S.texts S.faults hall.now pass.new }
+    ensures size { (shares_of pass.new ≡ shares_of pass.old) × (made_with pass.new ≡ made_with pass.old) }
+    ensures asks { (lines : List Line)
+        × (asks : AsksSo S.contents S.may_give S.texts S.faults (shown_by pass.old) lib (Q.call question) moment result lines (shown_by pass.new) (drawn_by pass.new))
+        × SparesReading (Q.too_much question) asks }
+{
+    let place = match place_of(hall.rooms.as_slice(), &lib) {
+        Some(place) => place,
+        None => {
+            drop(question);
+            return without_turn(Refusal::NoLibrary);
+        }
+    };
+    ask_at(
+        rt,
+        &hall.rooms[place],
+        &mut pass.passes[place],
+        question,
+        moment,
+    )
+}
+
+/// Asks a question of the library of a room.
+fn ask_at<S: Shelf, R: Wait, Q: Question<S>>(
     rt: &R,
     room: &Room<Turnstile<Depot<S>>, Depot<S>>,
     pass: &mut Pass<Depot<S>>,
-    call: &Call,
+    question: Q,
     moment: u64,
 ) -> Answer
     requires ready { IsReadyAt S.contents S.may_give S.texts S.faults (parts_of pass.old) (passes_of pass.old) room.now pass.old }
     ensures ready { IsReadyAt S.contents S.may_give S.texts S.faults (parts_of pass.old) (passes_of pass.old) room.now pass.new }
-    ensures asks { AsksOne S.contents S.may_give S.texts S.faults (shown_of pass.old) call.now moment result (shown_of pass.new) (drawn_of pass.new) }
+    ensures asks { AsksOne S.contents S.may_give S.texts S.faults (Q.too_much question) (shown_of pass.old) (Q.call question) moment result (shown_of pass.new) (drawn_of pass.new) }
 {
-    if !admits(&room.door, &call.secret, &call.act) {
+    if !question.is_admitted(&room.door) {
+        drop(question);
         return without_turn(Refusal::Denied);
     }
-    match ask_one(rt, &room.lock, pass, call, moment) {
+    match ask_one(rt, &room.lock, pass, question, moment) {
         Ok(served) => Answer {
             reply: served.reply,
             opening: room.door.opening,

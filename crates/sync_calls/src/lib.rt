@@ -16,6 +16,7 @@ mod joining;
 pub mod laws;
 mod looking;
 mod making;
+mod question;
 mod served_turn;
 
 pub use asking::Answer;

@@ -4,10 +4,12 @@ ghost use Rattle.turnstile.specs.Rule.{most_turns};
 ghost use Rattle.turnstile.specs.PassView.{IsPassOf, StandsFor, drawn_of, seen_of, told_of, view_of};
 ghost use Rattle.turnstile.specs.HeldTurn.{IsHeld, IsSameTurn, pass_of, place_of, value_of};
 ghost use Rattle.depot.specs.Story.{LeadsTo};
+ghost use Rattle.sync_calls.specs.FirstAsking.{Spares};
 ghost use Rattle.sync_calls.specs.Operations.{Called, IsDone};
 ghost use Rattle.sync_calls.specs.ServedTurn.{CatchesUp, IsEntryOf, IsSameShare};
 ghost use Rattle.sync_calls.specs.Shown.{Knows, Shown, shown_in, shown_of};
 
+use crate::question::Question;
 use depot::{Change, Depot, Made};
 use library_state::{Call, Reply};
 use object_store::Shelf;
@@ -23,12 +25,12 @@ pub(crate) struct Served {
     pub length: u64,
 }
 
-/// Takes a turn, and asks a call in it.
-pub(crate) fn ask_one<S: Shelf, R: Wait>(
+/// Takes a turn, and asks a question in it.
+pub(crate) fn ask_one<S: Shelf, R: Wait, Q: Question<S>>(
     rt: &R,
     lock: &Turnstile<Depot<S>>,
     pass: &mut Pass<Depot<S>>,
-    call: &Call,
+    question: Q,
     moment: u64,
 ) -> Result<Served, Spent>
     requires ready { IsPassOf lock.now pass.old }
@@ -36,33 +38,40 @@ pub(crate) fn ask_one<S: Shelf, R: Wait>(
     ensures ready { IsPassOf lock.now pass.new }
     ensures known { Knows S.contents S.may_give S.texts S.faults (shown_of pass.new) }
     ensures same { IsSameShare pass.old pass.new }
-    ensures told { IfOk result (λ served. IsDone S.contents S.may_give S.texts S.faults (shown_of pass.old) served.place (Called call.now moment served.reply) (shown_of pass.new)) }
+    ensures told { IfOk result (λ served. (done : IsDone S.contents S.may_give S.texts S.faults (shown_of pass.old) served.place (Called (Q.call question) moment served.reply) (shown_of pass.new))
+        × Spares (Q.too_much question) served.reply done) }
     ensures size { IfOk result (λ served. served.length ≡ length (seen_of pass.new)) }
     ensures err { OnErr result ((shown_of pass.new ≡ shown_of pass.old) × (drawn_of pass.new ≡ most_turns)) }
     ensures unspent { OnOk result (drawn_of pass.new < most_turns) }
 {
     let mut held = pass.turn(rt, lock)?;
-    let served = serve(&mut held, call, moment);
+    let served = serve(&mut held, question, moment);
     held.done();
     Ok(served)
 }
 
-/// Asks a call in a turn. Where it changed the library the change is published, and else nothing is.
-fn serve<S: Shelf>(held: &mut Held<'_, Depot<S>>, call: &Call, moment: u64) -> Served
+/// Asks a question in a turn. Where it changed the library the change is published, and else nothing is.
+fn serve<S: Shelf, Q: Question<S>>(
+    held: &mut Held<'_, Depot<S>>,
+    question: Q,
+    moment: u64,
+) -> Served
     requires ready { IsHeld held.old }
     requires fits { told_of (pass_of held.old) ≡ 0 }
     requires stands { StandsFor (LeadsTo S.contents S.may_give S.texts S.faults) (view_of (pass_of held.old)) (value_of held.old) }
     ensures ready { IsHeld held.new × IsSameTurn held.old held.new }
     ensures stands { StandsFor (LeadsTo S.contents S.may_give S.texts S.faults) (view_of (pass_of held.new)) (value_of held.new) }
     ensures told { (u : Shown S) → CatchesUp u (shown_in (view_of (pass_of held.old)))
-        → IsDone S.contents S.may_give S.texts S.faults u result.place (Called call.now moment result.reply) (shown_in (view_of (pass_of held.new))) }
+        → (done : IsDone S.contents S.may_give S.texts S.faults u result.place (Called (Q.call question) moment result.reply) (shown_in (view_of (pass_of held.new))))
+        × Spares (Q.too_much question) result.reply done }
     ensures size { result.length ≡ length (seen_of (pass_of held.new)) }
     ensures known { (u : Shown S) → CatchesUp u (shown_in (view_of (pass_of held.old)))
         → Knows S.contents S.may_give S.texts S.faults u → Knows S.contents S.may_give S.texts S.faults (shown_in (view_of (pass_of held.new))) }
     ensures same { IsSameShare (pass_of held.old) (pass_of held.new) × (drawn_of (pass_of held.new) ≡ drawn_of (pass_of held.old)) }
 {
     let before = Snapshot::of(&*held.value());
-    let (reply, changed) = held.value().tell(call, moment);
+    let asked = question.asked();
+    let (reply, changed) = question.tell(held.value(), moment);
     let place = held.place();
     if !changed {
         return Served {
@@ -71,7 +80,7 @@ fn serve<S: Shelf>(held: &mut Held<'_, Depot<S>>, call: &Call, moment: u64) -> S
             length: place,
         };
     }
-    let entry = entry_of(before, call, moment, &reply, &*held.value());
+    let entry = entry_of(before, asked, moment, &reply, &*held.value());
     held.publish(entry);
     Served {
         reply,
@@ -83,16 +92,16 @@ fn serve<S: Shelf>(held: &mut Held<'_, Depot<S>>, call: &Call, moment: u64) -> S
 /// The change that a call made.
 fn entry_of<S: Shelf>(
     before: Snapshot<Depot<S>>,
-    call: &Call,
+    asked: Snapshot<Call>,
     moment: u64,
     reply: &Reply,
     after: &Depot<S>,
 ) -> Snapshot<Change<Depot<S>>>
-    ensures { IsEntryOf before.value (Called call.now moment reply.now) after.now result.value }
+    ensures { IsEntryOf before.value (Called asked.value moment reply.now) after.now result.value }
 {
     let change = Change {
         before,
-        made: Made::Asked(Snapshot::of(call), Snapshot::of(reply)),
+        made: Made::Asked(asked, Snapshot::of(reply)),
         moment,
         after: Snapshot::of(after),
     };

@@ -2,30 +2,30 @@
 use Rattle.std.proofs.Common.{◌≡◌, true, false, refl, sym, ◌∙◌, ap, Some}
 use Rattle.std.specs.Prelude.{option_map}
 use Rattle.depot.specs.DepotView.{DepotView}
-use Rattle.sync_calls.specs.Asking.AsksOne.{denied, spent, took}
+use Rattle.sync_calls.specs.FirstAsking.AsksOne.{one_denied, one_spent, one_took}
 use Rattle.sync_calls.specs.Door.{admitted}
 use Rattle.sync_calls.specs.Shown.{shown_of}
 use Rattle.sync_calls.proofs.DoorLemmas.{door_admits}
 use Rattle.sync_calls.proofs.asking.ask_at.Goals as goal
 
-pub returns-then-not-admits-clause-asks : goal.returns-then-not-admits-clause-asks
-returns-then-not-admits-clause-asks g c =
-    let may : admitted (shown_of c.args.pass.now).start c.args.call.now.secret c.args.call.now.act ≡ false
-    = sym (door_admits c.args.room.now.door c.args.room.now.start.value (shown_of c.args.pass.now).start c.args.call.now.secret c.args.call.now.act c.requires.ready.opens c.requires.ready.begins)
-    ∙ (sym c.admits.ensures ∙ c.if-not-admits.true) in
-    denied may c.without_turn.ensures refl
+pub returns-then-not-is_admitted-clause-asks : goal.returns-then-not-is_admitted-clause-asks
+returns-then-not-is_admitted-clause-asks g c =
+    let may : admitted (shown_of c.args.pass.now).start (g.Q.Question.call c.args.question).secret (g.Q.Question.call c.args.question).act ≡ false
+    = sym (door_admits c.args.room.now.door c.args.room.now.start.value (shown_of c.args.pass.now).start (g.Q.Question.call c.args.question).secret (g.Q.Question.call c.args.question).act c.requires.ready.opens c.requires.ready.begins)
+    ∙ (sym c.is_admitted.ensures ∙ c.if-not-is_admitted.true) in
+    one_denied may c.without_turn.ensures refl
 
 pub returns-in-Ok-clause-asks : goal.returns-in-Ok-clause-asks
 returns-in-Ok-clause-asks g c =
-    let may : admitted (shown_of c.args.pass.now).start c.args.call.now.secret c.args.call.now.act ≡ true
-    = sym (door_admits c.args.room.now.door c.args.room.now.start.value (shown_of c.args.pass.now).start c.args.call.now.secret c.args.call.now.act c.requires.ready.opens c.requires.ready.begins)
-    ∙ (sym c.admits.ensures ∙ c.if-not-admits.false) in
-    took may c.in-Ok.ensures.unspent c.in-Ok.served.place c.in-Ok.ensures.told
+    let may : admitted (shown_of c.args.pass.now).start (g.Q.Question.call c.args.question).secret (g.Q.Question.call c.args.question).act ≡ true
+    = sym (door_admits c.args.room.now.door c.args.room.now.start.value (shown_of c.args.pass.now).start (g.Q.Question.call c.args.question).secret (g.Q.Question.call c.args.question).act c.requires.ready.opens c.requires.ready.begins)
+    ∙ (sym c.is_admitted.ensures ∙ c.if-not-is_admitted.false) in
+    one_took may c.in-Ok.ensures.unspent c.in-Ok.served.place c.in-Ok.ensures.told.0 c.in-Ok.ensures.told.1
     (ap (λ o. option_map (λ (depot : DepotView g.row.S.Denot). depot.state.opening) o) c.requires.ready.begins ∙ ap Some (sym c.requires.ready.opens.opening)) c.in-Ok.ensures.size
 
 pub returns-in-Err-clause-asks : goal.returns-in-Err-clause-asks
 returns-in-Err-clause-asks g c =
-    let may : admitted (shown_of c.args.pass.now).start c.args.call.now.secret c.args.call.now.act ≡ true
-    = sym (door_admits c.args.room.now.door c.args.room.now.start.value (shown_of c.args.pass.now).start c.args.call.now.secret c.args.call.now.act c.requires.ready.opens c.requires.ready.begins)
-    ∙ (sym c.admits.ensures ∙ c.if-not-admits.false) in
-    spent may c.in-Err.ensures.err.1 c.without_turn-in-Err.ensures c.in-Err.ensures.err.0
+    let may : admitted (shown_of c.args.pass.now).start (g.Q.Question.call c.args.question).secret (g.Q.Question.call c.args.question).act ≡ true
+    = sym (door_admits c.args.room.now.door c.args.room.now.start.value (shown_of c.args.pass.now).start (g.Q.Question.call c.args.question).secret (g.Q.Question.call c.args.question).act c.requires.ready.opens c.requires.ready.begins)
+    ∙ (sym c.is_admitted.ensures ∙ c.if-not-is_admitted.false) in
+    one_spent may c.in-Err.ensures.err.1 c.without_turn-in-Err.ensures c.in-Err.ensures.err.0

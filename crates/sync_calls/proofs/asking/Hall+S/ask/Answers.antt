@@ -1,44 +1,5 @@
--- The library's room and the pass to it, by their place.
-use Rattle.std.proofs.Common.{◌<◌, [], refl, subst, arith}
-use Rattle.std.specs.Prelude.{vec_len}
-use Rattle.sync_calls.specs.Asking.AsksSo.{nowhere}
-use Rattle.sync_calls.specs.RoomPlace.{HasNoRoom, IsRoomOf}
-use Rattle.sync_calls.proofs.EnteredLemmas.{asks_again, ready_again, ready_at}
-use Rattle.sync_calls.proofs.RoomLemmas.{nowhere_at}
+-- What is answered to a question, whatever it spares.
 use Rattle.sync_calls.proofs.asking.Hall+S.ask.Goals as goal
 
-pub returns-in-None-clause-asks : goal.returns-in-None-clause-asks
-returns-in-None-clause-asks g c = (
-  [],
-  nowhere (nowhere_at g.S.Shelf.contents g.S.Shelf.may_give g.S.Shelf.texts g.S.Shelf.faults c.args.self.now c.args.pass.now c.requires.ready c.args.lib
-      (subst (λ l. HasNoRoom l c.args.lib) c.as_slice.ensures.value c.in-None.ensures.absent)) c.without_turn.ensures refl refl,
-)
-
-pub ask_at-requires : goal.ask_at-requires
-ask_at-requires g c =
-    let found = subst (λ l. IsRoomOf l c.args.lib c.in-Some.place) c.as_slice.ensures.value c.in-Some.ensures.found in
-    let size = c.args.self.now.rooms.ok.0 in
-    let below = found.within in
-    let within : c.in-Some.place < vec_len c.args.self.now.rooms = omega arith in
-    record {
-      ready = ready_at g.S.Shelf.contents g.S.Shelf.may_give g.S.Shelf.texts g.S.Shelf.faults c.args.self.now c.args.pass.now c.requires.ready c.in-Some.place c.index.result.now c.index_mut.result.now
-          within c.index.ensures c.index_mut.ensures.value;
-    }
-
-pub returns-clause-ready : goal.returns-clause-ready
-returns-clause-ready g c =
-    let found = subst (λ l. IsRoomOf l c.args.lib c.in-Some.place) c.as_slice.ensures.value c.in-Some.ensures.found in
-    let size = c.args.self.now.rooms.ok.0 in
-    let below = found.within in
-    let within : c.in-Some.place < vec_len c.args.self.now.rooms = omega arith in
-    ready_again g.S.Shelf.contents g.S.Shelf.may_give g.S.Shelf.texts g.S.Shelf.faults c.args.self.now c.args.pass.now c.requires.ready c.in-Some.place c.index.result.now c.index_mut.result.now
-    within c.index.ensures c.index_mut.ensures.value c.ask_at.new.pass c.ask_at.ensures.ready
-
 pub returns-clause-asks : goal.returns-clause-asks
-returns-clause-asks g c =
-    let found = subst (λ l. IsRoomOf l c.args.lib c.in-Some.place) c.as_slice.ensures.value c.in-Some.ensures.found in
-    let size = c.args.self.now.rooms.ok.0 in
-    let below = found.within in
-    let within : c.in-Some.place < vec_len c.args.self.now.rooms = omega arith in
-    asks_again g.S.Shelf.contents g.S.Shelf.may_give g.S.Shelf.texts g.S.Shelf.faults c.args.self.now c.args.pass.now c.requires.ready c.in-Some.place c.index.result.now c.index_mut.result.now
-    within c.index.ensures c.index_mut.ensures.value c.args.lib c.args.call.now c.args.moment c.ask_at.result c.ask_at.new.pass found c.ask_at.ensures.asks
+returns-clause-asks g c = (c.ask_by.ensures.asks.0, c.ask_by.ensures.asks.1)
