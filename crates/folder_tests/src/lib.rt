@@ -1,4 +1,4 @@
-//! Tests of scans of folders and of indexes, over their public calls alone.
+//! Tests of folders, scans of them and indexes, over their public calls alone.
 //!
 //! They stand apart, since a crate with tests is proved twice. It has no code but its tests.
 #![tactic(auto)]
@@ -6,6 +6,10 @@
 #[cfg(test)]
 mod folder_side_tests;
 #[cfg(test)]
+mod local_folder_tests;
+#[cfg(test)]
 mod local_index_tests;
 #[cfg(test)]
 mod memory_folder_tests;
+#[cfg(test)]
+mod turned_calls;

@@ -5,14 +5,18 @@ use std::alloc::{AllocError, Global};
 use tree_model::Path;
 
 /// Writes a file by way of the spare.
-fn write<F: Folder>(folder: &mut F, file: &Path, bytes: &[u8]) -> Result<(), FolderFault> {
+pub(crate) fn write<F: Folder>(
+    folder: &mut F,
+    file: &Path,
+    bytes: &[u8],
+) -> Result<(), FolderFault> {
     folder.spare_clear()?;
     folder.spare_add(bytes)?;
     folder.spare_move(file)
 }
 
 /// Whether a file has these bytes from a place on, of which four are asked for.
-fn reads<F: Folder>(folder: &mut F, file: &Path, place: u64, bytes: &[u8]) -> bool {
+pub(crate) fn reads<F: Folder>(folder: &mut F, file: &Path, place: u64, bytes: &[u8]) -> bool {
     let mut piece = [0; 4];
     match folder.read(file, place, piece.as_mut_slice()) {
         Ok(count) => &piece[..count] == bytes,

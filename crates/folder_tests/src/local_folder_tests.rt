@@ -1,0 +1,315 @@
+//! A folder of the file system: what stands in it, what its calls change, and what a link in it leads to.
+use crate::folder_side_tests::path;
+use crate::memory_folder_tests::{reads, write};
+use crate::turned_calls::{Turn, TurnedCalls};
+use folder_side::{Folder, ItemKind, Listing};
+use local_folder::{LocalFolder, Permissions, SystemDirectories};
+use std::alloc::{AllocError, Global};
+use std::test::Fail;
+use std::{env, fs, io, process};
+use tree_model::Path;
+
+/// A folder of this test's own, with the folder `work`, in which are the file `a` of the bytes `abc`, the directory `d` with
+/// `d/f` of `def`, and a link `l` that leads to `d`; beside it the folder `outside` with `f` of `spy`.
+fn scratch(rt: &HostRuntime, name: &str) -> io::Result<String> {
+    let temporary = env::temp_dir(rt)?;
+    let number = process::id(rt.process());
+    let place = format!(in rt.alloc(); "{}/folder_tests-{number}-{name}", temporary.as_str())?;
+    fs::create_dir(rt, place.as_str())?;
+    fill(rt, place.as_str())?;
+    Ok(place)
+}
+
+/// Makes what stands in it.
+fn fill(rt: &HostRuntime, place: &str) -> io::Result<()> {
+    for dir in ["outside", "work", "work/d"] {
+        fs::create_dir(rt, within(rt, place, dir)?.as_str())?;
+    }
+    for (file, text) in [("outside/f", "spy"), ("work/a", "abc"), ("work/d/f", "def")] {
+        fs::write(rt, within(rt, place, file)?.as_str(), text)?;
+    }
+    std::os::unix::fs::symlink(rt, "d", within(rt, place, "work/l")?.as_str())
+}
+
+/// The path of something in a folder.
+fn within(rt: &HostRuntime, place: &str, name: &str) -> io::Result<String> {
+    Ok(format!(in rt.alloc(); "{place}/{name}")?)
+}
+
+/// The folder `work`, opened.
+fn work(rt: &HostRuntime, place: &str) -> io::Result<LocalFolder<SystemDirectories<HostRuntime>>> {
+    let calls = SystemDirectories::new(rt.clone()?, Permissions::Usual);
+    LocalFolder::open(calls, within(rt, place, "work")?.as_str())
+}
+
+/// The kind of the item of a name, told by a letter; `-` where there is none.
+fn letter(listing: &Listing, name: &str) -> &'static str {
+    for item in listing.items.slice() {
+        if item.name.as_str() == name {
+            return match item.kind {
+                ItemKind::File => "f",
+                ItemKind::Dir => "d",
+                ItemKind::Other => "o",
+            };
+        }
+    }
+    "-"
+}
+
+/// Whether these are the three entries of the root.
+fn are_all(listing: &Listing) -> bool {
+    listing.items.len() == 3
+        && letter(listing, "a") == "f"
+        && letter(listing, "d") == "d"
+        && letter(listing, "l") == "o"
+}
+
+/// Whether the root has just these three entries.
+fn lists<F: Folder>(alloc: Global, folder: &mut F) -> Result<bool, AllocError> {
+    let root = Path::root(alloc);
+    match folder.list(alloc, &root) {
+        Ok(listing) => Ok(are_all(&listing)),
+        Err(_) => Ok(false),
+    }
+}
+
+/// What is done with a path.
+#[derive(Clone, Copy)]
+enum Step {
+    List,
+    Make,
+    Remove,
+    /// `new` is written, by way of the spare.
+    Write,
+    /// `def` is read.
+    ReadOld,
+    /// `new` is read.
+    ReadNew,
+}
+
+/// Whether it is done.
+fn goes<F: Folder>(
+    alloc: Global,
+    folder: &mut F,
+    step: Step,
+    text: &str,
+) -> Result<bool, AllocError> {
+    let path = path(alloc, text)?;
+    Ok(match step {
+        Step::List => folder.list(alloc, &path).is_ok(),
+        Step::Make => folder.make_dir(&path).is_ok(),
+        Step::Remove => folder.remove(&path).is_ok(),
+        Step::Write => write(folder, &path, b"new").is_ok(),
+        Step::ReadOld => reads(folder, &path, 0, b"def"),
+        Step::ReadNew => reads(folder, &path, 0, b"new"),
+    })
+}
+
+/// Steps one after another, and whether each is done. None is that would go through the link, or to where the spare stands.
+const STEPS: [(Step, &str, bool); 20] = [
+    (Step::ReadOld, "d/f", true),
+    (Step::ReadOld, "l/f", false),
+    (Step::List, "l", false),
+    (Step::Make, "l/e", false),
+    (Step::Remove, "l/f", false),
+    (Step::Remove, "l", false),
+    (Step::Write, "l/f", false),
+    (Step::Write, "l", false),
+    (Step::Write, "d", false),
+    (Step::Write, ".seaf-cli.spare", false),
+    (Step::Remove, "d", false),
+    (Step::Make, "e", true),
+    (Step::Make, "e", false),
+    (Step::Write, "e/n", true),
+    (Step::ReadNew, "e/n", true),
+    (Step::Remove, "e/n", true),
+    (Step::Remove, "e", true),
+    (Step::Remove, "e", false),
+    (Step::Write, "d/f", true),
+    (Step::ReadNew, "d/f", true),
+];
+
+/// The path of the first of these that goes otherwise; no text where none does.
+fn first_gone_otherwise<F: Folder>(
+    alloc: Global,
+    folder: &mut F,
+) -> Result<&'static str, AllocError> {
+    for (step, text, is_done) in STEPS {
+        if goes(alloc, folder, step, text)? != is_done {
+            return Ok(text);
+        }
+    }
+    Ok("")
+}
+
+/// The first of all this that goes otherwise; no text where none does.
+fn first_wrong<F: Folder>(alloc: Global, folder: &mut F) -> Result<&'static str, AllocError> {
+    if !lists(alloc, folder)? {
+        return Ok("listed first");
+    }
+    let text = first_gone_otherwise(alloc, folder)?;
+    if !text.is_empty() {
+        return Ok(text);
+    }
+    Ok(if lists(alloc, folder)? {
+        ""
+    } else {
+        "listed last"
+    })
+}
+
+/// That of the folder `work`.
+fn first_wrong_at(rt: &HostRuntime, place: &str) -> io::Result<&'static str> {
+    let mut folder = work(rt, place)?;
+    Ok(first_wrong(rt.alloc(), &mut folder)?)
+}
+
+#[test]
+fn a_folder_of_the_file_system_is_read_and_changed(rt: HostRuntime) -> Result<(), Fail> {
+    let place = scratch(&rt, "changed")?;
+    let wrong = first_wrong_at(&rt, place.as_str())?;
+    fs::remove_dir_all(&rt, place.as_str())?;
+    assert!(rt; wrong.is_empty(), "{wrong}");
+    Ok(())
+}
+
+/// Whether something stands in the place.
+fn is_there(rt: &HostRuntime, place: &str, name: &str) -> io::Result<bool> {
+    fs::exists(rt, within(rt, place, name)?.as_str())
+}
+
+/// Whether the folder can't be opened while it is open, and the spare is gone then.
+fn is_alone(rt: &HostRuntime, place: &str) -> io::Result<bool> {
+    let folder = work(rt, place)?;
+    let is_locked = work(rt, place).is_err();
+    let faults = folder.end();
+    Ok(is_locked && faults == 0 && !is_there(rt, place, "work/.seaf-cli.spare")?)
+}
+
+/// The same where a run that was killed left a spare, and whether the folder is opened again after it.
+fn is_opened_once(rt: &HostRuntime, place: &str) -> io::Result<bool> {
+    fs::write(
+        rt,
+        within(rt, place, "work/.seaf-cli.spare")?.as_str(),
+        "left",
+    )?;
+    Ok(is_alone(rt, place)? && work(rt, place).is_ok())
+}
+
+#[test]
+fn one_client_at_a_time_has_a_folder(rt: HostRuntime) -> Result<(), Fail> {
+    let place = scratch(&rt, "locked")?;
+    let is_right = is_opened_once(&rt, place.as_str())?;
+    fs::remove_dir_all(&rt, place.as_str())?;
+    assert!(rt; is_right);
+    Ok(())
+}
+
+/// Whether a listing of the root is an answer.
+fn lists_something<F: Folder>(alloc: Global, folder: &mut F) -> bool {
+    let root = Path::root(alloc);
+    folder.list(alloc, &root).is_ok()
+}
+
+/// Whether a folder that was removed lists something.
+fn lists_once_removed(rt: &HostRuntime, place: &str) -> io::Result<bool> {
+    let mut folder = work(rt, place)?;
+    fs::remove_dir_all(rt, within(rt, place, "work")?.as_str())?;
+    Ok(lists_something(rt.alloc(), &mut folder))
+}
+
+#[test]
+fn a_folder_that_was_removed_is_no_empty_folder(rt: HostRuntime) -> Result<(), Fail> {
+    let place = scratch(&rt, "removed")?;
+    let is_listed = lists_once_removed(&rt, place.as_str())?;
+    fs::remove_dir_all(&rt, place.as_str())?;
+    assert!(rt; !is_listed);
+    Ok(())
+}
+
+/// The folder `work` over calls of which one is turned.
+fn turned(
+    rt: &HostRuntime,
+    place: &str,
+    turn: Turn,
+    at: u64,
+) -> io::Result<LocalFolder<TurnedCalls<SystemDirectories<HostRuntime>>>> {
+    let calls = SystemDirectories::new(rt.clone()?, Permissions::Usual);
+    let calls = TurnedCalls::new(calls, rt.clone()?, rt.alloc(), place, turn, at)?;
+    LocalFolder::open(calls, within(rt, place, "work")?.as_str())
+}
+
+/// Reads a file and writes it, and tells whether what was read isn't what stands outside.
+fn reads_inside<F: Folder>(folder: &mut F, file: &Path) -> bool {
+    let is_outside = reads(folder, file, 0, b"spy");
+    let _ = write(folder, file, b"new");
+    !is_outside
+}
+
+/// The same of the file `d/f` over such calls, where the folder can be opened.
+fn reads_turned(rt: &HostRuntime, place: &str, turn: Turn, at: u64) -> io::Result<bool> {
+    let file = path(rt.alloc(), "d/f")?;
+    match turned(rt, place, turn, at) {
+        Ok(folder) => {
+            let mut folder = folder;
+            Ok(reads_inside(&mut folder, &file))
+        }
+        Err(_) => Ok(true),
+    }
+}
+
+/// Whether a file has this text.
+fn has(rt: &HostRuntime, place: &str, name: &str, wanted: &str) -> io::Result<bool> {
+    let text = fs::read_to_string(rt, within(rt, place, name)?.as_str())?;
+    Ok(text.as_str() == wanted)
+}
+
+/// Whether the file outside still has its bytes, and the one in the folder its old or its new ones, wherever its directory
+/// is now.
+fn stand_whole(rt: &HostRuntime, place: &str) -> io::Result<bool> {
+    let inside = if is_there(rt, place, "kept/f")? {
+        "kept/f"
+    } else {
+        "work/d/f"
+    };
+    Ok(
+        has(rt, place, "outside/f", "spy")?
+            && (has(rt, place, inside, "def")? || has(rt, place, inside, "new")?),
+    )
+}
+
+/// Whether neither a read nor a write goes through a link that takes the place of a directory, or a call that fails, at
+/// this number of calls.
+fn stays_inside(rt: &HostRuntime, name: &str, turn: Turn, at: u64) -> io::Result<bool> {
+    let place = scratch(rt, name)?;
+    let is_right = reads_turned(rt, place.as_str(), turn, at)? && stand_whole(rt, place.as_str())?;
+    fs::remove_dir_all(rt, place.as_str())?;
+    Ok(is_right)
+}
+
+/// More calls than reading and writing a file make.
+const CALLS: u64 = 24;
+
+/// The first call at which something goes wrong so, or `CALLS`.
+fn first_outside(rt: &HostRuntime, name: &str, turn: Turn) -> io::Result<u64> {
+    for at in 0..CALLS {
+        if !stays_inside(rt, name, turn, at)? {
+            return Ok(at);
+        }
+    }
+    Ok(CALLS)
+}
+
+#[test]
+fn a_link_that_is_put_there_meanwhile_is_not_followed(rt: HostRuntime) -> Result<(), Fail> {
+    let at = first_outside(&rt, "link", Turn::Link)?;
+    assert!(rt; at == CALLS, "{at}");
+    Ok(())
+}
+
+#[test]
+fn a_call_that_fails_leaves_the_old_or_the_new(rt: HostRuntime) -> Result<(), Fail> {
+    let at = first_outside(&rt, "fault", Turn::Fault)?;
+    assert!(rt; at == CALLS, "{at}");
+    Ok(())
+}
