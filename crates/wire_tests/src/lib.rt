@@ -12,3 +12,5 @@ mod link_tests;
 mod order_tests;
 #[cfg(test)]
 mod reply_tests;
+#[cfg(test)]
+mod tcp_link_tests;
