@@ -51,6 +51,7 @@ use Rattle.sync_daemon.proofs.HeadTreeLemmas.{alone_alike, is_tree_of, tree_for}
 use Rattle.sync_daemon.proofs.JoinLemmas.{asked_then}
 use Rattle.sync_daemon.proofs.NewIndexLemmas.{index_names, index_stands, knows_root, knows_sizes}
 use Rattle.sync_daemon.proofs.ReadingLemmas.{names}
+use Rattle.sync_daemon.proofs.SkippedLemmas.{all_skipped}
 use Rattle.sync_daemon.proofs.WrittenLemmas.{AreIn, all_planned}
 
 module _ (asker : Asker) (user : List ℕ) (shows : ℕ → Type 0) (cuts : Cuts) (told : Option Contents) (index : Index) (before : List Sent) (settled : Settled) (commit : Commit)
@@ -216,6 +217,9 @@ module _ (asker : Asker) (user : List ℕ) (shows : ℕ → Type 0) (cuts : Cuts
       ends_named,
     );
     leaves = (refl, refl, inr knows_head);
+    skipped = λ c d first later path is.
+        all_skipped tree.objects cuts c settled.scan plan (planned.looks cuts c (got.reading.seen c first).scanned (got.reading.seen c first).within) writes made told now first changes.out.others d
+        later path is;
     over = λ c is.
         let was : GoingOver this c before = got.reading.going.over c is in (
           (holds_now c is).0,

@@ -1,6 +1,6 @@
 -- What the checks of a round leave, gone well or failed. The key lemmas are checks_go, checks_fail, fails_so and scan_fails.
 use Rattle.std.proofs.Common.{◌≡◌, ◌≤◌, ◌⊎◌, ℕ, Bool, true, false, not, ◌||◌, All, List, [], ◌∷◌, ◌++◌, Option, None, Some, Ok, Err, refl, sym, ap, subst, ◌∙◌, append_assoc, inl, inr, true≢false}
-use Rattle.std.proofs.lemmas.List.Elements.{All-nil, Contains-push, Contains-append_left}
+use Rattle.std.proofs.lemmas.List.Elements.{All-cons, All-nil, Contains-push, Contains-append_left}
 use Rattle.ids.specs.declared.key.Key.{Key}
 use Rattle.block_chunker.specs.declared.cuts.Cuts.{Cuts}
 use Rattle.folder_side.specs.Folder.{Contents}
@@ -25,6 +25,7 @@ use Rattle.sync_rules.specs.declared.fault.SyncFault.{SyncFault}
 use Rattle.sync_rules.specs.declared.fault.SyncFault.TheVariants as fault
 use Rattle.tree_fetch.specs.Asking.{FailsSo, order_of}
 use Rattle.tree_fetch.specs.declared.asker.Asker.{Asker}
+use Rattle.sync_daemon.specs.RoundOrder.{IsCheck, is_head}
 use Rattle.sync_daemon.specs.Asking.{ChecksSo, IsOther, is_denied}
 use Rattle.sync_daemon.specs.Going.{Going, Refuses, Spares, Stops, Sync}
 use Rattle.sync_daemon.specs.Rounds.{IsChecked, IsFresh, sync_of}
@@ -43,6 +44,7 @@ pub record IsPlainOrder (first : List Sent) (stage : Stage) (asked : What) : Typ
   pub needed : All (IsNeeded first) (asked_by asked)
   pub small : All (λ (key : Key). is_block key.kind ≡ false) (asked_by asked)
   pub short : (why : Refusal) → is_too_long asked why ≡ false
+  pub once : is_head asked ≡ true → asked_head first None ≡ None
 
 pub plain_check : (first : List Sent) (stage : Stage) → may_send stage (what.Check op.Upload) ≡ true → IsPlainOrder first stage (what.Check op.Upload)
 plain_check first stage may = record {
@@ -54,6 +56,7 @@ plain_check first stage may = record {
   needed = All-nil (IsNeeded first);
   small = All-nil (λ (key : Key). is_block key.kind ≡ false);
   short = λ why. refl;
+  once = λ is. absurd (true≢false (sym is));
 }
 
 pub plain_download : (first : List Sent) (stage : Stage) → may_send stage (what.Check op.Download) ≡ true → IsPlainOrder first stage (what.Check op.Download)
@@ -66,10 +69,11 @@ plain_download first stage may = record {
   needed = All-nil (IsNeeded first);
   small = All-nil (λ (key : Key). is_block key.kind ≡ false);
   short = λ why. refl;
+  once = λ is. absurd (true≢false (sym is));
 }
 
-pub plain_head : (first : List Sent) (stage : Stage) → may_send stage (what.Head None) ≡ true → IsPlainOrder first stage (what.Head None)
-plain_head first stage may = record {
+pub plain_head : (first : List Sent) (stage : Stage) → may_send stage (what.Head None) ≡ true → asked_head first None ≡ None → IsPlainOrder first stage (what.Head None)
+plain_head first stage may unasked = record {
   of_sync = refl;
   few = tt;
   none = refl;
@@ -78,6 +82,7 @@ plain_head first stage may = record {
   needed = All-nil (IsNeeded first);
   small = All-nil (λ (key : Key). is_block key.kind ≡ false);
   short = λ why. refl;
+  once = λ is. unasked;
 }
 
 module _ (asker : Asker) (user : List ℕ) (shows : ℕ → Type 0) (cuts : Cuts) (told : Option Contents) (index : Index) where
@@ -91,6 +96,7 @@ module _ (asker : Asker) (user : List ℕ) (shows : ℕ → Type 0) (cuts : Cuts
     needed = plain.needed;
     timely = timely;
     small = plain.small;
+    once = plain.once;
   }
 
 -- ---- an order that fails
@@ -217,35 +223,39 @@ module _ (asker : Asker) (user : List ℕ) (shows : ℕ → Type 0) (cuts : Cuts
   pub checks_go : (old new : List Sent) (may : Bool) → old ≡ start ++ first → Spares this first → ChecksSo asker old new (Ok may)
       → (more : List Sent) × (new ≡ start ++ more) × IsChecked this more late may
   checks_go old new true begun spares (tag, grown) =
-      let sent : Sent = check (Ok (Plain reply.Checked tag)) in (
+      let sent : Sent = check (Ok (Plain reply.Checked tag)) in
+      let going_on : Going this (first ++ sent ∷ []) Uploads late = allowed_goes tag in (
         first ++ sent ∷ [],
         grown ∙ ap (λ (sends : List Sent). sends ++ sent ∷ []) begun ∙ append_assoc start first (sent ∷ []),
         record {
           stage = Uploads;
-          going = allowed_goes tag;
+          going = going_on;
           few = few;
           may_upload = refl;
           fresh = fresh_of (first ++ sent ∷ []) [] (round_then [] first (sent ∷ [])) refl refl refl;
           unasked = asked_then None first (sent ∷ []);
           spares = spares_more this first sent spares refl;
+          behind = (inl going_on.reached, subst (All IsCheck) (sym (round_then [] first (sent ∷ []))) (All-nil IsCheck));
         },
       )
   checks_go old new false begun spares (mid, (outcome, denied, is), (tag, grown)) =
       let sent : Sent = check (Ok outcome) in
       let later : Sent = download (Ok (Plain reply.Checked tag)) in
       let before : List Sent = first ++ sent ∷ [] in
-      let to_mid : mid ≡ start ++ before = denied ∙ ap (λ (sends : List Sent). sends ++ sent ∷ []) begun ∙ append_assoc start first (sent ∷ []) in (
+      let to_mid : mid ≡ start ++ before = denied ∙ ap (λ (sends : List Sent). sends ++ sent ∷ []) begun ∙ append_assoc start first (sent ∷ []) in
+      let of_round : last_round (before ++ later ∷ []) [] ≡ later ∷ [] = round_then [] before (later ∷ []) ∙ ap (last_round (later ∷ [])) (round_then [] first (sent ∷ [])) in
+      let going_on : Going this (before ++ later ∷ []) Reads late = reads_goes outcome is tag in (
         before ++ later ∷ [],
         grown ∙ ap (λ (sends : List Sent). sends ++ later ∷ []) to_mid ∙ append_assoc start before (later ∷ []),
         record {
           stage = Reads;
-          going = reads_goes outcome is tag;
+          going = going_on;
           few = few;
           may_upload = (refl, (sent.0, sent.1, Contains-append_left before (later ∷ []) sent (Contains-push first sent), refl, is));
-          fresh = fresh_of (before ++ later ∷ []) (later ∷ [])
-              (round_then [] before (later ∷ []) ∙ ap (last_round (later ∷ [])) (round_then [] first (sent ∷ []))) refl refl refl;
+          fresh = fresh_of (before ++ later ∷ []) (later ∷ []) of_round refl refl refl;
           unasked = asked_then None before (later ∷ []) ∙ ap (asked_head (later ∷ [])) (asked_then None first (sent ∷ []));
           spares = spares_more this before later (spares_more this first sent spares refl) refl;
+          behind = (inr going_on.reached, subst (All IsCheck) (sym of_round) (All-cons IsCheck later [] refl (All-nil IsCheck)));
         },
       )
 

@@ -1,17 +1,17 @@
 -- A whole sync, from where its rounds left it. The key lemmas are finish_all, refused_as, finished_as and synced_as.
-use Rattle.std.proofs.Common.{◌≡◌, ℕ, false, List, ◌++◌, map, Option, Some, Result, Ok, Err, refl, sym, ap, subst, ◌∙◌, append_assoc, inl, inr}
+use Rattle.std.proofs.Common.{◌≡◌, ℕ, true, false, List, ◌++◌, map, Option, None, Some, is_some, Result, Ok, Err, refl, sym, ap, subst, ◌∙◌, append_assoc, inl, inr, true≢false}
+use Rattle.std.specs.FinMap as fin
 use Rattle.std.specs.List.{IsDistinct}
 use Rattle.std.specs.Ordering.{eq_by_cmp}
-use Rattle.ids.specs.Key.{Objects}
 use Rattle.tree_model.specs.Path.{path_cmp}
 use Rattle.block_chunker.specs.declared.cuts.Cuts.{Cuts}
 use Rattle.commit_objects.specs.declared.commit.Commit.{Commit}
 use Rattle.folder_side.specs.Folder.{Contents}
 use Rattle.local_index.specs.declared.index.Index.{Index}
-use Rattle.object_graph.specs.Unchanged.{Keeps}
+use Rattle.local_index.specs.declared.index.Known.{Known}
 use Rattle.remote_calls.specs.Sends.{Sent}
 use Rattle.sync_rules.specs.Checkout.{Step, run}
-use Rattle.sync_rules.specs.Offer.{IsUsual}
+use Rattle.sync_rules.specs.OneSync.{IsSpared, LeavesIndex, SyncsSo}
 use Rattle.sync_rules.specs.declared.fault.SyncFault.{SyncFault}
 use Rattle.sync_rules.specs.declared.fault.SyncFault.TheVariants as fault
 use Rattle.sync_rules.specs.declared.synced.Synced.{Synced}
@@ -23,10 +23,10 @@ use Rattle.tree_checkout.proofs.AskLemmas.{planned_looks, planned_paths}
 use Rattle.tree_fetch.specs.declared.asker.Asker.{Asker}
 use Rattle.tree_fetch.specs.declared.tree.FetchedTree.{FetchedTree}
 use Rattle.sync_daemon.specs.Bringing.{AreMade, BringsSo, ChangesNot, FinishesAs, IsDone, IsPlanned, StopsChange, index_of, is_pushed, synced_of}
-use Rattle.sync_daemon.specs.Finishing.{Finishes, FinishesSo}
+use Rattle.sync_daemon.specs.Finishing.{Finishes, FinishesSo, SyncsIndex}
 use Rattle.sync_daemon.specs.Going.{Stops, Sync}
 use Rattle.sync_daemon.specs.Rounds.{IsSettled, RoundsSo, sync_of}
-use Rattle.sync_daemon.specs.Syncing.{SyncedAs}
+use Rattle.sync_daemon.specs.Syncing.{SyncedAs, counted, counted_entries}
 use Rattle.sync_daemon.specs.declared.bringing.Done.{Done}
 use Rattle.sync_daemon.specs.declared.round.Settled.{Settled}
 use Rattle.sync_daemon.proofs.BroughtLemmas.{brought_finishes}
@@ -34,11 +34,9 @@ use Rattle.sync_daemon.proofs.FinishLemmas.{refused_finishes, spared_finishes}
 use Rattle.sync_daemon.proofs.GotTreeLemmas.{HasCommit, HasTree, commit_got, commit_halts, tree_got, tree_halts}
 use Rattle.sync_daemon.proofs.ReadingLemmas.{reading_begins}
 use Rattle.sync_daemon.proofs.CheckoutFaultLemmas.{stops_all}
+use Rattle.sync_daemon.proofs.SkippedLemmas.{keeps_itself}
 use Rattle.sync_daemon.proofs.StoppedLemmas.{none_halts, plan_halts, stopped_finishes}
 use Rattle.sync_daemon.proofs.WrittenLemmas.{made_for}
-
-keeps_itself : (objects : Objects) → Keeps objects objects
-keeps_itself objects = record { kept = λ key bytes is. is }
 
 module _ (asker : Asker) (user : List ℕ) (shows : ℕ → Type 0) (cuts : Cuts) (told : Option Contents) (index : Index) (start : List Sent) (settled : Settled) where
   abbrev this : Sync
@@ -134,21 +132,6 @@ module _ (asker : Asker) (user : List ℕ) (shows : ℕ → Type 0) (cuts : Cuts
       let got = commit_got asker user shows cuts told index start first settled (reading_begins this first settled is) old mid commit begun fetched in
       subst (λ (x : Index). FinishesSo this now x start new (Err f)) (sym kept) (bring_stopped got.0 commit got.2 mid new now f got.1 brings)
 
--- what is promised of a sync
-pub synced_as : (secret user : List ℕ) (shows : ℕ → Type 0) (cuts : Cuts) → IsUsual cuts → (told now : Option Contents) (index later : Index) (start new : List Sent)
-    (result : Result Synced SyncFault) → FinishesSo (sync_of (record { lib = index.lib; secret = secret }) user shows cuts told index) now later start new result
-    → SyncedAs secret user shows told now index later start new result
-synced_as secret user shows cuts usual told now index later start new result (more, grown, is) = record {
-  cuts = cuts;
-  usual = usual;
-  more = more;
-  grown = grown;
-  orders = is.orders;
-  ends = is.ends;
-  leaves = is.leaves;
-  over = is.over;
-}
-
 -- a sync that its rounds refused
 pub refused_as : (asker : Asker) (user : List ℕ) (shows : ℕ → Type 0) (cuts : Cuts) (told now : Option Contents) (index : Index) (start new : List Sent) (f : SyncFault) → now ≡ told
     → Stops (sync_of asker user shows cuts told index) start new f → FinishesSo (sync_of asker user shows cuts told index) now index start new (Err f)
@@ -166,3 +149,77 @@ pub finished_as : (asker : Asker) (user : List ℕ) (shows : ℕ → Type 0) (cu
 finished_as asker user shows cuts told mid now index later start old new settled result same (more, grown, is) brings =
     finish_all asker user shows cuts told index start settled more old new now later result is grown
     (subst (λ (held : Option Contents). FinishesAs asker cuts settled old new held now index later result) same brings)
+
+-- ---- an index without a base
+
+-- where there is a base each entry counts
+counted_all : (base : Option (List ℕ)) (entries : fin.FinMap path_cmp Known) → is_some base ≡ true → counted_entries base entries ≡ entries
+counted_all None entries is = absurd (true≢false (sym is))
+counted_all (Some id) entries is = refl
+
+abbrev with_entries : Index → fin.FinMap path_cmp Known → Index
+with_entries i entries = record { lib = i.lib; base = i.base; entries = entries }
+
+pub counted_based : (i : Index) → is_some i.base ≡ true → counted i ≡ i
+counted_based i is = ap (with_entries i) (counted_all i.base i.entries is)
+
+-- and where there is none, none does
+abbrev with_base : Index → Option (List ℕ) → Index
+with_base i base = record { lib = i.lib; base = base; entries = counted_entries base i.entries }
+
+pub counted_fresh : (i : Index) → is_some i.base ≡ false → counted i ≡ record { lib = i.lib; base = None; entries = fin.empty }
+counted_fresh i is = ap (with_base i) (none i.base is)
+  where
+    none : (base : Option (List ℕ)) → is_some base ≡ false → base ≡ None
+    none None none_is = refl
+    none (Some id) none_is = absurd (true≢false none_is)
+
+spared_all : (i j : Index) (more : List Sent) (s : Synced) → IsSpared (counted i) j more s → IsSpared i j more s
+spared_all i j more s is = record {
+  pushed = is.pushed;
+  head = is.head;
+  none = is.none;
+  conflict = is.conflict;
+  same = λ path. is.same path ∙ ap (λ (entries : fin.FinMap path_cmp Known). fin.get entries path) (counted_all i.base i.entries (ap is_some is.head));
+}
+
+-- what is left for an index, where this was left for what counts of it
+abbrev pub IsLeftFor : (i later j : Index) → Result Synced SyncFault → Type 0
+IsLeftFor i later j (Ok s) = j ≡ later
+IsLeftFor i later j (Err f) = j ≡ i
+
+-- what is promised of a sync
+pub synced_as : (secret user : List ℕ) (shows : ℕ → Type 0) (told now : Option Contents) (i other later j : Index) (start new : List Sent) (result : Result Synced SyncFault) → counted i ≡ other
+    → IsLeftFor i later j result → SyncsIndex secret user shows told now other later start new result → SyncedAs secret user shows told now i j start new result
+synced_as secret user shows told now i other later j start new result counts left syncs =
+    by (subst (λ (x : Index). SyncsIndex secret user shows told now x later start new result) (sym counts) syncs)
+  where
+    leaves_all : (more : List Sent) (r : Result Synced SyncFault) → IsLeftFor i later j r → LeavesIndex (counted i) later more r → LeavesIndex i j more r
+    leaves_all more (Err f) same leaves = same
+    leaves_all more (Ok s) same (base, lib, inl spared) =
+        subst (λ (x : Index). LeavesIndex i x more (Ok s)) (sym same) (base, lib, inl (spared_all i later more s spared))
+    leaves_all more (Ok s) same (base, lib, inr knows) = subst (λ (x : Index). LeavesIndex i x more (Ok s)) (sym same) (base, lib, inr knows)
+
+    over_all : (cuts : Cuts) (c : Contents) (more : List Sent) (r : Result Synced SyncFault) → IsLeftFor i later j r → SyncsSo cuts c now (counted i) later user more shows r
+        → SyncsSo cuts c now (counted i) j user more shows r
+    over_all cuts c more (Err f) same over = over
+    over_all cuts c more (Ok s) same over = subst (λ (x : Index). SyncsSo cuts c now (counted i) x user more shows (Ok s)) (sym same) over
+
+    by : SyncsIndex secret user shows told now (counted i) later start new result → SyncedAs secret user shows told now i j start new result
+    by (cuts, usual, (more, grown, is)) = record {
+      cuts = cuts;
+      usual = usual;
+      more = more;
+      grown = grown;
+      orders = is.orders;
+      ends = is.ends;
+      leaves = leaves_all more result left is.leaves;
+      skipped = is.skipped;
+      over = λ c told_so. over_all cuts c more result left (is.over c told_so);
+    }
+
+-- the index of a sync, of which each entry counts
+pub left_based : (secret user : List ℕ) (shows : ℕ → Type 0) (told now : Option Contents) (i later : Index) (start new : List Sent) (result : Result Synced SyncFault)
+    → SyncsIndex secret user shows told now i later start new result → IsLeftFor i later later result
+left_based secret user shows told now i later start new (Ok s) syncs = refl
+left_based secret user shows told now i later start new (Err f) (cuts, usual, (more, grown, is)) = is.leaves

@@ -24,6 +24,7 @@ use Rattle.sync_daemon.specs.Finishing.{Finishes, spared_of}
 use Rattle.sync_daemon.specs.Going.{CausedUntouched, Going, GoingOver, Refuses, RefusesOver, Sync}
 use Rattle.sync_daemon.specs.Rounds.{EndsLate, IsSettled}
 use Rattle.sync_daemon.specs.declared.round.Settled.{Settled}
+use Rattle.sync_daemon.proofs.SkippedLemmas.{same_skipped}
 
 -- ---- refused before the folder is touched
 
@@ -39,6 +40,7 @@ refused_finishes s more f is = record {
   orders = is.orders;
   ends = is.ends;
   leaves = refl;
+  skipped = same_skipped s.told;
   over = λ c told.
       let over : RefusesOver s c more f = is.over c told in (
         c,
@@ -122,6 +124,7 @@ module _ (s : Sync) (more : List Sent) (settled : Settled) (is_settled : IsSettl
       is_settled.named ∙ ap (λ (o : Option (List ℕ)). Some (settled.head, o)) unpushed,
     );
     leaves = (based, refl, inl (record { pushed = refl; head = based; none = asks_none; conflict = refl; same = λ path. refl }));
+    skipped = same_skipped s.told;
     over = λ c told.
         let over : GoingOver s c more = is_settled.going.over c told in (
           c,

@@ -12,16 +12,17 @@ use Rattle.http_front.specs.declared.order.What.TheVariants as what
 use Rattle.http_front.specs.declared.outcome.Outcome.TheVariants.{Plain}
 use Rattle.library_state.specs.declared.reply.Reply.TheVariants as reply
 use Rattle.remote_calls.specs.Sends.{Ending, Sent}
-use Rattle.sync_rules.specs.Causes.{CausedBy, FindsSome, GoesWell, HasPath, IsSoHere, WentWell, is_of_order, stale_count}
+use Rattle.sync_rules.specs.Causes.{CausedBy, FindsSome, GoesWell, HasPath, WentWell, is_of_order, stale_count}
 use Rattle.sync_rules.specs.Named.{Head, IsHad, asked_after, asked_by, asked_head, head_after, is_block, is_get, is_upload, keys_asked, last_head, last_round, round_after}
 use Rattle.sync_rules.specs.Offer.{Agrees}
 use Rattle.sync_rules.specs.OneSync.{ComesInOrder, EndsWhereSome, GoesInOrder, PushesFirst}
-use Rattle.sync_rules.specs.Orders.{GetsNeeded, GoesInRounds, IsSyncOrder, MadeSo, OrdersSo, PutsLacked, Stage, may_send, stage_after}
+use Rattle.sync_rules.specs.Orders.{GetsNeeded, GoesInRounds, IsSyncOrder, MadeSo, PutsLacked, Stage, may_send, stage_after}
 use Rattle.sync_rules.specs.Orders.Stage.{Begins}
 use Rattle.sync_rules.specs.Uploads.{OffersEach, UploadsOnEmpty, UploadsSo}
 use Rattle.sync_rules.specs.declared.fault.SyncFault.{SyncFault}
 use Rattle.sync_rules.proofs.WentLemmas.{went_then}
-use Rattle.sync_daemon.specs.Going.{CausedUntouched, Going, GoingOver, Refuses, Sync, stage_from}
+use Rattle.sync_daemon.specs.RoundOrder.{AsksSo, HeadsOnce, IsSoInRound, is_head, stage_from}
+use Rattle.sync_daemon.specs.Going.{CausedUntouched, Going, GoingOver, Refuses, Sync}
 use Rattle.sync_daemon.proofs.GoingLemmas.{gets_last, had_then, lacks_quiet, last_then, last_with, late_then, offers_quiet, puts_quiet, stands_quiet}
 use Rattle.sync_daemon.proofs.JoinLemmas.{empty_then, head_then, last_what, offers_then, orders_then, pushes_then, some_then, stage_then}
 
@@ -92,6 +93,22 @@ rounds_gets stage (sent ∷ more) may gets =
       subst (λ (at : Stage). GoesInRounds at more) (sym (stage_kept sent.0.what sent.1 stage get)) (rounds_gets stage more may (All-tail IsGetting sent more gets)),
     )
 
+no_head : (asked : What) → is_get asked ≡ true → is_head asked ≡ false
+no_head (what.Get key) get = refl
+no_head (what.GetFs ids) get = refl
+no_head _ get = absurd (true≢false (sym get))
+
+heads_gets : (base asked : Option (List ℕ)) (more : List Sent) → All IsGetting more → HeadsOnce base asked more
+heads_gets base asked [] gets = tt
+heads_gets base asked (sent ∷ more) gets =
+    let get : IsGetting sent = All-head IsGetting sent more gets in (
+      record {
+        once = λ is. absurd (true≢false (sym is ∙ no_head sent.0.what get));
+        unneeded = λ up based. absurd (true≢false (sym up ∙ no_upload sent.0.what get));
+      },
+      heads_gets base (asked_after sent.0.what sent.1 asked) more (All-tail IsGetting sent more gets),
+    )
+
 pub stage_gets : (stage : Stage) (more : List Sent) → All IsGetting more → stage_from stage more ≡ stage
 stage_gets stage [] gets = refl
 stage_gets stage (sent ∷ more) gets =
@@ -141,13 +158,14 @@ pub record GetsOver (s : Sync) (first : List Sent) (c : Contents) : Type 0 where
 
 module _ (s : Sync) (first more : List Sent) (stage : Stage) (late : ℕ) (going : Going s first stage late) (gets : All IsGetting more)
     (may : (asked : What) → is_get asked ≡ true → may_send stage asked ≡ true) (asks : All (IsSyncOrder s.lib s.secret) more) (needed : GetsNeeded first more) where
-  pub orders_gets : OrdersSo s.lib s.secret s.user s.shows s.index.base (first ++ more)
+  pub orders_gets : AsksSo s.lib s.secret s.user s.shows s.index.base (first ++ more)
   orders_gets = orders_then s.lib s.secret s.user s.shows s.index.base first more going.orders (record {
     asks = asks;
     made = made_gets s.lib s.user s.shows s.index.base (asked_head first None) (last_what what.Version first) more gets;
     puts = lacks_gets (last_round first []) more gets;
     rounds = subst (λ (at : Stage). GoesInRounds at more) (sym going.reached) (rounds_gets stage more may gets);
     gets = needed;
+    heads = heads_gets s.index.base (asked_head first None) more gets;
   })
 
   not_uploads : (sends : List Sent) → All IsGetting sends → All (λ (sent : Sent). is_upload sent.0.what ≡ false) sends
@@ -224,7 +242,7 @@ module _ (s : Sync) (first more : List Sent) (stage : Stage) (late : ℕ) (going
 
   -- one of them ended the sync, or something was found that did, before a step of a plan was begun
   pub fails_gets : (f : SyncFault) → late ≤ 2 → GoesWell more → (is_of_order f ≡ false → All WentWell more) → (stale_count more ≡ 0)
-      → CausedBy (IsSoHere s.cuts s.told s.index (first ++ more)) (first ++ more) f → ((c : Contents) → s.told ≡ Some c → GetsOver s first c)
+      → CausedBy (IsSoInRound s.cuts s.told s.index (first ++ more)) (first ++ more) f → ((c : Contents) → s.told ≡ Some c → GetsOver s first c)
       → ((c : Contents) → s.told ≡ Some c → ComesInOrder c s.index (first ++ more) f × CausedUntouched s c (first ++ more) f) → Refuses s (first ++ more) f
   fails_gets f few goes own timely cause over comes = record {
     orders = orders_gets;

@@ -13,15 +13,16 @@ use Rattle.http_front.specs.declared.outcome.Outcome.TheVariants.{Plain, Refused
 use Rattle.library_state.specs.declared.refusal.Refusal.{Refusal}
 use Rattle.library_state.specs.declared.reply.Reply.TheVariants as reply
 use Rattle.remote_calls.specs.Sends.{Ending, Sent}
-use Rattle.sync_rules.specs.Causes.{CausedBy, FindsSome, HasPath, IsRefusedBy, IsSoHere, WentWell, ends_sync, goes_on, is_late, is_of_order, is_stale, is_too_long, stale_count}
+use Rattle.sync_rules.specs.Causes.{CausedBy, FindsSome, HasPath, IsRefusedBy, WentWell, ends_sync, goes_on, is_late, is_of_order, is_stale, is_too_long, stale_count}
 use Rattle.sync_rules.specs.Named.{IsHad, IsHadFor, Named, asked_by, gets_tree, is_block, is_check, is_get, is_upload, keys_asked, asked_head, last_head, last_round, names_in}
 use Rattle.sync_rules.specs.Offer.{Agrees}
 use Rattle.sync_rules.specs.OneSync.{ComesInOrder, GoesInOrder, HasNotBegun, NeedsNoTree}
-use Rattle.sync_rules.specs.Orders.{IsLacked, IsNeeded, IsSyncOrder, OrdersSo, PutsAt, PutsSo, Stage, StandsAtPut, may_send, stage_after}
+use Rattle.sync_rules.specs.Orders.{IsLacked, IsNeeded, IsSyncOrder, PutsAt, PutsSo, Stage, StandsAtPut, may_send, stage_after}
 use Rattle.sync_rules.specs.Orders.Stage.{Begins}
 use Rattle.sync_rules.specs.Uploads.{OffersAt, UploadsSo}
 use Rattle.sync_rules.specs.declared.fault.SyncFault.{SyncFault}
 use Rattle.sync_rules.proofs.WentLemmas.{goes_well, went_then}
+use Rattle.sync_daemon.specs.RoundOrder.{AsksSo, IsSoInRound, is_head}
 use Rattle.sync_daemon.specs.Going.{CausedUntouched, Going, GoingOver, Refuses, Spares, Sync}
 use Rattle.sync_daemon.proofs.JoinLemmas.{empty_then, last_what, offers_then, orders_then, pushes_then, some_then, stage_then}
 
@@ -109,7 +110,7 @@ had_then first later had others is more =
 
 pub going_begins : (s : Sync) → Going s [] Begins 0
 going_begins s = record {
-  orders = record { asks = All-nil (IsSyncOrder s.lib s.secret); made = tt; puts = tt; rounds = tt; gets = tt };
+  orders = record { orders = record { asks = All-nil (IsSyncOrder s.lib s.secret); made = tt; puts = tt; rounds = tt; gets = tt }; heads = tt };
   went = All-nil WentWell;
   reached = refl;
   lates = refl;
@@ -133,6 +134,7 @@ pub record IsQuiet (s : Sync) (first : List Sent) (stage : Stage) (sent : Sent) 
   pub needed : All (IsNeeded first) (asked_by sent.0.what)
   pub timely : is_stale sent.1 ≡ false
   pub small : All (λ (key : Key). is_block key.kind ≡ false) (asked_by sent.0.what)
+  pub once : is_head sent.0.what ≡ true → asked_head first None ≡ None
 
 -- nothing but checks is sent of a folder that wasn't scanned
 abbrev pub IsScanned : Contents → Sent → Type 0
@@ -141,7 +143,7 @@ IsScanned c sent = (is_check sent.0.what ≡ true) ⊎ IsWithinLimits c
 -- ---- both ways on
 
 module _ (s : Sync) (first : List Sent) (stage : Stage) (late : ℕ) (sent : Sent) (going : Going s first stage late) (quiet : IsQuiet s first stage sent) where
-  orders_one : OrdersSo s.lib s.secret s.user s.shows s.index.base (first ++ sent ∷ [])
+  orders_one : AsksSo s.lib s.secret s.user s.shows s.index.base (first ++ sent ∷ [])
   orders_one = orders_then s.lib s.secret s.user s.shows s.index.base first (sent ∷ []) going.orders (record {
     asks = all_one (IsSyncOrder s.lib s.secret) sent quiet.asks;
     made = (
@@ -152,6 +154,7 @@ module _ (s : Sync) (first : List Sent) (stage : Stage) (late : ℕ) (sent : Sen
     puts = (lacks_quiet (last_round first []) sent.0.what quiet.none, tt);
     rounds = (subst (λ (at : Stage). may_send at sent.0.what ≡ true) (sym going.reached) quiet.may, tt);
     gets = (quiet.needed, tt);
+    heads = (record { once = quiet.once; unneeded = λ up. absurd (true≢false (sym up ∙ quiet.none)) }, tt);
   })
 
   late_one : stale_count (first ++ sent ∷ []) ≡ late
@@ -215,7 +218,7 @@ module _ (s : Sync) (first : List Sent) (stage : Stage) (late : ℕ) (sent : Sen
   }
 
   -- it ends the sync
-  pub fails_one : (f : SyncFault) → late ≤ 2 → is_of_order f ≡ true → is_late f ≡ false → NeedsNoTree f → CausedBy (IsSoHere s.cuts s.told s.index (first ++ sent ∷ [])) (first ++ sent ∷ []) f
+  pub fails_one : (f : SyncFault) → late ≤ 2 → is_of_order f ≡ true → is_late f ≡ false → NeedsNoTree f → CausedBy (IsSoInRound s.cuts s.told s.index (first ++ sent ∷ [])) (first ++ sent ∷ []) f
       → (All (λ (key : Key). is_block key.kind ≡ false) (keys_asked (first ++ sent ∷ [])) → HasNotBegun (first ++ sent ∷ []) f)
       → ((c : Contents) → s.told ≡ Some c → IsScanned c sent × ComesInOrder c s.index (first ++ sent ∷ []) f) → Refuses s (first ++ sent ∷ []) f
   fails_one f few of_order not_late no_tree cause unbegun over = record {
@@ -237,7 +240,7 @@ module _ (s : Sync) (first : List Sent) (stage : Stage) (late : ℕ) (sent : Sen
   }
 
   -- it went well, and tells what ends the sync
-  pub ends_one : (f : SyncFault) → late ≤ 2 → WentWell sent → NeedsNoTree f → CausedBy (IsSoHere s.cuts s.told s.index (first ++ sent ∷ [])) (first ++ sent ∷ []) f
+  pub ends_one : (f : SyncFault) → late ≤ 2 → WentWell sent → NeedsNoTree f → CausedBy (IsSoInRound s.cuts s.told s.index (first ++ sent ∷ [])) (first ++ sent ∷ []) f
       → (All (λ (key : Key). is_block key.kind ≡ false) (keys_asked (first ++ sent ∷ [])) → HasNotBegun (first ++ sent ∷ []) f)
       → ((c : Contents) → s.told ≡ Some c → IsScanned c sent × ComesInOrder c s.index (first ++ sent ∷ []) f) → Refuses s (first ++ sent ∷ []) f
   ends_one f few went no_tree cause unbegun over = record {
@@ -261,7 +264,7 @@ module _ (s : Sync) (first : List Sent) (stage : Stage) (late : ℕ) (sent : Sen
 -- ---- no order
 
 module _ (s : Sync) (more : List Sent) (stage : Stage) (late : ℕ) (going : Going s more stage late) where
-  pub fails_here : (f : SyncFault) → late ≤ 2 → CausedBy (IsSoHere s.cuts s.told s.index more) more f
+  pub fails_here : (f : SyncFault) → late ≤ 2 → CausedBy (IsSoInRound s.cuts s.told s.index more) more f
       → ((c : Contents) → s.told ≡ Some c → ComesInOrder c s.index more f × CausedUntouched s c more f) → Refuses s more f
   fails_here f few cause over = record {
     orders = going.orders;

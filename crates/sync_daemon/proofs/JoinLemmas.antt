@@ -9,11 +9,11 @@ use Rattle.http_front.specs.declared.order.What.{What}
 use Rattle.remote_calls.specs.Sends.{Sent}
 use Rattle.sync_rules.specs.Named.{Head, asked_after, asked_head, head_after, last_head, last_round, round_after}
 use Rattle.sync_rules.specs.OneSync.{EndsWhereSome, PushesFirst}
-use Rattle.sync_rules.specs.Orders.{GetsNeeded, GoesInRounds, IsSyncOrder, MadeSo, OrdersSo, PutsLacked, Stage, stage_after}
+use Rattle.sync_rules.specs.Orders.{GetsNeeded, GoesInRounds, IsSyncOrder, MadeSo, PutsLacked, Stage, stage_after}
 use Rattle.sync_rules.specs.Orders.Stage.{Begins}
 use Rattle.sync_rules.specs.Uploads.{OffersEach, UploadsOnEmpty}
 use Rattle.http_front.specs.declared.order.What.TheVariants as what
-use Rattle.sync_daemon.specs.Going.{stage_from}
+use Rattle.sync_daemon.specs.RoundOrder.{AsksSo, HeadsOnce, stage_from}
 
 -- ---- states
 
@@ -53,6 +53,10 @@ rounds_then : (stage : Stage) (first later : List Sent) → GoesInRounds stage f
 rounds_then stage [] later is more = more
 rounds_then stage (sent ∷ first) later is more = (is.0, rounds_then (stage_after sent.0.what sent.1 stage) first later is.1 more)
 
+heads_then : (base asked : Option (List ℕ)) (first later : List Sent) → HeadsOnce base asked first → HeadsOnce base (asked_head first asked) later → HeadsOnce base asked (first ++ later)
+heads_then base asked [] later is more = more
+heads_then base asked (sent ∷ first) later is more = (is.0, heads_then base (asked_after sent.0.what sent.1 asked) first later is.1 more)
+
 -- what is behind `before` and a send is behind that and the rest
 pub behind : (P : List Sent → Type 0) (before : List Sent) (sent : Sent) (first : List Sent) → P (before ++ sent ∷ first) → P ((before ++ sent ∷ []) ++ first)
 behind P before sent first is = subst P (sym (append_assoc before (sent ∷ []) first)) is
@@ -72,15 +76,19 @@ pub record Follows (lib secret user : List ℕ) (shows : ℕ → Type 0) (base :
   pub puts : PutsLacked (last_round first []) later
   pub rounds : GoesInRounds (stage_from Begins first) later
   pub gets : GetsNeeded first later
+  pub heads : HeadsOnce base (asked_head first None) later
 
-pub orders_then : (lib secret user : List ℕ) (shows : ℕ → Type 0) (base : Option (List ℕ)) (first later : List Sent) → OrdersSo lib secret user shows base first
-    → Follows lib secret user shows base first later → OrdersSo lib secret user shows base (first ++ later)
+pub orders_then : (lib secret user : List ℕ) (shows : ℕ → Type 0) (base : Option (List ℕ)) (first later : List Sent) → AsksSo lib secret user shows base first
+    → Follows lib secret user shows base first later → AsksSo lib secret user shows base (first ++ later)
 orders_then lib secret user shows base first later is more = record {
-  asks = All-append (IsSyncOrder lib secret) first later is.asks more.asks;
-  made = made_then lib user shows base None what.Version first later is.made more.made;
-  puts = puts_then [] first later is.puts more.puts;
-  rounds = rounds_then Begins first later is.rounds more.rounds;
-  gets = gets_then [] first later is.gets more.gets;
+  orders = record {
+    asks = All-append (IsSyncOrder lib secret) first later is.orders.asks more.asks;
+    made = made_then lib user shows base None what.Version first later is.orders.made more.made;
+    puts = puts_then [] first later is.orders.puts more.puts;
+    rounds = rounds_then Begins first later is.orders.rounds more.rounds;
+    gets = gets_then [] first later is.orders.gets more.gets;
+  };
+  heads = heads_then base None first later is.heads more.heads;
 }
 
 -- ---- over a folder

@@ -18,6 +18,7 @@ pub mod ReadingLemmas
 pub mod CheckedOutLemmas
 pub mod GotTreeLemmas
 pub mod StepFileLemmas
+pub mod SkippedLemmas
 pub mod StoppedLemmas
 pub mod BroughtLemmas
 pub mod FinishAllLemmas

@@ -32,14 +32,15 @@ use Rattle.object_graph.specs.declared.fault.TreeFault.{TreeFault}
 use Rattle.object_graph.specs.declared.fault.TreeFault.TheVariants as tree
 use Rattle.object_graph.proofs.ReachingLemmas.{in_first}
 use Rattle.remote_calls.specs.Sends.{Ending, Sent}
-use Rattle.sync_rules.specs.Causes.{CausedBy, FindsSome, HasPath, IsSoHere, ends_sync}
-use Rattle.sync_rules.specs.Named.{IsHadFor, IsNamedSo, begins_round, has_name, if_named, is_block, is_check, is_upload, keys_lacked, keys_named, keys_put, lacked_by, last_head, last_round, named_by, put_by}
+use Rattle.sync_rules.specs.Causes.{CausedBy, FindsSome, HasPath, ends_sync}
+use Rattle.sync_rules.specs.Named.{IsHadFor, IsNamedSo, asked_head, begins_round, has_name, if_named, is_block, is_check, is_upload, keys_lacked, keys_named, keys_put, lacked_by, last_head, last_round, named_by, put_by}
 use Rattle.sync_rules.specs.Orders.{IsNeeded, Stage, may_send}
 use Rattle.sync_rules.specs.declared.fault.SyncFault.{SyncFault}
 use Rattle.sync_rules.specs.declared.fault.SyncFault.TheVariants as fault
 use Rattle.tree_fetch.specs.Asking.{FailsSo, order_of}
 use Rattle.tree_fetch.specs.Fetching.{CommitFails}
 use Rattle.tree_fetch.specs.declared.asker.Asker.{Asker}
+use Rattle.sync_daemon.specs.RoundOrder.{IsBehindChecks, IsSoInRound}
 use Rattle.sync_daemon.specs.Going.{Going, Refuses, Stops, Sync}
 use Rattle.sync_daemon.specs.Rounds.{IsFresh, IsScanFault, MayUpload, sync_of}
 use Rattle.sync_daemon.proofs.CheckLemmas.{IsPlainOrder, fails_so, plain_head, quiet_of}
@@ -58,9 +59,9 @@ past_within c (scan.TooMany count) within (is, many) no_folder no_memory = not_l
 past_within c (scan.TooBig path) within (bytes, is, big) no_folder no_memory = not_less _ (length bytes) big (within.big path bytes is)
 past_within c scan.NoMemory within past no_folder no_memory = no_memory refl
 
-module _ (s : Sync) (more : List Sent) (stage : Stage) (late : ℕ) (going : Going s more stage late) (few : late ≤ 2) where
+module _ (s : Sync) (more : List Sent) (stage : Stage) (late : ℕ) (going : Going s more stage late) (few : late ≤ 2) (behind : IsBehindChecks more) where
   scan_ends : (why : ScanFault) → ((c : Contents) → s.told ≡ Some c → IsPastLimit c why) → (why ≡ scan.Folder → ⊥) → (why ≡ scan.NoMemory → ⊥)
-      → CausedBy (IsSoHere s.cuts s.told s.index more) more (fault.Scan why) → Refuses s more (fault.Scan why)
+      → CausedBy (IsSoInRound s.cuts s.told s.index more) more (fault.Scan why) → Refuses s more (fault.Scan why)
   scan_ends why past no_folder no_memory cause =
       fails_here s more stage late going (fault.Scan why) few cause
       (λ c told. (checks_alone c (past c told) (going.over c told).order.scanned, inl (tt, going.unbegun)))
@@ -75,13 +76,13 @@ module _ (s : Sync) (more : List Sent) (stage : Stage) (late : ℕ) (going : Goi
   scan_of _ = scan.Folder
 
   pub scan_fails : (f : SyncFault) → IsScanFault s.told f → Refuses s more f
-  scan_fails fault.Folder is = fails_here s more stage late going fault.Folder few tt (λ c told. ((going.over c told).found, inl (tt, going.unbegun)))
+  scan_fails fault.Folder is = fails_here s more stage late going fault.Folder few (tt, tt) (λ c told. ((going.over c told).found, inl (tt, going.unbegun)))
   scan_fails fault.NoMemory is = fails_here s more stage late going fault.NoMemory few tt (λ c told. (tt, inl (tt, going.unbegun)))
   scan_fails (fault.Scan scan.Folder) is = absurd is
   scan_fails (fault.Scan scan.NoMemory) is = absurd is
-  scan_fails (fault.Scan (scan.TooDeep path)) is = scan_ends (scan.TooDeep path) is (λ e. cc) (λ e. cc) is
-  scan_fails (fault.Scan (scan.TooMany count)) is = scan_ends (scan.TooMany count) is (λ e. cc) (λ e. cc) is
-  scan_fails (fault.Scan (scan.TooBig path)) is = scan_ends (scan.TooBig path) is (λ e. cc) (λ e. cc) is
+  scan_fails (fault.Scan (scan.TooDeep path)) is = scan_ends (scan.TooDeep path) is (λ e. cc) (λ e. cc) (is, behind)
+  scan_fails (fault.Scan (scan.TooMany count)) is = scan_ends (scan.TooMany count) is (λ e. cc) (λ e. cc) (is, behind)
+  scan_fails (fault.Scan (scan.TooBig path)) is = scan_ends (scan.TooBig path) is (λ e. cc) (λ e. cc) (is, behind)
   scan_fails _ is = absurd is
 
 -- ---- the head, and its commit
@@ -204,6 +205,7 @@ plain_commit first stage head pushed may named = record {
       (record { head = head; pushed = pushed; named = named; reached = λ objects has. ReachedFrom.pends (commit_key head) (in_first (commit_key head) []) }) (All-nil (IsNeeded first));
   small = All-cons (λ (key : Key). is_block key.kind ≡ false) (commit_key head) [] refl (All-nil (λ (key : Key). is_block key.kind ≡ false));
   short = λ why. refl;
+  once = λ is. absurd (true≢false (sym is));
 }
 
 ends_head : (why : Refusal) → can_refuse (what.Head None) why ≡ true → ends_sync (what.Head None) why ≡ true
@@ -234,10 +236,10 @@ module _ (asker : Asker) (user : List ℕ) (shows : ℕ → Type 0) (cuts : Cuts
   abbrev got_sent : (id bytes : List ℕ) → Tag → Sent
   got_sent id bytes tag = (order_of asker (what.Get (commit_key id)), Ok (Plain (reply.Got bytes) tag))
 
-  pub head_goes : (id : List ℕ) (tag : Tag) → may_send stage (what.Head None) ≡ true → Going this (first ++ head_sent id tag ∷ []) stage late
-  head_goes id tag may =
+  pub head_goes : (id : List ℕ) (tag : Tag) → may_send stage (what.Head None) ≡ true → asked_head first None ≡ None → Going this (first ++ head_sent id tag ∷ []) stage late
+  head_goes id tag may unasked =
       goes_one this first stage late (head_sent id tag) going
-      (quiet_of asker user shows cuts told index first stage (what.Head None) (Ok (Plain (reply.HeadIs id) tag)) (plain_head first stage may) refl)
+      (quiet_of asker user shows cuts told index first stage (what.Head None) (Ok (Plain (reply.HeadIs id) tag)) (plain_head first stage may unasked) refl)
       (refl, All-nil IsNamedSo)
       (λ c is. record { scanned = inr (within c is); found = λ none has. found_by_get first (head_sent id tag) refl; had = []; is_had = tt })
 

@@ -1,5 +1,5 @@
 -- What a push may follow, and what it leaves. The key lemmas are push_follows, push_goes and push_fails.
-use Rattle.std.proofs.Common.{◌≡◌, ℕ, Bool, true, false, if◌then◌else◌, All, List, [], ◌∷◌, ◌++◌, Option, None, Some, refl, sym, ap, subst, ◌∙◌, append_assoc, append-nil, true≢false}
+use Rattle.std.proofs.Common.{◌≡◌, ℕ, Bool, true, false, if◌then◌else◌, All, List, [], ◌∷◌, ◌++◌, Option, None, Some, is_some, refl, sym, ap, subst, ◌∙◌, append_assoc, append-nil, true≢false}
 use Rattle.std.specs.Option.{option_or}
 use Rattle.std.specs.List.{Contains, flat_map}
 use Rattle.std.proofs.lemmas.Grind.{flat_map-append}
@@ -22,7 +22,7 @@ use Rattle.sync_rules.specs.OneSync.{EndsWhereSome, PushesFirst}
 use Rattle.sync_rules.specs.Orders.{GetsNeeded, GoesInRounds, IsLacked, IsNeeded, IsSyncCommit, IsSyncOrder, LackedAs, MadeSo, PutsAs, PutsAt, PutsLacked, PutsSo, Stage, StandsAtPut, may_send, stage_after}
 use Rattle.sync_rules.specs.Orders.Stage.{Begins, Stands, Uploads}
 use Rattle.sync_rules.specs.Uploads.{IsEmptyHead, UploadsOnEmpty}
-use Rattle.sync_daemon.specs.Going.{stage_from}
+use Rattle.sync_daemon.specs.RoundOrder.{HeadsOnce, is_head, stage_from}
 use Rattle.sync_daemon.proofs.GoingLemmas.{gets_last, last_then, last_with, some_gets}
 use Rattle.sync_daemon.proofs.JoinLemmas.{Follows, asked_then, last_what}
 
@@ -257,17 +257,33 @@ stage_until (sent ∷ first) last ups rounds = by (is_update sent.0.what) refl (
         none_behind [] up may = late_upload (is_stale sent.1) last.0.what (All-head IsUploading last [] up) may.0
         none_behind (x ∷ xs) up may = late_upload (is_stale sent.1) x.0.what (All-head IsUploading x (xs ++ last ∷ []) up) may.0
 
+-- ---- the head
+
+no_head : (asked : What) → is_upload asked ≡ true → is_head asked ≡ false
+no_head (what.Head tag) up = absurd (true≢false (sym up))
+no_head _ up = refl
+
+heads_on : (base asked : Option (List ℕ)) → (is_some base ≡ true → asked ≡ None) → (more : List Sent) → All IsUploading more → HeadsOnce base asked more
+heads_on base asked unasked [] ups = tt
+heads_on base asked unasked (sent ∷ more) ups =
+    let up : is_upload sent.0.what ≡ true = All-head IsUploading sent more ups in (
+      record { once = λ is. absurd (true≢false (sym is ∙ no_head sent.0.what up)); unneeded = λ sends based. unasked based },
+      subst (λ (o : Option (List ℕ)). HeadsOnce base o more) (sym (asked_stays sent.0.what sent.1 asked up))
+          (heads_on base asked unasked more (All-tail IsUploading sent more ups)),
+    )
+
 -- ---- all that a push has to be so that it may follow
 
 pub push_follows : (lib secret user : List ℕ) (shows : ℕ → Type 0) (moment : ℕ) → shows moment → (base : Option (List ℕ)) (parent : List ℕ) (first more : List Sent)
-    → option_or base (asked_head first None) ≡ Some parent → stage_from Begins first ≡ Uploads → keys_lacked (last_round first []) ≡ [] → keys_put (last_round first []) ≡ []
+    → option_or base (asked_head first None) ≡ Some parent → (is_some base ≡ true → asked_head first None ≡ None) → stage_from Begins first ≡ Uploads → keys_lacked (last_round first []) ≡ [] → keys_put (last_round first []) ≡ []
     → All (IsSyncOrder lib secret) more → All IsUploading more → MadeSo lib user (λ m. m ≡ moment) (Some parent) None what.Version more → PutsLacked [] more → GoesInRounds Uploads more
     → Follows lib secret user shows base first more
-push_follows lib secret user shows moment shown base parent first more is at lacked put asks ups made puts rounds = record {
+push_follows lib secret user shows moment shown base parent first more is unasked at lacked put asks ups made puts rounds = record {
   asks = asks;
   made = made_behind lib user shows moment shown base (asked_head first None) parent is more (last_what what.Version first)
       (made_on lib user shows moment shown base (asked_head first None) parent is more ups None what.Version made);
   puts = puts_on more ups [] (last_round first []) lacked put puts;
   rounds = subst (λ (stage : Stage). GoesInRounds stage more) (sym at) rounds;
   gets = gets_on first more ups;
+  heads = heads_on base (asked_head first None) unasked more ups;
 }

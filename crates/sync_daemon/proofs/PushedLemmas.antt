@@ -21,11 +21,11 @@ use Rattle.object_graph.specs.Objects.{commit_key}
 use Rattle.object_graph.specs.Reached.{ReachedFrom}
 use Rattle.object_graph.specs.Traversal.{is_in}
 use Rattle.remote_calls.specs.Sends.{Ending, Sent}
-use Rattle.sync_rules.specs.Causes.{CausedBy, FindsSome, HasPath, IsRefusedBy, IsSoHere, WentWell, is_stale, stale_count}
+use Rattle.sync_rules.specs.Causes.{CausedBy, FindsSome, HasPath, IsRefusedBy, WentWell, is_stale, stale_count}
 use Rattle.sync_rules.specs.Named.{IsHad, IsHadFor, Named, asked_by, asked_head, got_by, head_after, if_named, is_block, keys_asked, keys_named, last_head, last_round, named_by, names_in}
 use Rattle.sync_rules.specs.Offer.{IsOffer}
 use Rattle.sync_rules.specs.OneSync.{ComesInOrder, GoesInOrder, HasNotBegun, NeedsNoTree}
-use Rattle.sync_rules.specs.Orders.{GoesInRounds, OrdersSo, Stage, stage_after}
+use Rattle.sync_rules.specs.Orders.{GoesInRounds, Stage, stage_after}
 use Rattle.sync_rules.specs.Orders.Stage.{Begins, Stands, Uploads}
 use Rattle.sync_rules.specs.Uploads.{IsUploadOf, OffersAt, OffersEach, UploadsSo}
 use Rattle.sync_rules.specs.declared.fault.SyncFault.{SyncFault}
@@ -37,7 +37,8 @@ use Rattle.tree_fetch.specs.declared.asker.Asker.{Asker}
 use Rattle.tree_push.specs.Pushing.{EndsPush, IsPushFault, OffersOnce, PushesSo, is_change}
 use Rattle.tree_push.specs.declared.standing.Pushed.{Pushed}
 use Rattle.tree_push.specs.declared.standing.Pushed.TheVariants.{Installed, Late}
-use Rattle.sync_daemon.specs.Going.{Going, GoingOver, Refuses, Spares, Sync, stage_from}
+use Rattle.sync_daemon.specs.RoundOrder.{AsksSo, IsSoInRound, stage_from}
+use Rattle.sync_daemon.specs.Going.{Going, GoingOver, Refuses, Spares, Sync}
 use Rattle.sync_daemon.specs.Rounds.{EndsLate, IsAskedFor, IsJoined, IsSeen, IsSettled, TellsChange, sync_of}
 use Rattle.sync_daemon.specs.declared.round.Settled.{Settled}
 use Rattle.sync_daemon.proofs.GoingLemmas.{had_then, late_then}
@@ -87,15 +88,23 @@ module _ (asker : Asker) (user : List ℕ) (shows : ℕ → Type 0) (cuts : Cuts
   parent_asked = by asked joined.asked_for parent_is
     where
       by : (o : Option (List ℕ)) → IsAskedFor index.base o first → option_or index.base o ≡ Some parent → option_or index.base (asked_head first None) ≡ Some parent
-      by None based is = option_some index.base (asked_head first None) None based ∙ is
+      by None (based, unasked) is = option_some index.base (asked_head first None) None based ∙ is
       by (Some head) (none, of_round, named) is = ap (option_or index.base) of_round ∙ is
 
   parent_at : (done : List Sent) → All IsUploading done → Some parent ≡ option_or index.base (asked_head (first ++ done) None)
   parent_at done ups = sym (ap (option_or index.base) (asked_then None first done ∙ asked_same (asked_head first None) done ups) ∙ parent_asked)
 
-  orders : OrdersSo asker.lib asker.secret user shows index.base (first ++ more)
+  -- no head was asked where the index has a base
+  unasked : is_some index.base ≡ true → asked_head first None ≡ None
+  unasked = by asked joined.asked_for
+    where
+      by : (o : Option (List ℕ)) → IsAskedFor index.base o first → is_some index.base ≡ true → asked_head first None ≡ None
+      by None (based, none) has = none
+      by (Some head) (none, of_round, named) has = absurd (true≢false (sym has ∙ ap is_some none))
+
+  orders : AsksSo asker.lib asker.secret user shows index.base (first ++ more)
   orders = orders_then asker.lib asker.secret user shows index.base first more joined.going.orders
-      (push_follows asker.lib asker.secret user shows moment shown index.base parent first more parent_asked at_uploads joined.fresh.lacked joined.fresh.put
+      (push_follows asker.lib asker.secret user shows moment shown index.base parent first more parent_asked unasked at_uploads joined.fresh.lacked joined.fresh.put
       pushes.asks pushes.uploads pushes.made pushes.puts pushes.rounds)
 
   unbegun : All (λ (key : Key). is_block key.kind ≡ false) (keys_asked (first ++ more))
@@ -282,9 +291,9 @@ module _ (asker : Asker) (user : List ℕ) (shows : ℕ → Type 0) (cuts : Cuts
   abbrev IfNoChange : SyncFault → Type 0
   IfNoChange f = (c : Contents) → told ≡ Some c → is_change f ≡ false
 
-  so_here : (f : SyncFault) → IfNoChange f → IsPushFault f → IsSoHere cuts told index (first ++ more) f
-  so_here fault.Folder none is = tt
-  so_here (fault.Changed path) none is = λ c told_so. true≢false (none c told_so)
+  so_here : (f : SyncFault) → IfNoChange f → IsPushFault f → IsSoInRound cuts told index (first ++ more) f
+  so_here fault.Folder none is = (tt, tt)
+  so_here (fault.Changed path) none is = ((λ c told_so. true≢false (none c told_so)), tt)
   so_here _ none is = absurd is
 
   pub push_fails : (f : SyncFault) → EndsPush more (Err f) → IfNoChange f → Refuses this (first ++ more) f
@@ -292,7 +301,7 @@ module _ (asker : Asker) (user : List ℕ) (shows : ℕ → Type 0) (cuts : Cuts
     orders = orders;
     ends = (
       went_then first more joined.going.went goes,
-      caused_then (IsSoHere cuts told index (first ++ more)) first more f cause none (so_here f no_change),
+      caused_then (IsSoInRound cuts told index (first ++ more)) first more f cause none (so_here f no_change),
       (λ other. All-append WentWell first more joined.going.went (own other)),
       (λ early.
           let sum : stale_count (first ++ more) ≡ stale_count first + stale_count more = late_then first more in

@@ -37,6 +37,7 @@ use Rattle.tree_walk.specs.declared.fault.WalkFault.{WalkFault}
 use Rattle.tree_walk.specs.declared.fault.WalkFault.TheVariants as walk
 use Rattle.tree_fetch.specs.Fetching.{AsksOne, FindsWrongTree, GetsReached, IsAlone, Stopped}
 use Rattle.tree_fetch.specs.declared.asker.Asker.{Asker}
+use Rattle.sync_daemon.specs.RoundOrder.{IsSoInRound}
 use Rattle.sync_daemon.specs.Going.{Going, Stops, Sync}
 use Rattle.sync_daemon.specs.Rounds.{IsSeen, IsSettled, sync_of}
 use Rattle.sync_daemon.specs.declared.round.Settled.{Settled}
@@ -238,7 +239,7 @@ module _ (asker : Asker) (user : List ℕ) (shows : ℕ → Type 0) (cuts : Cuts
         stop.sends.grown ∙ ap (λ (sends : List Sent). sends ++ more) begun ∙ append_assoc start first more,
         fails_gets this first more is.stage is.late is.going gets is.may_get asks needed f is.few stop.went
             (λ other. absurd (true≢false (sym stop.of_order ∙ other))) (timely_of asker more stop.asked)
-            (caused_by (IsSoHere cuts told index (first ++ more)) first more f stop.cause stop.of_order) is.over
+            (caused_by (IsSoInRound cuts told index (first ++ more)) first more f stop.cause stop.of_order) is.over
             (λ c told_so. (
               comes c told_so more f stop.of_order stop.cause stop.alone (found_none this first settled is more gets asks needed c told_so),
               inl (no_tree f stop.of_order, none_begun (first ++ more) f stop.of_order (small_then this first settled is more gets asks needed (small_of asker more stop.asked))),
@@ -283,7 +284,7 @@ module _ (asker : Asker) (user : List ℕ) (shows : ℕ → Type 0) (cuts : Cuts
           finds.sends.grown ∙ ap (λ (sends : List Sent). sends ++ more) begun ∙ append_assoc start first more,
           fails_gets this first more is.stage is.late is.going gets is.may_get asks needed (fault.BadTree why) is.few (goes_well more finds.went) (λ other. finds.went)
               (timely_of asker more finds.asked)
-              (inr (All-append WentWell first more is.going.went finds.went, so_here more gets why finds.wrong told_so)) is.over
+              (inr (All-append WentWell first more is.going.went finds.went, (so_here more gets why finds.wrong told_so, tt))) is.over
               (λ c told_is. (
                 found_none this first settled is more gets asks needed c told_is,
                 inl (tt, unbegun (first ++ more) why told_so (small_then this first settled is more gets asks needed (small_of asker more finds.asked))),

@@ -127,7 +127,7 @@ module _ (asker : Asker) (user : List ℕ) (shows : ℕ → Type 0) (cuts : Cuts
     gets_commit id = can_ask may checked.stage first checked.may_upload (what.Get (commit_key id)) refl refl
 
     headed : (id : List ℕ) (tag : Tag) → Going this (first ++ head_sent id tag ∷ []) checked.stage late
-    headed id tag = head_goes asker user shows cuts told index start first checked.stage late checked.going checked.few within id tag asks_head
+    headed id tag = head_goes asker user shows cuts told index start first checked.stage late checked.going checked.few within id tag asks_head checked.unasked
 
     head_named : (id : List ℕ) (tag : Tag) → last_head (first ++ head_sent id tag ∷ []) None ≡ Some (id, None)
     head_named id tag = head_then None first (head_sent id tag ∷ [])
@@ -149,7 +149,7 @@ module _ (asker : Asker) (user : List ℕ) (shows : ℕ → Type 0) (cuts : Cuts
         few = checked.few;
         may_upload = checked.may_upload;
         fresh = checked.fresh;
-        asked_for = based;
+        asked_for = (based, checked.unasked);
         spares = checked.spares;
         joins = λ c is none has. absurd (true≢false (sym based ∙ ap is_some none));
         behind = λ c is none has. absurd (true≢false (sym based ∙ ap is_some none));
@@ -217,7 +217,7 @@ module _ (asker : Asker) (user : List ℕ) (shows : ℕ → Type 0) (cuts : Cuts
     -- it was asked for, and failed
     pub join_fails : (old new : List Sent) (f : SyncFault) → old ≡ start ++ first → JoinsAs asker index.base report old new (Err f) → Stops this start new f
     join_fails old new f begun (none, inl fails) =
-        fails_so asker user shows cuts told index start first checked.stage late checked.going checked.few (what.Head None) (plain_head first checked.stage asks_head) old new f begun fails
+        fails_so asker user shows cuts told index start first checked.stage late checked.going checked.few (what.Head None) (plain_head first checked.stage asks_head checked.unasked) old new f begun fails
         (head_ends asker old new f fails) (λ c is. inr (within c is))
     join_fails old new f begun (none, inr (mid, head, (tag, grown), some, fails)) = by f fails
       where
@@ -257,7 +257,7 @@ module _ (asker : Asker) (user : List ℕ) (shows : ℕ → Type 0) (cuts : Cuts
                   (plain_commit before checked.stage head None (gets_commit head) (head_named head tag)) refl)
                   fault.NotEmpty checked.few
                   (refl, All-cons IsNamedSo (commit_key head, Some is_got.bytes) [] (ap is_ok is_got.spells) (All-nil IsNamedSo)) tt
-                  (found, (none, λ c is. sees_path cuts c report (seen c is) some)) (λ all. all) (λ c is. (inr (within c is), tt)),
+                  (found, ((none, λ c is. sees_path cuts c report (seen c is) some), tt)) (λ all. all) (λ c is. (inr (within c is), tt)),
             )
         by g other =
             commit_fails asker user shows cuts told index start before checked.stage late (headed head tag) checked.few within head None (gets_commit head) (head_named head tag) unread mid new g to_mid other

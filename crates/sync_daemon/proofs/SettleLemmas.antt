@@ -84,13 +84,13 @@ module _ (asker : Asker) (user : List ℕ) (shows : ℕ → Type 0) (cuts : Cuts
   same_goes old new head now begun shown same of = by asked joined.asked_for of
     where
       by : (o : Option (List ℕ)) → IsAskedFor index.base o first → HeadOf asker o old new (Ok head) → (more : List Sent) × (new ≡ start ++ more) × IsSettled this more (unpushed head)
-      by None based (tag, grown) =
+      by None (based, unasked) (tag, grown) =
           let last : Sent = head_sent head tag in (
             first ++ last ∷ [],
             grown ∙ ap (λ (sends : List Sent). sends ++ last ∷ []) begun ∙ append_assoc start first (last ∷ []),
             settled (first ++ last ∷ []) head now
                 (head_goes asker user shows cuts told index start first joined.stage late joined.going joined.few (λ c is. (seen c is).within) head tag
-                (can_ask may joined.stage first joined.may_upload (what.Head None) refl refl))
+                (can_ask may joined.stage first joined.may_upload (what.Head None) refl refl) unasked)
                 shown same (spares_more this first last joined.spares refl) (head_then None first (last ∷ [])) (λ c is none has. absurd (true≢false (sym based ∙ ap is_some none))),
           )
       by (Some id) (none, of_round, named) (is, stays) =
@@ -101,21 +101,21 @@ module _ (asker : Asker) (user : List ℕ) (shows : ℕ → Type 0) (cuts : Cuts
           )
 
   pub same_fails : (old new : List Sent) (f : SyncFault) → old ≡ start ++ first → HeadOf asker asked old new (Err f) → Stops this start new f
-  same_fails old new f begun of = by asked of
+  same_fails old new f begun of = by asked joined.asked_for of
     where
-      by : (o : Option (List ℕ)) → HeadOf asker o old new (Err f) → Stops this start new f
-      by None fails =
+      by : (o : Option (List ℕ)) → IsAskedFor index.base o first → HeadOf asker o old new (Err f) → Stops this start new f
+      by None (based, unasked) fails =
           fails_so asker user shows cuts told index start first joined.stage late joined.going joined.few (what.Head None)
-          (plain_head first joined.stage (can_ask may joined.stage first joined.may_upload (what.Head None) refl refl)) old new f begun fails (head_ends asker old new f fails)
+          (plain_head first joined.stage (can_ask may joined.stage first joined.may_upload (what.Head None) refl refl) unasked) old new f begun fails (head_ends asker old new f fails)
           (λ c is. inr (seen c is).within)
-      by (Some id) (is, stays) = cc
+      by (Some id) was (is, stays) = cc
 
   -- ---- what changed may not be uploaded
 
   pub denied : (stage_is : (joined.stage ≡ Reads) × DeniesUpload first) → TellsChange report index true → Refuses this first (fault.Refused refusal.Denied)
   denied stage_is other =
       fails_here this first joined.stage late joined.going (fault.Refused refusal.Denied) joined.few
-      (inr (refl, stage_is.1, joined.going.went, λ c is. differs_of cuts c report (seen c is) index other))
+      (inr (refl, stage_is.1, joined.going.went, ((λ c is. differs_of cuts c report (seen c is) index other), joined.going.reached ∙ stage_is.0)))
       (λ c is. ((λ went. ((seen c is).within, joined.joins c is)), inl (tt, joined.going.unbegun)))
 
 -- ---- what changed is pushed

@@ -17,7 +17,7 @@ use Rattle.http_front.specs.declared.order.What.TheVariants as what
 use Rattle.local_index.specs.declared.index.Index.{Index}
 use Rattle.object_graph.specs.Objects.{entry_below}
 use Rattle.remote_calls.specs.Sends.{Ending, Sent}
-use Rattle.sync_rules.specs.Causes.{CausedBy, CausedOver, FindsSome, HasPath, IsSoHere, WentWell, is_too_long, stale_count}
+use Rattle.sync_rules.specs.Causes.{CausedBy, CausedOver, FindsSome, HasPath, WentWell, is_too_long, stale_count}
 use Rattle.sync_rules.specs.Checkout.{Front, IsPlan, Step, is_alone, run}
 use Rattle.sync_rules.specs.Named.{HasAll, HasGot, asked_head}
 use Rattle.sync_rules.specs.Offer.{IsOfferOf}
@@ -47,6 +47,7 @@ use Rattle.tree_fetch.specs.declared.asker.Asker.{Asker}
 use Rattle.tree_fetch.specs.declared.tree.FetchedTree.{FetchedTree}
 use Rattle.sync_daemon.specs.Bringing.{AreMade, IsPlanned, IsUnplanned, is_pushed, source_of}
 use Rattle.sync_daemon.specs.Finishing.{Finishes}
+use Rattle.sync_daemon.specs.RoundOrder.{IsSoInRound}
 use Rattle.sync_daemon.specs.Going.{GoingOver, Refuses, Sync}
 use Rattle.sync_daemon.specs.Rounds.{sync_of}
 use Rattle.sync_daemon.specs.declared.round.Settled.{Settled}
@@ -59,6 +60,7 @@ use Rattle.sync_daemon.proofs.GotTreeLemmas.{HasTree, IsOfHead, blocks_of_head}
 use Rattle.sync_daemon.proofs.HeadTreeLemmas.{alone_alike, is_tree_of, tree_for}
 use Rattle.sync_daemon.proofs.JoinLemmas.{asked_then}
 use Rattle.sync_daemon.proofs.ReadingLemmas.{names}
+use Rattle.sync_daemon.proofs.SkippedLemmas.{front_skipped}
 use Rattle.sync_daemon.proofs.StepFileLemmas.{file_from, front_of, nameless_kept, wrong_tree}
 use Rattle.sync_daemon.proofs.WrittenLemmas.{AreIn, all_planned, made_for, made_objects, made_of}
 
@@ -85,7 +87,7 @@ module _ (asker : Asker) (user : List ℕ) (shows : ℕ → Type 0) (cuts : Cuts
 
   pub plan_halts : (f : SyncFault) → IsUnplanned settled.scan index tree.entries (is_pushed settled.pushed) f → Refuses this before f
   plan_halts (fault.Blocked path) un =
-      fails_here this before got.reading.stage got.reading.late got.reading.going (fault.Blocked path) got.reading.few tt
+      fails_here this before got.reading.stage got.reading.late got.reading.going (fault.Blocked path) got.reading.few (tt, tt)
       (λ c is.
       let was : GoingOver this c before = got.reading.going.over c is in (
         was.found,
@@ -141,27 +143,30 @@ module _ (asker : Asker) (user : List ℕ) (shows : ℕ → Type 0) (cuts : Cuts
         made_of objects commit.root tree.entries (got.entries objects has) plan.writes writes due_in (made_for tree.objects objects (got.kept objects has) plan.writes writes made)
 
     so_here : (g : SyncFault) → IsWrongIn (source_of asker) writes more g → Stops (source_of asker) more (blocks_due writes) g → ((c : Contents) → told ≡ Some c → is_change g ≡ false)
-        → is_quiet g ≡ true → IsSoHere cuts told index (before ++ more) g
-    so_here fault.Folder wrong stop none quiet = tt
-    so_here fault.NoMemory wrong stop none quiet = tt
-    so_here (fault.Changed path) wrong stop none quiet = λ c is. true≢false (none c is)
+        → is_quiet g ≡ true → IsSoInRound cuts told index (before ++ more) g
+    so_here fault.Folder wrong stop none quiet = (tt, tt)
+    so_here fault.NoMemory wrong stop none quiet = (tt, tt)
+    so_here (fault.Changed path) wrong stop none quiet = ((λ c is. true≢false (none c is)), tt)
     so_here (fault.BadTree (walk.WrongSize id)) wrong stop none quiet = (
-      settled.head,
-      settled.pushed,
-      names this before settled got.reading more gets,
-      λ objects has.
-          let first : HasGot objects before = got_first objects before more has in (
-            commit,
-            got.stored objects first,
-            wrong_tree tree.objects objects (got.kept objects first) commit.root plan.writes writes made (root_writes objects first) id
-                (missized (source_of asker) writes more id objects wrong
-                (has_of_stopped objects (source_of asker) (fault.BadTree (walk.WrongSize id)) more (blocks_due writes) stop (got_later objects before more has))),
-          ),
+      (
+        settled.head,
+        settled.pushed,
+        names this before settled got.reading more gets,
+        λ objects has.
+            let first : HasGot objects before = got_first objects before more has in (
+              commit,
+              got.stored objects first,
+              wrong_tree tree.objects objects (got.kept objects first) commit.root plan.writes writes made (root_writes objects first) id
+                  (missized (source_of asker) writes more id objects wrong
+                  (has_of_stopped objects (source_of asker) (fault.BadTree (walk.WrongSize id)) more (blocks_due writes) stop (got_later objects before more has))),
+            ),
+      ),
+      tt,
     )
     so_here _ wrong stop none quiet = absurd (true≢false (sym quiet))
 
-    own_cause : CausedBy (IsSoHere cuts told index (before ++ more)) more f
-    own_cause = caused_stop (IsSoHere cuts told index (before ++ more)) (source_of asker) more (blocks_due writes) f stops.stops (so_here f stops.wrong stops.stops unchanged)
+    own_cause : CausedBy (IsSoInRound cuts told index (before ++ more)) more f
+    own_cause = caused_stop (IsSoInRound cuts told index (before ++ more)) (source_of asker) more (blocks_due writes) f stops.stops (so_here f stops.wrong stops.stops unchanged)
 
     of : IsOfCheckout f
     of = of_checkout asker f more (blocks_due writes) stops.stops
@@ -174,7 +179,7 @@ module _ (asker : Asker) (user : List ℕ) (shows : ℕ → Type 0) (cuts : Cuts
     is_upload_check (what.Check asked) = true
     is_upload_check _ = false
 
-    comes_by : (c : Contents) (g : SyncFault) → IsOfCheckout g → CausedBy (IsSoHere cuts told index (before ++ more)) more g
+    comes_by : (c : Contents) (g : SyncFault) → IsOfCheckout g → CausedBy (IsSoInRound cuts told index (before ++ more)) more g
         → (index.base ≡ None → HasPath c → FindsSome (before ++ more) → ⊥) → ComesInOrder c index (before ++ more) g
     comes_by c (fault.Refused r) is (inl (order, ending, (front, same), refused, ends)) none = λ went.
         let asked = block_order_of order ending (subst (λ (sends : List Sent). Contains sends (order, ending)) (sym same) (Contains-push front (order, ending))) in
@@ -290,7 +295,7 @@ module _ (asker : Asker) (user : List ℕ) (shows : ℕ → Type 0) (cuts : Cuts
       orders = orders_gets this before more got.reading.stage got.reading.late got.reading.going gets got.reading.may_get syncs needed;
       ends = (
         went_then before more got.reading.going.went (stopped_well (source_of asker) f more (blocks_due writes) stops.stops),
-        caused_behind (IsSoHere cuts told index (before ++ more)) before more f of got.reading.going.went own_cause,
+        caused_behind (IsSoInRound cuts told index (before ++ more)) before more f of got.reading.going.went own_cause,
         (λ other. All-append WentWell before more got.reading.going.went (ordered_went (source_of asker) f more (blocks_due writes) stops.stops other)),
         (λ early.
             let sum : stale_count (before ++ more) ≡ stale_count before + stale_count more = late_then before more in
@@ -300,6 +305,9 @@ module _ (asker : Asker) (user : List ℕ) (shows : ℕ → Type 0) (cuts : Cuts
             omega (arith, sum, lates, none, few)),
       );
       leaves = refl;
+      skipped = λ c d first later path is.
+          front_skipped tree.objects cuts c settled.scan plan (planned.looks cuts c (got.reading.seen c first).scanned (got.reading.seen c first).within) writes made told now first stops.gone
+          stops.kept stops.done stops.rest stops.removed stops.written stops.others d later path is;
       over = λ c is.
           let was : GoingOver this c before = got.reading.going.over c is in (
             (holds_now c is).0,

@@ -1,6 +1,6 @@
 -- Where a sync stands after the orders that it sent so far, before it touches the folder. Our own. Read Sync first, then Going and
 -- Refuses.
-use Rattle.std.specs.Prelude.{ℕ, ◌≡◌, ◌⊎◌, true, false, is_some, All, List, [], ◌∷◌, ◌++◌, Option, None, Some, Err}
+use Rattle.std.specs.Prelude.{ℕ, ◌≡◌, ◌⊎◌, true, false, is_some, All, List, [], ◌++◌, Option, None, Some, Err}
 use Rattle.ids.specs.Key.{Objects}
 use Rattle.ids.specs.declared.key.Key.{Key}
 use Rattle.tree_model.specs.Tree.{Tree}
@@ -8,14 +8,15 @@ use Rattle.block_chunker.specs.declared.cuts.Cuts.{Cuts}
 use Rattle.folder_side.specs.Folder.{Contents}
 use Rattle.local_index.specs.declared.index.Index.{Index}
 use Rattle.remote_calls.specs.Sends.{Sent}
-use Rattle.sync_rules.specs.Causes.{CausedOver, EndsSo, FindsSome, HasPath, IsSoHere, WentWell, stale_count}
+use Rattle.sync_rules.specs.Causes.{CausedOver, EndsSo, FindsSome, HasPath, WentWell, stale_count}
 use Rattle.sync_rules.specs.Named.{IsHad, is_block, keys_asked}
 use Rattle.sync_rules.specs.OneSync.{ComesInOrder, GoesInOrder, HasNotBegun, NeedsNoTree}
-use Rattle.sync_rules.specs.Orders.{OrdersSo, Stage, stage_after}
+use Rattle.sync_rules.specs.Orders.{Stage}
 use Rattle.sync_rules.specs.Orders.Stage.{Begins}
 use Rattle.sync_rules.specs.Premises.{Over}
 use Rattle.sync_rules.specs.Uploads.{UploadsSo}
 use Rattle.sync_rules.specs.declared.fault.SyncFault.{SyncFault}
+use Rattle.sync_daemon.specs.RoundOrder.{AsksSo, IsSoInRound, stage_from}
 
 -- ---- one sync
 
@@ -32,11 +33,6 @@ pub record Sync : Type 1 where
 
 -- ---- so far all went well
 
--- in which stage some orders leave a sync
-abbrev pub stage_from : Stage → List Sent → Stage
-stage_from stage [] = stage
-stage_from stage (sent ∷ more) = stage_from (stage_after sent.0.what sent.1 stage) more
-
 -- over a folder that tells what it holds
 pub record GoingOver (s : Sync) (c : Contents) (more : List Sent) : Type 0 where
   pub uploads : UploadsSo s.cuts c s.index s.user more s.shows
@@ -47,7 +43,7 @@ pub record GoingOver (s : Sync) (c : Contents) (more : List Sent) : Type 0 where
 
 -- each order went well; so many updates came too late
 pub record Going (s : Sync) (more : List Sent) (stage : Stage) (late : ℕ) : Type 0 where
-  pub orders : OrdersSo s.lib s.secret s.user s.shows s.index.base more
+  pub orders : AsksSo s.lib s.secret s.user s.shows s.index.base more
   pub went : All WentWell more
   pub reached : stage_from Begins more ≡ stage
   pub lates : stale_count more ≡ late
@@ -74,8 +70,8 @@ pub record RefusesOver (s : Sync) (c : Contents) (more : List Sent) (f : SyncFau
   pub cause : CausedUntouched s c more f
 
 pub record Refuses (s : Sync) (more : List Sent) (f : SyncFault) : Type 0 where
-  pub orders : OrdersSo s.lib s.secret s.user s.shows s.index.base more
-  pub ends : EndsSo (IsSoHere s.cuts s.told s.index more) more (Err f)
+  pub orders : AsksSo s.lib s.secret s.user s.shows s.index.base more
+  pub ends : EndsSo (IsSoInRound s.cuts s.told s.index more) more (Err f)
   pub over : (c : Contents) → s.told ≡ Some c → RefusesOver s c more f
 
 -- the same of the list of sends, which began with these

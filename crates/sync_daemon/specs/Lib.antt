@@ -1,3 +1,4 @@
+pub mod RoundOrder
 pub mod Going
 pub mod Asking
 pub mod Joining

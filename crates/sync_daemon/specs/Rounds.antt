@@ -28,6 +28,7 @@ use Rattle.sync_rules.specs.declared.fault.SyncFault.TheVariants as fault
 use Rattle.tree_fetch.specs.declared.asker.Asker.{Asker}
 use Rattle.tree_push.specs.declared.standing.Pushed.{Pushed}
 use Rattle.tree_push.specs.declared.standing.Pushed.TheVariants as pushed
+use Rattle.sync_daemon.specs.RoundOrder.{IsBehindChecks}
 use Rattle.sync_daemon.specs.Going.{Going, Spares, Stops, Sync}
 use Rattle.sync_daemon.specs.declared.round.Round.{Round}
 use Rattle.sync_daemon.specs.declared.round.Round.TheVariants as round
@@ -92,10 +93,11 @@ pub record IsChecked (s : Sync) (more : List Sent) (late : ℕ) (may : Bool) : T
   pub fresh : IsFresh more
   pub unasked : asked_head more None ≡ None
   pub spares : Spares s more
+  pub behind : IsBehindChecks more
 
--- the head that was asked for where the index has no base, so that it is the base
+-- the head that was asked for where the index has no base, so that it is the base; where it has one, none was in this round
 abbrev pub IsAskedFor : (base asked : Option (List ℕ)) → List Sent → Type 0
-IsAskedFor base None more = IsSome base
+IsAskedFor base None more = IsSome base × (asked_head more None ≡ None)
 IsAskedFor base (Some head) more = (base ≡ None) × (asked_head more None ≡ Some head) × (last_head more None ≡ Some (head, None))
 
 -- behind the head, where one was asked for, and behind its commit, where the folder has something

@@ -1,8 +1,8 @@
 //! Several folders, synced turn after turn.
-ghost use Rattle.std.specs.Prelude.{◌≡◌, ◌++◌, IfOk, List, OnOk, Result, map as list_map};
+ghost use Rattle.std.specs.Prelude.{◌≡◌, ◌++◌, IfOk, List, OnErr, OnOk, Result, map as list_map};
 ghost use Rattle.sync_rules.specs.declared.fault.SyncFault.{SyncFault as Fault};
 ghost use Rattle.sync_rules.specs.declared.synced.Synced.{Synced as Done};
-ghost use Rattle.sync_daemon.specs.Turns.{JobSo, TurnSo, TurnsSo, state_of};
+ghost use Rattle.sync_daemon.specs.Turns.{JobSo, StopsTurn, StopsTurns, TurnSo, TurnsSo, state_of};
 
 use crate::syncing::sync_once;
 use folder_side::Folder;
@@ -25,14 +25,16 @@ pub struct Job<F, R> {
 
 /// Syncs each job once a turn, in order. There is one result for each job and turn.
 ///
-/// Want of memory is told where there is none for a result; some jobs were synced then.
+/// Want of memory is told where there is none for a result. A front of the syncs was done then, in the same order, and nothing
+/// else to any job; the results are lost.
 pub fn run_turns<F: Folder, R: Remote, C: Clock>(
     alloc: Global,
     jobs: &mut Vec<Job<F, R>>,
     turns: u32,
     clock: &C,
 ) -> Result<Vec<Result<Synced, SyncFault>>, AllocError>
-    ensures value { IfOk result (λ results. TurnsSo (C.shows clock.now) turns (list_map (state_of F.told F.faults R.sends) jobs.old.items) (list_map (state_of F.told F.faults R.sends) jobs.new.items) results.items) }
+    ensures value { IfOk result (λ results. TurnsSo (C.shows clock.now) turns (list_map (state_of F.told F.faults R.sends R.peer) jobs.old.items) (list_map (state_of F.told F.faults R.sends R.peer) jobs.new.items) results.items) }
+    ensures err { OnErr result (StopsTurns (C.shows clock.now) turns (list_map (state_of F.told F.faults R.sends R.peer) jobs.old.items) (list_map (state_of F.told F.faults R.sends R.peer) jobs.new.items)) }
 {
     let mut results = Vec::new(alloc);
     let mut turn: u32 = 0;
@@ -51,13 +53,14 @@ fn run_turn<F: Folder, R: Remote, C: Clock>(
     results: &mut Vec<Result<Synced, SyncFault>>,
 ) -> Result<(), AllocError>
     ensures value { OnOk result ((more : List (Result Done Fault)) × (results.new.items ≡ results.old.items ++ more)
-        × TurnSo (C.shows clock.now) (list_map (state_of F.told F.faults R.sends) jobs.old.items) (list_map (state_of F.told F.faults R.sends) jobs.new.items) more) }
+        × TurnSo (C.shows clock.now) (list_map (state_of F.told F.faults R.sends R.peer) jobs.old.items) (list_map (state_of F.told F.faults R.sends R.peer) jobs.new.items) more) }
+    ensures err { OnErr result (StopsTurn (C.shows clock.now) (list_map (state_of F.told F.faults R.sends R.peer) jobs.old.items) (list_map (state_of F.told F.faults R.sends R.peer) jobs.new.items)) }
 {
     let mut place: usize = 0;
     while place < jobs.len() {
         results.reserve(1)?;
         let synced = run_job(alloc, &mut jobs[place], clock);
-        results.push(synced)?;
+        results.push_reserved(synced);
         place += 1;
     }
     Ok(())
@@ -68,7 +71,7 @@ fn run_job<F: Folder, R: Remote, C: Clock>(
     job: &mut Job<F, R>,
     clock: &C,
 ) -> Result<Synced, SyncFault>
-    ensures value { JobSo (C.shows clock.now) (state_of F.told F.faults R.sends job.old) (state_of F.told F.faults R.sends job.new) result }
+    ensures value { JobSo (C.shows clock.now) (state_of F.told F.faults R.sends R.peer job.old) (state_of F.told F.faults R.sends R.peer job.new) result }
 {
     sync_once(
         alloc,

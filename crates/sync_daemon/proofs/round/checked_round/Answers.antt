@@ -10,7 +10,7 @@ returns-in-Err-clause-value g c = λ start before late is checked. (
   before,
   is,
   scan_fails (sync_of c.args.asker.now c.args.user.now (g.C.Clock.shows c.args.clock.now) c.args.cuts (g.F.Folder.told c.args.folder.now) c.args.index.now) before checked.stage late checked.going
-      checked.few c.in-Err.fault c.in-Err.ensures.value,
+      checked.few checked.behind c.in-Err.fault c.in-Err.ensures.value,
 )
 
 pub returns-clause-value : goal.returns-clause-value

@@ -6,8 +6,8 @@ use Rattle.sync_daemon.proofs.turns.run_turns.Given as goal
 abbrev pub invariant-loop-turn : goal.invariant-loop-turn
 invariant-loop-turn g l = record {
   few : l.turn ≤ l.turns;
-  so : TurnsSo (g.C.Clock.shows l.clock) l.turn (map (state_of g.F.Folder.told g.F.Folder.faults g.R.Remote.sends) l.initial.jobs.items)
-      (map (state_of g.F.Folder.told g.F.Folder.faults g.R.Remote.sends) l.jobs.items) l.results.items;
+  so : TurnsSo (g.C.Clock.shows l.clock) l.turn (map (state_of g.F.Folder.told g.F.Folder.faults g.R.Remote.sends g.R.Remote.peer) l.initial.jobs.items)
+      (map (state_of g.F.Folder.told g.F.Folder.faults g.R.Remote.sends g.R.Remote.peer) l.jobs.items) l.results.items;
 }
 
 abbrev pub decreases-loop-turn : goal.decreases-loop-turn
