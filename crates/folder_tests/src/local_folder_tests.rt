@@ -313,3 +313,30 @@ fn a_call_that_fails_leaves_the_old_or_the_new(rt: HostRuntime) -> Result<(), Fa
     assert!(rt; at == CALLS, "{at}");
     Ok(())
 }
+
+/// Whether no file `A` takes the place of `a` where both names find one file, and `a` is replaced all the same.
+fn keeps_both<F: Folder>(alloc: Global, folder: &mut F) -> Result<bool, AllocError> {
+    let small = path(alloc, "a")?;
+    let large = path(alloc, "A")?;
+    Ok(
+        write(folder, &large, b"big").is_err()
+            && reads(folder, &small, 0, b"abc")
+            && write(folder, &small, b"new").is_ok()
+            && reads(folder, &small, 0, b"new"),
+    )
+}
+
+/// The same of the folder `work`.
+fn keeps_both_at(rt: &HostRuntime, place: &str) -> io::Result<bool> {
+    let mut folder = turned(rt, place, Turn::Fold, 0)?;
+    Ok(keeps_both(rt.alloc(), &mut folder)?)
+}
+
+#[test]
+fn a_file_whose_name_differs_in_case_alone_is_not_replaced(rt: HostRuntime) -> Result<(), Fail> {
+    let place = scratch(&rt, "case")?;
+    let is_kept = keeps_both_at(&rt, place.as_str())?;
+    fs::remove_dir_all(&rt, place.as_str())?;
+    assert!(rt; is_kept);
+    Ok(())
+}

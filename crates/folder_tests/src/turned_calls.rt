@@ -1,5 +1,6 @@
-//! The calls of the system, of which one fails, or finds a link in the place of a directory.
-ghost use Rattle.std.specs.Prelude.{◌≡◌, ◌≤◌, IfOk, length};
+//! The calls of the system, of which one fails, or finds a link in the place of a directory; or which take capitals for the
+//! small letters.
+ghost use Rattle.std.specs.Prelude.{◌≡◌, ◌≤◌, IfOk, IsTrue, length};
 
 use local_folder::{DirectoryCalls, EntryKind, EntryNames};
 use std::alloc::{AllocError, Global};
@@ -13,6 +14,8 @@ pub(crate) enum Turn {
     Fault,
     /// Before it the directory `work/d` goes to `kept`, and a link to `outside` takes its place.
     Link,
+    /// From it on no name has a capital: one with capitals finds what has small letters in their places, and takes its place.
+    Fold,
 }
 
 /// Other calls, of which one is turned.
@@ -60,6 +63,15 @@ impl<C: Drop> TurnedCalls<C> {
         match self.turn {
             Turn::Fault => Err(io::Error::from(ErrorKind::Other)),
             Turn::Link => self.put_link(),
+            Turn::Fold => Ok(()),
+        }
+    }
+
+    /// The name that an entry then has.
+    fn held(&self, alloc: Global, name: &str) -> Result<String, AllocError> {
+        match self.turn {
+            Turn::Fold => name.to_ascii_lowercase(alloc),
+            _ => String::from_str(alloc, name),
         }
     }
 
@@ -73,13 +85,15 @@ impl<C: Drop> TurnedCalls<C> {
 }
 
 impl<C: DirectoryCalls + Drop> DirectoryCalls for TurnedCalls<C> {
-    ghost use Rattle.std.specs.Prelude.{None};
+    ghost use Rattle.std.specs.Prelude.{None, true};
 
     type Dir = C::Dir;
 
     type File = C::File;
 
     ghost stands_at = { C.stands_at };
+
+    ghost may_take = { λ _ _ _. true };
 
     ghost steps = { λ _. None };
 
@@ -114,12 +128,18 @@ impl<C: DirectoryCalls + Drop> DirectoryCalls for TurnedCalls<C> {
 
     fn look(&mut self, dir: &C::Dir, name: &str) -> io::Result<Option<EntryKind>> {
         self.pass()?;
-        self.calls.look(dir, name)
+        let held = self.held(self.calls.alloc(), name)?;
+        self.calls.look(dir, held.as_str())
     }
 
     fn list(&mut self, dir: &C::Dir) -> io::Result<EntryNames> {
         self.pass()?;
         self.calls.list(dir)
+    }
+
+    fn is_listed(&mut self, dir: &C::Dir, name: &str) -> io::Result<bool> {
+        self.pass()?;
+        self.calls.is_listed(dir, name)
     }
 
     fn open_file(&mut self, dir: &C::Dir, name: &str) -> io::Result<C::File> {
@@ -154,7 +174,13 @@ impl<C: DirectoryCalls + Drop> DirectoryCalls for TurnedCalls<C> {
 
     fn rename(&mut self, from: &C::Dir, old: &str, to: &C::Dir, new: &str) -> io::Result<()> {
         self.pass()?;
-        self.calls.rename(from, old, to, new)
+        let held = self.held(self.calls.alloc(), new)?;
+        let name = held.as_str();
+        match may_take(&mut self.calls, to, name) {
+            Ok(true) => self.calls.rename(from, old, to, name),
+            Ok(false) => Err(io::Error::from(ErrorKind::Other)),
+            Err(failure) => Err(failure),
+        }
     }
 
     fn make_directory(&mut self, dir: &C::Dir, name: &str) -> io::Result<()> {
@@ -170,5 +196,19 @@ impl<C: DirectoryCalls + Drop> DirectoryCalls for TurnedCalls<C> {
     fn remove_directory(&mut self, dir: &C::Dir, name: &str) -> io::Result<()> {
         self.pass()?;
         self.calls.remove_directory(dir, name)
+    }
+}
+
+/// Whether a file may take a name in a directory: nothing has the name, or just this one is listed.
+fn may_take<C: DirectoryCalls>(calls: &mut C, dir: &C::Dir, name: &str) -> io::Result<bool>
+    ensures named { IfOk result (λ may. IsTrue may → IsTrue (C.may_take calls.new dir.now name.now)) }
+{
+    let found = match calls.look(dir, name) {
+        Ok(found) => found,
+        Err(failure) => return Err(failure),
+    };
+    match found {
+        None => Ok(true),
+        Some(_) => calls.is_listed(dir, name),
     }
 }

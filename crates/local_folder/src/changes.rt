@@ -1,5 +1,5 @@
 //! The changes of a folder, each durable as it ends.
-ghost use Rattle.std.specs.Prelude.{◌≡◌, ◌⊎◌, ◌∷◌, ◌++◌, [], IsTrue};
+ghost use Rattle.std.specs.Prelude.{◌≡◌, ◌⊎◌, ◌∷◌, ◌++◌, [], IfOk, IsTrue};
 ghost use Rattle.local_folder.specs.Steps.{Does, DoesAll, Empties, MadeDirectory, Moved, Removed, SyncedFile, SyncedNames, made, moved_in, spare_path, taken, with_steps};
 ghost use Rattle.tree_model.specs.Path.{PathV};
 
@@ -69,14 +69,32 @@ pub(crate) fn move_spare<C: DirectoryCalls>(
     }
 }
 
-/// Fails where a file can't take a name, since something else has it.
+/// Fails where a file can't take a name: something else has it, or a file that is listed under another one, as where the file
+/// system takes letters of both cases for the same. That is another file of the library, and is kept.
 fn takes_file<C: DirectoryCalls>(calls: &mut C, dir: &C::Dir, name: &Name) -> io::Result<()>
+    ensures named { IfOk result (λ _. IsTrue (C.may_take calls.new dir.now name.now)) }
     ensures stays { C.steps calls.new ≡ C.steps calls.old }
 {
-    match calls.look(dir, name.as_str())? {
+    let found = match calls.look(dir, name.as_str()) {
+        Ok(found) => found,
+        Err(failure) => return Err(failure),
+    };
+    match found {
         None => Ok(()),
-        Some(EntryKind::File) => Ok(()),
+        Some(EntryKind::File) => has_this_name(calls, dir, name),
         Some(_) => Err(in_the_way()),
+    }
+}
+
+/// Fails where a directory lists no entry of just this name.
+fn has_this_name<C: DirectoryCalls>(calls: &mut C, dir: &C::Dir, name: &Name) -> io::Result<()>
+    ensures named { IfOk result (λ _. IsTrue (C.may_take calls.new dir.now name.now)) }
+    ensures stays { C.steps calls.new ≡ C.steps calls.old }
+{
+    match calls.is_listed(dir, name.as_str()) {
+        Ok(true) => Ok(()),
+        Ok(false) => Err(in_the_way()),
+        Err(failure) => Err(failure),
     }
 }
 
@@ -89,6 +107,7 @@ fn move_into<C: DirectoryCalls>(
     name: &Name,
 ) -> io::Result<()>
     requires root { IsTrue (C.stands_at root.now []) }
+    requires named { IsTrue (C.may_take calls.old target.now name.now) }
     ensures order { (path : PathV) → IsTrue (C.stands_at target.now path) →
         DoesAll (SyncedFile ∷ Moved spare_path (path ++ name.now ∷ []) ∷ SyncedNames path ∷ []) (C.steps calls.old) (C.steps calls.new) result }
 {

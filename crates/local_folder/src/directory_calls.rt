@@ -1,5 +1,5 @@
 //! The calls of the system on the entries of open directories.
-ghost use Rattle.std.specs.Prelude.{◌≡◌, ◌≤◌, ◌∷◌, ◌++◌, [], IfOk, IsTrue, length};
+ghost use Rattle.std.specs.Prelude.{◌≡◌, ◌≤◌, ◌∷◌, ◌++◌, [], ℕ, List, IfOk, IsNone, IsTrue, length};
 ghost use Rattle.local_folder.specs.Steps.{Does, Moved, MadeDirectory, Removed, Created, Wrote, SyncedFile, SyncedNames};
 
 use std::alloc::Global;
@@ -26,7 +26,7 @@ pub struct EntryNames {
 /// No call follows a link, but `open_folder` and `is_at` one in the path of the folder itself. A name has no `/`.
 /// `SystemDirectories` hands the calls to the system; a stand-in may count them, let one fail, and tell its steps.
 pub trait DirectoryCalls {
-    ghost use Rattle.std.specs.Prelude.{Bool, Option, List};
+    ghost use Rattle.std.specs.Prelude.{ℕ, Bool, Option, List};
     ghost use Rattle.local_folder.specs.Steps.{Step};
     ghost use Rattle.tree_model.specs.Path.{PathV};
 
@@ -38,6 +38,9 @@ pub trait DirectoryCalls {
 
     // The directory was opened as the one at this path of its folder.
     ghost stands_at: { Self.Dir → PathV → Bool };
+
+    // A file may take a name in a directory: it was seen that nothing has the name, or that the directory lists just this one.
+    ghost may_take: { Self → Self.Dir → List ℕ → Bool };
 
     // What was done, in its order.
     ghost steps: { Self → Option (List Step) };
@@ -68,12 +71,19 @@ pub trait DirectoryCalls {
         ensures told { IfOk result (λ inner. (path : PathV) → IsTrue (stands_at dir.now path) → IsTrue (stands_at inner (path ++ name.now ∷ []))) }
         ensures stays { steps self.new ≡ steps self.old };
 
-    /// What stands under a name, if anything does.
+    /// What stands under a name, if anything does: also what is listed under another one, where the file system takes both for
+    /// the same, as letters of both cases.
     fn look(&mut self, dir: &Self::Dir, name: &str) -> io::Result<Option<EntryKind>>
+        ensures absent { IfOk result (λ found. IsNone found → IsTrue (may_take self.new dir.now name.now)) }
         ensures stays { steps self.new ≡ steps self.old };
 
     /// The names in a directory.
     fn list(&mut self, dir: &Self::Dir) -> io::Result<EntryNames>
+        ensures stays { steps self.new ≡ steps self.old };
+
+    /// Whether the directory lists an entry of just this name, byte by byte.
+    fn is_listed(&mut self, dir: &Self::Dir, name: &str) -> io::Result<bool>
+        ensures listed { IfOk result (λ there. IsTrue there → IsTrue (may_take self.new dir.now name.now)) }
         ensures stays { steps self.new ≡ steps self.old };
 
     /// Opens an entry that is a file itself, to read it.
@@ -95,14 +105,16 @@ pub trait DirectoryCalls {
 
     /// Makes the bytes of an open file durable; no clause says of which.
     fn sync_file(&mut self, file: &mut Self::File) -> io::Result<()>
-        ensures order { Does SyncedFile (steps self.old) (steps self.new) result };
+        ensures order { Does SyncedFile (steps self.old) (steps self.new) result }
+        ensures untouched { (dir : Self.Dir) (name : List ℕ) → IsTrue (may_take self.old dir name) → IsTrue (may_take self.new dir name) };
 
     /// Makes the names in a directory durable.
     fn sync_names(&mut self, dir: &Self::Dir) -> io::Result<()>
         ensures order { (path : PathV) → IsTrue (stands_at dir.now path) → Does (SyncedNames path) (steps self.old) (steps self.new) result };
 
-    /// Gives an entry another name, in place of the file that has it.
+    /// Gives an entry another name, in place of the file that has it. What has it was looked at before.
     fn rename(&mut self, from: &Self::Dir, old: &str, to: &Self::Dir, new: &str) -> io::Result<()>
+        requires named { IsTrue (may_take self.old to.now new.now) }
         ensures order { (path target : PathV) → IsTrue (stands_at from.now path) → IsTrue (stands_at to.now target) →
             Does (Moved (path ++ old.now ∷ []) (target ++ new.now ∷ [])) (steps self.old) (steps self.new) result };
 

@@ -61,6 +61,8 @@ impl<R: Files<File = File> + AllocGlobal + Clone + Drop> DirectoryCalls for Syst
 
     ghost stands_at = { λ _ _. true };
 
+    ghost may_take = { λ _ _ _. true };
+
     ghost steps = { λ _. None };
 
     fn alloc(&self) -> Global {
@@ -112,6 +114,16 @@ impl<R: Files<File = File> + AllocGlobal + Clone + Drop> DirectoryCalls for Syst
             add_name(self.rt.alloc(), entry, &mut found)?;
         }
         Ok(found)
+    }
+
+    fn is_listed(&mut self, dir: &File, name: &str) -> io::Result<bool> {
+        let path = entry_path(self.rt.alloc(), dir, "")?;
+        for entry in fs::read_dir(&self.rt, path.as_str())? {
+            if has_name(entry, name)? {
+                return Ok(true);
+            }
+        }
+        Ok(false)
     }
 
     fn open_file(&mut self, dir: &File, name: &str) -> io::Result<File> {
@@ -218,6 +230,18 @@ fn add_name<R: Files<File = File> + Drop>(
             found.nameless = found.nameless.saturating_add(1);
             Ok(())
         }
+        Err(failure) => Err(failure),
+    }
+}
+
+/// Whether an entry has this name.
+fn has_name<R: Files<File = File> + Drop>(
+    entry: io::Result<DirEntry<R>>,
+    name: &str,
+) -> io::Result<bool> {
+    match entry {
+        Ok(entry) => Ok(entry.file_name() == name),
+        Err(failure) if is_no_text(&failure) => Ok(false),
         Err(failure) => Err(failure),
     }
 }
