@@ -91,3 +91,49 @@ fn days_are_set_within_the_limit(rt: HostRuntime) -> Result<(), AllocError> {
     assert!(rt; is_within_limit(&mut depot));
     Ok(())
 }
+
+/// Whether setting the days of its history is told to change a library.
+fn limit_changes(depot: &mut Depot<MemoryShelf>, days: i64) -> bool {
+    let call = Call {
+        secret: Some(Secret::from_bytes([0xaa; 20])),
+        act: Act::Limit(days),
+    };
+    let (reply, changed) = depot.tell(&call, 9);
+    drop(reply);
+    changed
+}
+
+/// The same of a call that is handed over.
+fn own_limit_changes(depot: &mut Depot<MemoryShelf>, days: i64) -> bool {
+    let call = Call {
+        secret: Some(Secret::from_bytes([0xaa; 20])),
+        act: Act::Limit(days),
+    };
+    let (reply, changed) = depot.tell_own(call, 9);
+    drop(reply);
+    changed
+}
+
+/// Whether a turn of the collection of this number is told to change a library.
+fn turn_changes(depot: &mut Depot<MemoryShelf>, goal: Option<u64>) -> bool {
+    let (turn, changed) = depot.tell_turn(goal, 9, 1);
+    drop(turn);
+    changed
+}
+
+/// Whether a limit is told as a change where it sets other days, and a turn where it takes a step.
+fn are_told(depot: &mut Depot<MemoryShelf>) -> bool {
+    limit_changes(depot, 30)
+        && !limit_changes(depot, 30)
+        && own_limit_changes(depot, 31)
+        && !own_limit_changes(depot, 31)
+        && !turn_changes(depot, Some(1))
+        && turn_changes(depot, None)
+}
+
+#[test]
+fn just_what_changes_the_library_is_told_as_a_change(rt: HostRuntime) -> Result<(), AllocError> {
+    let mut depot = library_on(rt.alloc(), &[])?;
+    assert!(rt; are_told(&mut depot));
+    Ok(())
+}

@@ -1,4 +1,4 @@
-//! Tests of the turnstile, of the depot and of how connections end, over their public calls alone: what no scenario over the
+//! Tests of the turnstile, of the depot, of a hall and of how connections end, over their public calls alone: what no scenario over the
 //! built program can show.
 //!
 //! They stand apart, since a crate with tests is proved twice. It has no code but its tests.
@@ -6,6 +6,12 @@
 
 #[cfg(test)]
 mod depot_tests;
+#[cfg(test)]
+mod hall;
+#[cfg(test)]
+mod hall_own_tests;
+#[cfg(test)]
+mod hall_tests;
 #[cfg(test)]
 mod library;
 #[cfg(test)]
