@@ -141,6 +141,7 @@ module _ {S : Type 0} (contents : S → Option Contents) (may_give : S → Shelf
       lying = lying;
       gives = gives;
       slot = (refl, written);
+      beside = λ runs. absurd (runs refl);
     }
 
     none_fresh : (key : Key) → set.contains collection.running.fresh key ≡ false
@@ -213,6 +214,7 @@ module _ {S : Type 0} (contents : S → Option Contents) (may_give : S → Shelf
     lying = λ key stray. stray;
     gives = λ slot given now. inl now;
     slot = inl (refl, refl, refl);
+    beside = λ runs. absurd (runs refl);
   }
 
   module _ (moment : ℕ) (next : state.collection < last_number) (fault : StoreFault) (still : Bool) (later : LibState) (same : later ≡ state)
@@ -264,6 +266,7 @@ module _ {S : Type 0} (contents : S → Option Contents) (may_give : S → Shelf
           lying = strays_none contents (is_of_store (store_refusal fault)) store new [] lying;
           gives = refused_lays state.lib (store_refusal fault) [] fault (may_give store.shelf) (may_give new.shelf) refl is_free_fault (λ slot given now. wider slot given (gives slot given now));
           slot = inr (inr (fault, refl, refl, left_by));
+          beside = λ runs. absurd (runs refl);
         })
       where
         counts : Counts (faults store.shelf) (faults new.shelf) (reply.Refused (store_refusal fault))

@@ -1,6 +1,6 @@
 -- A turn of any kind, by the depot that it leaves. The key lemmas are over_takes, spent_idle, begins_idle, stops_idle, closes_takes,
 -- closes_kept, turn_keeps, turn_saves and owner_at.
-use Rattle.std.proofs.Common.{◌≡◌, ◌≢◌, inl, ℕ, ◌+◌, ◌<◌, ◌≤◌, ◌==◌, Bool, true, false, if◌then◌else◌, List, [], refl, sym, ap, ap₂, ◌∙◌, subst, subst₂, true≢false, eq-eqb, Option, None, Some, Err, option_map, slice_index_or, arith}
+use Rattle.std.proofs.Common.{◌≡◌, ◌≢◌, inl, inr, ℕ, ◌+◌, ◌<◌, ◌≤◌, ◌==◌, Bool, true, false, if◌then◌else◌, List, [], refl, sym, ap, ap₂, ◌∙◌, subst, subst₂, true≢false, eq-eqb, Option, None, Some, Err, option_map, slice_index_or, arith}
 use borrow.Author.Tests.{eqb-true}
 use Rattle.std.specs.Prelude.{⊤}
 use Rattle.std.specs.FinMap as map
@@ -116,6 +116,7 @@ module _ {S : Type 0} (contents : S → Option Contents) (may_give : S → Shelf
     lying = λ key stray. stray;
     gives = λ slot given now. inl now;
     slot = (refl, refl, refl);
+    beside = λ runs. inr (refl, refl, inl refl);
   }
     where
       due : (goal ≡ Some number) × (option_map (λ running. old.state.collection) old.running ≢ Some number)

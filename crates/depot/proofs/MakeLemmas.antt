@@ -1,6 +1,7 @@
--- A new library, and a commit that was stored. The key lemmas are commit_stored, commit_found, put_before, make_before and
--- good_made.
-use Rattle.std.proofs.Common.{◌≡◌, ◌≢◌, ◌⊎◌, inl, inr, ℕ, ◌≤◌, false, true≢false, cond, if◌then◌else◌, List, [], length, sym, ap, ◌∙◌, subst, Option, None, Some, Ok, Err}
+-- A new library, and a commit that was stored. The key lemmas are commit_stored, commit_found, put_before, make_before, good_made,
+-- proper_opening, left_unmade and unmade_from.
+use Rattle.std.proofs.Common.{◌≡◌, ◌≢◌, ◌⊎◌, inl, inr, ℕ, ◌≤◌, false, true≢false, cond, if◌then◌else◌, List, [], length, sym, ap, ◌∙◌, subst, Option, None, Some, option_map, Result, Ok, Err}
+use Rattle.std.specs.Prelude.{OnErr, ⊤}
 use Rattle.std.specs.FinMap as map
 use Rattle.ids.specs.Key.{Objects}
 use Rattle.ids.specs.declared.key.Key.{Key}
@@ -22,17 +23,17 @@ use Rattle.object_graph.specs.declared.fault.TreeFault.TheVariants.{Unreadable}
 use Rattle.object_graph.proofs.KeyLemmas.{same_key-itself}
 use Rattle.object_store.specs.Shelf.{Contents, GivesAlso, GivesNoMore}
 use Rattle.object_store.specs.Store.{GivesOther, IsDamage, IsOther, IsPutFault, has_other_name, put_refusal, same_bytes}
-use Rattle.object_store.specs.StoreView.{StoreView, with_object, objects_of, status_of}
+use Rattle.object_store.specs.StoreView.{Keeps, StoreView, with_object, objects_of, status_of}
 use Rattle.object_store.specs.declared.error.StoreFault.{StoreFault}
 use Rattle.object_store.specs.declared.error.StoreFault.TheVariants.{Taken, Wrong, Damaged, Shelf, NoMemory}
 use Rattle.object_store.specs.declared.shelf.Slot.{Slot}
 use Rattle.object_store.specs.declared.shelf.Slot.TheVariants.{Object, Status}
 use Rattle.library_rules.specs.declared.entry.Stored.{Stored}
 use Rattle.depot.specs.DepotView.{depot_of, library, IsGood}
-use Rattle.depot.specs.Make.{IsCreated, IsMakeFault, first_state}
+use Rattle.depot.specs.Make.{IsCreated, IsMakeFault, LeftUnmade, begun, first_state, stored, untouched}
 use Rattle.depot.specs.declared.error.MakeFault.{MakeFault}
 use Rattle.depot.specs.declared.error.MakeFault.TheVariants as make
-use Rattle.depot.specs.Writing.{ReadsBack, with_stored}
+use Rattle.depot.specs.Writing.{HasProperParents, ReadsBack, Writes, with_stored, written}
 use Rattle.depot.proofs.GoodLemmas.{none_fresh, sound_told}
 use Rattle.depot.proofs.ToldLemmas.{MappedAt, mapped_at}
 use Rattle.depot.proofs.WritingLemmas.{stored_as_put, written_at}
@@ -99,6 +100,36 @@ module _ {before now : Slot → Option (List ℕ) → Type 0} (gives : GivesNoMo
   pub make_before : (x : Stored) (fault : MakeFault) → IsMakeFault now x fault → IsMakeFault before x fault
   make_before x make.HasState is = (is.0, gives Status (Some is.0) is.1)
   make_before x (make.Store fault) is = put_read_before x.key x.bytes fault is
+
+-- ---- what a write that was refused leaves
+
+-- the opening commit has no parent
+pub proper_opening : (lib user : List ℕ) (moment : ℕ) → HasProperParents (opening_commit lib user moment)
+proper_opening lib user moment = record { parent = tt; second_parent = tt }
+
+module _ {S : Type 0} (contents : S → Option Contents) (given mid store : StoreView S) (commit : Commit) (first : LibState) where
+  -- after the commit was put
+  pub left_unmade : (result : Result ⊤ StoreFault) → objects_of contents mid ≡ with_stored (opening_object commit) (objects_of contents given)
+      → status_of contents mid ≡ status_of contents given
+      → ((objects : Objects) → objects_of contents mid ≡ Some objects → HasProperParents commit → commit_at objects commit.id ≡ Ok commit)
+      → objects_of contents store ≡ objects_of contents mid → Writes first (status_of contents mid) (status_of contents store) result
+      → OnErr result (HasProperParents commit → LeftUnmade contents given commit first store)
+  left_unmade (Ok done) put slot found stays writes = tt
+  left_unmade (Err Shelf) put slot found stays (inl same) = λ proper. stored (stays ∙ put) (same ∙ slot)
+  left_unmade (Err Shelf) put slot found stays (inr is) = λ proper.
+      begun (stays ∙ put) (record { text = is.text ∙ ap (written first) slot; reads = is.reads }) (λ objects told. found objects (sym stays ∙ told) proper)
+  left_unmade (Err NoMemory) put slot found stays same = λ proper. stored (stays ∙ put) (same ∙ slot)
+  left_unmade (Err (Taken id)) put slot found stays none = absurd none
+  left_unmade (Err (Wrong id)) put slot found stays none = absurd none
+  left_unmade (Err (Damaged want got)) put slot found stays none = absurd none
+
+  -- from a store that was read
+  pub unmade_from : Keeps contents given mid → LeftUnmade contents mid commit first store → LeftUnmade contents given commit first store
+  unmade_from keeps (untouched lie slot) = untouched (lie ∙ keeps.objects) (slot ∙ ap (option_map (λ (held : Contents). held.status)) keeps.shelf)
+  unmade_from keeps (stored lie slot) = stored (lie ∙ ap (with_stored (opening_object commit)) keeps.objects) (slot ∙ ap (option_map (λ (held : Contents). held.status)) keeps.shelf)
+  unmade_from keeps (begun lie is found) =
+      begun (lie ∙ ap (with_stored (opening_object commit)) keeps.objects)
+      (record { text = is.text ∙ ap (written first) (ap (option_map (λ (held : Contents). held.status)) keeps.shelf); reads = is.reads }) found
 
 module _ {S : Type 0} (contents : S → Option Contents) (faults : S → ℕ) where
   pub good_made : (given store : StoreView S) (lib name user secret : List ℕ) (moment : ℕ) (state : LibState)

@@ -124,14 +124,14 @@ good_opened contents faults given store state opened some sound = record {
 
 -- the store after the text with the next opening number wasn't written
 pub left_unopened : {S : Type 0} (contents : S → Option Contents) (given mid store : StoreView S) (found : LibState) (fault : StoreFault) → IsFound contents given found
-    → status_of contents mid ≡ status_of contents given → Writes (next_opening found) (status_of contents mid) (status_of contents store) (Err fault)
+    → found.opening ≢ last_number → status_of contents mid ≡ status_of contents given → Writes (next_opening found) (status_of contents mid) (status_of contents store) (Err fault)
     → LeftUnopenedBy contents given store (start.Store fault)
-left_unopened contents given mid store found (Taken id) is same writes = absurd writes
-left_unopened contents given mid store found (Wrong id) is same writes = absurd writes
-left_unopened contents given mid store found (Damaged want got) is same writes = absurd writes
-left_unopened contents given mid store found Shelf is same (inl old) = (untouched (old ∙ same), λ e. absurd (true≢false e))
-left_unopened contents given mid store found Shelf is same (inr new) = (raised found is (record { text = new.text ∙ ap (written (next_opening found)) same; reads = new.reads }), λ e. absurd (true≢false e))
-left_unopened contents given mid store found NoMemory is same writes = (untouched (writes ∙ same), λ e. writes ∙ same)
+left_unopened contents given mid store found (Taken id) is more same writes = absurd writes
+left_unopened contents given mid store found (Wrong id) is more same writes = absurd writes
+left_unopened contents given mid store found (Damaged want got) is more same writes = absurd writes
+left_unopened contents given mid store found Shelf is more same (inl old) = (untouched (old ∙ same), λ e. absurd (true≢false e))
+left_unopened contents given mid store found Shelf is more same (inr new) = (raised found is more (record { text = new.text ∙ ap (written (next_opening found)) same; reads = new.reads }), λ e. absurd (true≢false e))
+left_unopened contents given mid store found NoMemory is more same writes = (untouched (writes ∙ same), λ e. writes ∙ same)
 
 -- two calls that change nothing keep the text
 pub same_status : {S : Type 0} (contents : S → Option Contents) (given mid last : StoreView S) → Keeps contents given mid → Keeps contents mid last → status_of contents last ≡ status_of contents given

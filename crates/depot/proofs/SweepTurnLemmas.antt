@@ -86,8 +86,9 @@ module _ {S : Type 0} (contents : S → Option Contents) (may_give : S → Shelf
   sweeps_takes : (goal : Option ℕ) (moment at_most : ℕ) (keys : List Key) → IsAimed goal state.collection → 1 ≤ at_most → map.len before.marks.candidates ≢ 0
       → SweepsSo contents may_give texts faults store before at_most (Swept keys) new after → GivesBy (IsOfSweep state.lib) (may_give store.shelf) (may_give new.shelf)
       → TurnSlotSo moment (Swept keys) unsettled state (status_of contents store) still (status_of contents new) (texts store.shelf) (texts new.shelf)
+      → SettlesBefore unsettled state (status_of contents store) still (status_of contents new) keys
       → TakesTurn contents may_give texts faults (depot_of store state unsettled (Some before)) goal moment at_most (Swept keys) (depot_of new state still (Some after))
-  sweeps_takes goal moment at_most keys aimed least left (size, sweeps) gives slot = record {
+  sweeps_takes goal moment at_most keys aimed least left (size, sweeps) gives slot settles = record {
     told = told_by contents may_give texts faults store new state unsettled before after known kept goal moment at_most (Swept keys) (state_of contents faults (depot_of new state still (Some after))) (λ objects told.
         let are = took_are before.marks after.marks sweeps.took in
         let turn = swept_turn (rest_at objects) before.running before.marks (sound_there objects told) (collects_there objects told) moment none_waits keys are.0
@@ -111,6 +112,7 @@ module _ {S : Type 0} (contents : S → Option Contents) (may_give : S → Shelf
     lying = sweeps.lying;
     gives = gives;
     slot = slot;
+    beside = λ runs. settles;
   }
     where
       runs_some : {running : Running} → Some running ≡ None → ⊥
@@ -121,8 +123,9 @@ module _ {S : Type 0} (contents : S → Option Contents) (may_give : S → Shelf
   stops_takes : (goal : Option ℕ) (moment at_most : ℕ) (why : Refusal) (keys : List Key) → IsAimed goal state.collection
       → SweepsSo contents may_give texts faults store before at_most (Refused why keys) new after → GivesBy (IsOfSweep state.lib) (may_give store.shelf) (may_give new.shelf)
       → TurnSlotSo moment (Refused why keys) unsettled state (status_of contents store) still (status_of contents new) (texts store.shelf) (texts new.shelf)
+      → SettlesBefore unsettled state (status_of contents store) still (status_of contents new) keys
       → TakesTurn contents may_give texts faults (depot_of store state unsettled (Some before)) goal moment at_most (Refused why keys) (depot_of new state still (Some after))
-  stops_takes goal moment at_most why keys aimed (few, fault, refusal, free, sweeps) gives slot = record {
+  stops_takes goal moment at_most why keys aimed (few, fault, refusal, free, sweeps) gives slot settles = record {
     told = told_by contents may_give texts faults store new state unsettled before after known kept goal moment at_most (Refused why keys) (state_of contents faults (depot_of new state still (Some after))) (λ objects told.
         let are = took_are before.marks after.marks sweeps.took in
         let refused = refused_turn (rest_at objects) before.running before.marks (sound_there objects told) (collects_there objects told) moment why keys (faults new.shelf)
@@ -148,6 +151,7 @@ module _ {S : Type 0} (contents : S → Option Contents) (may_give : S → Shelf
     lying = subst (λ (b : Bool). StraysIf b contents store new keys) (counted_same fault ∙ sym (ap is_of_store refusal)) sweeps.lying;
     gives = refused_lays state.lib why keys fault (may_give store.shelf) (may_give new.shelf) refusal free gives;
     slot = slot;
+    beside = λ runs. settles;
   }
     where
       told_why : (objects : Objects) → IsToldRefusal objects why
@@ -161,17 +165,19 @@ module _ {S : Type 0} (contents : S → Option Contents) (may_give : S → Shelf
   pub sweep_turn : (goal : Option ℕ) (moment at_most : ℕ) (turn : Turn) (later : LibState) → IsAimed goal state.collection → 1 ≤ at_most → map.len before.marks.candidates ≢ 0
       → SweepsSo contents may_give texts faults store before at_most turn new after → later ≡ state → GivesBy (IsOfSweep state.lib) (may_give store.shelf) (may_give new.shelf)
       → TurnSlotSo moment turn unsettled state (status_of contents store) still (status_of contents new) (texts store.shelf) (texts new.shelf)
+      → SettlesBefore unsettled state (status_of contents store) still (status_of contents new) (removed_in turn)
       → TakesTurn contents may_give texts faults (depot_of store state unsettled (Some before)) goal moment at_most turn (depot_of new later still (collection_after turn after))
-  sweep_turn goal moment at_most turn later aimed least left so same gives slot =
+  sweep_turn goal moment at_most turn later aimed least left so same gives slot settles =
       subst (λ (l : LibState). TakesTurn contents may_give texts faults (depot_of store state unsettled (Some before)) goal moment at_most turn (depot_of new l still (collection_after turn after))) (sym same)
-      (by turn so slot)
+      (by turn so slot settles)
     where
       by : (t : Turn) → SweepsSo contents may_give texts faults store before at_most t new after
           → TurnSlotSo moment t unsettled state (status_of contents store) still (status_of contents new) (texts store.shelf) (texts new.shelf)
+          → SettlesBefore unsettled state (status_of contents store) still (status_of contents new) (removed_in t)
           → TakesTurn contents may_give texts faults (depot_of store state unsettled (Some before)) goal moment at_most t (depot_of new state still (collection_after t after))
-      by (Swept keys) sweeps slot_so = sweeps_takes goal moment at_most keys aimed least left sweeps gives slot_so
-      by (Refused why keys) stops slot_so = stops_takes goal moment at_most why keys aimed stops gives slot_so
-      by other none slot_so = absurd none
+      by (Swept keys) sweeps slot_so settles_so = sweeps_takes goal moment at_most keys aimed least left sweeps gives slot_so settles_so
+      by (Refused why keys) stops slot_so settles_so = stops_takes goal moment at_most why keys aimed stops gives slot_so settles_so
+      by other none slot_so settles_so = absurd none
 
   -- ---- the invariant after a sweep
 
@@ -291,7 +297,7 @@ module _ {S : Type 0} (contents : S → Option Contents) (may_give : S → Shelf
           (collects_state (swept false (moved (at there) [] keys)) state (faults new.shelf) (turned_once before.running) after.marks refl
           (sweeps_collect (at there) before.running before.marks after.marks keys (sound_there there told) (collects_there there told) none_waits are.0 sweeps.same are.1
           (some_keys keys at_most (map.len before.marks.candidates) size least left))))
-          (sound_after None 0 at_most (Swept keys) keys sweeps.took (sweeps_takes None 0 at_most keys tt least left (size, sweeps) gives slot_so))
+          (sound_after None 0 at_most (Swept keys) keys sweeps.took (sweeps_takes None 0 at_most keys tt least left (size, sweeps) gives slot_so settles_so))
       by (Refused why keys) (few, fault, refusal, free, sweeps) slot_so settles_so knows_it =
           let are = took_are before.marks after.marks sweeps.took in
           swept_kept keys sweeps.took knows knows_it settles_so (λ key. ap (λ (r : Running). set.contains r.fresh key) sweeps.runs)
@@ -299,5 +305,5 @@ module _ {S : Type 0} (contents : S → Option Contents) (may_give : S → Shelf
           subst (λ (r : Running). Collects (running_library state (Some r) (faults new.shelf) (without there keys)) r after.marks) (sym sweeps.runs)
           (collects_state (moved (at there) [] keys) state (faults new.shelf) before.running after.marks refl
           (stops_collect (at there) before.running before.marks after.marks keys (sound_there there told) (collects_there there told) none_waits are.0 sweeps.same are.1)))
-          (sound_after None 0 at_most (Refused why keys) keys sweeps.took (stops_takes None 0 at_most why keys tt (few, fault, refusal, free, sweeps) gives slot_so))
+          (sound_after None 0 at_most (Refused why keys) keys sweeps.took (stops_takes None 0 at_most why keys tt (few, fault, refusal, free, sweeps) gives slot_so settles_so))
       by other none slot_so settles_so knows_it = absurd none

@@ -1,6 +1,6 @@
 -- A turn that marks, or ends a collection, and what it leaves. The key lemmas are marks_some, fails_some, marks_takes, fails_takes,
 -- ends_takes, mark_turn, mark_stands, marking_due, sweeping_due and over_due.
-use Rattle.std.proofs.Common.{◌≡◌, ◌≢◌, inl, ℕ, zero, suc, ◌+◌, ◌≤◌, ◌&&◌, ◌||◌, Bool, true, false, not, List, [], ◌∷◌, length, refl, sym, ap, ◌∙◌, subst, subst₂, true≢false, eq-eqb, ◌==◌, if◌then◌else◌, Option, None, Some, Ok, Err, is_some, option_map, arith}
+use Rattle.std.proofs.Common.{◌≡◌, ◌≢◌, inl, inr, ℕ, zero, suc, ◌+◌, ◌≤◌, ◌&&◌, ◌||◌, Bool, true, false, not, List, [], ◌∷◌, length, refl, sym, ap, ◌∙◌, subst, subst₂, true≢false, eq-eqb, ◌==◌, if◌then◌else◌, Option, None, Some, Ok, Err, is_some, option_map, arith}
 use borrow.Author.Tests.{eqb-true}
 use Rattle.std.specs.Prelude.{⊤}
 use Rattle.std.specs.Bool.{MatchBool}
@@ -182,6 +182,7 @@ module _ {S : Type 0} (contents : S → Option Contents) (may_give : S → Slot 
     lying = strays_kept contents store new marks.reads.kept.index marks.reads.kept.shelf;
     gives = λ slot given now. inl (marks.reads.shelf.gives slot given now);
     slot = (refl, ap (option_map (λ (held : Contents). held.status)) marks.reads.kept.shelf, marks.reads.shelf.written);
+    beside = λ runs. inr (refl, refl, inl (ap (option_map (λ (held : Contents). held.status)) marks.reads.kept.shelf));
   }
 
   -- an object can't be marked: over told objects the commits are complete, so it is a fault of the store
@@ -219,6 +220,7 @@ module _ {S : Type 0} (contents : S → Option Contents) (may_give : S → Slot 
         lying = strays_none contents (is_of_store (walk_refusal fails.fault)) store new [] (strays_kept contents store new fails.reads.kept.index fails.reads.kept.shelf);
         gives = λ slot given now. inl (fails.reads.shelf.gives slot given now);
         slot = inl (refl, ap (option_map (λ (held : Contents). held.status)) fails.reads.kept.shelf, fails.reads.shelf.written);
+        beside = λ runs. inr (refl, refl, inl (ap (option_map (λ (held : Contents). held.status)) fails.reads.kept.shelf));
       }))
     where
       due : (objects : Objects) → objects_of contents store ≡ Some objects → IsDue objects None fails.fault
@@ -261,6 +263,7 @@ module _ {S : Type 0} (contents : S → Option Contents) (may_give : S → Slot 
     lying = λ key stray. stray;
     gives = λ slot given now. inl now;
     slot = (refl, refl, refl);
+    beside = λ runs. inr (refl, refl, inl refl);
   }
 
   -- ---- the invariant after a reading

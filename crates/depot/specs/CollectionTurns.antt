@@ -214,6 +214,11 @@ TurnSlotSo moment (Refused why keys) unsettled present old still new before now 
     ⊎ IsSettledOnce unsettled present old still new before now
     ⊎ ((fault : StoreFault) × (why ≡ store_refusal fault) × (keys ≡ []) × LeftBy fault unsettled present (with_begin moment present) old still new)
 
+-- the present text stands before an object leaves: the slot was settled; or no object left, and the slot has that text or what it held
+abbrev pub SettlesBefore : (unsettled : Bool) (present : LibState) (old : Slot) (still : Bool) (new : Slot) (removed : List Key) → Type 0
+SettlesBefore unsettled present old still new removed =
+    ((still ≡ false) × (new ≡ settled unsettled present old)) ⊎ ((removed ≡ []) × (still ≡ unsettled) × ((new ≡ old) ⊎ IsWritten present old new))
+
 -- what a refused turn may lay: where the shelf failed or memory was wanting the present text, and nothing in slots of objects; and
 -- for any other refusal, as one that is spent or met damage, nothing at all
 abbrev pub MayLayRefused : List ℕ → Refusal → ShelfSlot → Option (List ℕ) → Type 0
@@ -261,6 +266,7 @@ pub record TakesTurn {S : Type 0} (contents : S → Option Contents) (may_give :
   pub gives : GivesBy (MayLayIn old.state.lib turn) (may_give old.store.shelf) (may_give new.store.shelf)
   pub slot : TurnSlotSo moment turn old.unsettled old.state (status_of contents old.store) new.unsettled (status_of contents new.store)
       (texts old.store.shelf) (texts new.store.shelf)
+  pub beside : old.running ≢ None → SettlesBefore old.unsettled old.state (status_of contents old.store) new.unsettled (status_of contents new.store) (removed_in turn)
 
 -- a turn without a goal, or with that of the collection that runs
 abbrev pub IsAimed : Option ℕ → ℕ → Type 0
@@ -283,11 +289,6 @@ is_end other = false
 abbrev pub collection_after : Turn → CollectionView → Option CollectionView
 collection_after (Ended number) collection = None
 collection_after other collection = Some collection
-
--- the present text stands before an object leaves: the slot was settled; or no object left, and the slot has that text or what it held
-abbrev pub SettlesBefore : (unsettled : Bool) (present : LibState) (old : Slot) (still : Bool) (new : Slot) (removed : List Key) → Type 0
-SettlesBefore unsettled present old still new removed =
-    ((still ≡ false) × (new ≡ settled unsettled present old)) ⊎ ((removed ≡ []) × (still ≡ unsettled) × ((new ≡ old) ⊎ IsWritten present old new))
 
 abbrev pub turned_once : Running → Running
 turned_once running = record running { turned = running.turned + 1 }

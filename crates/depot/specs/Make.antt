@@ -76,16 +76,17 @@ pub record IsMade {S : Type 0} (contents : S → Option Contents) (faults : S �
   pub text : IsWritten first (status_of contents given) (status_of contents depot.store)
   pub count : faults depot.store.shelf ≡ faults given.shelf
 
--- the store after a library wasn't made: as it was, or with the opening commit; and with that the slot may hold the text
-pub data LeftUnmade {S : Type 0} (contents : S → Option Contents) (given : StoreView S) (x : Stored) (first : LibState) (store : StoreView S) : Type 0 where
+-- the store after a library wasn't made: as it was, or with the opening commit; and with that the slot may hold the text, and
+-- the commit can be read
+pub data LeftUnmade {S : Type 0} (contents : S → Option Contents) (given : StoreView S) (commit : Commit) (first : LibState) (store : StoreView S) : Type 0 where
   untouched : objects_of contents store ≡ objects_of contents given → status_of contents store ≡ status_of contents given
-      → LeftUnmade contents given x first store
-  stored : objects_of contents store ≡ with_stored x (objects_of contents given) → status_of contents store ≡ status_of contents given
-      → LeftUnmade contents given x first store
-  begun : objects_of contents store ≡ with_stored x (objects_of contents given) → IsWritten first (status_of contents given) (status_of contents store)
-      → LeftUnmade contents given x first store
+      → LeftUnmade contents given commit first store
+  stored : objects_of contents store ≡ with_stored (opening_object commit) (objects_of contents given) → status_of contents store ≡ status_of contents given
+      → LeftUnmade contents given commit first store
+  begun : objects_of contents store ≡ with_stored (opening_object commit) (objects_of contents given) → IsWritten first (status_of contents given) (status_of contents store)
+      → ((objects : Objects) → objects_of contents store ≡ Some objects → commit_at objects commit.id ≡ Ok commit) → LeftUnmade contents given commit first store
 
 -- the same by the refusal: where a text is there nothing is changed, and only a failure of the shelf may leave the text
-abbrev pub LeftUnmadeBy : {S : Type 0} → (S → Option Contents) → (given : StoreView S) → Stored → LibState → (store : StoreView S) → MakeFault → Type 0
-LeftUnmadeBy contents given x first store make.HasState = (objects_of contents store ≡ objects_of contents given) × (status_of contents store ≡ status_of contents given)
-LeftUnmadeBy contents given x first store (make.Store fault) = LeftUnmade contents given x first store × (is_of_shelf fault ≡ false → status_of contents store ≡ status_of contents given)
+abbrev pub LeftUnmadeBy : {S : Type 0} → (S → Option Contents) → (given : StoreView S) → Commit → LibState → (store : StoreView S) → MakeFault → Type 0
+LeftUnmadeBy contents given commit first store make.HasState = (objects_of contents store ≡ objects_of contents given) × (status_of contents store ≡ status_of contents given)
+LeftUnmadeBy contents given commit first store (make.Store fault) = LeftUnmade contents given commit first store × (is_of_shelf fault ≡ false → status_of contents store ≡ status_of contents given)

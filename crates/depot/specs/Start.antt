@@ -1,5 +1,5 @@
 -- How a library is opened again. Our own. Read start_refusal, then IsOpened and LeftUnopened.
-use Rattle.std.specs.Prelude.{◌≡◌, ◌⊎◌, ℕ, ◌+◌, ◌==◌, Bool, false, if◌then◌else◌, List, [], ◌∷◌, Option, None, Some, option_map, Result, Ok, Err, ⊤}
+use Rattle.std.specs.Prelude.{◌≡◌, ◌≢◌, ◌⊎◌, ℕ, ◌+◌, ◌==◌, Bool, false, if◌then◌else◌, List, [], ◌∷◌, Option, None, Some, option_map, Result, Ok, Err, ⊤}
 use Rattle.ids.specs.Key.{Objects}
 use Rattle.ids.specs.declared.key.Key.{Key}
 use Rattle.library_rules.specs.LibraryState.{kept_commits, last_number}
@@ -201,10 +201,12 @@ abbrev pub without_store : {T U F : Type 0} → Result T (U × F) → Result ⊤
 without_store (Ok x) = Ok tt
 without_store (Err refused) = Err refused.1
 
--- the store after a library wasn't opened: as it was; or the slot may hold the text with the next opening number
+-- the store after a library wasn't opened: as it was; or the slot may hold the text with the next opening number, where the one
+-- that was read wasn't the last
 pub data LeftUnopened {S : Type 0} (contents : S → Option Contents) (given store : StoreView S) : Type 0 where
   untouched : status_of contents store ≡ status_of contents given → LeftUnopened contents given store
-  raised : (found : LibState) → IsFound contents given found → IsWritten (next_opening found) (status_of contents given) (status_of contents store)
+  raised : (found : LibState) → IsFound contents given found → found.opening ≢ last_number
+      → IsWritten (next_opening found) (status_of contents given) (status_of contents store)
       → LeftUnopened contents given store
 
 -- only a failure of the shelf may leave the next text

@@ -30,7 +30,7 @@ impl<S: Shelf> Depot<S> {
     /// the user's 1 to 255.
     ///
     /// After a refusal the store is given back: as it was, or with the opening commit, and where the shelf failed as the
-    /// text was written with that text.
+    /// text was written with that text, where the commit can be read.
     pub fn make(
         alloc: Global,
         store: Store<S>,
@@ -50,7 +50,7 @@ impl<S: Shelf> Depot<S> {
         ensures lying { IfOk result (λ depot. AddsNoStray S.contents store depot.store) }
         ensures gives { IfOk result (λ depot. GivesBy (IsOfMaking (opening_object (opening_commit lib user.now moment)) (first_state lib name.now user.now secret (opening_commit lib user.now moment).id moment)) (S.may_give store.shelf) (S.may_give depot.store.shelf)) }
         ensures err_lying { IfErr result (λ refused. is_make_counted refused.1 ≡ false → AddsNoStray S.contents store refused.0) }
-        ensures err { IfErr result (λ refused. LeftUnmadeBy S.contents store (opening_object (opening_commit lib user.now moment))
+        ensures err { IfErr result (λ refused. LeftUnmadeBy S.contents store (opening_commit lib user.now moment)
             (first_state lib name.now user.now secret (opening_commit lib user.now moment).id moment) refused.0 refused.1) }
 
         // HasState is looked for before the opening commit is put. Over a shelf that tells nothing each fault has its cause,
@@ -90,7 +90,7 @@ fn make_in<S: Shelf>(
 ) -> Result<LibState, MakeFault>
     ensures value { IfOk result (IsCreated S.contents S.faults store.old (opening_commit lib user.now moment)
         (first_state lib name.now user.now secret (opening_commit lib user.now moment).id moment) store.new) }
-    ensures err { IfErr result (LeftUnmadeBy S.contents store.old (opening_object (opening_commit lib user.now moment))
+    ensures err { IfErr result (LeftUnmadeBy S.contents store.old (opening_commit lib user.now moment)
         (first_state lib name.now user.now secret (opening_commit lib user.now moment).id moment) store.new) }
     ensures refused { (objects : Objects) → (status : Option (List ℕ)) → objects_of S.contents store.old ≡ Some objects → status_of S.contents store.old ≡ Some status
         → RefusesAs is_make_free result (make_refusal status (put_refusal objects (opening_object (opening_commit lib user.now moment)).key
@@ -205,7 +205,7 @@ fn store_first<S: Shelf>(
     ensures ok { OnOk result (StoresFirst S.contents store.old (opening_object commit.now) state.now store.new) }
     ensures found { OnOk result ((objects : Objects) → objects_of S.contents store.new ≡ Some objects → HasProperParents commit.now
         → commit_at objects commit.now.id ≡ Ok commit.now) }
-    ensures err { OnErr result (LeftUnmade S.contents store.old (opening_object commit.now) state.now store.new) }
+    ensures err { OnErr result (HasProperParents commit.now → LeftUnmade S.contents store.old commit.now state.now store.new) }
     ensures unwritten { IfErr result (λ fault. is_of_shelf fault ≡ false → status_of S.contents store.new ≡ status_of S.contents store.old) }
     ensures refused { (objects : Objects) → objects_of S.contents store.old ≡ Some objects
         → RefusesAs is_free result (put_refusal objects (opening_object commit.now).key (opening_object commit.now).bytes) }

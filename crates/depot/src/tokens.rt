@@ -38,10 +38,11 @@ impl<S: Shelf> Depot<S> {
         ensures running { self.new.running ≡ self.old.running }
         ensures marked { self.new.marked ≡ self.old.marked }
 
-        // What the slot holds, where the store was asked.
+        // What the slot holds, where the store was asked. It is asked for no token that is refused.
         ensures text { IfSome (store_answer result) (RewritesSo self.old.unsettled self.old.state (with_new_token user.now secret right self.old.state)
             (status_of S.contents self.old.store) self.new.unsettled (status_of S.contents self.new.store)) }
         ensures untouched { store_answer result ≡ None → self.new ≡ self.old }
+        ensures asked { IfSome (store_answer result) (λ answer. token_refusal self.old.state.tokens secret ≡ None) }
         ensures refused { RefusesAs is_token_free result (token_refusal self.old.state.tokens secret) }
         ensures faults { FailsBy is_token_counted (S.faults self.old.store.shelf) (S.faults self.new.store.shelf) result }
     {

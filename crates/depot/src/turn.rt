@@ -94,7 +94,8 @@ impl<S: Shelf> Depot<S> {
         ensures faults { CountsTurn (S.faults self.old.store.shelf) (S.faults self.new.store.shelf) result }
         ensures gives { GivesBy (MayLayIn self.old.state.lib result) (S.may_give self.old.store.shelf) (S.may_give self.new.store.shelf) }
 
-        // What is left, and what the slot holds.
+        // What is left, and what the slot holds. Beside a collection that runs no text but the present one is written, and where
+        // that is open, before a key leaves.
         ensures left { self.new.state ≡ state_after_turn self.old.state moment result }
         ensures running { self.new.running ≡ running_after_turn (map.len self.old.store.index) self.old.running result }
         ensures marked { CountsMarked result self.old.marked self.new.marked }
@@ -104,6 +105,8 @@ impl<S: Shelf> Depot<S> {
         ensures lying { StraysIf (is_counted_turn result) S.contents self.old.store self.new.store (removed_in result) }
         ensures text { TurnSlotSo moment result self.old.unsettled self.old.state (status_of S.contents self.old.store) self.new.unsettled
             (status_of S.contents self.new.store) (S.texts self.old.store.shelf) (S.texts self.new.store.shelf) }
+        ensures settled { self.old.running ≢ None → SettlesBefore self.old.unsettled self.old.state (status_of S.contents self.old.store)
+            self.new.unsettled (status_of S.contents self.new.store) (removed_in result) }
     {
         self.take_turn(goal, moment, at_most)
     }

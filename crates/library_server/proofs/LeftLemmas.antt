@@ -11,7 +11,8 @@ use Rattle.depot.specs.declared.error.StartFault.{StartFault}
 use Rattle.depot.specs.declared.error.StartFault.TheVariants as start
 use Rattle.ids.specs.Key.{Objects}
 use Rattle.library_rules.specs.Changes.{put_new}
-use Rattle.library_rules.specs.declared.entry.Stored.{Stored}
+use Rattle.library_rules.specs.Creation.{opening_commit, opening_object}
+use Rattle.commit_objects.specs.declared.commit.Commit.{Commit}
 use Rattle.library_state.specs.StateSpelling.{text_of}
 use Rattle.library_state.specs.declared.state.LibState.{LibState}
 use Rattle.object_graph.specs.Unchanged.{Keeps}
@@ -36,12 +37,12 @@ module _ {S : Type 0} (contents : S → Option Contents) where
       let shelf = mapped_from (λ (c : Contents). c.status) (contents store.shelf) status at in
       (shelf.0, shelf.1, same_from_some shelf.0.status status (sym (ap (option_map (λ (c : Contents). c.status)) shelf.1) ∙ at))
 
-  unmade_slot : (given store : StoreView S) (x : Stored) (first : LibState) (held : Contents) → LeftUnmade contents given x first store
+  unmade_slot : (given store : StoreView S) (commit : Commit) (first : LibState) (held : Contents) → LeftUnmade contents given commit first store
       → status_of contents given ≡ Some held.status → objects_of contents given ≡ Some held.objects
-      → (status_of contents store ≡ Some held.status) ⊎ ((status_of contents store ≡ Some (Some (text_of first))) × (objects_of contents store ≡ Some (put_new held.objects x)))
-  unmade_slot given store x first held (untouched objects status) at all = inl (status ∙ at)
-  unmade_slot given store x first held (stored objects status) at all = inl (status ∙ at)
-  unmade_slot given store x first held (begun objects status) at all = inr (status.text ∙ ap (written first) at, objects ∙ ap (with_stored x) all)
+      → (status_of contents store ≡ Some held.status) ⊎ ((status_of contents store ≡ Some (Some (text_of first))) × (objects_of contents store ≡ Some (put_new held.objects (opening_object commit))))
+  unmade_slot given store commit first held (untouched objects status) at all = inl (status ∙ at)
+  unmade_slot given store commit first held (stored objects status) at all = inl (status ∙ at)
+  unmade_slot given store commit first held (begun objects status found) at all = inr (status.text ∙ ap (written first) at, objects ∙ ap (with_stored (opening_object commit)) all)
 
   -- what a store holds lies on its shelf
   all_lie : (store : StoreView S) (objects : Objects) (h : Contents) → contents store.shelf ≡ Some h → objects_of contents store ≡ Some objects → Keeps objects h.objects
@@ -64,11 +65,11 @@ module _ {S : Type 0} (contents : S → Option Contents) where
   left_store new moment fault false is store held slot kept = kept_slot new moment (make.Store fault) store held (kept refl)
 
   pub left_unmade : (new : NewLibrary) (moment : ℕ) (given store : StoreView S) (held : Contents) (why : MakeFault)
-      → LeftUnmadeBy contents given (new_commit new moment) (first_of new moment) store why → status_of contents given ≡ Some held.status
+      → LeftUnmadeBy contents given (opening_commit new.lib new.user moment) (first_of new moment) store why → status_of contents given ≡ Some held.status
       → objects_of contents given ≡ Some held.objects → LeavesText new moment why held (contents store.shelf)
   left_unmade new moment given store held make.HasState left at all = kept_slot new moment make.HasState store held (left.1 ∙ at)
   left_unmade new moment given store held (make.Store fault) left at all =
-      left_store new moment fault (is_of_shelf fault) refl store held (unmade_slot given store (new_commit new moment) (first_of new moment) held left.0 at all) (λ e. left.1 e ∙ at)
+      left_store new moment fault (is_of_shelf fault) refl store held (unmade_slot given store (opening_commit new.lib new.user moment) (first_of new moment) held left.0 at all) (λ e. left.1 e ∙ at)
 
   -- where nothing lies beside, the shelf holds just what the store holds
   lies : (store : StoreView S) (objects : Objects) (h : Contents) → HasNoStray contents store → contents store.shelf ≡ Some h → objects_of contents store ≡ Some objects
@@ -87,7 +88,7 @@ module _ {S : Type 0} (contents : S → Option Contents) where
       → objects_of contents store ≡ Some held.objects → LeavesOpened (start.Store fault) held (contents store.shelf)
   raised_slot given store held fault false none is_counted left kept at objects = unraised_slot given store held (start.Store fault) none (kept refl) at objects
   raised_slot given store held fault true none is_counted (unraised status) kept at objects = unraised_slot given store held (start.Store fault) none status at objects
-  raised_slot given store held fault true none is_counted (raised found is status) kept at objects =
+  raised_slot given store held fault true none is_counted (raised found is more status) kept at objects =
       let slot = slot_told store (Some (text_of (next_opening found))) (status.text ∙ ap (written (next_opening found)) at) in (
         slot.0,
         slot.1,

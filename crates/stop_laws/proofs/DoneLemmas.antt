@@ -1,8 +1,8 @@
 -- What stands in the status slot, and what the shelf stands for, after one call. The key lemmas are text_left, good_left, told_left
 -- and leaves.
-use Rattle.std.proofs.Common.{◌≡◌, ◌⊎◌, inl, inr, ℕ, ◌<◌, ◌≤◌, ◌==◌, Bool, true, false, if◌then◌else◌, nat_le, List, [], length, refl, sym, ap, ◌∙◌, subst, true≢false, Option, None, Some, option_map, Result, Ok, Err, arith}
+use Rattle.std.proofs.Common.{◌≡◌, ◌≢◌, ◌⊎◌, inl, inr, ℕ, ◌<◌, ◌≤◌, Bool, true, false, if◌then◌else◌, nat_le, List, [], length, refl, sym, ap, ◌∙◌, subst, Option, None, Some, option_map, Result, Ok, Err, arith}
 use Rattle.std.specs.Prelude.{⊤}
-use Rattle.std.proofs.lemmas.Bool.{eq-eqb, eqb-true, leb-false}
+use Rattle.std.proofs.lemmas.Bool.{leb-false}
 use Rattle.ids.specs.declared.key.Key.{Key}
 use Rattle.library_rules.specs.Changes.{act_changes, apply, begun, is_refused, moved}
 use Rattle.library_rules.specs.Creation.{with_token}
@@ -33,7 +33,7 @@ use Rattle.object_store.specs.declared.error.StoreFault.{StoreFault}
 use Rattle.object_store.specs.declared.error.StoreFault.TheVariants.{Shelf}
 use Rattle.object_store.specs.declared.shelf.Slot.{Slot}
 use Rattle.depot.specs.Answering.{MayAnswerSo, SlotSo, Would, next_state, refused, rewritten, state_after, unwritten}
-use Rattle.depot.specs.CollectionTurns.{IsRunning, TakesTurn, TurnSlotSo, state_after_turn}
+use Rattle.depot.specs.CollectionTurns.{IsRunning, SettlesBefore, TakesTurn, TurnSlotSo, removed_in, state_after_turn}
 use Rattle.depot.specs.DepotView.{DepotView, Holds, HoldsOther, IsGood, library, running_library, state_of}
 use Rattle.depot.specs.NextState.{with_begin, with_new_token}
 use Rattle.depot.specs.Refusals.{store_refusal}
@@ -46,7 +46,7 @@ use Rattle.depot.specs.declared.turn.Turn.{Turn}
 use Rattle.depot.specs.declared.turn.Turn.TheVariants as turn
 use Rattle.depot.proofs.StandingLemmas.{indexed_lies, on_shelf}
 use Rattle.depot.proofs.ToldLemmas.{MappedAt, mapped_at}
-use Rattle.stop_laws.specs.Stops.{AddsToken, Done, answered, turned, given_token, DoneSo, IsUntold, Leaves, present, open_before, would_be, unknown, StandsForState, WouldMake}
+use Rattle.stop_laws.specs.Stops.{AddsToken, Done, answered, turned, given_token, DoneSo, Leaves, present, open_before, would_be, StandsForState, WouldMake}
 use Rattle.stop_laws.proofs.SlotLemmas.{LeftText, text_present, text_same, text_next, left_text, same_slot, settled_text, written_text}
 
 pub some_same : {A : Type 0} {x y : A} → Some x ≡ Some y → x ≡ y
@@ -153,7 +153,6 @@ module _ {S : Type 0} (contents : S → Option Contents) (may_give : S → Slot 
     is_same : old.unsettled ≡ true → new.unsettled ≡ true → new.state ≡ old.state → now ≡ before → TextLeaves old done before new now
     is_next : new.unsettled ≡ true → (next : LibState) → WouldMake contents may_give texts faults old done next → read_state (text_of next) ≡ Ok next → now ≡ Some (text_of next)
         → TextLeaves old done before new now
-    is_untold : new.unsettled ≡ true → IsUntold contents may_give texts faults old done → TextLeaves old done before new now
 
   module _ (old : DepotView S) (before : Contents) (good : IsGood contents faults old) (there : contents old.store.shelf ≡ Some before) (new : DepotView S) (held : Contents)
       (left : contents new.store.shelf ≡ Some held) where
@@ -204,42 +203,52 @@ module _ {S : Type 0} (contents : S → Option Contents) (may_give : S → Slot 
 
     -- a begin that was refused
     begin_text : (goal : Option ℕ) (moment at_most : ℕ) (taken : Turn) → TakesTurn contents may_give texts faults old goal moment at_most taken new
-        → taken ≡ turn.Refused refusal.Store [] → new.unsettled ≡ true → ReadsBack (with_begin moment old.state) → held.status ≡ Some (text_of (with_begin moment old.state))
-        → TextLeaves old (turned goal moment at_most taken) before.status new held.status
-    begin_text goal moment at_most taken takes is still reads text = by (old.state.collection == last_number) refl old.running refl
+        → taken ≡ turn.Refused refusal.Store [] → old.running ≡ None → new.unsettled ≡ true → ReadsBack (with_begin moment old.state)
+        → held.status ≡ Some (text_of (with_begin moment old.state)) → TextLeaves old (turned goal moment at_most taken) before.status new held.status
+    begin_text goal moment at_most taken takes is runs still reads text =
+        is_next still (with_begin moment old.state) (is, runs, refl) (reads (proper_begun s moment sound less)) text
       where
-        idle : (g : Option ℕ) → goal ≡ g → old.running ≡ None → last_number ≤ old.state.collection → ⊥
-        idle None aims runs last = spent_store (sym is ∙ takes.may_come.spent aims runs last)
-        idle (Some number) aims runs last =
+        idle : (g : Option ℕ) → goal ≡ g → last_number ≤ old.state.collection → ⊥
+        idle None aims last = spent_store (sym is ∙ takes.may_come.spent aims runs last)
+        idle (Some number) aims last =
             refused_over refusal.Store [] number (sym is ∙ takes.may_come.over number aims (λ run. subst (λ (o : Option Running). IsRunning o old.state.collection number) runs run))
 
-        by : (b : Bool) → (old.state.collection == last_number) ≡ b → (r : Option Running) → old.running ≡ r → TextLeaves old (turned goal moment at_most taken) before.status new held.status
-        by false apart r runs =
-            is_next still (with_begin moment old.state) (is, refl)
-            (reads (proper_begun s moment sound (below old.state.collection sound.numbers.collections (λ e. true≢false (sym (eq-eqb old.state.collection last_number e) ∙ apart))))) text
-        by true last (Some running) runs = is_untold still (is, (λ none. some_none running (sym runs ∙ none)), eqb-true old.state.collection last_number last)
-        by true last None runs = absurd (idle goal refl runs (least_last old.state.collection (eqb-true old.state.collection last_number last)))
+        less : old.state.collection < last_number
+        less = below old.state.collection sound.numbers.collections (λ last. idle goal refl (least_last old.state.collection last))
+
+    -- a turn that was refused beside a collection
+    beside_text : (done : Done) (removed : List Key) → new.state ≡ old.state → SettlesBefore old.unsettled old.state (Some before.status) new.unsettled (Some held.status) removed
+        → TextLeaves old done before.status new held.status
+    beside_text done removed same (inl (still, slot)) = left_from done old.state same (settled_text old.state old.unsettled before.status held.status own slot)
+    beside_text done removed same (inr (none, still, inl slot)) = as_it_was done same still slot
+    beside_text done removed same (inr (none, still, inr is)) = left_from done old.state same (same_slot is.text)
 
     turn_text : (goal : Option ℕ) (moment at_most : ℕ) (taken : Turn) (n m : ℕ) → TakesTurn contents may_give texts faults old goal moment at_most taken new
         → TurnSlotSo moment taken old.unsettled old.state (Some before.status) new.unsettled (Some held.status) n m
+        → (old.running ≢ None → SettlesBefore old.unsettled old.state (Some before.status) new.unsettled (Some held.status) (removed_in taken))
         → new.state ≡ state_after_turn old.state moment taken → TextLeaves old (turned goal moment at_most taken) before.status new held.status
-    turn_text goal moment at_most (turn.Began number) n m takes slot after =
+    turn_text goal moment at_most (turn.Began number) n m takes slot beside after =
         left_from (turned goal moment at_most (turn.Began number)) (with_begin moment old.state) after
         (written_text (with_begin moment old.state) old.state old.unsettled before.status held.status slot.1)
-    turn_text goal moment at_most (turn.Marked count) n m takes slot after = as_it_was (turned goal moment at_most (turn.Marked count)) after slot.0 slot.1
-    turn_text goal moment at_most (turn.Swept keys) n m takes slot after =
+    turn_text goal moment at_most (turn.Marked count) n m takes slot beside after = as_it_was (turned goal moment at_most (turn.Marked count)) after slot.0 slot.1
+    turn_text goal moment at_most (turn.Swept keys) n m takes slot beside after =
         left_from (turned goal moment at_most (turn.Swept keys)) old.state after (settled_text old.state old.unsettled before.status held.status own slot.1)
-    turn_text goal moment at_most (turn.Ended number) n m takes slot after = as_it_was (turned goal moment at_most (turn.Ended number)) after slot.0 slot.1
-    turn_text goal moment at_most (turn.Over number) n m takes slot after = as_it_was (turned goal moment at_most (turn.Over number)) after slot.0 slot.1
-    turn_text goal moment at_most (turn.Refused why keys) n m takes (inl slot) after = as_it_was (turned goal moment at_most (turn.Refused why keys)) after slot.0 slot.1
-    turn_text goal moment at_most (turn.Refused why keys) n m takes (inr (inl slot)) after =
-        left_from (turned goal moment at_most (turn.Refused why keys)) old.state after (settled_text old.state old.unsettled before.status held.status own slot.1)
-    turn_text goal moment at_most (turn.Refused why keys) n m takes (inr (inr slot)) after =
-        let fault : StoreFault = slot.0 in
-        refused_write (turned goal moment at_most (turn.Refused why keys)) fault (with_begin moment old.state) after
-        (left_text fault old.unsettled old.state (with_begin moment old.state) before.status new.unsettled held.status own slot.3)
-        (λ failed still reads text. begin_text goal moment at_most (turn.Refused why keys) takes
-        (ap (λ (k : List Key). turn.Refused why k) slot.2 ∙ ap (λ (w : Refusal). turn.Refused w []) (slot.1 ∙ ap store_refusal failed)) still reads text)
+    turn_text goal moment at_most (turn.Ended number) n m takes slot beside after = as_it_was (turned goal moment at_most (turn.Ended number)) after slot.0 slot.1
+    turn_text goal moment at_most (turn.Over number) n m takes slot beside after = as_it_was (turned goal moment at_most (turn.Over number)) after slot.0 slot.1
+    turn_text goal moment at_most (turn.Refused why keys) n m takes slot beside after = by old.running refl slot
+      where
+        by : (r : Option Running) → old.running ≡ r → TurnSlotSo moment (turn.Refused why keys) old.unsettled old.state (Some before.status) new.unsettled (Some held.status) n m
+            → TextLeaves old (turned goal moment at_most (turn.Refused why keys)) before.status new held.status
+        by (Some running) runs slot = beside_text (turned goal moment at_most (turn.Refused why keys)) keys after (beside (λ none. some_none running (sym runs ∙ none)))
+        by None runs (inl slot) = as_it_was (turned goal moment at_most (turn.Refused why keys)) after slot.0 slot.1
+        by None runs (inr (inl slot)) =
+            left_from (turned goal moment at_most (turn.Refused why keys)) old.state after (settled_text old.state old.unsettled before.status held.status own slot.1)
+        by None runs (inr (inr slot)) =
+            let fault : StoreFault = slot.0 in
+            refused_write (turned goal moment at_most (turn.Refused why keys)) fault (with_begin moment old.state) after
+            (left_text fault old.unsettled old.state (with_begin moment old.state) before.status new.unsettled held.status own slot.3)
+            (λ failed still reads text. begin_text goal moment at_most (turn.Refused why keys) takes
+            (ap (λ (k : List Key). turn.Refused why k) slot.2 ∙ ap (λ (w : Refusal). turn.Refused w []) (slot.1 ∙ ap store_refusal failed)) runs still reads text)
 
     -- ---- a token
 
@@ -271,14 +280,9 @@ module _ {S : Type 0} (contents : S → Option Contents) (may_give : S → Slot 
       where
         due : (f : StoreFault) → f ≡ Shelf → new.unsettled ≡ true → ReadsBack (with_new_token user secret right old.state) → held.status ≡ Some (text_of (with_new_token user secret right old.state))
             → TextLeaves old (given_token user secret right (Err (token.Store f))) before.status new held.status
-        due f failed still reads text = by (token_refusal old.state.tokens secret) refl
-          where
-            is : ◌≡◌ {A = Result ⊤ TokenFault} (Err (token.Store f)) (Err (token.Store Shelf))
-            is = ap (λ (x : StoreFault). Err (token.Store x)) failed
-
-            by : (o : Option TokenFault) → token_refusal old.state.tokens secret ≡ o → TextLeaves old (given_token user secret right (Err (token.Store f))) before.status new held.status
-            by None none = is_next still (with_new_token user secret right old.state) (is, refl) (reads (proper_token s user secret right sound none adds.fits.0 adds.fits.1)) text
-            by (Some why) some = is_untold still (is, (λ none. some_none why (sym some ∙ none)))
+        due f failed still reads text =
+            is_next still (with_new_token user secret right old.state) (ap (λ (x : StoreFault). Err (token.Store x)) failed, refl)
+            (reads (proper_token s user secret right sound adds.asked adds.fits.0 adds.fits.1)) text
 
     -- ---- each of these
 
@@ -296,6 +300,9 @@ module _ {S : Type 0} (contents : S → Option Contents) (may_give : S → Slot 
         (texts old.store.shelf) (texts new.store.shelf)) (slot_as old.store before there)
         (subst (λ (o : Option (Option (List ℕ))). TurnSlotSo moment taken old.unsettled old.state (status_of contents old.store) new.unsettled o
         (texts old.store.shelf) (texts new.store.shelf)) (slot_as new.store held left) did.takes.slot))
+        (λ runs. subst (λ (o : Option (Option (List ℕ))). SettlesBefore old.unsettled old.state o new.unsettled (Some held.status) (removed_in taken)) (slot_as old.store before there)
+        (subst (λ (o : Option (Option (List ℕ))). SettlesBefore old.unsettled old.state (status_of contents old.store) new.unsettled o (removed_in taken)) (slot_as new.store held left)
+        (did.takes.beside runs)))
         did.takes.left
     text_left (given_token user secret right result) did = token_text user secret right result did
 
@@ -343,30 +350,24 @@ module _ {S : Type 0} (contents : S → Option Contents) (may_give : S → Slot 
 
   pub leaves : (old : DepotView S) (done : Done) (new : DepotView S) (before held : Contents) (t : State) → IsGood contents faults old → DoneSo contents may_give texts faults old done new
       → contents old.store.shelf ≡ Some before → contents new.store.shelf ≡ Some held → state_of contents faults new ≡ Some t
-      → Leaves (WouldMake contents may_give texts faults old done) (IsUntold contents may_give texts faults old done) before.status held old.unsettled new.unsettled t
+      → Leaves (WouldMake contents may_give texts faults old done) before.status held old.unsettled new.unsettled t
   leaves old done new before held t good did there left told = by (text_left old before good there new held left done did)
     where
       after : IsGood contents faults new
       after = good_left old done new did
 
       next_or : (next : LibState) → WouldMake contents may_give texts faults old done next → new.unsettled ≡ true → StandsFor held.status held.objects t ⊎ StandsForState held t next
-          → Leaves (WouldMake contents may_give texts faults old done) (IsUntold contents may_give texts faults old done) before.status held old.unsettled new.unsettled t
+          → Leaves (WouldMake contents may_give texts faults old done) before.status held old.unsettled new.unsettled t
       next_or next would still (inl own) = present own
       next_or next would still (inr other) = would_be still next would other
 
       same_or : old.unsettled ≡ true → new.unsettled ≡ true → held.status ≡ before.status → StandsFor held.status held.objects t ⊎ StandsForNext held t
-          → Leaves (WouldMake contents may_give texts faults old done) (IsUntold contents may_give texts faults old done) before.status held old.unsettled new.unsettled t
+          → Leaves (WouldMake contents may_give texts faults old done) before.status held old.unsettled new.unsettled t
       same_or was still slot (inl own) = present own
       same_or was still slot (inr other) = open_before was still slot other
 
-      untold_or : new.unsettled ≡ true → IsUntold contents may_give texts faults old done → StandsFor held.status held.objects t ⊎ StandsForNext held t
-          → Leaves (WouldMake contents may_give texts faults old done) (IsUntold contents may_give texts faults old done) before.status held old.unsettled new.unsettled t
-      untold_or still untold (inl own) = present own
-      untold_or still untold (inr other) = unknown still untold other
-
       by : TextLeaves old done before.status new held.status
-          → Leaves (WouldMake contents may_give texts faults old done) (IsUntold contents may_give texts faults old done) before.status held old.unsettled new.unsettled t
+          → Leaves (WouldMake contents may_give texts faults old done) before.status held old.unsettled new.unsettled t
       by (is_present text) = present (stands_by_text new held t after left told text)
       by (is_same was still same slot) = same_or was still slot (stands_open new held t after left told still)
       by (is_next still next would reads text) = next_or next would still (stands_by_other new held t after left told next still reads text)
-      by (is_untold still untold) = untold_or still untold (stands_open new held t after left told still)

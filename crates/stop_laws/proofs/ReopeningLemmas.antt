@@ -1,5 +1,5 @@
 -- What is opened from a shelf that stands for a library, and what a refused making leaves. The key lemmas are opens_again and unmade.
-use Rattle.std.proofs.Common.{◌≡◌, ◌⊎◌, inl, inr, ℕ, ◌<◌, ◌≤◌, ◌==◌, Bool, true, false, if◌then◌else◌, List, length, refl, sym, ap, ◌∙◌, subst, true≢false, Option, None, Some, option_map, Result, Ok, Err}
+use Rattle.std.proofs.Common.{◌≡◌, ◌≢◌, ◌⊎◌, inl, inr, ℕ, ◌<◌, ◌≤◌, ◌==◌, Bool, true, false, if◌then◌else◌, List, length, refl, sym, ap, ◌∙◌, subst, true≢false, Option, None, Some, option_map, Result, Ok, Err}
 use Rattle.std.proofs.lemmas.Bool.{eq-eqb, eqb-true}
 use Rattle.ids.specs.Key.{Objects}
 use Rattle.library_rules.specs.Changes.{put_new}
@@ -97,8 +97,9 @@ module _ {S : Type 0} (contents : S → Option Contents) (faults : S → ℕ) (s
         same_status : lies.value.status ≡ held.status
         same_status = some_same (sym status_left ∙ same ∙ status_told)
 
-    is_raised : (found : LibState) → IsFound contents store found → IsWritten (next_opening found) (status_of contents store) (status_of contents left) → s.state.opening < last_number → IsRaised contents held s left
-    is_raised found is written less = record {
+    is_raised : (found : LibState) → IsFound contents store found → found.opening ≢ last_number → IsWritten (next_opening found) (status_of contents store) (status_of contents left)
+        → IsRaised contents held s left
+    is_raised found is more written = record {
       now = lies.value;
       told = lies.is;
       objects = same_objects;
@@ -109,6 +110,9 @@ module _ {S : Type 0} (contents : S → Option Contents) (faults : S → ℕ) (s
           (subst (λ (o : Objects). Keeps s.objects o) (sym same_objects) stands.lies);
     }
       where
+        less : s.state.opening < last_number
+        less = below s.state.opening sound.numbers.openings (λ last. more (ap (λ (st : LibState). st.opening) (found_same found is) ∙ last))
+
         raised_sound : IsSound (raised s)
         raised_sound = sound_opened s s.objects s.faults sound (record { kept = λ key bytes is. is }) less
 
@@ -116,9 +120,9 @@ module _ {S : Type 0} (contents : S → Option Contents) (faults : S → ℕ) (s
         text = some_same (sym status_left ∙ written.text ∙ ap (option_map (λ _. Some (text_of (next_opening found)))) status_told)
             ∙ ap (λ (st : LibState). Some (text_of (next_opening st))) (found_same found is)
 
-    shelf_failed : LeftUnopened contents store left → IsAsItWas contents held left ⊎ (s.state.opening < last_number → IsRaised contents held s left)
+    shelf_failed : LeftUnopened contents store left → IsAsItWas contents held left ⊎ IsRaised contents held s left
     shelf_failed (left_alone same) = inl (as_it_was same)
-    shelf_failed (raised_text found is written) = inr (λ less. is_raised found is written less)
+    shelf_failed (raised_text found is more written) = inr (is_raised found is more written)
 
     is_due : (fault : StartFault) → IsDueOr held.objects (start_refusal held.objects held.status) fault → IsDueOr held.objects (worn_or (s.state.opening == last_number)) fault
     is_due fault = subst (λ (o : Option StartFault). IsDueOr held.objects o fault) due
@@ -178,14 +182,15 @@ unmade contents faults store objects lib name user secret moment left fault befo
               (subst (λ (o : Objects). Keeps o held.objects) (some_same (sym (ap (option_map (indexed left.index)) is) ∙ lie)) (indexed_lies left.index held)),
         )
 
-    failed : LeftUnmade contents store (opening_object (opening_commit lib user moment)) (first_state lib name user secret (opening_commit lib user moment).id moment) left
+    failed : LeftUnmade contents store (opening_commit lib user moment) (first_state lib name user secret (opening_commit lib user moment).id moment) left
         → LeavesUnmade lib name user secret moment (faults store.shelf) objects before.status held (make.Store Shelf)
     failed (untouched lie slot) = same slot
     failed (stored lie slot) = same slot
-    failed (begun lie written) =
-        was_begun refl (λ found. stands (lie ∙ ap (option_map (λ (o : Objects). put_new o (opening_object (opening_commit lib user moment)))) told) written found)
+    failed (begun lie written found) =
+        let there : objects_of contents left ≡ Some library_made.objects = lie ∙ ap (option_map (λ (o : Objects). put_new o (opening_object (opening_commit lib user moment)))) told in
+        was_begun refl (stands there written (found library_made.objects there))
 
-    by : (f : MakeFault) → LeftUnmadeBy contents store (opening_object (opening_commit lib user moment)) (first_state lib name user secret (opening_commit lib user moment).id moment) left f
+    by : (f : MakeFault) → LeftUnmadeBy contents store (opening_commit lib user moment) (first_state lib name user secret (opening_commit lib user moment).id moment) left f
         → LeavesUnmade lib name user secret moment (faults store.shelf) objects before.status held f
     by make.HasState e = same e.1
     by (make.Store Shelf) e = failed e.0

@@ -20,12 +20,11 @@ use Rattle.object_store.specs.StoreView.{status_of}
 use Rattle.object_store.specs.declared.shelf.Slot.{Slot}
 use Rattle.depot.specs.Answering.{SlotSo, Would, next_state, refused, rewritten, state_after, unwritten}
 use Rattle.depot.specs.DepotView.{DepotView, IsGood, library, state_of}
-use Rattle.depot.specs.Standing.{StandsForNext}
 use Rattle.depot.specs.Story.{IsAnswered}
 use Rattle.depot.specs.declared.turn.Turn.{Turn}
 use Rattle.depot.specs.declared.turn.Turn.TheVariants as turn
-use Rattle.stop_laws.specs.Stops.{Done, answered, turned, given_token, DoneSo, IsOpen, IsOpenUntold, KeepsCommit, Retains, Runs, StandsForState, Stood, stands, open_to, open_unknown, WouldMake}
-use Rattle.stop_laws.proofs.DoneLemmas.{TextLeaves, is_present, is_same, is_next, is_untold, good_left, own_text, slot_as, some_same, stands_by_other, stands_by_text, stands_open, text_left, told_left}
+use Rattle.stop_laws.specs.Stops.{Done, answered, turned, given_token, DoneSo, IsOpen, KeepsCommit, Retains, Runs, StandsForState, Stood, stands, open_to, WouldMake}
+use Rattle.stop_laws.proofs.DoneLemmas.{TextLeaves, is_present, is_same, is_next, good_left, own_text, slot_as, some_same, stands_by_other, stands_by_text, text_left, told_left}
 
 -- ---- kept commits
 
@@ -70,8 +69,8 @@ module _ {S : Type 0} (contents : S → Option Contents) (may_give : S → Slot 
   would_keeps old (answered call moment said) next commit would kept keeps =
       ap (λ (st : LibState). is_kept st.kept commit) (sym would.makes) ∙ next_keeps old.state call moment would.said commit would.plain kept
   would_keeps old (turned goal moment at_most taken) next commit would kept keeps =
-      ap (λ (st : LibState). is_kept st.kept commit) would.1
-      ∙ subst (λ (u : Turn). KeepsCommit contents may_give texts faults old (turned goal moment at_most u) commit) would.0 keeps refl
+      ap (λ (st : LibState). is_kept st.kept commit) would.2
+      ∙ subst (λ (u : Turn). KeepsCommit contents may_give texts faults old (turned goal moment at_most u) commit) would.0 keeps refl would.1
   would_keeps old (given_token user secret right result) next commit would kept keeps = ap (λ (st : LibState). is_kept st.kept commit) would.1 ∙ kept
 
   pub kept_run : (start : DepotView S) (dones : List Done) (now : DepotView S) (runs : Runs contents may_give texts faults start dones now) (commit : List ℕ) → is_kept start.state.kept commit ≡ true
@@ -129,7 +128,6 @@ module _ {S : Type 0} (contents : S → Option Contents) (may_give : S → Slot 
     has_own : text ≡ Some (text_of now.state) → TextStands start dones now runs text
     has_open : now.unsettled ≡ true → (next : LibState) → IsOpen contents may_give texts faults start dones now runs next → read_state (text_of next) ≡ Ok next → text ≡ Some (text_of next)
         → TextStands start dones now runs text
-    has_untold : now.unsettled ≡ true → IsOpenUntold contents may_give texts faults start dones now runs → TextStands start dones now runs text
 
   text_run : (start : DepotView S) (dones : List Done) (now : DepotView S) (runs : Runs contents may_give texts faults start dones now) (first held : Contents) → IsGood contents faults start
       → start.unsettled ≡ false → contents start.store.shelf ≡ Some first → contents now.store.shelf ≡ Some held → TextStands start dones now runs held.status
@@ -151,14 +149,12 @@ module _ {S : Type 0} (contents : S → Option Contents) (may_give : S → Slot 
           → TextStands start (done ∷ earlier) now runs held.status
       stays was still same slot (has_own text) = has_own (slot ∙ text ∙ ap (λ (st : LibState). Some (text_of st)) (sym same))
       stays was still same slot (has_open before next opens reads text) = has_open still next (inr (was, slot_is slot, opens)) reads (slot ∙ text)
-      stays was still same slot (has_untold before untold) = has_untold still (inr (was, slot_is slot, untold))
 
       by : ((before : Contents) → contents runs.0.store.shelf ≡ Some before → TextStands start earlier runs.0 runs.1 before.status)
           → TextLeaves contents may_give texts faults runs.0 done at.0.status now held.status → TextStands start (done ∷ earlier) now runs held.status
       by before (is_present text) = has_own text
       by before (is_same was still same slot) = stays was still same slot (before at.0 at.1)
       by before (is_next still next would reads text) = has_open still next (inl would) reads text
-      by before (is_untold still untold) = has_untold still (inl untold)
 
   pub stood : (start : DepotView S) (dones : List Done) (now : DepotView S) (runs : Runs contents may_give texts faults start dones now) (first held : Contents) (t : State)
       → IsGood contents faults start → start.unsettled ≡ false → contents start.store.shelf ≡ Some first → contents now.store.shelf ≡ Some held → state_of contents faults now ≡ Some t
@@ -173,12 +169,6 @@ module _ {S : Type 0} (contents : S → Option Contents) (may_give : S → Slot 
       open_or next still opens (inl own) = stands own
       open_or next still opens (inr other) = open_to still next opens other
 
-      untold_or : now.unsettled ≡ true → IsOpenUntold contents may_give texts faults start dones now runs → StandsFor held.status held.objects t ⊎ StandsForNext held t
-          → Stood contents may_give texts faults start dones now runs held t
-      untold_or still untold (inl own) = stands own
-      untold_or still untold (inr other) = open_unknown still untold other
-
       by : TextStands start dones now runs held.status → Stood contents may_give texts faults start dones now runs held t
       by (has_own text) = stands (stands_by_text contents may_give texts faults now held t after left told text)
       by (has_open still next opens reads text) = open_or next still opens (stands_by_other contents may_give texts faults now held t after left told next still reads text)
-      by (has_untold still untold) = untold_or still untold (stands_open contents may_give texts faults now held t after left told still)

@@ -1,11 +1,10 @@
 -- What comes of a library whose shelf stands for a state, as it is opened again, and of a shelf on which a library was to be made.
--- Our own. Read IsOpening and OpensAgain, then IsMaking and LeavesUnmade.
+-- Our own. Read IsOpening and OpensAgain, then IsRefusedMaking and LeavesUnmade.
 use Rattle.std.specs.Prelude.{◌≡◌, ◌<◌, ◌⊎◌, ℕ, false, List, Option, Some, Result, Ok, Err, IfOk, IfErr}
 use Rattle.ids.specs.Key.{Objects}
-use Rattle.library_rules.specs.Creation.{created, opening_commit, opening_object}
+use Rattle.library_rules.specs.Creation.{created, opening_commit}
 use Rattle.library_rules.specs.LibraryState.{IsSound, State, last_number}
 use Rattle.library_rules.specs.Recovery.{StandsFor, opened}
-use Rattle.object_graph.specs.Objects.{commit_at}
 use Rattle.object_store.specs.Shelf.{Contents}
 use Rattle.object_store.specs.StoreView.{AddsNoStray, StoreView, objects_of, status_of}
 use Rattle.object_store.specs.declared.error.StoreFault.TheVariants.{Shelf}
@@ -49,7 +48,7 @@ pub record IsRaised {S : Type 0} (contents : S → Option Contents) (held : Cont
 -- why not: the last opening number was given, or the store failed, by damage of an object that lies there, by the shelf, or for want of memory
 abbrev pub OpensNot : {S : Type 0} → (S → Option Contents) → Contents → State → StoreView S → StartFault → Type 0
 OpensNot contents held s store start.Worn = (s.state.opening ≡ last_number) × IsAsItWas contents held store
-OpensNot contents held s store (start.Store Shelf) = IsAsItWas contents held store ⊎ (s.state.opening < last_number → IsRaised contents held s store)
+OpensNot contents held s store (start.Store Shelf) = IsAsItWas contents held store ⊎ IsRaised contents held s store
 OpensNot contents held s store (start.Store fault) = IsToldFault held.objects fault × IsAsItWas contents held store
 OpensNot contents held s store start.NoState = ⊥
 OpensNot contents held s store (start.BadState key) = ⊥
@@ -66,13 +65,11 @@ OpensAgain contents faults held count s (Err refused) = OpensNot contents held s
 -- what is said of a library that wasn't made: what `Depot::make` says
 pub record IsRefusedMaking {S : Type 0} (contents : S → Option Contents) (store : StoreView S) (lib name user secret : List ℕ) (moment : ℕ)
     (left : StoreView S) (fault : MakeFault) : Type 0 where
-  pub err : LeftUnmadeBy contents store (opening_object (opening_commit lib user moment)) (first_state lib name user secret (opening_commit lib user moment).id moment) left fault
+  pub err : LeftUnmadeBy contents store (opening_commit lib user moment) (first_state lib name user secret (opening_commit lib user moment).id moment) left fault
 
--- the slot is as it was; or, where the shelf failed, the shelf stands for the library that was to be made, if its opening commit can be
--- read there
+-- the slot is as it was; or, where the shelf failed, the shelf stands for the library that was to be made, which is sound
 pub data LeavesUnmade (lib name user secret : List ℕ) (moment count : ℕ) (objects : Objects) (before : Option (List ℕ)) (held : Contents) (fault : MakeFault) : Type 0 where
   unwritten : held.status ≡ before → LeavesUnmade lib name user secret moment count objects before held fault
   begun : fault ≡ make.Store Shelf
-      → (commit_at (created lib name user secret moment objects count).objects (opening_commit lib user moment).id ≡ Ok (opening_commit lib user moment)
-      → IsSound (created lib name user secret moment objects count) × StandsFor held.status held.objects (created lib name user secret moment objects count))
+      → IsSound (created lib name user secret moment objects count) × StandsFor held.status held.objects (created lib name user secret moment objects count)
       → LeavesUnmade lib name user secret moment count objects before held fault

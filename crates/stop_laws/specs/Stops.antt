@@ -1,10 +1,9 @@
 -- What the shelf of a library stands for as each call returns, through failures of the shelf. A stop is a failure after which
 -- no call of the shelf does anything. Our own. Read Done, DoneSo and Leaves first, then Runs, IsOpen and Stood.
 use Rattle.library_state.specs.declared.state.TheConstants.{MAX_STATE_NAME}
-use Rattle.std.specs.Prelude.{◌≡◌, ◌≢◌, ◌⊎◌, ◌≤◌, ℕ, Bool, true, false, List, [], ◌∷◌, length, Option, None, Result, Err, IfSome, OnOk, OnErr, ⊤}
-use Rattle.ids.specs.Outcome.{RefusesAs}
+use Rattle.std.specs.Prelude.{◌≡◌, ◌⊎◌, ◌≤◌, ℕ, Bool, true, false, List, [], ◌∷◌, length, Option, None, Result, Err, IfSome, OnOk, OnErr, ⊤}
 use Rattle.library_rules.specs.Changes.{is_refused}
-use Rattle.library_rules.specs.LibraryState.{IsSound, State, is_kept, last_number}
+use Rattle.library_rules.specs.LibraryState.{IsSound, State, is_kept}
 use Rattle.library_rules.specs.Recovery.{StandsFor}
 use Rattle.library_state.specs.Retention.{kept_for}
 use Rattle.library_state.specs.declared.call.Call.{Call}
@@ -22,7 +21,7 @@ use Rattle.depot.specs.DepotView.{DepotView, IsGood, library}
 use Rattle.depot.specs.NextState.{next_state, with_begin, with_new_token}
 use Rattle.depot.specs.Standing.{StandsForNext}
 use Rattle.depot.specs.Story.{IsAnswered, IsTurned}
-use Rattle.depot.specs.Tokens.{is_token_free, store_answer, token_refusal}
+use Rattle.depot.specs.Tokens.{store_answer, token_refusal}
 use Rattle.depot.specs.Writing.{RewritesSo}
 use Rattle.depot.specs.declared.error.TokenFault.{TokenFault}
 use Rattle.depot.specs.declared.error.TokenFault.TheVariants as token
@@ -48,7 +47,7 @@ pub record AddsToken {S : Type 0} (contents : S → Option Contents) (faults : S
   pub text : IfSome (store_answer result) (RewritesSo old.unsettled old.state (with_new_token user secret right old.state)
       (status_of contents old.store) new.unsettled (status_of contents new.store))
   pub untouched : store_answer result ≡ None → new ≡ old
-  pub refused : RefusesAs is_token_free result (token_refusal old.state.tokens secret)
+  pub asked : IfSome (store_answer result) (λ answer. token_refusal old.state.tokens secret ≡ None)
 
 -- what a call that the shelf refused would have made of the state, by an answer that it could have
 pub record WouldAnswer {S : Type 0} (contents : S → Option Contents) (faults : S → ℕ) (old : DepotView S) (call : Call) (moment : ℕ) (r : Reply) (next : LibState) : Type 0 where
@@ -68,15 +67,8 @@ module _ {S : Type 0} (contents : S → Option Contents) (may_give : S → Slot 
   -- the state of which the text was to be written as the shelf failed
   abbrev pub WouldMake : DepotView S → Done → LibState → Type 0
   WouldMake old (answered call moment said) next = WouldAnswer contents faults old call moment said next
-  WouldMake old (turned goal moment at_most taken) next = (taken ≡ turn.Refused refusal.Store []) × (next ≡ with_begin moment old.state)
+  WouldMake old (turned goal moment at_most taken) next = (taken ≡ turn.Refused refusal.Store []) × (old.running ≡ None) × (next ≡ with_begin moment old.state)
   WouldMake old (given_token user secret right result) next = (result ≡ Err (token.Store Shelf)) × (next ≡ with_new_token user secret right old.state)
-
-  -- where no clause of a depot tells which text may have been written as the shelf failed: a turn beside the collection of the last
-  -- number, which begins none; and a token that is refused whatever the shelf does
-  abbrev pub IsUntold : DepotView S → Done → Type 0
-  IsUntold old (answered call moment said) = ⊥
-  IsUntold old (turned goal moment at_most taken) = (taken ≡ turn.Refused refusal.Store []) × (old.running ≢ None) × (old.state.collection ≡ last_number)
-  IsUntold old (given_token user secret right result) = (result ≡ Err (token.Store Shelf)) × (token_refusal old.state.tokens secret ≢ None)
 
 -- ---- as one call returns
 
@@ -87,11 +79,10 @@ pub record StandsForState (held : Contents) (t : State) (next : LibState) : Type
 
 -- what the shelf stands for: the library as it is; or, while the text is open, what it was open to before, where no text was written
 -- since; or what the refused call would have made
-pub data Leaves (would : LibState → Type 0) (untold : Type 0) (before : Option (List ℕ)) (held : Contents) (was still : Bool) (t : State) : Type 0 where
-  present : StandsFor held.status held.objects t → Leaves would untold before held was still t
-  open_before : was ≡ true → still ≡ true → held.status ≡ before → StandsForNext held t → Leaves would untold before held was still t
-  would_be : still ≡ true → (next : LibState) → would next → StandsForState held t next → Leaves would untold before held was still t
-  unknown : still ≡ true → untold → StandsForNext held t → Leaves would untold before held was still t
+pub data Leaves (would : LibState → Type 0) (before : Option (List ℕ)) (held : Contents) (was still : Bool) (t : State) : Type 0 where
+  present : StandsFor held.status held.objects t → Leaves would before held was still t
+  open_before : was ≡ true → still ≡ true → held.status ≡ before → StandsForNext held t → Leaves would before held was still t
+  would_be : still ≡ true → (next : LibState) → would next → StandsForState held t next → Leaves would before held was still t
 
 -- ---- one call after another
 
@@ -108,23 +99,17 @@ module _ {S : Type 0} (contents : S → Option Contents) (may_give : S → Slot 
   IsOpen start (done ∷ earlier) now runs next = WouldMake contents may_give texts faults runs.0 done next
       ⊎ ((runs.0.unsettled ≡ true) × (status_of contents now.store ≡ status_of contents runs.0.store) × IsOpen start earlier runs.0 runs.1 next)
 
-  -- no clause tells what it is open to
-  abbrev pub IsOpenUntold : (start : DepotView S) (dones : List Done) (now : DepotView S) → Runs start dones now → Type 0
-  IsOpenUntold start [] now runs = ⊥
-  IsOpenUntold start (done ∷ earlier) now runs = IsUntold contents may_give texts faults runs.0 done
-      ⊎ ((runs.0.unsettled ≡ true) × (status_of contents now.store ≡ status_of contents runs.0.store) × IsOpenUntold start earlier runs.0 runs.1)
-
   -- what the shelf stands for after all of these: the library, or a state to which its text is open
   pub data Stood (start : DepotView S) (dones : List Done) (now : DepotView S) (runs : Runs start dones now) (held : Contents) (t : State) : Type 0 where
     stands : StandsFor held.status held.objects t → Stood start dones now runs held t
     open_to : now.unsettled ≡ true → (next : LibState) → IsOpen start dones now runs next → StandsForState held t next → Stood start dones now runs held t
-    open_unknown : now.unsettled ≡ true → IsOpenUntold start dones now runs → StandsForNext held t → Stood start dones now runs held t
 
   -- no begin of a collection, done or refused by the shelf, cuts the commit away
   abbrev pub KeepsCommit : DepotView S → Done → List ℕ → Type 0
   KeepsCommit old (answered call moment said) commit = ⊤
   KeepsCommit old (turned goal moment at_most (turn.Began number)) commit = is_kept (kept_for old.state.days moment old.state.kept) commit ≡ true
-  KeepsCommit old (turned goal moment at_most (turn.Refused why keys)) commit = why ≡ refusal.Store → is_kept (kept_for old.state.days moment old.state.kept) commit ≡ true
+  KeepsCommit old (turned goal moment at_most (turn.Refused why keys)) commit =
+      why ≡ refusal.Store → old.running ≡ None → is_kept (kept_for old.state.days moment old.state.kept) commit ≡ true
   KeepsCommit old (turned goal moment at_most other) commit = ⊤
   KeepsCommit old (given_token user secret right result) commit = ⊤
 

@@ -15,24 +15,21 @@ ghost use Rattle.depot.specs.Story.{IsAnswered};
 ghost use Rattle.depot.specs.declared.error.MakeFault.{MakeFault};
 ghost use Rattle.depot.specs.declared.error.StartFault.{StartFault};
 ghost use Rattle.stop_laws.specs.Reopening.{IsOpening, IsRefusedMaking, LeavesUnmade, OpensAgain};
-ghost use Rattle.stop_laws.specs.Stops.{Done, DoneSo, IsOpen, IsUntold, Leaves, Retains, Runs, Stood, WouldMake};
+ghost use Rattle.stop_laws.specs.Stops.{Done, DoneSo, IsOpen, Leaves, Retains, Runs, Stood, WouldMake};
 
 use object_store::Shelf;
 
 /// As a call, a turn of a collection or the adding of a token returns, a refusal too, the shelf stands for the library as it is; or,
-/// while its text is open, for what it was open to, or for what was refused, or, where no clause of a depot tells which text that is
-/// (`IsUntold`), for some library that follows. Each is sound.
+/// while its text is open, for what it was open to, or for what was refused. Each is sound.
 pub fn as_each_call_returns_the_shelf_stands_for_the_library<S: Shelf>()
     ensures { (old : DepotView S) → (done : Done) → (new : DepotView S) → (before : Contents) → (held : Contents) → (t : State) → IsGood S.contents S.faults old
         → DoneSo S.contents S.may_give S.texts S.faults old done new → S.contents old.store.shelf ≡ Some before → S.contents new.store.shelf ≡ Some held
         → state_of S.contents S.faults new ≡ Some t
-        → Leaves (WouldMake S.contents S.may_give S.texts S.faults old done) (IsUntold S.contents S.may_give S.texts S.faults old done)
-        before.status held old.unsettled new.unsettled t }
+        → Leaves (WouldMake S.contents S.may_give S.texts S.faults old done) before.status held old.unsettled new.unsettled t }
 {}
 
 /// However many calls and turns there are, and wherever the shelf fails or stops, it stands for the library, or for what one refused
-/// call would have made, since which no text was written; or, where no clause of a depot tells which text that is (`IsUntold`), for
-/// some library that follows.
+/// call would have made, since which no text was written.
 pub fn after_any_calls_the_shelf_stands_for_the_library_or_for_what_was_refused<S: Shelf>()
     ensures { (start : DepotView S) → (dones : List Done) → (now : DepotView S) → (runs : Runs S.contents S.may_give S.texts S.faults start dones now)
         → (first : Contents) → (held : Contents) → (t : State) → IsGood S.contents S.faults start → start.unsettled ≡ false → S.contents start.store.shelf ≡ Some first

@@ -25,7 +25,7 @@ returns-in-Ok-write_text-clause-sound g c = λ objects count told.
 pub returns-in-Err-write_text-clause-err : goal.returns-in-Err-write_text-clause-err
 returns-in-Err-write_text-clause-err g c =
     left_unopened g.S.Shelf.contents c.args.store.now c.check_state.new.store c.write_text.new.store c.in-Ok.state c.in-Err-write_text.fault c.in-Ok.ensures.value
-    (same_status g.S.Shelf.contents c.args.store.now c.read_state.new.store c.check_state.new.store c.in-Ok.ensures.stays c.in-Ok-check_state.ensures.stays)
+    c.in-Ok-check_state.ensures.ok (same_status g.S.Shelf.contents c.args.store.now c.read_state.new.store c.check_state.new.store c.in-Ok.ensures.stays c.in-Ok-check_state.ensures.stays)
     c.in-Err-write_text.ensures.value
 
 pub returns-in-Ok-write_text-clause-any : goal.returns-in-Ok-write_text-clause-any

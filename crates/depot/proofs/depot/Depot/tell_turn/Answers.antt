@@ -21,6 +21,7 @@ returns-clause-turned g c =
         lying = said.lying;
         gives = said.gives;
         slot = said.text;
+        beside = said.settled;
       };
       good = said.stands;
     }

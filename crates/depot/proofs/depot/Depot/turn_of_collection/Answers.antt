@@ -59,3 +59,6 @@ returns-clause-lying g c = c.take_turn.ensures.value.lying
 
 pub returns-clause-text : goal.returns-clause-text
 returns-clause-text g c = c.take_turn.ensures.value.slot
+
+pub returns-clause-settled : goal.returns-clause-settled
+returns-clause-settled g c = c.take_turn.ensures.value.beside

@@ -32,7 +32,7 @@ returns-in-Sweeping-clause-value g c = λ goal moment aimed.
     let due = sweeping_due c.args.running.now.marks (sym c.phase.ensures.value ∙ c.in-Sweeping.is) in
     sweep_turn g.S.Shelf.contents g.S.Shelf.may_give g.S.Shelf.texts g.S.Shelf.faults c.args.self.now.store c.sweep_some.new.self.store c.args.self.now.state c.args.self.now.unsettled
     c.sweep_some.new.self.unsettled c.args.running.now c.sweep_some.new.running c.args.known.now c.requires.good due.0 goal moment c.args.at_most c.sweep_some.result c.sweep_some.new.self.state aimed
-    c.requires.some due.1 c.sweep_some.ensures.value c.sweep_some.ensures.stays c.sweep_some.ensures.gives (c.sweep_some.ensures.text moment)
+    c.requires.some due.1 c.sweep_some.ensures.value c.sweep_some.ensures.stays c.sweep_some.ensures.gives (c.sweep_some.ensures.text moment) c.sweep_some.ensures.settled
 
 pub returns-in-Sweeping-clause-stands : goal.returns-in-Sweeping-clause-stands
 returns-in-Sweeping-clause-stands g c =
