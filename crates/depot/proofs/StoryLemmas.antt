@@ -1,12 +1,12 @@
--- The history of a library: chains of changes, and the legal list that a chain is. The key lemmas are leads_on, leads_same,
--- history_of, sound_still, keys_stay, stored_stays and stored_not_missing.
+-- The history of a library: chains of changes, and the legal list that a chain is. The key lemmas are leads_on, leads_same, lib_stays,
+-- answered_lays, turned_lays, comes_on, history_of, sound_still, keys_stay, stored_stays and stored_not_missing.
 use Rattle.std.proofs.Common.{◌≡◌, ◌⊎◌, inl, inr, ℕ, zero, suc, ◌+◌, List, [], ◌∷◌, ◌++◌, length, refl, sym, ap, ◌∙◌, subst, Bool, true, false, ◌||◌, if◌then◌else◌, is_some, true≢false, Option, None, Some, option_map, add-one}
 use Rattle.std.specs.FinMap as map
 use Rattle.std.specs.List.{slice_get}
 use Rattle.ids.specs.declared.key.Key.{Key}
-use Rattle.library_rules.specs.Changes.{apply}
+use Rattle.library_rules.specs.Changes.{apply, head_in, is_refused, with_install}
 use Rattle.library_rules.specs.History.{Enters, IsPermitted, StepPermits, after}
-use Rattle.library_rules.specs.LibraryState.{IsSound, State}
+use Rattle.library_rules.specs.LibraryState.{IsSound, State, is_kept}
 use Rattle.library_rules.specs.Turns.{TakesNone, TakesStep}
 use Rattle.library_rules.specs.declared.entry.Entry.{Entry}
 use Rattle.library_rules.specs.declared.entry.Step.{Step}
@@ -15,17 +15,28 @@ use Rattle.library_rules.proofs.HistoryLemmas.{sound_after}
 use Rattle.library_state.specs.declared.call.Act.{Act}
 use Rattle.library_state.specs.declared.call.Act.TheVariants as act
 use Rattle.library_state.specs.declared.call.Call.{Call}
+use Rattle.library_state.specs.declared.call.Op.TheVariants as op
+use Rattle.library_state.specs.declared.refusal.Refusal.{Refusal}
+use Rattle.library_state.specs.declared.refusal.Refusal.TheVariants as refusal
 use Rattle.library_state.specs.declared.reply.Reply.{Reply}
 use Rattle.library_state.specs.declared.reply.Reply.TheVariants as reply
+use Rattle.library_state.specs.declared.state.LibState.{LibState}
+use Rattle.sha1.specs.Sha1.{sha1}
+use Rattle.ids.specs.ObjectId.{nil}
 use Rattle.object_store.specs.Shelf.{Contents}
 use Rattle.object_graph.specs.Traversal.{is_in}
 use Rattle.object_graph.proofs.KeyLemmas.{in_append, same_key-itself}
 use Rattle.object_store.specs.StoreView.{Index, objects_of}
 use Rattle.object_store.specs.declared.shelf.Slot.{Slot}
+use Rattle.object_store.specs.Store.{has_other_name, name_refusal, same_bytes}
+use Rattle.object_store.specs.declared.error.StoreFault.TheVariants.{Taken, Wrong}
 use Rattle.depot.specs.Answering.{AnswersBySome}
-use Rattle.depot.specs.CollectionTurns.{TurnsBySome, removed_in}
+use Rattle.depot.specs.CollectionTurns.{MayLayIn, MayLayRefused, TurnsBySome, removed_in, state_after_turn}
+use Rattle.depot.specs.Giving.{GivesBy, IsLaid, IsOfSweep, MayLay}
+use Rattle.depot.specs.NextState.{next_by, next_state, state_after}
+use Rattle.depot.proofs.GivingLemmas.{then_by, wider_by}
 use Rattle.depot.specs.DepotView.{DepotView, running_library, state_of}
-use Rattle.depot.specs.Story.{HistoryOf, IsAnswered, IsOther, IsSame, LeadsTo, Links, MadeBy, removed_of, reply_of, reply_of_turn, removed_through, same_itself, step_of, step_of_turn}
+use Rattle.depot.specs.Story.{ComesBy, HistoryOf, IsAnswered, IsOther, IsSame, IsTurned, LeadsTo, Links, MadeBy, removed_of, reply_of, reply_of_turn, removed_through, same_itself, step_of, step_of_turn}
 use Rattle.depot.specs.Held.{HoldsPut, IndexSo, TellsMissing}
 use Rattle.depot.specs.declared.story.Change.{Change}
 use Rattle.depot.specs.declared.story.Made.{Made}
@@ -71,6 +82,105 @@ module _ {S : Type 0} (contents : S → Option Contents) (may_give : S → Slot 
       → IsSame contents faults y c.before.value → Links contents may_give texts faults c → LeadsTo contents may_give texts faults x (cs ++ c ∷ []) c.after.value
   leads_on x [] c leads same links = (same_on leads same, links, same_itself contents faults c.after.value)
   leads_on x (d ∷ cs) c leads same links = (leads.0, leads.1, leads_on d.after.value cs c leads.2 same links)
+
+-- ---- what its shelf may give
+
+-- what a call lays
+named_bytes : (key : Key) (bytes : List ℕ) → name_refusal key bytes ≡ None → has_other_name key bytes ≡ false
+named_bytes key bytes = by (has_other_name key bytes)
+  where
+    by : (b : Bool) → (if b then Some (Wrong (sha1 bytes)) else if same_bytes key.id nil then Some (Taken key.id) else None) ≡ None → b ≡ false
+    by true none = cc none
+    by false none = refl
+
+call_lays : (lib : List ℕ) (a : Act) (slot : Slot) (given : Option (List ℕ)) → MayLay lib a slot given → IsLaid lib slot given
+call_lays lib (act.Check op.Download) slot given none = absurd none
+call_lays lib (act.Check op.Upload) slot given text = inl text
+call_lays lib act.Head slot given none = absurd none
+call_lays lib (act.Get key) slot given none = absurd none
+call_lays lib (act.Put key bytes) slot given object = inr (inl (key, bytes, object))
+call_lays lib (act.Missing k ids) slot given none = absurd none
+call_lays lib (act.Update pushed) slot given (inl laid) =
+    inr (inl (laid.key, laid.bytes, record { at = laid.at; is = laid.is; named = named_bytes laid.key laid.bytes laid.named }))
+call_lays lib (act.Update pushed) slot given (inr text) = inl text
+call_lays lib (act.Limit days) slot given text = inl text
+call_lays lib (act.Ids server client) slot given none = absurd none
+
+-- and a turn
+sweep_lays : (lib : List ℕ) (slot : Slot) (given : Option (List ℕ)) → IsOfSweep lib slot given → IsLaid lib slot given
+sweep_lays lib slot given (inl text) = inl text
+sweep_lays lib slot given (inr nothing) = inr (inr nothing)
+
+refused_lays : (lib : List ℕ) (why : Refusal) (slot : Slot) (given : Option (List ℕ)) → MayLayRefused lib why slot given → IsLaid lib slot given
+refused_lays lib refusal.Store slot given laid = sweep_lays lib slot given laid
+refused_lays lib refusal.NoMemory slot given laid = sweep_lays lib slot given laid
+refused_lays lib other slot given none = absurd none
+
+turn_lays : (lib : List ℕ) (taken : Turn) (slot : Slot) (given : Option (List ℕ)) → MayLayIn lib taken slot given → IsLaid lib slot given
+turn_lays lib (turn.Began number) slot given text = inl text
+turn_lays lib (turn.Marked count) slot given none = absurd none
+turn_lays lib (turn.Swept keys) slot given laid = sweep_lays lib slot given laid
+turn_lays lib (turn.Ended number) slot given none = absurd none
+turn_lays lib (turn.Over number) slot given none = absurd none
+turn_lays lib (turn.Refused why keys) slot given laid = refused_lays lib why slot given laid
+
+-- neither makes another library's state
+lib_next : (state : LibState) (secret : Option (List ℕ)) (moment : ℕ) (a : Act) (r : Reply) → (next_by state secret moment a r).lib ≡ state.lib
+lib_next state secret moment (act.Check op.Upload) r = refl
+lib_next state secret moment (act.Check op.Download) r = refl
+lib_next state secret moment act.Head r = refl
+lib_next state secret moment (act.Get key) r = refl
+lib_next state secret moment (act.Put key bytes) r = refl
+lib_next state secret moment (act.Missing k ids) r = refl
+lib_next state secret moment (act.Update pushed) r = by (is_kept state.kept pushed)
+  where
+    by : (b : Bool) → (if b then state else with_install (head_in r pushed) pushed moment state).lib ≡ state.lib
+    by true = refl
+    by false = refl
+lib_next state secret moment (act.Limit days) r = refl
+lib_next state secret moment (act.Ids server client) r = refl
+
+lib_turned : (state : LibState) (moment : ℕ) (taken : Turn) → (state_after_turn state moment taken).lib ≡ state.lib
+lib_turned state moment (turn.Began number) = refl
+lib_turned state moment (turn.Marked count) = refl
+lib_turned state moment (turn.Swept keys) = refl
+lib_turned state moment (turn.Ended number) = refl
+lib_turned state moment (turn.Over number) = refl
+lib_turned state moment (turn.Refused why keys) = refl
+
+lib_after : (state : LibState) (call : Call) (moment : ℕ) (r : Reply) → (state_after state call moment r).lib ≡ state.lib
+lib_after state call moment r = by (is_refused r)
+  where
+    by : (b : Bool) → (if b then state else next_state state call moment r).lib ≡ state.lib
+    by true = refl
+    by false = lib_next state call.secret moment call.act r
+
+module _ {S : Type 0} (contents : S → Option Contents) (may_give : S → Slot → Option (List ℕ) → Type 0) (texts faults : S → ℕ) where
+  pub answered_lays : (x : DepotView S) (call : Call) (moment : ℕ) (r : Reply) (y : DepotView S) → IsAnswered contents may_give texts faults x call moment r y
+      → GivesBy (IsLaid x.state.lib) (may_give x.store.shelf) (may_give y.store.shelf)
+  answered_lays x call moment r y answered = wider_by (call_lays x.state.lib call.act) answered.gives
+
+  pub turned_lays : (x : DepotView S) (goal : Option ℕ) (moment at_most : ℕ) (taken : Turn) (y : DepotView S) → IsTurned contents may_give texts faults x goal moment at_most taken y
+      → GivesBy (IsLaid x.state.lib) (may_give x.store.shelf) (may_give y.store.shelf)
+  turned_lays x goal moment at_most taken y turned = wider_by (turn_lays x.state.lib taken) turned.takes.gives
+
+  lib_made : (m : Made) (old : DepotView S) (moment : ℕ) (new : DepotView S) → MadeBy contents may_give texts faults m old moment new → new.state.lib ≡ old.state.lib
+  lib_made (made.Asked call said) old moment new by = ap (λ (s : LibState). s.lib) by.serves.left ∙ lib_after old.state call.value moment said.value
+  lib_made (made.Turned goal at_most taken) old moment new by = ap (λ (s : LibState). s.lib) by.takes.left ∙ lib_turned old.state moment taken.value
+
+  -- the id stays
+  pub lib_stays : (x : DepotView S) (cs : List (Change (DepotView S))) (y : DepotView S) → LeadsTo contents may_give texts faults x cs y → y.state.lib ≡ x.state.lib
+  lib_stays x [] y leads = ap (λ (s : LibState). s.lib) leads.state
+  lib_stays x (c ∷ cs) y leads =
+      lib_stays c.after.value cs y leads.2 ∙ lib_made c.made c.before.value c.moment c.after.value leads.1.by ∙ ap (λ (s : LibState). s.lib) leads.0.state
+
+  -- a library comes on by what is laid after it
+  pub comes_on : (x : DepotView S) (cs : List (Change (DepotView S))) (y : DepotView S) (ds : List (Change (DepotView S))) (z : DepotView S) → ComesBy contents may_give texts faults x cs y
+      → LeadsTo contents may_give texts faults x ds z → GivesBy (IsLaid y.state.lib) (may_give y.store.shelf) (may_give z.store.shelf) → ComesBy contents may_give texts faults x ds z
+  comes_on x cs y ds z comes leads gives = record {
+    leads = leads;
+    gives = then_by comes.gives (subst (λ (lib : List ℕ). GivesBy (IsLaid lib) (may_give y.store.shelf) (may_give z.store.shelf)) (lib_stays x cs y comes.leads) gives);
+  }
 
 -- ---- the legal list
 

@@ -1,5 +1,5 @@
--- What a shelf may give after a call on a library, beside what it might give before. Our own. Read GivesBy first, then MayLay. What a turn of a
--- collection may lay stands with the turns.
+-- What a shelf may give after a call on a library, beside what it might give before. Our own. Read GivesBy first, then MayLay and IsLaid. What a
+-- turn of a collection may lay stands with the turns.
 use Rattle.std.specs.Prelude.{◌≡◌, ◌⊎◌, ℕ, false, List, Option, None, Some, ⊤}
 use Rattle.commit_objects.specs.Spelling.{text_of as commit_text}
 use Rattle.commit_objects.specs.declared.commit.Commit.{Commit}
@@ -75,6 +75,11 @@ IsNothing slot given = (key : Key) × (slot ≡ Object key) × (given ≡ None)
 -- what is laid as objects of the library of this id leave: its text before them, and then nothing in their slots
 abbrev pub IsOfSweep : List ℕ → Slot → Option (List ℕ) → Type 0
 IsOfSweep lib slot given = IsOwnText lib slot given ⊎ IsNothing slot given
+
+-- what calls and turns on the library of this id may lay, any of them: a text of the library, an object under a name that its bytes don't
+-- contradict, and nothing under a key
+abbrev pub IsLaid : List ℕ → Slot → Option (List ℕ) → Type 0
+IsLaid lib slot given = IsOwnText lib slot given ⊎ ((key : Key) × (bytes : List ℕ) × IsObject key bytes slot given) ⊎ IsNothing slot given
 
 -- what the making of a library lays: its opening commit, and the text of its first state
 abbrev pub IsOfMaking : Stored → LibState → Slot → Option (List ℕ) → Type 0

@@ -1,8 +1,9 @@
 -- The history of a library as a chain of libraries: each change has the library before it and the one after it, and is tied to
--- both by all that is said of its call or turn. Our own. Read LeadsTo, Links and IsSame first, then HistoryOf.
+-- both by all that is said of its call or turn. Our own. Read LeadsTo, Links and IsSame first, then ComesBy and HistoryOf.
 use Rattle.std.specs.Prelude.{◌≡◌, ◌+◌, ℕ, List, [], ◌∷◌, ◌++◌, length, is_some, Option, Some, false, ⊤, refl}
 use Rattle.std.specs.FinMap as map
 use Rattle.std.specs.List.{slice_get}
+use Rattle.std.proofs.Common.{inl}
 use Rattle.ids.specs.Key.{Objects}
 use Rattle.ids.specs.declared.key.Key.{Key}
 use Rattle.library_rules.specs.Calls.{token_of}
@@ -21,7 +22,7 @@ use Rattle.object_store.specs.declared.shelf.Slot.{Slot}
 use Rattle.depot.specs.Answering.{Serves, permits}
 use Rattle.depot.specs.CollectionTurns.{TakesTurn, removed_in}
 use Rattle.depot.specs.DepotView.{DepotView, IsGood, state_of}
-use Rattle.depot.specs.Giving.{GivesBy, MayLay}
+use Rattle.depot.specs.Giving.{GivesBy, IsLaid, MayLay}
 use Rattle.depot.specs.Held.{IndexSo}
 use Rattle.depot.specs.declared.story.Change.{Change}
 use Rattle.depot.specs.declared.story.Made.{Made}
@@ -84,9 +85,20 @@ module _ {S : Type 0} (contents : S → Option Contents) (may_give : S → Slot 
   LeadsTo old [] new = IsSame contents faults old new
   LeadsTo old (change ∷ changes) new = IsSame contents faults old change.before.value × Links change × LeadsTo change.after.value changes new
 
+  -- a library comes of another by these changes: they lead to it, and its shelf may give no more than that of the other one, but what
+  -- calls and turns may lay, those that changed nothing too
+  pub record ComesBy (old : DepotView S) (changes : List (Change (DepotView S))) (new : DepotView S) : Type 0 where
+    pub leads : LeadsTo old changes new
+    pub gives : GivesBy (IsLaid old.state.lib) (may_give old.store.shelf) (may_give new.store.shelf)
+
 -- each library is the same as itself
 pub same_itself : {S : Type 0} (contents : S → Option Contents) (faults : S → ℕ) (x : DepotView S) → IsSame contents faults x x
 same_itself contents faults x = record { state = refl; running = refl; count = refl; keys = λ key. refl; objects = λ objects told. told }
+
+-- and comes of itself by none
+pub comes_itself : {S : Type 0} (contents : S → Option Contents) (may_give : S → Slot → Option (List ℕ) → Type 0) (texts faults : S → ℕ) (x : DepotView S)
+    → ComesBy contents may_give texts faults x [] x
+comes_itself contents may_give texts faults x = record { leads = same_itself contents faults x; gives = λ slot given now. inl now }
 
 -- ---- the history that a chain is, where libraries are told
 

@@ -40,13 +40,13 @@ pub enum Made {
 }
 
 /// A library stands for the changes that lead to it. What a change says of a call or of a turn is all that the call or the turn
-/// says of it itself.
+/// says of it itself. And its shelf may give no more than it might give as the history began, but what calls and turns may lay.
 impl<S: Shelf> Story for Depot<S> {
     type Entry = Change<Depot<S>>;
 
-    ghost use Rattle.depot.specs.Story.{LeadsTo, same_itself};
+    ghost use Rattle.depot.specs.Story.{ComesBy, comes_itself};
 
-    ghost stands = { LeadsTo S.contents S.may_give S.texts S.faults };
+    ghost stands = { ComesBy S.contents S.may_give S.texts S.faults };
 
-    ghost begins = { λ x. same_itself S.contents S.faults x };
+    ghost begins = { λ x. comes_itself S.contents S.may_give S.texts S.faults x };
 }

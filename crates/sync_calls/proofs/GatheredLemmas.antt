@@ -5,7 +5,7 @@ use Rattle.std.specs.Prelude.{Option}
 use Rattle.object_store.specs.Shelf.{Contents}
 use Rattle.object_store.specs.declared.shelf.Slot.{Slot}
 use Rattle.depot.specs.DepotView.{DepotView}
-use Rattle.depot.specs.Story.{IsSame, LeadsTo}
+use Rattle.depot.specs.Story.{ComesBy}
 use Rattle.turnstile.specs.Lists.{longer}
 use Rattle.turnstile.specs.PassView.{StandsFor}
 use Rattle.sync_calls.specs.Shown.{LibraryView}
@@ -30,10 +30,11 @@ empty_list (x ∷ xs) none = absurd (omega (arith, none))
 
 module _ {S : Type 0} (contents : S → Option Contents) (may_give : S → Slot → Option (List ℕ) → Type 0) (texts faults : S → ℕ) where
   -- a library that comes out of a room of which nothing was seen
-  pub came_out : (v : LibraryView S) (depot out : DepotView S) → StandsFor (LeadsTo contents may_give texts faults) v out → v.seen ≡ [] → v.start ≡ Some depot → IsSame contents faults depot out
-  came_out v depot out (x, begins, leads) none starts =
-      subst (λ (d : DepotView S). IsSame contents faults d out) (from_some x depot (sym begins ∙ starts))
-      (subst (λ cs. LeadsTo contents may_give texts faults x cs out) none leads)
+  pub came_out : (v : LibraryView S) (depot out : DepotView S) → StandsFor (ComesBy contents may_give texts faults) v out → v.seen ≡ [] → v.start ≡ Some depot
+      → ComesBy contents may_give texts faults depot [] out
+  came_out v depot out (x, begins, comes) none starts =
+      subst (λ (d : DepotView S). ComesBy contents may_give texts faults d [] out) (from_some x depot (sym begins ∙ starts))
+      (subst (λ cs. ComesBy contents may_give texts faults x cs out) none comes)
     where
       from_some : (a b : DepotView S) → Some a ≡ Some b → a ≡ b
       from_some a b e = cc

@@ -1,4 +1,4 @@
--- Rooms that are made, filled and given up. The key lemmas are ended_first, ended_last, ended_next and ended_all, and
+-- Rooms that are made, filled and given up. The key lemmas are ended_first, same_all, ended_last, ended_next and ended_all, and
 -- filling_first and filling_next.
 use Rattle.std.proofs.Common.{◌≡◌, ℕ, ◌+◌, ◌-◌, ◌<◌, ◌≤◌, ⊎_elim, List, [], ◌∷◌, ◌++◌, length, map as map_list, refl, sym, ◌∙◌, ap, subst, arith, All, Option, Some}
 use Rattle.std.specs.List.{Contains}
@@ -9,7 +9,7 @@ use Rattle.std.proofs.lemmas.List.{get_or_append_left, get_or_at, get_or_default
 use Rattle.object_store.specs.Shelf.{Contents}
 use Rattle.object_store.specs.declared.shelf.Slot.{Slot}
 use Rattle.depot.specs.DepotView.{DepotView}
-use Rattle.depot.specs.Story.{IsSame, same_itself}
+use Rattle.depot.specs.Story.{ComesBy, comes_itself, same_itself}
 use Rattle.turnstile.specs.PassView.{IsNewPass, IsPassOf, first_of, parts_of, passes_of, start_of}
 use Rattle.turnstile.specs.declared.view.View.{View}
 use Rattle.sync_calls.specs.Door.{IsDoorOf}
@@ -19,20 +19,29 @@ use Rattle.sync_calls.specs.Shown.{Knows, LibraryPass, LibraryView, Shown, all_s
 use Rattle.sync_calls.specs.declared.making.Fresh.{Fresh}
 use Rattle.sync_calls.proofs.BehindLemmas.{front_at, one_less}
 
-module _ {S : Type 0} (contents : S → Option Contents) (faults : S → ℕ) where
+module _ {S : Type 0} (contents : S → Option Contents) (may_give : S → Slot → Option (List ℕ) → Type 0) (texts faults : S → ℕ) where
   pub ended_first : (passes : ℕ) (all left : List (DepotView S)) (rooms : List (Fresh (LibraryRoom S) (LibraryPass S))) → AreBehind (IsFresh passes) all left rooms
-      → AreEndedTo contents faults passes all left rooms
+      → AreEndedTo contents may_give texts faults passes all left rooms
   ended_first passes all left rooms so = record {
     size = so.size;
     back = λ i d e below.
-        subst (λ (x : DepotView S). IsSame contents faults x (slice_index_or left i e)) (front_at left all i d so.front below)
-        (subst (λ (x : DepotView S). IsSame contents faults (slice_index_or left i d) x) (get_or_default left i d e below) (same_itself contents faults (slice_index_or left i d)));
+        subst (λ (x : DepotView S). ComesBy contents may_give texts faults x [] (slice_index_or left i e)) (front_at left all i d so.front below)
+        (subst (λ (x : DepotView S). ComesBy contents may_give texts faults (slice_index_or left i d) [] x) (get_or_default left i d e below) (comes_itself contents may_give texts faults (slice_index_or left i d)));
     each = so.each;
   }
 
+  -- each is the same as itself
+  pub same_all : (all : List (DepotView S)) → AreSame contents may_give texts faults all all
+  same_all all = (
+    refl,
+    λ i d e below.
+        subst (λ (x : DepotView S). ComesBy contents may_give texts faults (slice_index_or all i d) [] x) (get_or_default all i d e below)
+        (comes_itself contents may_give texts faults (slice_index_or all i d)),
+  )
+
   pub ended_next : (passes : ℕ) (all depots : List (DepotView S)) (rooms front : List (Fresh (LibraryRoom S) (LibraryPass S))) (last : Fresh (LibraryRoom S) (LibraryPass S)) (new : DepotView S)
-      → AreEndedTo contents faults passes all depots rooms → rooms ≡ front ++ last ∷ [] → ((depot : DepotView S) → IsFresh passes depot last → IsSame contents faults depot new)
-      → AreEndedTo contents faults passes all (depots ++ new ∷ []) front
+      → AreEndedTo contents may_give texts faults passes all depots rooms → rooms ≡ front ++ last ∷ [] → ((depot : DepotView S) → IsFresh passes depot last → ComesBy contents may_give texts faults depot [] new)
+      → AreEndedTo contents may_give texts faults passes all (depots ++ new ∷ []) front
   ended_next passes all depots rooms front last new so pop same =
       let longer = one_less rooms front last pop in
       let more = length-append depots (new ∷ []) in
@@ -46,10 +55,10 @@ module _ {S : Type 0} (contents : S → Option Contents) (faults : S → ℕ) wh
             = subst (λ (n : ℕ). IsFresh passes (slice_index_or all n d) last) at
             (subst (λ (r : Fresh (LibraryRoom S) (LibraryPass S)). IsFresh passes (slice_index_or all (length all - 1 - length front) d) r)
             (ap (λ l. slice_index_or l (length front) last) pop ∙ get_or_at front last [] last (length front) refl) (so.each (length front) d last there)) in
-            subst (λ (x : DepotView S). IsSame contents faults (slice_index_or all i d) x) (sym (get_or_push depots new e i (sym is))) (same (slice_index_or all i d) fresh))
+            subst (λ (x : DepotView S). ComesBy contents may_give texts faults (slice_index_or all i d) [] x) (sym (get_or_push depots new e i (sym is))) (same (slice_index_or all i d) fresh))
             (λ (ne : i ≡ length depots → ⊥).
             let inner : i < length depots = within i (length depots) (length (depots ++ new ∷ [])) more below ne in
-            subst (λ (x : DepotView S). IsSame contents faults (slice_index_or all i d) x) (sym (get_or_append_left depots (new ∷ []) e i inner)) (so.back i d e inner))
+            subst (λ (x : DepotView S). ComesBy contents may_give texts faults (slice_index_or all i d) [] x) (sym (get_or_append_left depots (new ∷ []) e i inner)) (so.back i d e inner))
             (cases_eq i (length depots));
         each = λ k d r below.
             let below' : k < length rooms = omega arith in
@@ -62,7 +71,7 @@ module _ {S : Type 0} (contents : S → Option Contents) (faults : S → ℕ) wh
 
   -- the one that is taken next is the library behind those that are back
   pub ended_last : (passes : ℕ) (all depots : List (DepotView S)) (rooms front : List (Fresh (LibraryRoom S) (LibraryPass S))) (last : Fresh (LibraryRoom S) (LibraryPass S))
-      → AreEndedTo contents faults passes all depots rooms → rooms ≡ front ++ last ∷ []
+      → AreEndedTo contents may_give texts faults passes all depots rooms → rooms ≡ front ++ last ∷ []
       → IsFresh passes (slice_index_or all (length all - 1 - length front) last.room.start.value) last
   ended_last passes all depots rooms front last so pop =
       let longer = one_less rooms front last pop in
@@ -70,8 +79,8 @@ module _ {S : Type 0} (contents : S → Option Contents) (faults : S → ℕ) wh
       subst (λ (r : Fresh (LibraryRoom S) (LibraryPass S)). IsFresh passes (slice_index_or all (length all - 1 - length front) last.room.start.value) r)
       (ap (λ l. slice_index_or l (length front) last) pop ∙ get_or_at front last [] last (length front) refl) (so.each (length front) last.room.start.value last there)
 
-  pub ended_all : (passes : ℕ) (all depots : List (DepotView S)) (rooms : List (Fresh (LibraryRoom S) (LibraryPass S))) → AreEndedTo contents faults passes all depots rooms → length rooms ≡ 0
-      → AreSame contents faults all depots
+  pub ended_all : (passes : ℕ) (all depots : List (DepotView S)) (rooms : List (Fresh (LibraryRoom S) (LibraryPass S))) → AreEndedTo contents may_give texts faults passes all depots rooms → length rooms ≡ 0
+      → AreSame contents may_give texts faults all depots
   ended_all passes all depots rooms so none =
       let sizes = so.size in
       let same : length depots ≡ length all = omega arith in

@@ -1,4 +1,5 @@
--- What one turn leaves of what a pass shows. The key lemmas are reads_so, changes_so, knows_read and knows_changed.
+-- What one turn leaves of what a pass shows. The key lemmas are reads_so, changes_so, comes_same, comes_changed, knows_read and
+-- knows_changed.
 use Rattle.std.proofs.Common.{◌≡◌, ℕ, ⊎_elim, List, [], ◌∷◌, ◌++◌, length, length-append, refl, sym, ◌∙◌, ap, subst, arith, Option, Some}
 use Rattle.std.specs.List.{slice_get}
 use Rattle.library_state.specs.declared.call.Call.{Call}
@@ -6,17 +7,19 @@ use Rattle.library_state.specs.declared.reply.Reply.{Reply}
 use Rattle.object_store.specs.Shelf.{Contents}
 use Rattle.object_store.specs.declared.shelf.Slot.{Slot}
 use Rattle.depot.specs.DepotView.{DepotView}
-use Rattle.depot.specs.Story.{IsAnswered, IsOther, IsSame, IsTurned, LeadsTo, Links, MadeBy}
+use Rattle.depot.specs.Giving.{GivesBy, IsLaid}
+use Rattle.depot.specs.Story.{ComesBy, IsAnswered, IsOther, IsSame, IsTurned, LeadsTo, Links, MadeBy}
 use Rattle.depot.specs.declared.story.Change.{Change}
 use Rattle.depot.specs.declared.story.Made.{Made}
 use Rattle.depot.specs.declared.story.Made.TheVariants as made
 use Rattle.depot.specs.declared.turn.Turn.{Turn}
+use Rattle.depot.proofs.StoryLemmas.{answered_lays, comes_on, turned_lays}
 use Rattle.turnstile.specs.Lists.{Has, IsOnce}
 use Rattle.turnstile.proofs.ListsLemmas.{Has-append, IsOnce-append, prefix_length, prefix_trans}
 use Rattle.sync_calls.specs.Operations.{Called, Deed, Does, IsChanging, IsMadeBy, IsNew, IsReading, Looked, TookTurn}
 use Rattle.sync_calls.specs.ServedTurn.{CatchesUp, IsEntryOf}
 use Rattle.sync_calls.specs.Shown.{Knows, Shown, library_after, library_at}
-use Rattle.sync_calls.proofs.ShownLemmas.{IsLast, after_front, at_end, last_at, leads_on}
+use Rattle.sync_calls.proofs.ShownLemmas.{IsLast, after_front, at_end, last_at, leads_on, leads_same}
 
 -- what is shown once a change more is seen, with its place in the book
 abbrev pub with_change : {S : Type 0} → Shown S → Change (DepotView S) → ℕ → Shown S
@@ -71,31 +74,40 @@ module _ {S : Type 0} (contents : S → Option Contents) (may_give : S → Slot 
       ap (λ n. library_after w.start w.seen n) is ∙ (ap (λ (o : Option (DepotView S)). library_after o w.seen (length w.seen)) begins ∙ last.stood)
 
   -- a deed that left the library as it was
-  pub reads_so : (u w : Shown S) (start x y : DepotView S) (place : ℕ) (deed : Deed) → CatchesUp u w → w.start ≡ Some start → LeadsTo contents may_give texts faults start w.seen x
+  pub reads_so : (u w : Shown S) (start x y : DepotView S) (place : ℕ) (deed : Deed) → CatchesUp u w → w.start ≡ Some start → ComesBy contents may_give texts faults start w.seen x
       → place ≡ length w.seen → Does contents may_give texts faults x deed y → IsSame contents faults x y → IsReading contents may_give texts faults u place deed w
-  reads_so u w start x y place deed up begins leads is does stays =
-      let last = last_at contents may_give texts faults start w.seen x leads in
+  reads_so u w start x y place deed up begins comes is does stays =
+      let last = last_at contents may_give texts faults start w.seen x comes.leads in
       record {
         new = new_place u w up place is;
         grows = up.grows;
         whole = is;
         same = up.same;
-        reads = record { there = last.there; stood = stood_at w start x place begins last is; before = x; same = last.same; after = y; does = does; stays = stays };
+        reads = record {
+          there = last.there;
+          stood = stood_at w start x place begins last is;
+          before = x;
+          same = last.same;
+          gives = record { start = start; began = begins; gives = comes.gives };
+          after = y;
+          does = does;
+          stays = stays;
+        };
       }
 
   -- it was done on the library of the turn
-  pub reads_on : (u w : Shown S) (start x y : DepotView S) (place : ℕ) (deed : Deed) (up : CatchesUp u w) (begins : w.start ≡ Some start) (leads : LeadsTo contents may_give texts faults start w.seen x)
+  pub reads_on : (u w : Shown S) (start x y : DepotView S) (place : ℕ) (deed : Deed) (up : CatchesUp u w) (begins : w.start ≡ Some start) (comes : ComesBy contents may_give texts faults start w.seen x)
       (is : place ≡ length w.seen) (does : Does contents may_give texts faults x deed y) (stays : IsSame contents faults x y)
-      → (reads_so u w start x y place deed up begins leads is does stays).reads.before ≡ x
+      → (reads_so u w start x y place deed up begins comes is does stays).reads.before ≡ x
   unfolding reads_so
-  reads_on u w start x y place deed up begins leads is does stays = refl
+  reads_on u w start x y place deed up begins comes is does stays = refl
 
   -- a deed that made a change
   pub changes_so : (u w : Shown S) (start x y : DepotView S) (place : ℕ) (deed : Deed) (change : Change (DepotView S)) → CatchesUp u w → w.start ≡ Some start
-      → LeadsTo contents may_give texts faults start w.seen x → place ≡ length w.seen → IsEntryOf x deed y change → Does contents may_give texts faults x deed y → IsOther contents faults x y
+      → ComesBy contents may_give texts faults start w.seen x → place ≡ length w.seen → IsEntryOf x deed y change → Does contents may_give texts faults x deed y → IsOther contents faults x y
       → IsChanging contents may_give texts faults u place deed (with_change w change place)
-  changes_so u w start x y place deed change up begins leads is entry does other =
-      let last = last_at contents may_give texts faults start w.seen x leads in
+  changes_so u w start x y place deed change up begins comes is entry does other =
+      let last = last_at contents may_give texts faults start w.seen x comes.leads in
       let added = length-append w.seen (change ∷ []) in
       record {
         new = new_place u w up place is;
@@ -109,20 +121,42 @@ module _ {S : Type 0} (contents : S → Option Contents) (may_give : S → Slot 
         stood = ap (λ n. library_after w.start (w.seen ++ change ∷ []) n) is ∙ (after_front w.start w.seen (change ∷ [])
             ∙ (ap (λ (o : Option (DepotView S)). library_after o w.seen (length w.seen)) begins ∙ last.stood));
         follows = subst (λ (b : DepotView S). IsSame contents faults last.there b) (sym entry.from) last.same;
+        gives = record {
+          start = start;
+          began = begins;
+          gives = subst (λ (b : DepotView S). GivesBy (IsLaid start.state.lib) (may_give start.store.shelf) (may_give b.store.shelf)) (sym entry.from) comes.gives;
+        };
         links = linked change deed x y entry does other;
       }
 
   -- which is the one that was published
   pub changes_by : (u w : Shown S) (start x y : DepotView S) (place : ℕ) (deed : Deed) (change : Change (DepotView S)) (up : CatchesUp u w) (begins : w.start ≡ Some start)
-      (leads : LeadsTo contents may_give texts faults start w.seen x) (is : place ≡ length w.seen) (entry : IsEntryOf x deed y change) (does : Does contents may_give texts faults x deed y)
-      (other : IsOther contents faults x y) → (changes_so u w start x y place deed change up begins leads is entry does other).change ≡ change
+      (comes : ComesBy contents may_give texts faults start w.seen x) (is : place ≡ length w.seen) (entry : IsEntryOf x deed y change) (does : Does contents may_give texts faults x deed y)
+      (other : IsOther contents faults x y) → (changes_so u w start x y place deed change up begins comes is entry does other).change ≡ change
   unfolding changes_so
-  changes_by u w start x y place deed change up begins leads is entry does other = refl
+  changes_by u w start x y place deed change up begins comes is entry does other = refl
 
   pub leads_changed : (start x y : DepotView S) (seen : List (Change (DepotView S))) (deed : Deed) (change : Change (DepotView S)) → LeadsTo contents may_give texts faults start seen x
       → IsEntryOf x deed y change → Does contents may_give texts faults x deed y → IsOther contents faults x y → LeadsTo contents may_give texts faults start (seen ++ change ∷ []) y
   leads_changed start x y seen deed change leads entry does other =
       leads_on contents may_give texts faults start seen x change y leads entry.from (linked change deed x y entry does other) entry.to
+
+  -- what a deed may lay
+  does_lay : (deed : Deed) (x y : DepotView S) → Does contents may_give texts faults x deed y → GivesBy (IsLaid x.state.lib) (may_give x.store.shelf) (may_give y.store.shelf)
+  does_lay (Called call moment r) x y does = answered_lays contents may_give texts faults x call moment r y does
+  does_lay (TookTurn goal moment most taken) x y does = turned_lays contents may_give texts faults x goal moment most taken y does
+  does_lay Looked x y does = absurd does
+
+  -- the library as a turn leaves it comes of the one that began
+  pub comes_same : (start x y : DepotView S) (seen : List (Change (DepotView S))) (deed : Deed) → ComesBy contents may_give texts faults start seen x → IsSame contents faults x y
+      → Does contents may_give texts faults x deed y → ComesBy contents may_give texts faults start seen y
+  comes_same start x y seen deed comes same does =
+      comes_on contents may_give texts faults start seen x seen y comes (leads_same contents may_give texts faults start seen x y comes.leads same) (does_lay deed x y does)
+
+  pub comes_changed : (start x y : DepotView S) (seen : List (Change (DepotView S))) (deed : Deed) (change : Change (DepotView S)) → ComesBy contents may_give texts faults start seen x
+      → IsEntryOf x deed y change → Does contents may_give texts faults x deed y → IsOther contents faults x y → ComesBy contents may_give texts faults start (seen ++ change ∷ []) y
+  comes_changed start x y seen deed change comes entry does other =
+      comes_on contents may_give texts faults start seen x (seen ++ change ∷ []) y comes (leads_changed start x y seen deed change comes.leads entry does other) (does_lay deed x y does)
 
   -- what the pass knows then
   pub knows_read : (u w : Shown S) (start y : DepotView S) → CatchesUp u w → w.start ≡ Some start → LeadsTo contents may_give texts faults start w.seen y

@@ -3,18 +3,18 @@ use Rattle.std.specs.Prelude.{◌≡◌, ℕ, ◌<◌, List, length, slice_index
 use Rattle.object_store.specs.Shelf.{Contents}
 use Rattle.object_store.specs.declared.shelf.Slot.{Slot}
 use Rattle.depot.specs.DepotView.{DepotView}
-use Rattle.depot.specs.Story.{LeadsTo}
+use Rattle.depot.specs.Story.{ComesBy}
 use Rattle.turnstile.specs.Lists.{Has}
 use Rattle.turnstile.specs.PassView.{book_of, seen_of, start_of}
 use Rattle.sync_calls.specs.Shown.{LibraryPass}
 
 module _ {S : Type 0} (contents : S → Option Contents) (may_give : S → Slot → Option (List ℕ) → Type 0) (texts faults : S → ℕ) where
-  -- the changes that the pass has seen lead from the library as it began to the one that is given back, and each of them has its
+  -- the library that is given back comes by the changes that the pass has seen of the library as it began, and each of them has its
   -- place in the book
   pub record IsClosed (pass : LibraryPass S) (depot : DepotView S) : Type 0 where
     pub start : DepotView S
     pub begins : start_of pass ≡ Some start
-    pub leads : LeadsTo contents may_give texts faults start (seen_of pass) depot
+    pub comes : ComesBy contents may_give texts faults start (seen_of pass) depot
     pub each : (p : ℕ) → p < length (seen_of pass) → Has p (book_of pass)
 
   -- so of each library, in their order

@@ -4,7 +4,7 @@ use Rattle.std.specs.List.{Contains}
 use Rattle.object_store.specs.Shelf.{Contents}
 use Rattle.object_store.specs.declared.shelf.Slot.{Slot}
 use Rattle.depot.specs.DepotView.{DepotView}
-use Rattle.depot.specs.Story.{IsSame}
+use Rattle.depot.specs.Story.{ComesBy}
 use Rattle.turnstile.specs.PassView.{IsNewPass, first_of, start_of}
 use Rattle.sync_calls.specs.Door.{IsDoorOf}
 use Rattle.sync_calls.specs.Hall.{AreReady, ExitLock, ExitOf, HallOf, LibraryRoom, PassOf, made_with, passes_in, shares_of, shown_by}
@@ -28,10 +28,11 @@ module _ {S : Type 0} (contents : S → Option Contents) (may_give : S → Slot 
   abbrev pub AreNew : ℕ → List (DepotView S) → HallOf S → List (PassOf S) → Type 0
   AreNew passes depots hall all = All (IsNewOf passes depots hall) all
 
--- each of these is the same library as the one in its place
-abbrev pub AreSame : {S : Type 0} → (S → Option Contents) → (S → ℕ) → List (DepotView S) → List (DepotView S) → Type 0
-AreSame {S} contents faults old new = (length new ≡ length old)
-    × ((i : ℕ) (d e : DepotView S) → i < length old → IsSame contents faults (slice_index_or old i d) (slice_index_or new i e))
+-- each of these is the library that was in its place, which no change led on: it is the same, and its shelf may give no more, but what calls and
+-- turns may lay
+abbrev pub AreSame : {S : Type 0} → (S → Option Contents) → (S → Slot → Option (List ℕ) → Type 0) → (texts faults : S → ℕ) → List (DepotView S) → List (DepotView S) → Type 0
+AreSame {S} contents may_give texts faults old new = (length new ≡ length old)
+    × ((i : ℕ) (d e : DepotView S) → i < length old → ComesBy contents may_give texts faults (slice_index_or old i d) [] (slice_index_or new i e))
 
 -- ---- for private clauses
 
@@ -43,9 +44,9 @@ pub record IsFresh {S : Type 0} (passes : ℕ) (depot : DepotView S) (fresh : Fr
   pub each : All (IsNewPass fresh.room.lock (Some depot) passes 0) fresh.passes.items
 
 -- these libraries are back, and those behind them are in these rooms, the last one first
-pub record AreEndedTo {S : Type 0} (contents : S → Option Contents) (faults : S → ℕ) (passes : ℕ) (all depots : List (DepotView S)) (rooms : List (Fresh (LibraryRoom S) (LibraryPass S))) : Type 0 where
+pub record AreEndedTo {S : Type 0} (contents : S → Option Contents) (may_give : S → Slot → Option (List ℕ) → Type 0) (texts faults : S → ℕ) (passes : ℕ) (all depots : List (DepotView S)) (rooms : List (Fresh (LibraryRoom S) (LibraryPass S))) : Type 0 where
   pub size : length depots + length rooms ≡ length all
-  pub back : (i : ℕ) (d e : DepotView S) → i < length depots → IsSame contents faults (slice_index_or all i d) (slice_index_or depots i e)
+  pub back : (i : ℕ) (d e : DepotView S) → i < length depots → ComesBy contents may_give texts faults (slice_index_or all i d) [] (slice_index_or depots i e)
   pub each : (k : ℕ) (d : DepotView S) (r : Fresh (LibraryRoom S) (LibraryPass S)) → k < length rooms → IsFresh passes (slice_index_or all (length all - 1 - k) d) (slice_index_or rooms k r)
 
 -- a list that is taken from its end: these are left of all, and what those behind them became is out, the last one first

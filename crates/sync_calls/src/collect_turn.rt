@@ -3,7 +3,7 @@ ghost use Rattle.std.specs.Prelude.{◌≡◌, ◌<◌, false, true, IfOk, OnErr
 ghost use Rattle.turnstile.specs.HeldTurn.{IsHeld, IsSameTurn, pass_of, value_of};
 ghost use Rattle.turnstile.specs.PassView.{IsPassOf, StandsFor, drawn_of, told_of, view_of};
 ghost use Rattle.turnstile.specs.Rule.{most_turns};
-ghost use Rattle.depot.specs.Story.{IsOther, IsSame, IsTurned, LeadsTo};
+ghost use Rattle.depot.specs.Story.{ComesBy, IsOther, IsSame, IsTurned};
 ghost use Rattle.sync_calls.specs.CollectTurn.{RunsAt, running_number};
 ghost use Rattle.sync_calls.specs.Operations.{IsDone, TookTurn};
 ghost use Rattle.sync_calls.specs.ServedTurn.{CatchesUp, IsEntryOf, IsSameShare};
@@ -54,9 +54,9 @@ pub(crate) fn take_one<S: Shelf, R: Wait>(
 fn take<S: Shelf>(held: &mut Held<'_, Depot<S>>, goal: Option<u64>, moment: u64) -> Taken
     requires ready { IsHeld held.old }
     requires fits { told_of (pass_of held.old) ≡ 0 }
-    requires stands { StandsFor (LeadsTo S.contents S.may_give S.texts S.faults) (view_of (pass_of held.old)) (value_of held.old) }
+    requires stands { StandsFor (ComesBy S.contents S.may_give S.texts S.faults) (view_of (pass_of held.old)) (value_of held.old) }
     ensures ready { IsHeld held.new × IsSameTurn held.old held.new }
-    ensures stands { StandsFor (LeadsTo S.contents S.may_give S.texts S.faults) (view_of (pass_of held.new)) (value_of held.new) }
+    ensures stands { StandsFor (ComesBy S.contents S.may_give S.texts S.faults) (view_of (pass_of held.new)) (value_of held.new) }
     ensures told { (u : Shown S) → CatchesUp u (shown_in (view_of (pass_of held.old)))
         → IsDone S.contents S.may_give S.texts S.faults u result.place (TookTurn goal moment 1000 result.turn) (shown_in (view_of (pass_of held.new))) }
     ensures running { RunsAt (shown_in (view_of (pass_of held.new))) result.running }

@@ -1,7 +1,7 @@
 //! A hall that is made of libraries, with its passes.
 ghost use Rattle.std.specs.Prelude.{◌≡◌, ◌+◌, ◌≤◌, ◌<◌, [], ℕ, All, IfErr, IfOk, OnErr, OnOk, List, Some, length, slice_index_or, vec_capacity, vec_len};
 ghost use Rattle.turnstile.specs.PassView.{IsNewPass, IsPassOf, StandsFor, parts_of, passes_of};
-ghost use Rattle.depot.specs.Story.{IsSame};
+ghost use Rattle.depot.specs.Story.{ComesBy};
 ghost use Rattle.sync_calls.specs.Door.{IsDoorOf};
 ghost use Rattle.depot.specs.DepotView.{DepotView};
 ghost use Rattle.sync_calls.specs.Hall.{ExitLock, ExitOf, HallOf, PassOf};
@@ -36,7 +36,7 @@ impl<S: Shelf> Hall<S> {
         requires from_one { 1 ≤ passes }
         ensures bound { IfOk result (λ made. vec_len made.1 ≡ passes) }
         ensures ok { IfOk result (λ made. AreNew S.contents S.may_give S.texts S.faults passes depots.items made.0 made.1.items) }
-        ensures err { IfErr result (λ e. AreSame S.contents S.faults depots.items e.0.items) }
+        ensures err { IfErr result (λ e. AreSame S.contents S.may_give S.texts S.faults depots.items e.0.items) }
     {
         let rooms = match start_all(alloc, &mut depots, passes) {
             Ok(rooms) => rooms,
@@ -64,7 +64,7 @@ fn start_all<S: Shelf>(
     requires from_one { 1 ≤ passes }
     ensures ok { IfOk result (λ rooms. AreBehind (IsFresh passes) depots.old.items depots.new.items rooms.items × (vec_len depots.new ≡ 0)) }
     ensures capacity { OnOk result (vec_capacity depots.new ≡ vec_capacity depots.old) }
-    ensures err { OnErr result (AreSame S.contents S.faults depots.old.items depots.new.items) }
+    ensures err { OnErr result (AreSame S.contents S.may_give S.texts S.faults depots.old.items depots.new.items) }
 {
     let mut rooms = Vec::with_capacity(alloc, depots.len())?;
     while let Some(depot) = depots.pop() {
@@ -106,9 +106,9 @@ fn start_one<S: Shelf>(
 
 /// Takes the libraries out of rooms that nobody has entered, behind those that are there.
 fn end_all<S: Shelf>(depots: &mut Vec<Depot<S>>, mut rooms: Vec<FreshRoom<S>>)
-    requires stands { (passes : ℕ) × (all : List (DepotView S)) × (1 ≤ passes) × AreEndedTo S.contents S.faults passes all depots.old.items rooms.items }
+    requires stands { (passes : ℕ) × (all : List (DepotView S)) × (1 ≤ passes) × AreEndedTo S.contents S.may_give S.texts S.faults passes all depots.old.items rooms.items }
     requires capacity { vec_len depots.old + vec_len rooms ≤ vec_capacity depots.old }
-    ensures { (passes : ℕ) (all : List (DepotView S)) → AreEndedTo S.contents S.faults passes all depots.old.items rooms.items → AreSame S.contents S.faults all depots.new.items }
+    ensures { (passes : ℕ) (all : List (DepotView S)) → AreEndedTo S.contents S.may_give S.texts S.faults passes all depots.old.items rooms.items → AreSame S.contents S.may_give S.texts S.faults all depots.new.items }
 {
     while let Some(fresh) = rooms.pop() {
         depots.push_reserved(end_one(fresh));
@@ -119,7 +119,7 @@ fn end_all<S: Shelf>(depots: &mut Vec<Depot<S>>, mut rooms: Vec<FreshRoom<S>>)
 /// Takes the library out of a room that nobody has entered.
 fn end_one<S: Shelf>(fresh: FreshRoom<S>) -> Depot<S>
     requires { (passes : ℕ) × (depot : DepotView S) × (1 ≤ passes) × IsFresh passes depot fresh }
-    ensures { (passes : ℕ) (depot : DepotView S) → IsFresh passes depot fresh → IsSame S.contents S.faults depot result }
+    ensures { (passes : ℕ) (depot : DepotView S) → IsFresh passes depot fresh → ComesBy S.contents S.may_give S.texts S.faults depot [] result }
 {
     let Fresh { room, mut passes } = fresh;
     let Room {

@@ -3,7 +3,7 @@ ghost use Rattle.std.specs.Prelude.{◌≡◌, ◌<◌, IfOk, OnOk, OnErr, lengt
 ghost use Rattle.turnstile.specs.Rule.{most_turns};
 ghost use Rattle.turnstile.specs.PassView.{IsPassOf, StandsFor, drawn_of, seen_of, told_of, view_of};
 ghost use Rattle.turnstile.specs.HeldTurn.{IsHeld, IsSameTurn, pass_of, place_of, value_of};
-ghost use Rattle.depot.specs.Story.{LeadsTo};
+ghost use Rattle.depot.specs.Story.{ComesBy};
 ghost use Rattle.sync_calls.specs.FirstAsking.{Spares};
 ghost use Rattle.sync_calls.specs.Operations.{Called, IsDone};
 ghost use Rattle.sync_calls.specs.ServedTurn.{CatchesUp, IsEntryOf, IsSameShare};
@@ -58,9 +58,9 @@ fn serve<S: Shelf, Q: Question<S>>(
 ) -> Served
     requires ready { IsHeld held.old }
     requires fits { told_of (pass_of held.old) ≡ 0 }
-    requires stands { StandsFor (LeadsTo S.contents S.may_give S.texts S.faults) (view_of (pass_of held.old)) (value_of held.old) }
+    requires stands { StandsFor (ComesBy S.contents S.may_give S.texts S.faults) (view_of (pass_of held.old)) (value_of held.old) }
     ensures ready { IsHeld held.new × IsSameTurn held.old held.new }
-    ensures stands { StandsFor (LeadsTo S.contents S.may_give S.texts S.faults) (view_of (pass_of held.new)) (value_of held.new) }
+    ensures stands { StandsFor (ComesBy S.contents S.may_give S.texts S.faults) (view_of (pass_of held.new)) (value_of held.new) }
     ensures told { (u : Shown S) → CatchesUp u (shown_in (view_of (pass_of held.old)))
         → (done : IsDone S.contents S.may_give S.texts S.faults u result.place (Called (Q.call question) moment result.reply) (shown_in (view_of (pass_of held.new))))
         × Spares (Q.too_much question) result.reply done }

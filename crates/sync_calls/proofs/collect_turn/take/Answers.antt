@@ -15,8 +15,10 @@ use Rattle.sync_calls.proofs.collect_turn.take.Goals as goal
 pub returns-then-not-changed-clause-stands : goal.returns-then-not-changed-clause-stands
 returns-then-not-changed-clause-stands g c =
     let here : c.value-2.result.now ≡ value_of c.args.held.now = c.value-2.ensures.value ∙ c.value.ensures.value in
-    kept_stands g.S.Shelf.contents g.S.Shelf.may_give g.S.Shelf.texts g.S.Shelf.faults (view_of (pass_of c.args.held.now)) (value_of c.args.held.now) c.turned-turn.new.depot c.requires.stands
+    kept_stands g.S.Shelf.contents g.S.Shelf.may_give g.S.Shelf.texts g.S.Shelf.faults (view_of (pass_of c.args.held.now)) (value_of c.args.held.now) c.turned-turn.new.depot
+    (TookTurn c.args.goal c.args.moment 1000 c.turned-turn.result.0) c.requires.stands
     (subst (λ x. IsSame g.S.Shelf.contents g.S.Shelf.faults x c.turned-turn.new.depot) here (c.turned-turn.ensures.same c.if-not-changed.true))
+    (subst (λ x. IsTurned g.S.Shelf.contents g.S.Shelf.may_give g.S.Shelf.texts g.S.Shelf.faults x c.args.goal c.args.moment 1000 c.turned-turn.result.0 c.turned-turn.new.depot) here c.turned-turn.ensures.turned)
 
 pub returns-then-not-changed-clause-told : goal.returns-then-not-changed-clause-told
 returns-then-not-changed-clause-told g c = λ u up.

@@ -11,7 +11,7 @@ end_one-requires g c =
       so.0,
       slice_index_or so.1 (length so.1 - 1 - length c.pop.new.self.items) c.in-Some.fresh.room.start.value,
       so.2,
-      ended_last g.S.Shelf.contents g.S.Shelf.faults so.0 so.1 _ _ _ _ so.3 c.in-Some.ensures.items,
+      ended_last g.S.Shelf.contents g.S.Shelf.may_give g.S.Shelf.texts g.S.Shelf.faults so.0 so.1 _ _ _ _ so.3 c.in-Some.ensures.items,
     )
 
 pub loop-fresh-preserved : goal.loop-fresh-preserved
@@ -26,16 +26,16 @@ loop-fresh-preserved g c =
         so.0,
         so.1,
         so.2,
-        subst (λ l. AreEndedTo g.S.Shelf.contents g.S.Shelf.faults so.0 so.1 l c.pop.new.self.items) (sym c.push_reserved.ensures.items)
-            (ended_next g.S.Shelf.contents g.S.Shelf.faults so.0 so.1 _ _ _ _ c.end_one.result so.3 c.in-Some.ensures.items (λ depot is. c.end_one.ensures so.0 depot is)),
+        subst (λ l. AreEndedTo g.S.Shelf.contents g.S.Shelf.may_give g.S.Shelf.texts g.S.Shelf.faults so.0 so.1 l c.pop.new.self.items) (sym c.push_reserved.ensures.items)
+            (ended_next g.S.Shelf.contents g.S.Shelf.may_give g.S.Shelf.texts g.S.Shelf.faults so.0 so.1 _ _ _ _ c.end_one.result so.3 c.in-Some.ensures.items (λ depot is. c.end_one.ensures so.0 depot is)),
       ),
       λ passes all first.
-          subst (λ l. AreEndedTo g.S.Shelf.contents g.S.Shelf.faults passes all l c.pop.new.self.items) (sym c.push_reserved.ensures.items)
-          (ended_next g.S.Shelf.contents g.S.Shelf.faults passes all _ _ _ _ c.end_one.result (c.loop-fresh.invariant.2 passes all first) c.in-Some.ensures.items (λ depot is. c.end_one.ensures passes depot is)),
+          subst (λ l. AreEndedTo g.S.Shelf.contents g.S.Shelf.may_give g.S.Shelf.texts g.S.Shelf.faults passes all l c.pop.new.self.items) (sym c.push_reserved.ensures.items)
+          (ended_next g.S.Shelf.contents g.S.Shelf.may_give g.S.Shelf.texts g.S.Shelf.faults passes all _ _ _ _ c.end_one.result (c.loop-fresh.invariant.2 passes all first) c.in-Some.ensures.items (λ depot is. c.end_one.ensures passes depot is)),
     )
 
 pub returns : goal.returns
 returns g c = λ passes all first.
     let ok = c.loop-fresh.rooms.ok.0 in
     let none = c.in_default.ensures.cases in
-    ended_all g.S.Shelf.contents g.S.Shelf.faults passes all _ _ (c.loop-fresh.invariant.2 passes all first) (omega (arith, none))
+    ended_all g.S.Shelf.contents g.S.Shelf.may_give g.S.Shelf.texts g.S.Shelf.faults passes all _ _ (c.loop-fresh.invariant.2 passes all first) (omega (arith, none))

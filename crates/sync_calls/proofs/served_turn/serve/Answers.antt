@@ -15,8 +15,10 @@ use Rattle.sync_calls.proofs.served_turn.serve.Goals as goal
 pub returns-then-not-changed-clause-stands : goal.returns-then-not-changed-clause-stands
 returns-then-not-changed-clause-stands g c =
     let here : c.value-2.result.now ≡ value_of c.args.held.now = c.value-2.ensures.value ∙ c.value.ensures.value in
-    kept_stands g.S.Shelf.contents g.S.Shelf.may_give g.S.Shelf.texts g.S.Shelf.faults (view_of (pass_of c.args.held.now)) (value_of c.args.held.now) c.tell-reply.new.depot c.requires.stands
+    kept_stands g.S.Shelf.contents g.S.Shelf.may_give g.S.Shelf.texts g.S.Shelf.faults (view_of (pass_of c.args.held.now)) (value_of c.args.held.now) c.tell-reply.new.depot
+    (Called (g.Q.Question.call c.args.question) c.args.moment c.tell-reply.result.0) c.requires.stands
     (subst (λ x. IsSame g.S.Shelf.contents g.S.Shelf.faults x c.tell-reply.new.depot) here (c.tell-reply.ensures.same c.if-not-changed.true))
+    (subst (λ x. IsAnswered g.S.Shelf.contents g.S.Shelf.may_give g.S.Shelf.texts g.S.Shelf.faults x (g.Q.Question.call c.args.question) c.args.moment c.tell-reply.result.0 c.tell-reply.new.depot) here c.tell-reply.ensures.answered)
 
 pub returns-then-not-changed-clause-told : goal.returns-then-not-changed-clause-told
 returns-then-not-changed-clause-told g c = λ u up.

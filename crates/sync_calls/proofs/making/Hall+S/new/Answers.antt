@@ -10,8 +10,8 @@ end_all-requires-clause-stands g c = (
   c.args.passes,
   c.args.depots.items,
   c.requires.from_one,
-  subst (λ rooms. AreEndedTo g.S.Shelf.contents g.S.Shelf.faults c.args.passes c.args.depots.items c.start_all.new.depots.items rooms)
-      (sym (items_same _ _ c.in-Err-hall_of.ensures.err)) (ended_first g.S.Shelf.contents g.S.Shelf.faults c.args.passes _ _ _ c.in-Ok.ensures.ok.0),
+  subst (λ rooms. AreEndedTo g.S.Shelf.contents g.S.Shelf.may_give g.S.Shelf.texts g.S.Shelf.faults c.args.passes c.args.depots.items c.start_all.new.depots.items rooms)
+      (sym (items_same _ _ c.in-Err-hall_of.ensures.err)) (ended_first g.S.Shelf.contents g.S.Shelf.may_give g.S.Shelf.texts g.S.Shelf.faults c.args.passes _ _ _ c.in-Ok.ensures.ok.0),
 )
 
 pub returns-in-Ok-hall_of-clause-ok : goal.returns-in-Ok-hall_of-clause-ok
@@ -24,5 +24,5 @@ returns-in-Ok-hall_of-clause-ok g c =
 pub returns-in-Err-hall_of-clause-err : goal.returns-in-Err-hall_of-clause-err
 returns-in-Err-hall_of-clause-err g c =
     c.end_all.ensures c.args.passes c.args.depots.items
-    (subst (λ rooms. AreEndedTo g.S.Shelf.contents g.S.Shelf.faults c.args.passes c.args.depots.items c.start_all.new.depots.items rooms)
-    (sym (items_same _ _ c.in-Err-hall_of.ensures.err)) (ended_first g.S.Shelf.contents g.S.Shelf.faults c.args.passes _ _ _ c.in-Ok.ensures.ok.0))
+    (subst (λ rooms. AreEndedTo g.S.Shelf.contents g.S.Shelf.may_give g.S.Shelf.texts g.S.Shelf.faults c.args.passes c.args.depots.items c.start_all.new.depots.items rooms)
+    (sym (items_same _ _ c.in-Err-hall_of.ensures.err)) (ended_first g.S.Shelf.contents g.S.Shelf.may_give g.S.Shelf.texts g.S.Shelf.faults c.args.passes _ _ _ c.in-Ok.ensures.ok.0))
