@@ -58,3 +58,4 @@ pub mod ToldMissingLemmas
 pub mod StoryLemmas
 pub mod SizeLemmas
 pub mod TellingLemmas
+pub mod DamageLemmas

@@ -3,6 +3,7 @@ pub mod Writing
 pub mod DepotView
 pub mod Make
 pub mod Giving
+pub mod Damage
 pub mod Tokens
 pub mod Start
 pub mod Refusals

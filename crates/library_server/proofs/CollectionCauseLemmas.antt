@@ -1,100 +1,35 @@
 -- The cause of damage that is told in a connection in which collections are asked for. The key lemmas are collection_caused and
 -- calls_caused.
-use Rattle.std.proofs.Common.{◌≡◌, ◌≢◌, ◌⊎◌, ◌+◌, ◌++◌, inl, inr, ℕ, Bool, true, false, true≢false, List, [], ◌∷◌, refl, sym, ◌∙◌, subst, Option, None, Some, option_map, IsTrue}
+use Rattle.std.proofs.Common.{◌≡◌, ◌≢◌, ◌⊎◌, ◌+◌, ◌++◌, inl, inr, ℕ, Bool, true, false, true≢false, List, [], ◌∷◌, refl, sym, ◌∙◌, subst, Option, None, Some, option_map}
 use Rattle.std.specs.Prelude.{⊤}
-use Rattle.std.specs.FinMap as map
-use Rattle.std.specs.FinSet as set
 use Rattle.std.specs.List.{AllByRecursion}
 use Rattle.std.specs.Str.{bytes_eq}
 use Rattle.std.proofs.lemmas.Slice.Eq.{bytes_eq-Decides}
 use Rattle.ids.specs.declared.key.Key.{Key}
 use Rattle.ids.proofs.BasicLemmas.{AllByRecursion-middle}
-use Rattle.depot.specs.Answering.{MayRefuseTree, is_free_refusal}
-use Rattle.depot.specs.CollectionTurns.{MayLayIn, MayLayRefused, MayTurn, TakesTurn, permits_collection}
+use Rattle.depot.specs.CollectionTurns.{MayTurn, TakesTurn, permits_collection}
 use Rattle.depot.specs.DepotView.{DepotView}
-use Rattle.depot.specs.Giving.{GivesBy, IsNothing}
 use Rattle.depot.specs.declared.turn.Turn.{Turn}
 use Rattle.depot.specs.declared.turn.Turn.TheVariants.{Began, Marked, Swept, Ended, Over, Refused}
 use Rattle.library_rules.specs.Calls.{token_of}
 use Rattle.library_rules.specs.LibraryState.{Running}
-use Rattle.library_state.specs.declared.call.Act.TheVariants as act
 use Rattle.library_state.specs.declared.refusal.Refusal.{Refusal}
-use Rattle.library_state.specs.declared.refusal.Refusal.TheVariants as refusal
-use Rattle.library_state.specs.declared.reply.Reply.TheVariants as reply
 use Rattle.object_store.specs.Shelf.{Contents}
 use Rattle.object_store.specs.Store.{has_other_name}
-use Rattle.object_store.specs.StoreView.{Index}
 use Rattle.object_store.specs.declared.shelf.Slot.{Slot}
 use Rattle.object_store.specs.declared.shelf.Slot.TheVariants.{Object}
 use Rattle.worker_server.specs.Calls.{Told, Ran, call_asked, collection_asked, look_asked, rules_at}
 use Rattle.worker_server.specs.declared.host.Collected.{Collected}
-use Rattle.worker_server.specs.declared.host.Collected.TheVariants as collected
-use Rattle.library_server.specs.Answering.{AnswersOn, AreCaused, AsksTooMuch, IsCaused, IsCausedEnd, LooksOn, OrNothing, after_collection}
+use Rattle.library_server.specs.Answering.{AnswersOn, AreCaused, AsksTooMuch, IsCausedEnd, LooksOn, after_collection}
 use Rattle.library_server.specs.Collecting.{CollectsOn, EndsAs, TellsTurns, TurnsOn, ended, endless, goes_on, most_in_turn, number_running, told_removed}
 use Rattle.library_server.specs.Counting.{OpenedView}
-use Rattle.library_server.proofs.CauseLemmas.{Harmless, call_caused, no_text, refused_caused, reply_back}
-
--- since objects left, nothing may be given too
-nothing_more : (before now : Slot → Option (List ℕ) → Type 0) → Harmless before now → Harmless (OrNothing before) now
-nothing_more before now harmless key given is = by (harmless key given is)
-  where
-    by : before (Object key) given ⊎ ((bytes : List ℕ) × (given ≡ Some bytes) × (has_other_name key bytes ≡ false)) → OrNothing before (Object key) given ⊎ ((bytes : List ℕ) × (given ≡ Some bytes) × (has_other_name key bytes ≡ false))
-    by (inl was) = inl (inl was)
-    by (inr own) = inr own
-
--- what a turn lays under a key is nothing
-refused_laid : (lib : List ℕ) (why : Refusal) (key : Key) (given : Option (List ℕ)) → MayLayRefused lib why (Object key) given → IsNothing (Object key) given
-refused_laid lib refusal.Store key given (inl text) = absurd (no_text key text.at)
-refused_laid lib refusal.Store key given (inr nothing) = nothing
-refused_laid lib refusal.NoMemory key given (inl text) = absurd (no_text key text.at)
-refused_laid lib refusal.NoMemory key given (inr nothing) = nothing
-refused_laid lib other key given laid = absurd laid
-
-turn_laid : (lib : List ℕ) (turn : Turn) (key : Key) (given : Option (List ℕ)) → MayLayIn lib turn (Object key) given → IsNothing (Object key) given
-turn_laid lib (Began number) key given laid = absurd (no_text key laid.at)
-turn_laid lib (Marked count) key given laid = absurd laid
-turn_laid lib (Swept keys) key given (inl text) = absurd (no_text key text.at)
-turn_laid lib (Swept keys) key given (inr nothing) = nothing
-turn_laid lib (Ended number) key given laid = absurd laid
-turn_laid lib (Over number) key given laid = absurd laid
-turn_laid lib (Refused why keys) key given laid = refused_laid lib why key given laid
-
-turn_harmless : (gives mid now : Slot → Option (List ℕ) → Type 0) (lib : List ℕ) (turn : Turn) → Harmless (OrNothing gives) mid → GivesBy (MayLayIn lib turn) mid now → Harmless (OrNothing gives) now
-turn_harmless gives mid now lib turn harmless more key given is = by (more (Object key) given is)
-  where
-    by : mid (Object key) given ⊎ MayLayIn lib turn (Object key) given → OrNothing gives (Object key) given ⊎ ((bytes : List ℕ) × (given ≡ Some bytes) × (has_other_name key bytes ≡ false))
-    by (inl was) = harmless key given was
-    by (inr laid) = inl (inr (turn_laid lib turn key given laid))
-
--- a refusal that a turn may have: who asks and which library are looked at before
-abbrev IsOfTurn : Refusal → Type 0
-IsOfTurn refusal.Denied = ⊥
-IsOfTurn refusal.NoLibrary = ⊥
-IsOfTurn other = ⊤
-
--- why a turn is refused
-abbrev IsCausedTurn : (Slot → Option (List ℕ) → Type 0) → Turn → Type 0
-IsCausedTurn gives (Refused why keys) = IsCaused gives why × IsOfTurn why
-IsCausedTurn gives other = ⊤
-
-free_refusal : (gives : Slot → Option (List ℕ) → Type 0) (why : Refusal) → IsTrue (is_free_refusal why) → IsCaused gives why × IsOfTurn why
-free_refusal gives (refusal.Damaged want got) free = absurd (true≢false (sym free))
-free_refusal gives refusal.Denied free = absurd (true≢false (sym free))
-free_refusal gives refusal.NoLibrary free = absurd (true≢false (sym free))
-free_refusal gives other free = (tt, tt)
-
-tree_refusal : (index : Index) (gives : Slot → Option (List ℕ) → Type 0) (why : Refusal) → MayRefuseTree index gives why → IsOfTurn why
-tree_refusal index gives refusal.Denied may = may
-tree_refusal index gives refusal.NoLibrary may = may
-tree_refusal index gives other may = tt
-
-turn_caused : (gives now : Slot → Option (List ℕ) → Type 0) → Harmless gives now → (index : Index) (running : Option Running) (collection : ℕ) (goal : Option ℕ) (turn : Turn)
-    → MayTurn index now running collection goal turn → IsCausedTurn gives turn
-turn_caused gives now harmless index None collection goal (Refused refusal.Spent keys) may = (tt, tt)
-turn_caused gives now harmless index None collection goal (Refused why keys) may = free_refusal gives why may
-turn_caused gives now harmless index (Some running) collection goal (Refused why keys) may =
-    (reply_back gives now harmless (reply.Refused why) (refused_caused now index (act.Ids [] None) why may), tree_refusal index now why may)
-turn_caused gives now harmless index running collection goal other may = tt
+use Rattle.library_server.proofs.CauseLemmas.{call_caused}
+use Rattle.depot.specs.Damage.{IsCaused, OrNothing}
+use Rattle.depot.proofs.DamageLemmas.{Harmless, IsCausedTurn, IsOfTurn, nothing_more, turn_caused, turn_harmless}
+use Rattle.std.specs.FinMap as map
+use Rattle.std.specs.FinSet as set
+use Rattle.library_state.specs.declared.refusal.Refusal.TheVariants as refusal
+use Rattle.worker_server.specs.declared.host.Collected.TheVariants as collected
 
 -- the end of turns, and not the refusal of who asks or of a library
 abbrev IsEndOfTurns : Collected → Type 0

@@ -3,9 +3,9 @@ use Rattle.std.specs.Prelude.{◌≡◌, ◌≢◌, ◌⊎◌, ◌<◌, ℕ, Boo
 use Rattle.ids.specs.Key.{Objects}
 use Rattle.ids.specs.declared.key.Key.{Key}
 use Rattle.depot.specs.Answering.{permits}
+use Rattle.depot.specs.Damage.{IsCaused, IsCausedReply, OrNothing}
 use Rattle.depot.specs.DepotView.{DepotView}
 use Rattle.depot.specs.FirstGet.{fs_get, sizes_of}
-use Rattle.depot.specs.Giving.{IsNothing}
 use Rattle.depot.specs.Story.{IsAnswered}
 use Rattle.library_rules.specs.Calls.{token_of}
 use Rattle.library_state.specs.declared.call.Call.{Call}
@@ -26,22 +26,9 @@ use Rattle.library_server.specs.Counting.{IsCounted, OpenedView, is_current, tag
 
 -- ---- the cause of damage
 
--- where a refusal tells damage this may be given for a key of the wanted id: nothing, or bytes of the other name that is told
-abbrev pub IsCaused : (Slot → Option (List ℕ) → Type 0) → Refusal → Type 0
-IsCaused gives (refusal.Damaged want got) = (got ≢ Some want) × (key : Key) × IsDamage gives key want got
-IsCaused gives other = ⊤
-
-abbrev pub IsCausedReply : (Slot → Option (List ℕ) → Type 0) → Reply → Type 0
-IsCausedReply gives (reply.Refused why) = IsCaused gives why
-IsCausedReply gives other = ⊤
-
 abbrev pub IsCausedEnd : (Slot → Option (List ℕ) → Type 0) → Collected → Type 0
 IsCausedEnd gives (collected.Refused why) = IsCaused gives why
 IsCausedEnd gives (collected.Done number removed) = ⊤
-
--- this may be given, or nothing for some key
-abbrev pub OrNothing : (Slot → Option (List ℕ) → Type 0) → Slot → Option (List ℕ) → Type 0
-OrNothing gives slot given = gives slot given ⊎ IsNothing slot given
 
 -- what may be given after a collection that was asked for and ended so: nothing for any key too, unless no turn took a step, which
 -- is so where it was denied or spent, and of another library
