@@ -20,7 +20,7 @@ use Rattle.object_store.specs.declared.shelf.Slot.{Slot}
 use Rattle.object_store.specs.declared.shelf.Slot.TheVariants.{Object}
 use Rattle.worker_server.specs.Calls.{Told, Ran, call_asked, collection_asked, look_asked, rules_at}
 use Rattle.worker_server.specs.declared.host.Collected.{Collected}
-use Rattle.library_server.specs.Answering.{AnswersOn, AreCaused, AsksTooMuch, IsCausedEnd, LooksOn, after_collection}
+use Rattle.library_server.specs.Answering.{AnswersOn, AreCaused, IsCausedEnd, LooksOn, SparesOn, after_collection}
 use Rattle.library_server.specs.Collecting.{CollectsOn, EndsAs, TellsTurns, TurnsOn, ended, endless, goes_on, most_in_turn, number_running, told_removed}
 use Rattle.library_server.specs.Counting.{OpenedView}
 use Rattle.library_server.proofs.CauseLemmas.{call_caused}
@@ -149,7 +149,7 @@ module _ {S : Type 0} (contents : S → Option Contents) (may_give : S → Slot 
   -- ---- all of a connection
 
   pub calls_caused : (gives : Slot → Option (List ℕ) → Type 0) (u : OpenedView S) (calls : List (Told ⊤)) (v : OpenedView S) → Harmless gives (may_give u.depot.store.shelf)
-      → Ran (rules_at shows (AnswersOn contents may_give texts faults) AsksTooMuch (CollectsOn contents may_give texts faults) LooksOn) u calls v → AreCaused gives calls
+      → Ran (rules_at shows (AnswersOn contents may_give texts faults) SparesOn (CollectsOn contents may_give texts faults) LooksOn) u calls v → AreCaused gives calls
   calls_caused gives u [] v harmless ran = tt
   calls_caused gives u (call_asked lib call answer operations ∷ ts) v harmless (mid, asked, more) =
       let first = call_caused contents may_give texts faults shows gives u lib call answer operations mid harmless asked in

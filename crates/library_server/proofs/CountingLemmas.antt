@@ -13,7 +13,7 @@ use Rattle.library_state.specs.declared.tag.Tag.{Tag}
 use Rattle.object_store.specs.Shelf.{Contents}
 use Rattle.object_store.specs.declared.shelf.Slot.{Slot}
 use Rattle.worker_server.specs.Calls.{AnsweredSo, Ran, Told, call_asked, collection_asked, look_asked, rules_at}
-use Rattle.library_server.specs.Answering.{AnswersOn, AsksTooMuch, LooksOn}
+use Rattle.library_server.specs.Answering.{AnswersOn, LooksOn, SparesOn}
 use Rattle.library_server.specs.Collecting.{CollectsOn, TurnsOn, number_running}
 use Rattle.library_server.specs.Counting.{IsCounted, OpenedView, changed, count_after, is_current, last_count, tag_at, unchanged}
 
@@ -95,7 +95,7 @@ module _ {S : Type 0} (contents : S → Option Contents) (may_give : S → Slot 
 
   -- a call on the library, or on another, which isn't there; a collection, or a look
   later_told : (u : OpenedView S) (t : Told ⊤) (v : OpenedView S) → u.changes ≤ last_count
-      → AnsweredSo (rules_at shows (AnswersOn contents may_give texts faults) AsksTooMuch (CollectsOn contents may_give texts faults) LooksOn) u t v → IsLater contents faults u v
+      → AnsweredSo (rules_at shows (AnswersOn contents may_give texts faults) SparesOn (CollectsOn contents may_give texts faults) LooksOn) u t v → IsLater contents faults u v
   later_told u (call_asked lib call answer operations) v bound (moment, shown, answers) = later_counted contents faults u v bound answers.counts
   later_told u (collection_asked lib secret ends operations) v bound collects = by (bytes_eq lib u.depot.state.lib) (permits_collection (token_of u.depot.state.tokens secret)) refl refl
     where
@@ -107,7 +107,7 @@ module _ {S : Type 0} (contents : S → Option Contents) (may_give : S → Slot 
   later_told u (look_asked lib secret tag same operations) v bound looked = later_none contents faults u v bound looked.2
 
   pub later_ran : (u : OpenedView S) (ts : List (Told ⊤)) (v : OpenedView S) → u.changes ≤ last_count
-      → Ran (rules_at shows (AnswersOn contents may_give texts faults) AsksTooMuch (CollectsOn contents may_give texts faults) LooksOn) u ts v → IsLater contents faults u v
+      → Ran (rules_at shows (AnswersOn contents may_give texts faults) SparesOn (CollectsOn contents may_give texts faults) LooksOn) u ts v → IsLater contents faults u v
   later_ran u [] v bound same = later_none contents faults u v bound same
   later_ran u (t ∷ ts) v bound (mid, told, more) =
       let first = later_told u t mid bound told in
@@ -115,12 +115,12 @@ module _ {S : Type 0} (contents : S → Option Contents) (may_give : S → Slot 
 
   -- so a tag tells one state
   pub tag_same : (u : OpenedView S) (ts : List (Told ⊤)) (v : OpenedView S) → u.changes < last_count
-      → Ran (rules_at shows (AnswersOn contents may_give texts faults) AsksTooMuch (CollectsOn contents may_give texts faults) LooksOn) u ts v
+      → Ran (rules_at shows (AnswersOn contents may_give texts faults) SparesOn (CollectsOn contents may_give texts faults) LooksOn) u ts v
       → tag_at v ≡ tag_at u → IsSame contents faults u.depot v.depot
   tag_same u ts v below ran same = (later_ran u ts v (omega (arith, below)) ran).same below (ap (λ (t : Tag). t.count) same)
 
   pub look_same : (u : OpenedView S) (ts : List (Told ⊤)) (v : OpenedView S) (lib : List ℕ) (secret : Option (List ℕ)) → u.changes ≤ last_count
-      → Ran (rules_at shows (AnswersOn contents may_give texts faults) AsksTooMuch (CollectsOn contents may_give texts faults) LooksOn) u ts v
+      → Ran (rules_at shows (AnswersOn contents may_give texts faults) SparesOn (CollectsOn contents may_give texts faults) LooksOn) u ts v
       → is_current v lib secret (tag_at u) ≡ true → IsSame contents faults u.depot v.depot
   look_same u ts v lib secret bound ran current =
       let named = (and_parts _ _ current).1 in

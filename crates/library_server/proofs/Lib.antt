@@ -14,3 +14,4 @@ pub mod CollectingWholeLemmas
 pub mod RunLemmas
 pub mod CollectedLemmas
 pub mod FewTurnsLemmas
+pub mod SparedLemmas

@@ -49,7 +49,7 @@ use Rattle.worker_server.specs.Calls.{AnsweredSo, HostRules, Told, Ran, call_ask
 use Rattle.library_server.proofs.DepotLemmas.{mapped_from}
 use Rattle.library_server.proofs.NamesLemmas.{names_new, names_stepped}
 use Rattle.library_server.proofs.TokenLemmas.{freed}
-use Rattle.library_server.specs.Answering.{AnswersOn, AsksTooMuch, LooksOn, NamesIn, NeverFails, is_storage_reply}
+use Rattle.library_server.specs.Answering.{AnswersOn, LooksOn, NamesIn, NeverFails, SparesOn, is_storage_reply}
 use Rattle.library_server.specs.Collecting.{CollectsOn}
 use Rattle.library_server.specs.Counting.{OpenedView}
 use Rattle.library_server.specs.Starting.{IsDueOpening, IsOpenedFrom, is_unstarted_counted, opening_refusal, read_refusal}
@@ -232,7 +232,7 @@ added_whole (Err why) whole = whole
 
 module _ {S : Type 0} (contents : S → Option Contents) (may_give : S → Slot → Option (List ℕ) → Type 0) (texts faults : S → ℕ) (shows : ℕ → Type 0) where
   abbrev pub opened_rules : HostRules (OpenedView S) ⊤
-  opened_rules = rules_at shows (AnswersOn contents may_give texts faults) AsksTooMuch (CollectsOn contents may_give texts faults) LooksOn
+  opened_rules = rules_at shows (AnswersOn contents may_give texts faults) SparesOn (CollectsOn contents may_give texts faults) LooksOn
 
   -- a call and a collection leave objects under their own names, and tell no refusal by storage that never fails
   told_whole : (library after : OpenedView S) (t : Told ⊤) → NeverFails faults → NamesIn contents library.depot → AnsweredSo opened_rules library t after

@@ -1,4 +1,4 @@
--- What the library that is served alone answers to a call. Our own. Read AnswersOn first, and AsksTooMuch at the end.
+-- What the library that is served alone answers to a call. Our own. Read AnswersOn first, then SparesOn and LooksOn.
 use Rattle.std.specs.Prelude.{◌≡◌, ◌≢◌, ◌⊎◌, ◌<◌, ℕ, Bool, true, false, List, [], ◌∷◌, Option, Some, ⊤}
 use Rattle.ids.specs.Key.{Objects}
 use Rattle.ids.specs.declared.key.Key.{Key}
@@ -7,6 +7,8 @@ use Rattle.depot.specs.Damage.{IsCaused, IsCausedReply, OrNothing}
 use Rattle.depot.specs.DepotView.{DepotView}
 use Rattle.depot.specs.FirstGet.{fs_get, sizes_of}
 use Rattle.depot.specs.Story.{IsAnswered}
+use Rattle.http_front.specs.declared.outcome.Outcome.{Outcome}
+use Rattle.http_front.specs.declared.outcome.Outcome.TheVariants as outcome
 use Rattle.library_rules.specs.Calls.{token_of}
 use Rattle.library_state.specs.declared.call.Call.{Call}
 use Rattle.library_state.specs.declared.refusal.Refusal.{Refusal}
@@ -87,6 +89,16 @@ abbrev pub AsksTooMuch : {S : Type 0} → OpenedView S → List ℕ → Option (
 AsksTooMuch library lib secret [] most = ⊥
 AsksTooMuch library lib secret (id ∷ ids) most =
     (lib ≡ library.depot.state.lib) × (permits (token_of library.depot.state.tokens secret) (fs_get id) ≡ true) × (most < sizes_of library.depot.store.index (id ∷ ids))
+
+-- where it is asked for too much, the answer to the first of them is want of memory, and the library is as it was
+abbrev pub SparesOn : {S : Type 0} → OpenedView S → List ℕ → Option (List ℕ) → List (List ℕ) → ℕ → Answer → List ⊤ → OpenedView S → Type 0
+SparesOn old lib secret ids most answer lines new = AsksTooMuch old lib secret ids most → (answer.reply ≡ reply.Refused refusal.NoMemory) × (new ≡ old)
+
+-- the outcome is want of memory
+abbrev pub IsWant : Outcome → Type 0
+IsWant (outcome.Plain r tag) = r ≡ reply.Refused refusal.NoMemory
+IsWant (outcome.Refused why) = why ≡ refusal.NoMemory
+IsWant other = ⊥
 
 -- a look tells whether the library is still in the state of the tag, and leaves it as it is
 abbrev pub LooksOn : {S : Type 0} → OpenedView S → List ℕ → Option (List ℕ) → Tag → Bool → List ⊤ → OpenedView S → Type 0

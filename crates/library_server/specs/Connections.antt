@@ -15,7 +15,7 @@ use Rattle.worker_server.specs.Calls.{Told, Ran, rules_at}
 use Rattle.worker_server.specs.ServedConnection.{CountsEnd, EndsAsked, SessionInTime}
 use Rattle.worker_server.specs.declared.served.Served.{Served}
 use Rattle.worker_server.specs.declared.served.Served.TheVariants.{Ended, Limit, Cut, Refused, ReadFault, WriteFault, NoMemory}
-use Rattle.library_server.specs.Answering.{AnswersOn, AreCaused, AsksTooMuch, LooksOn}
+use Rattle.library_server.specs.Answering.{AnswersOn, AreCaused, LooksOn, SparesOn}
 use Rattle.library_server.specs.Collecting.{CollectsOn}
 use Rattle.library_server.specs.Counting.{OpenedView, opened_now}
 use Rattle.library_server.specs.Starting.{IsNotBrought, IsOfOpening, IsOpenedState, OpensTo, RefusesOpening, is_unbrought_counted}
@@ -45,8 +45,8 @@ pub record ServesOpened {S : Type 0} (contents : S → Option Contents) (may_giv
     (shows : ℕ → Type 0) (library after : OpenedView S) (before now : LinkView) (status : ℕ) : Type 0 where
   pub how : Served
   pub session : (input : List ℕ) → before.left ≡ Some input
-      → SessionInTime (rules_at shows (AnswersOn contents may_give texts faults) AsksTooMuch (CollectsOn contents may_give texts faults) LooksOn) input before.tells now.tells library after how
-  pub ran : (calls : List (Told ⊤)) × Ran (rules_at shows (AnswersOn contents may_give texts faults) AsksTooMuch (CollectsOn contents may_give texts faults) LooksOn) library calls after × AreCaused (may_give library.depot.store.shelf) calls
+      → SessionInTime (rules_at shows (AnswersOn contents may_give texts faults) SparesOn (CollectsOn contents may_give texts faults) LooksOn) input before.tells now.tells library after how
+  pub ran : (calls : List (Told ⊤)) × Ran (rules_at shows (AnswersOn contents may_give texts faults) SparesOn (CollectsOn contents may_give texts faults) LooksOn) library calls after × AreCaused (may_give library.depot.store.shelf) calls
   pub count : CountsEnd before.faults now.faults how
   pub last : EndsAsked how before.tells now.tells now.left
   pub status_is : status ≡ status_of how

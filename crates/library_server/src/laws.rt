@@ -1,4 +1,4 @@
-//! What holds of every collection that is asked for: theorems on the definitions, with no code.
+//! What holds of a library that is served alone: theorems on the definitions, with no code.
 ghost use Rattle.std.specs.Prelude.{◌≡◌, ◌+◌, ◌*◌, ◌≤◌, ◌<◌, ◌^◌, ◌||◌, ℕ, List, length, Option, None, Some, true, ⊤};
 ghost use Rattle.ids.specs.declared.key.Key.{Key};
 ghost use Rattle.depot.specs.DepotView.{state_of};
@@ -6,8 +6,10 @@ ghost use Rattle.depot.specs.Story.{IsSame};
 ghost use Rattle.library_rules.specs.LibraryState.{State, is_fresh, is_needed, is_stored};
 ghost use Rattle.worker_server.specs.declared.host.Collected.{Collected};
 ghost use Rattle.worker_server.specs.declared.host.Collected.TheVariants.{Done};
-ghost use Rattle.worker_server.specs.Calls.{Ran, Told, rules_at};
-ghost use Rattle.library_server.specs.Answering.{AnswersOn, AsksTooMuch, LooksOn};
+ghost use Rattle.http_front.specs.declared.outcome.Outcome.{Outcome};
+ghost use Rattle.http_front.specs.declared.order.What.TheVariants.{GetFs};
+ghost use Rattle.worker_server.specs.Calls.{Ran, ServedBy, Told, most_packed, rules_at};
+ghost use Rattle.library_server.specs.Answering.{AnswersOn, AsksTooMuch, IsWant, LooksOn, SparesOn};
 ghost use Rattle.library_server.specs.Collecting.{CollectsOn, IsLastOf, TakesTurns, begun_over};
 ghost use Rattle.library_server.specs.Counting.{OpenedView, is_current, last_count, tag_at};
 
@@ -41,12 +43,20 @@ pub fn a_collection_that_is_asked_for_takes_few_turns<S: Shelf, C: Clock>()
 /// still in the state of a tag only where it is.
 pub fn a_tag_tells_one_state_of_an_opened_library<S: Shelf, C: Clock>()
     ensures bound { (clock : C) (old new : OpenedView S) (calls : List (Told ⊤)) → old.changes ≤ last_count
-        → Ran (rules_at (C.shows clock) (AnswersOn S.contents S.may_give S.texts S.faults) AsksTooMuch (CollectsOn S.contents S.may_give S.texts S.faults) LooksOn) old calls new
+        → Ran (rules_at (C.shows clock) (AnswersOn S.contents S.may_give S.texts S.faults) SparesOn (CollectsOn S.contents S.may_give S.texts S.faults) LooksOn) old calls new
         → old.changes ≤ new.changes }
     ensures same { (clock : C) (old new : OpenedView S) (calls : List (Told ⊤)) → old.changes < last_count
-        → Ran (rules_at (C.shows clock) (AnswersOn S.contents S.may_give S.texts S.faults) AsksTooMuch (CollectsOn S.contents S.may_give S.texts S.faults) LooksOn) old calls new
+        → Ran (rules_at (C.shows clock) (AnswersOn S.contents S.may_give S.texts S.faults) SparesOn (CollectsOn S.contents S.may_give S.texts S.faults) LooksOn) old calls new
         → tag_at new ≡ tag_at old → IsSame S.contents S.faults old.depot new.depot }
     ensures told { (clock : C) (old new : OpenedView S) (calls : List (Told ⊤)) (lib : List ℕ) (secret : Option (List ℕ)) → old.changes ≤ last_count
-        → Ran (rules_at (C.shows clock) (AnswersOn S.contents S.may_give S.texts S.faults) AsksTooMuch (CollectsOn S.contents S.may_give S.texts S.faults) LooksOn) old calls new
+        → Ran (rules_at (C.shows clock) (AnswersOn S.contents S.may_give S.texts S.faults) SparesOn (CollectsOn S.contents S.may_give S.texts S.faults) LooksOn) old calls new
         → is_current new lib secret (tag_at old) ≡ true → IsSame S.contents S.faults old.depot new.depot }
+{}
+
+/// Files and directories that a library's index knows to have together more bytes than one reply packs aren't read for one who may
+/// ask for them: the outcome is want of memory, and the library is as it was.
+pub fn what_is_too_much_for_one_reply_is_not_read<S: Shelf, C: Clock>()
+    ensures { (clock : C) (old new : OpenedView S) (lib : List ℕ) (secret : Option (List ℕ)) (ids : List (List ℕ)) (outcome : Outcome) (operations : List ⊤)
+        → ServedBy (rules_at (C.shows clock) (AnswersOn S.contents S.may_give S.texts S.faults) SparesOn (CollectsOn S.contents S.may_give S.texts S.faults) LooksOn) lib secret (GetFs ids) old outcome operations new
+        → AsksTooMuch old lib secret ids most_packed → IsWant outcome × (new ≡ old) }
 {}

@@ -5,7 +5,7 @@ ghost use Rattle.ids.specs.FaultCount.{Rose};
 ghost use Rattle.worker_server.specs.Calls.{Told, Ran, rules_at};
 ghost use Rattle.http_front.specs.Link.{told_by};
 ghost use Rattle.worker_server.specs.ServedConnection.{CountsEnd, EndsAsked, SessionInTime};
-ghost use Rattle.library_server.specs.Answering.{AnswersOn, AreCaused, AsksTooMuch, LooksOn};
+ghost use Rattle.library_server.specs.Answering.{AnswersOn, AreCaused, LooksOn, SparesOn};
 ghost use Rattle.library_server.specs.Collecting.{CollectsOn};
 
 use crate::collecting::collect;
@@ -29,7 +29,7 @@ struct Alone<'a, S, C> {
 impl<S: Shelf, C: Clock> Host for Alone<'_, S, C> {
     ghost use Rattle.std.specs.Prelude.{⊤};
     ghost use Rattle.library_server.specs.Counting.{OpenedView};
-    ghost use Rattle.library_server.specs.Answering.{AnswersOn, AsksTooMuch, LooksOn};
+    ghost use Rattle.library_server.specs.Answering.{AnswersOn, LooksOn, SparesOn};
     ghost use Rattle.library_server.specs.Collecting.{CollectsOn};
 
     type Pass = OpenedLibrary<S>;
@@ -46,7 +46,7 @@ impl<S: Shelf, C: Clock> Host for Alone<'_, S, C> {
 
     ghost asks = { AnswersOn S.contents S.may_give S.texts S.faults };
 
-    ghost too_much = { AsksTooMuch };
+    ghost spares = { SparesOn };
 
     ghost collects = { CollectsOn S.contents S.may_give S.texts S.faults };
 
@@ -120,7 +120,7 @@ fn answer_first<S: Shelf>(
     moment: u64,
 ) -> Answer
     ensures value { AnswersOn S.contents S.may_give S.texts S.faults library.old lib (fs_call secret.now id) moment result [] library.new }
-    ensures bound { AsksTooMuch library.old lib secret.now (id ∷ more.now) most → (result.reply ≡ Reply.Refused Refusal.NoMemory) × (library.new ≡ library.old) }
+    ensures bound { SparesOn library.old lib secret.now (id ∷ more.now) most result [] library.new }
 {
     if lib != library.depot.lib() {
         return elsewhere();
@@ -156,12 +156,12 @@ pub fn serve_link<S: Shelf, L: Link, C: Clock>(
     // Where the link tells what it has left: the bytes given are the texts of the library's replies to the requests
     // that those bytes spell. Where it tells what it was asked besides: no reply waited for more input.
     ensures session { (input : List ℕ) → L.left link.old ≡ Some input
-        → SessionInTime (rules_at (C.shows clock.now) (AnswersOn S.contents S.may_give S.texts S.faults) AsksTooMuch (CollectsOn S.contents S.may_give S.texts S.faults) LooksOn) input
+        → SessionInTime (rules_at (C.shows clock.now) (AnswersOn S.contents S.may_give S.texts S.faults) SparesOn (CollectsOn S.contents S.may_give S.texts S.faults) LooksOn) input
         (told_by L.taken L.given L.asked link.old) (told_by L.taken L.given L.asked link.new) library.old library.new result }
 
     // Of every link and every shelf: the calls and collections that were asked. Damage that a reply tells has its cause in what the shelf may
     // give as it is handed in.
-    ensures ran { (calls : List (Told ⊤)) × Ran (rules_at (C.shows clock.now) (AnswersOn S.contents S.may_give S.texts S.faults) AsksTooMuch (CollectsOn S.contents S.may_give S.texts S.faults) LooksOn) library.old calls library.new
+    ensures ran { (calls : List (Told ⊤)) × Ran (rules_at (C.shows clock.now) (AnswersOn S.contents S.may_give S.texts S.faults) SparesOn (CollectsOn S.contents S.may_give S.texts S.faults) LooksOn) library.old calls library.new
         × AreCaused (S.may_give library.old.depot.store.shelf) calls }
 
     // The link's count of faults rose in the first two cases, and stayed in every other.

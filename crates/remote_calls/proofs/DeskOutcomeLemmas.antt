@@ -71,11 +71,11 @@ module _ {V Operation : Type 0} (rules : HostRules V Operation)
       ]
 
   ids_can : (all : List (List ℕ)) (lib : List ℕ) (secret : Option (List ℕ)) (ids : List (List ℕ)) (given : List Row) (u : V) (o : Outcome) (lines : List Operation) (v : V)
-      → map row_id given ++ ids ≡ all → GetsEach rules.asks lib secret u ids given o lines v → CanHave (what.GetFs all) o
+      → map row_id given ++ ids ≡ all → GetsEach rules lib secret u ids given o lines v → CanHave (what.GetFs all) o
   ids_can all lib secret [] given u o lines v same is =
       subst (CanHave (what.GetFs all)) (sym is.0) (sym (append-nil (map row_id given)) ∙ same)
   ids_can all lib secret (id ∷ ids) given u o lines v same is =
-      elim is.6 [
+      elim is.7 [
         | inl later ↦
             ids_can all lib secret ids (given ++ row_with id later.0 ∷ []) is.1 o is.3 v
             (ap (λ (xs : List (List ℕ)). xs ++ ids) (map-append row_id given (row_with id later.0 ∷ [])) ∙ append_assoc (map row_id given) (id ∷ []) ids ∙ same) later.3
@@ -104,7 +104,7 @@ module _ {V Operation : Type 0} (rules : HostRules V Operation)
   library_can (what.Head tag) lib secret u o lines v asked is = head_can tag lib secret u o lines v is
   library_can (what.Get key) lib secret u o lines v asked is = one_can (what.Get key) _ u lib secret o lines v asked refl (λ e. e) is
   library_can (what.PutFs rows) lib secret u o lines v asked is = rows_can rows lib secret rows u o lines v is
-  library_can (what.GetFs ids) lib secret u o lines v asked is = ids_can ids lib secret ids [] u o lines v refl is.0
+  library_can (what.GetFs ids) lib secret u o lines v asked is = ids_can ids lib secret ids [] u o lines v refl is
   library_can what.Collect lib secret u o lines v asked is = subst (CanHave what.Collect) (sym is.2) (ends_so u lib secret is.0 lines v is.1)
   library_can other lib secret u o lines v asked is = one_can other _ u lib secret o lines v asked refl (λ e. absurd (false≢true e)) is
 

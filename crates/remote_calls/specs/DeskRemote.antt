@@ -73,6 +73,10 @@ AsksTooMuch depot lib secret [] most = ⊥
 AsksTooMuch depot lib secret (id ∷ ids) most =
     (lib ≡ depot.state.lib) × (permits (token_of depot.state.tokens secret) (fs_get id) ≡ true) × (most < sizes_of depot.store.index (id ∷ ids))
 
+-- where it is asked for too much, the answer to the first of them is want of memory, and the library is as it was
+abbrev pub DeskSpares : {S : Type 0} → DepotView S → List ℕ → Option (List ℕ) → List (List ℕ) → ℕ → Answer → List ⊤ → DepotView S → Type 0
+DeskSpares old lib secret ids most answer lines new = AsksTooMuch old lib secret ids most → (answer.reply ≡ reply.Refused refusal.NoMemory) × (new ≡ old)
+
 -- a collection that is asked for takes no turn: it is refused where the library is another, where the secret isn't an owner's, and
 -- else as for want of memory
 pub record DeskCollects {S : Type 0} (old : DepotView S) (lib : List ℕ) (secret : Option (List ℕ)) (ends : Collected) (lines : List ⊤) (new : DepotView S) : Type 0 where
@@ -106,7 +110,7 @@ faults_of shelf = shelf.faults
 
 -- the rules of a library in memory, which is asked at this moment
 abbrev pub desk_rules : ℕ → HostRules (DepotView MemoryShelfState) ⊤
-desk_rules moment = rules_at (IsAt moment) (DeskAnswers told_contents gives_told texts_of faults_of) AsksTooMuch (λ _. DeskCollects) DeskLooks
+desk_rules moment = rules_at (IsAt moment) (DeskAnswers told_contents gives_told texts_of faults_of) DeskSpares (λ _. DeskCollects) DeskLooks
 
 -- ---- a send
 

@@ -26,7 +26,7 @@ pub(crate) struct DeskHost<S> {
 impl<S: Shelf> Host for DeskHost<S> {
     ghost use Rattle.std.specs.Prelude.{⊤};
     ghost use Rattle.depot.specs.DepotView.{DepotView};
-    ghost use Rattle.remote_calls.specs.DeskRemote.{AsksTooMuch, DeskAnswers, DeskCollects, DeskLooks, IsAt};
+    ghost use Rattle.remote_calls.specs.DeskRemote.{DeskAnswers, DeskCollects, DeskLooks, DeskSpares, IsAt};
 
     type Pass = Depot<S>;
 
@@ -42,7 +42,7 @@ impl<S: Shelf> Host for DeskHost<S> {
 
     ghost asks = { DeskAnswers S.contents S.may_give S.texts S.faults };
 
-    ghost too_much = { AsksTooMuch };
+    ghost spares = { DeskSpares };
 
     ghost collects = { λ _. DeskCollects };
 

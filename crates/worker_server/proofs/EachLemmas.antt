@@ -1,5 +1,5 @@
 -- Calls asked one after another: one more of them, and the last.
-use Rattle.std.proofs.Common.{◌≡◌, ◌⊎◌, ◌+◌, ◌==◌, ◌<◌, ◌≤◌, nat_le, Bool, true, false, drop, List, [], ◌∷◌, ◌++◌, length, Option, ℕ, inl, inr, refl, sym, ap, subst, ◌∙◌, reverse, append-nil, arith}
+use Rattle.std.proofs.Common.{◌≡◌, ◌+◌, ◌==◌, ◌<◌, ◌≤◌, nat_le, Bool, true, false, drop, List, [], ◌∷◌, ◌++◌, length, Option, ℕ, inl, inr, refl, sym, ap, subst, ◌∙◌, reverse, append-nil, arith}
 use Rattle.std.proofs.lemmas.Bool.{eqb-true, leb-false, leb-true}
 use Rattle.std.proofs.lemmas.List.{reverse-append}
 use Rattle.std.proofs.lemmas.List.Elements.{All-cons, All-nil}
@@ -13,7 +13,7 @@ use Rattle.http_front.specs.Rows.{FitRows, row_with}
 use Rattle.http_front.specs.declared.outcome.Outcome.{Outcome}
 use Rattle.http_front.specs.declared.outcome.Outcome.TheVariants.{Packed, Refused}
 use Rattle.http_front.specs.declared.row.Row.{Row}
-use Rattle.worker_server.specs.Calls.{FitReply, GetsEach, PutsEach, call_of, get_of, is_got, is_stored, most_packed, packed_size, put_of, told_of, IsWant, SparesReading}
+use Rattle.worker_server.specs.Calls.{FirstSo, FitReply, GetsEach, HostRules, PutsEach, call_of, get_of, is_got, is_stored, most_packed, packed_size, put_of, told_of}
 use Rattle.worker_server.specs.declared.host.Answer.{Answer}
 
 -- ---- what is left, taken from the end of its reverse
@@ -39,34 +39,6 @@ not_got (reply.Refused refusal) none = refl
 -- what was given is no want of memory
 pub got_no_want : (r : Reply) (bytes : List ℕ) → r ≡ reply.Got bytes → r ≡ reply.Refused NoMemory → ⊥
 got_no_want r bytes got want = cc (got, want)
-
--- ---- what is not read
-
-module _ {V : Type 0} (too_much : V → List ℕ → Option (List ℕ) → List (List ℕ) → ℕ → Type 0) where
-  -- by what holds of any list
-  pub spares_by : (u : V) (lib : List ℕ) (secret : Option (List ℕ)) (ids : List (List ℕ)) (o : Outcome) (v : V)
-      → (too_much u lib secret ids most_packed → IsWant o × (v ≡ u)) → SparesReading too_much u lib secret ids o v
-  spares_by u lib secret [] o v spares = tt
-  spares_by u lib secret (id ∷ ids) o v spares = spares
-
-  -- nothing is asked for
-  pub spares_none : (u : V) (lib : List ℕ) (secret : Option (List ℕ)) (ids : List (List ℕ)) (o : Outcome) (v : V) → ids ≡ []
-      → SparesReading too_much u lib secret ids o v
-  spares_none u lib secret ids o v none = subst (λ z. SparesReading too_much u lib secret z o v) (sym none) tt
-
-  -- what the first answer tells, where none was asked for before it or the host doesn't know them to be too much
-  pub first_spared : (u mid v : V) (lib : List ℕ) (secret : Option (List ℕ)) (ids : List (List ℕ)) (i : ℕ) (r : Reply)
-      → ((i ≡ 0) × (mid ≡ u)) ⊎ (too_much u lib secret ids most_packed → ⊥)
-      → (i ≡ 0 → too_much mid lib secret ids most_packed → (r ≡ reply.Refused NoMemory) × (v ≡ mid))
-      → too_much u lib secret ids most_packed → (r ≡ reply.Refused NoMemory) × (v ≡ u)
-  first_spared u mid v lib secret ids i r (inl begun) bound much =
-      let told = bound begun.0 (subst (λ z. too_much z lib secret ids most_packed) (sym begun.1) much) in
-      (told.0, told.1 ∙ begun.1)
-  first_spared u mid v lib secret ids i r (inr none) bound much = absurd (none much)
-
--- none was given so far
-pub none_so_far : (count i : ℕ) (is_empty : Bool) → is_empty ≡ (count == 0) → count ≡ i → i ≡ 0 → is_empty ≡ true
-none_so_far count i is_empty is same zero = is ∙ ap (λ n. n == 0) (same ∙ zero)
 
 -- what is asked for first stands in front of those that follow
 pub first_of : (ids : List (List ℕ)) (id : List ℕ) (count i : ℕ) (is_empty : Bool) → is_empty ≡ (count == 0) → count ≡ i → drop i ids ≡ id ∷ drop (i + 1) ids
@@ -126,27 +98,38 @@ module _ {V Operation : Type 0} (asks : V → List ℕ → Call → Answer → L
       → asks u lib (call_of secret (put_of row)) answer first mid → is_stored answer.reply ≡ false → PutsEach asks lib secret u (row ∷ rows) (told_of answer) first mid
   PutsEach-refused lib secret u mid row rows answer first asked refused = (answer, mid, first, [], asked, sym (append-nil first), inr (refused, refl, refl, refl))
 
+module _ {V Operation : Type 0} (rules : HostRules V Operation) where
+  -- the first was asked for with all of them
+  pub told_first : (given : List Row) (u mid : V) (lib : List ℕ) (secret : Option (List ℕ)) (ids left : List (List ℕ)) (answer : Answer) (first : List Operation) (count i : ℕ) (is_empty : Bool)
+      → is_empty ≡ (count == 0) → count ≡ i → count ≡ length given → drop i ids ≡ left
+      → (is_empty ≡ true → rules.spares u lib secret ids most_packed answer first mid) → FirstSo rules given u lib secret left answer first mid
+  told_first [] u mid lib secret ids left answer first count i is_empty is same size at told =
+      let zero : i ≡ 0 = sym same ∙ size in
+      let all : ids ≡ left = subst (λ (n : ℕ). drop n ids ≡ left) zero at in
+      subst (λ (xs : List (List ℕ)). rules.spares u lib secret xs most_packed answer first mid) all (told (is ∙ ap (λ (n : ℕ). n == 0) size))
+  told_first (row ∷ rows) u mid lib secret ids left answer first count i is_empty is same size at told = tt
+
   pub GetsEach-given : (lib : List ℕ) (secret : Option (List ℕ)) (u mid v : V) (id : List ℕ) (ids : List (List ℕ)) (given : List Row) (answer : Answer) (first more : List Operation) (o : Outcome) (bytes : List ℕ)
-      → asks u lib (call_of secret (get_of id)) answer first mid → answer.reply ≡ reply.Got bytes → FitReply (given ++ row_with id bytes ∷ [])
-      → GetsEach asks lib secret mid ids (given ++ row_with id bytes ∷ []) o more v
-      → GetsEach asks lib secret u (id ∷ ids) given o (first ++ more) v
-  GetsEach-given lib secret u mid v id ids given answer first more o bytes asked got fits rest = (answer, mid, first, more, asked, refl, inl (bytes, got, fits, rest))
+      → rules.asks u lib (call_of secret (get_of id)) answer first mid → FirstSo rules given u lib secret (id ∷ ids) answer first mid → answer.reply ≡ reply.Got bytes → FitReply (given ++ row_with id bytes ∷ [])
+      → GetsEach rules lib secret mid ids (given ++ row_with id bytes ∷ []) o more v
+      → GetsEach rules lib secret u (id ∷ ids) given o (first ++ more) v
+  GetsEach-given lib secret u mid v id ids given answer first more o bytes asked told got fits rest = (answer, mid, first, more, asked, told, refl, inl (bytes, got, fits, rest))
 
   pub GetsEach-over : (lib : List ℕ) (secret : Option (List ℕ)) (u mid : V) (id : List ℕ) (ids : List (List ℕ)) (given : List Row) (answer : Answer) (first : List Operation) (bytes : List ℕ)
-      → asks u lib (call_of secret (get_of id)) answer first mid → answer.reply ≡ reply.Got bytes → most_packed < packed_size (given ++ row_with id bytes ∷ [])
-      → GetsEach asks lib secret u (id ∷ ids) given (Refused NoMemory) first mid
-  GetsEach-over lib secret u mid id ids given answer first bytes asked got over = (answer, mid, first, [], asked, sym (append-nil first), inr (inl (bytes, got, over, refl, refl, refl)))
+      → rules.asks u lib (call_of secret (get_of id)) answer first mid → FirstSo rules given u lib secret (id ∷ ids) answer first mid → answer.reply ≡ reply.Got bytes → most_packed < packed_size (given ++ row_with id bytes ∷ [])
+      → GetsEach rules lib secret u (id ∷ ids) given (Refused NoMemory) first mid
+  GetsEach-over lib secret u mid id ids given answer first bytes asked told got over = (answer, mid, first, [], asked, told, sym (append-nil first), inr (inl (bytes, got, over, refl, refl, refl)))
 
   pub GetsEach-refused : (lib : List ℕ) (secret : Option (List ℕ)) (u mid : V) (id : List ℕ) (ids : List (List ℕ)) (given : List Row) (answer : Answer) (first : List Operation)
-      → asks u lib (call_of secret (get_of id)) answer first mid → is_got answer.reply ≡ false → GetsEach asks lib secret u (id ∷ ids) given (told_of answer) first mid
-  GetsEach-refused lib secret u mid id ids given answer first asked refused = (answer, mid, first, [], asked, sym (append-nil first), inr (inr (refused, refl, refl, refl)))
+      → rules.asks u lib (call_of secret (get_of id)) answer first mid → FirstSo rules given u lib secret (id ∷ ids) answer first mid → is_got answer.reply ≡ false → GetsEach rules lib secret u (id ∷ ids) given (told_of answer) first mid
+  GetsEach-refused lib secret u mid id ids given answer first asked told refused = (answer, mid, first, [], asked, told, sym (append-nil first), inr (inr (refused, refl, refl, refl)))
 
   -- what is packed fits, where what was given before does
   pub GetsEach-fits : (lib : List ℕ) (secret : Option (List ℕ)) (u v : V) (ids : List (List ℕ)) (given rows : List Row) (operations : List Operation)
-      → FitReply given → GetsEach asks lib secret u ids given (Packed rows) operations v → FitReply rows
+      → FitReply given → GetsEach rules lib secret u ids given (Packed rows) operations v → FitReply rows
   GetsEach-fits lib secret u v [] given rows operations fits h = subst FitReply (sym (packed_same rows given h.0)) fits
   GetsEach-fits lib secret u v (id ∷ ids) given rows operations fits h =
-      elim h.6 [
+      elim h.7 [
         | inl on ↦ GetsEach-fits lib secret h.1 v ids (given ++ row_with id on.0 ∷ []) rows h.3 on.2 on.3
         | inr end ↦ elim end [
           | inl over ↦ absurd (cc over.3)

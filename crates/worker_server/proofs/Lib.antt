@@ -5,6 +5,7 @@ pub mod EachLemmas
 pub mod HeldInputLemmas
 pub mod GivingLemmas
 pub mod LookLemmas
+pub mod OperationLemmas
 pub mod ReadingLemmas
 pub mod RequestLemmas
 pub mod SessionLemmas

@@ -1,8 +1,9 @@
 -- What an order asks of a library, and how its outcome is made of the answers. Read Serves last: it is what stands
 -- between a request and its reply. `asks` is a host's relation: from what it shows before, a library and a call to
--- an answer, the operations that the call left and what it shows after. Of a host with a clock it is AtAMoment. `too_much` says
--- of what a host shows which files and directories it knows to have together more than so many bytes, and `collects` what it
--- tells of a collection; `looks` is what a look whether a library is still in a state leaves. All four are its rules.
+-- an answer, the operations that the call left and what it shows after. Of a host with a clock it is AtAMoment. `spares` says of
+-- the first of several files and directories what its answer is to be in view of all of them and of how many bytes one reply packs,
+-- and `collects` what is told of a collection; `looks` is what a look whether a library is still in a state leaves. All four are
+-- its rules.
 use Rattle.std.specs.Prelude.{ℕ, ◌≡◌, ◌<◌, ◌≤◌, ◌⊎◌, Bool, true, false, List, [], ◌∷◌, ◌++◌, length, sum_by, ⊤, Option, None, Some, Result, Ok, Err}
 use Rattle.ids.specs.declared.key.Kind.TheVariants.{Fs}
 use Rattle.library_state.specs.declared.call.Act.{Act}
@@ -82,6 +83,16 @@ pub data Told (Operation : Type 0) : Type 0 where
   collection_asked : (lib : List ℕ) (secret : Option (List ℕ)) (ends : Collected) (operations : List Operation) → Told Operation
   look_asked : (lib : List ℕ) (secret : Option (List ℕ)) (tag : Tag) (same : Bool) (operations : List Operation) → Told Operation
 
+-- the operations that it left, and those of all of them, in their order
+abbrev pub left_by : {Operation : Type 0} → Told Operation → List Operation
+left_by (call_asked lib call answer operations) = operations
+left_by (collection_asked lib secret ends operations) = operations
+left_by (look_asked lib secret tag same operations) = operations
+
+abbrev pub operations_of : {Operation : Type 0} → List (Told Operation) → List Operation
+operations_of [] = []
+operations_of (t ∷ ts) = left_by t ++ operations_of ts
+
 -- what is replied where no library is named: no order but that for the version is without one
 abbrev pub outcome_without_library : What → Outcome
 outcome_without_library what.Version = Version
@@ -100,29 +111,16 @@ AtAMoment shows asks u lib call answer operations v = (moment : ℕ) × shows mo
 -- by what rules a host answers
 pub record HostRules (V Operation : Type 0) : Type 1 where
   pub asks : V → List ℕ → Call → Answer → List Operation → V → Type 0
-  pub too_much : V → List ℕ → Option (List ℕ) → List (List ℕ) → ℕ → Type 0
+  pub spares : V → List ℕ → Option (List ℕ) → List (List ℕ) → ℕ → Answer → List Operation → V → Type 0
   pub collects : V → List ℕ → Option (List ℕ) → Collected → List Operation → V → Type 0
   pub looks : V → List ℕ → Option (List ℕ) → Tag → Bool → List Operation → V → Type 0
 
 -- the same of a host with a clock
 abbrev pub rules_at : {V Operation : Type 0} → (ℕ → Type 0) → (V → List ℕ → Call → ℕ → Answer → List Operation → V → Type 0)
-    → (V → List ℕ → Option (List ℕ) → List (List ℕ) → ℕ → Type 0)
+    → (V → List ℕ → Option (List ℕ) → List (List ℕ) → ℕ → Answer → List Operation → V → Type 0)
     → ((ℕ → Type 0) → V → List ℕ → Option (List ℕ) → Collected → List Operation → V → Type 0)
     → (V → List ℕ → Option (List ℕ) → Tag → Bool → List Operation → V → Type 0) → HostRules V Operation
-rules_at shows asks too_much collects looks = record { asks = AtAMoment shows asks; too_much = too_much; collects = collects shows; looks = looks }
-
--- the outcome is want of memory
-abbrev pub IsWant : Outcome → Type 0
-IsWant (Plain r tag) = r ≡ reply.Refused NoMemory
-IsWant (Refused why) = why ≡ NoMemory
-IsWant other = ⊥
-
--- where the host knows the files and directories that are asked for to have together more than one reply packs, the outcome is
--- want of memory, and all is as it was
-abbrev pub SparesReading : {V : Type 0} → (V → List ℕ → Option (List ℕ) → List (List ℕ) → ℕ → Type 0) → V → List ℕ → Option (List ℕ) → List (List ℕ)
-    → Outcome → V → Type 0
-SparesReading too_much u lib secret [] o v = ⊤
-SparesReading too_much u lib secret (id ∷ ids) o v = too_much u lib secret (id ∷ ids) most_packed → IsWant o × (v ≡ u)
+rules_at shows asks spares collects looks = record { asks = AtAMoment shows asks; spares = spares; collects = collects shows; looks = looks }
 
 -- no call was asked, and this is the outcome
 abbrev pub NotAsked : {V Operation : Type 0} → V → Outcome → Outcome → List Operation → V → Type 0
@@ -143,21 +141,28 @@ module _ {V Operation : Type 0} (asks : V → List ℕ → Call → Answer → L
       × (((is_stored answer.reply ≡ true) × PutsEach lib secret mid rows o more v)
       ⊎ ((is_stored answer.reply ≡ false) × (o ≡ told_of answer) × (more ≡ []) × (v ≡ mid)))
 
-  -- the files and directories were asked for one after another, after these that were given: up to the first that was not
-  -- given, whose answer is the outcome, or with which they are more than fit in one reply, which is want of memory; where
-  -- all were given, the outcome is all of them
+module _ {V Operation : Type 0} (rules : HostRules V Operation) where
+  -- a file or directory was asked for after these were given. Where none were, it is the first, and is answered in view of all that are
+  -- asked for and of how many bytes one reply packs
+  abbrev pub FirstSo : List Row → V → List ℕ → Option (List ℕ) → List (List ℕ) → Answer → List Operation → V → Type 0
+  FirstSo [] u lib secret ids answer operations v = rules.spares u lib secret ids most_packed answer operations v
+  FirstSo (row ∷ rows) u lib secret ids answer operations v = ⊤
+
+  -- the files and directories were asked for one after another, after these that were given, the first of them with all that
+  -- follow: up to the first that was not given, whose answer is the outcome, or with which they are more than fit in one reply,
+  -- which is want of memory; where all were given, the outcome is all of them
   abbrev pub GetsEach : List ℕ → Option (List ℕ) → V → List (List ℕ) → List Row → Outcome → List Operation → V → Type 0
   GetsEach lib secret u [] given o operations v = NotAsked u (Packed given) o operations v
   GetsEach lib secret u (id ∷ ids) given o operations v =
       (answer : Answer) × (mid : V) × (first : List Operation) × (more : List Operation)
-      × asks u lib (call_of secret (get_of id)) answer first mid × (operations ≡ first ++ more)
+      × rules.asks u lib (call_of secret (get_of id)) answer first mid × FirstSo given u lib secret (id ∷ ids) answer first mid
+      × (operations ≡ first ++ more)
       × (((bytes : List ℕ) × (answer.reply ≡ reply.Got bytes) × FitReply (given ++ row_with id bytes ∷ [])
       × GetsEach lib secret mid ids (given ++ row_with id bytes ∷ []) o more v)
       ⊎ (((bytes : List ℕ) × (answer.reply ≡ reply.Got bytes) × (most_packed < packed_size (given ++ row_with id bytes ∷ []))
       × (o ≡ Refused NoMemory) × (more ≡ []) × (v ≡ mid))
       ⊎ ((is_got answer.reply ≡ false) × (o ≡ told_of answer) × (more ≡ []) × (v ≡ mid))))
 
-module _ {V Operation : Type 0} (rules : HostRules V Operation) where
   -- a call, a collection or a look was answered so
   abbrev pub AnsweredSo : V → Told Operation → V → Type 0
   AnsweredSo u (call_asked lib call answer operations) v = rules.asks u lib call answer operations v
@@ -168,6 +173,10 @@ module _ {V Operation : Type 0} (rules : HostRules V Operation) where
   abbrev pub Ran : V → List (Told Operation) → V → Type 0
   Ran u [] v = v ≡ u
   Ran u (t ∷ ts) v = (mid : V) × AnsweredSo u t mid × Ran mid ts v
+
+  -- such calls, collections and looks left these operations, in their order
+  abbrev pub Leaves : V → List Operation → V → Type 0
+  Leaves u operations v = (calls : List (Told Operation)) × Ran u calls v × (operations_of calls ≡ operations)
 
   -- a collection was asked of that library, and the outcome is what was told of it
   abbrev pub CollectedSo : V → List ℕ → Option (List ℕ) → Outcome → List Operation → V → Type 0
@@ -195,8 +204,7 @@ module _ {V Operation : Type 0} (rules : HostRules V Operation) where
   ServedBy lib secret (what.Put key bytes) u o operations v = AskedSo rules.asks u lib (call_of secret (act.Put key bytes)) o operations v
   ServedBy lib secret (what.Missing kind ids) u o operations v = AskedSo rules.asks u lib (call_of secret (act.Missing kind ids)) o operations v
   ServedBy lib secret (what.PutFs rows) u o operations v = PutsEach rules.asks lib secret u rows o operations v
-  ServedBy lib secret (what.GetFs ids) u o operations v =
-      GetsEach rules.asks lib secret u ids [] o operations v × SparesReading rules.too_much u lib secret ids o v
+  ServedBy lib secret (what.GetFs ids) u o operations v = GetsEach lib secret u ids [] o operations v
   ServedBy lib secret (what.Ids server client) u o operations v = AskedSo rules.asks u lib (call_of secret (act.Ids server client)) o operations v
   ServedBy lib secret (what.Limit days) u o operations v = AskedSo rules.asks u lib (call_of secret (act.Limit days)) o operations v
   ServedBy lib secret what.Collect u o operations v = CollectedSo u lib secret o operations v

@@ -42,6 +42,11 @@ pub record Exchange (Operation : Type 0) : Type 0 where
 abbrev pub requests : {Operation : Type 0} → List (Exchange Operation) → List Request
 requests xs = map (λ x. x.request) xs
 
+-- the operations of all of them, in their order
+abbrev pub operations_in : {Operation : Type 0} → List (Exchange Operation) → List Operation
+operations_in [] = []
+operations_in (x ∷ xs) = x.operations ++ operations_in xs
+
 -- the number of the last request that is answered on a connection, counted from 0, and how many they are then
 abbrev pub last_request : ℕ
 last_request = 9999

@@ -30,7 +30,7 @@ pub fn reply_to<H: Host>(
     requires fits { head.now.used + head.now.body ≤ length buffer.old }
     ensures ready { H.ready host.now pass.new }
     ensures serves { (outcome : Outcome) × (operations : List H.Operation)
-        × Serves (rules_at (H.shows host.now) H.asks H.too_much H.collects H.looks) (H.view pass.old) (IsOrder head.now.method head.now.target head.now.token head.now.tag (slice_range buffer.old head.now.used (head.now.used + head.now.body))) outcome operations (H.view pass.new)
+        × Serves (rules_at (H.shows host.now) H.asks H.spares H.collects H.looks) (H.view pass.old) (IsOrder head.now.method head.now.target head.now.token head.now.tag (slice_range buffer.old head.now.used (head.now.used + head.now.body))) outcome operations (H.view pass.new)
         × IfSome result (λ reply. reply.front ++ reply.object ≡ text outcome closes) }
     ensures left { buffer.new ≡ drop (head.now.used + head.now.body) buffer.old }
 {
@@ -63,7 +63,7 @@ fn outcome_of<H: Host>(
     requires fits { head.now.used + head.now.body ≤ length buffer.old }
     ensures ready { H.ready host.now pass.new }
     ensures serves { (operations : List H.Operation)
-        × Serves (rules_at (H.shows host.now) H.asks H.too_much H.collects H.looks) (H.view pass.old) (IsOrder head.now.method head.now.target head.now.token head.now.tag (slice_range buffer.old head.now.used (head.now.used + head.now.body))) result operations (H.view pass.new) }
+        × Serves (rules_at (H.shows host.now) H.asks H.spares H.collects H.looks) (H.view pass.old) (IsOrder head.now.method head.now.target head.now.token head.now.tag (slice_range buffer.old head.now.used (head.now.used + head.now.body))) result operations (H.view pass.new) }
     ensures left { buffer.new ≡ drop (head.now.used + head.now.body) buffer.old }
 {
     match next_order(alloc, head, buffer) {
@@ -125,7 +125,7 @@ fn refusal_of(fault: OrderFault) -> Refusal
 pub fn answer_order<H: Host>(alloc: Global, host: &H, pass: &mut H::Pass, order: Order) -> Outcome
     requires ready { H.ready host.now pass.old }
     ensures ready { H.ready host.now pass.new }
-    ensures serves { (operations : List H.Operation) × ServesOrder (rules_at (H.shows host.now) H.asks H.too_much H.collects H.looks) (H.view pass.old) order result operations (H.view pass.new) }
+    ensures serves { (operations : List H.Operation) × ServesOrder (rules_at (H.shows host.now) H.asks H.spares H.collects H.looks) (H.view pass.old) order result operations (H.view pass.new) }
 {
     let Order { lib, secret, what } = order;
     match lib {
@@ -156,7 +156,7 @@ fn outcome_by<H: Host>(
     requires ready { H.ready host.now pass.old }
     ensures ready { H.ready host.now pass.new }
     ensures serves { (operations : List H.Operation)
-        × ServesOrder (rules_at (H.shows host.now) H.asks H.too_much H.collects H.looks) (H.view pass.old) (record { lib = Some lib; secret = secret; what = what }) result operations (H.view pass.new) }
+        × ServesOrder (rules_at (H.shows host.now) H.asks H.spares H.collects H.looks) (H.view pass.old) (record { lib = Some lib; secret = secret; what = what }) result operations (H.view pass.new) }
 {
     match what {
         What::Version => Outcome::Version,

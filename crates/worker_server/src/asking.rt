@@ -1,6 +1,6 @@
 //! Asking the host: one call, or one for each file and directory of a body.
 ghost use Rattle.std.specs.Prelude.{◌≡◌, ◌+◌, ◌≤◌, ◌⊎◌, ◌∷◌, nat_le, true, false, drop, List, [], IfOk, IfErr, OnErr};
-ghost use Rattle.worker_server.specs.Calls.{AskedSo, AtAMoment, GetsEach, NotAsked, PutsEach, SparesReading, call_of, get_of, is_got, is_stored, most_packed, put_of, told_of};
+ghost use Rattle.worker_server.specs.Calls.{AskedSo, AtAMoment, GetsEach, NotAsked, PutsEach, call_of, get_of, is_got, is_stored, most_packed, put_of, rules_at, told_of};
 ghost use Rattle.http_front.specs.Rows.{row_with};
 
 use crate::host::{Answer, Host};
@@ -88,8 +88,8 @@ fn put_one<H: Host>(
 const MOST_PACKED: u64 = 268_435_456;
 
 /// Asks for each file and directory in turn, up to the first that is not given, whose answer is the outcome, or with
-/// which they are more than fit in one reply, which is want of memory. Where the host knows so before, it is that, and
-/// the view stays. Where there is no room for as many rows, nothing is asked.
+/// which they are more than fit in one reply, which is want of memory. The first is asked for with all that follow. Where there is
+/// no room for as many rows, nothing is asked.
 pub fn get_each<H: Host>(
     alloc: Global,
     host: &H,
@@ -101,9 +101,8 @@ pub fn get_each<H: Host>(
     requires ready { H.ready host.now pass.old }
     ensures ready { H.ready host.now pass.new }
     ensures asks { (operations : List H.Operation)
-        × (GetsEach (AtAMoment (H.shows host.now) H.asks) lib secret (H.view pass.old) ids.now [] result operations (H.view pass.new)
+        × (GetsEach (rules_at (H.shows host.now) H.asks H.spares H.collects H.looks) lib secret (H.view pass.old) ids.now [] result operations (H.view pass.new)
         ⊎ NotAsked (H.view pass.old) (Outcome.Refused Refusal.NoMemory) result operations (H.view pass.new)) }
-    ensures bound { SparesReading H.too_much (H.view pass.old) lib secret ids.now result (H.view pass.new) }
 {
     let mut rows = match Vec::with_capacity(alloc, ids.len()) {
         Ok(rows) => rows,
@@ -152,9 +151,8 @@ fn get_next<H: Host>(
     requires first { is_first ≡ true → ids.now ≡ id ∷ drop 1 ids.now }
     ensures ready { H.ready host.now pass.new }
     ensures asks { (operations : List H.Operation)
-        × (AtAMoment (H.shows host.now) H.asks) (H.view pass.old) lib.now (call_of secret.now (get_of id)) result operations (H.view pass.new) }
-    ensures bound { is_first ≡ true → H.too_much (H.view pass.old) lib.now secret.now ids.now most_packed
-        → (result.reply ≡ Reply.Refused Refusal.NoMemory) × (H.view pass.new ≡ H.view pass.old) }
+        × (AtAMoment (H.shows host.now) H.asks) (H.view pass.old) lib.now (call_of secret.now (get_of id)) result operations (H.view pass.new)
+        × (is_first ≡ true → H.spares (H.view pass.old) lib.now secret.now ids.now most_packed result operations (H.view pass.new)) }
 {
     if is_first {
         return host.ask_first(alloc, pass, *lib, *secret, id, &ids[1..], MOST_PACKED);

@@ -39,11 +39,11 @@ pub fn serve_session<H: Host, L: Link>(
     // bytes spell. Where it tells what it was asked besides: no reply waited for more input, and where nothing came no
     // more was asked for.
     ensures session { (input : List ℕ) → L.left link.old ≡ Some input
-        → SessionInTime (rules_at (H.shows host.now) H.asks H.too_much H.collects H.looks) input (told_by L.taken L.given L.asked link.old)
+        → SessionInTime (rules_at (H.shows host.now) H.asks H.spares H.collects H.looks) input (told_by L.taken L.given L.asked link.old)
         (told_by L.taken L.given L.asked link.new) (H.view pass.old) (H.view pass.new) result }
 
     // Of every link: the calls that were asked.
-    ensures ran { (calls : List (Told H.Operation)) × Ran (rules_at (H.shows host.now) H.asks H.too_much H.collects H.looks) (H.view pass.old) calls (H.view pass.new) }
+    ensures ran { (calls : List (Told H.Operation)) × Ran (rules_at (H.shows host.now) H.asks H.spares H.collects H.looks) (H.view pass.old) calls (H.view pass.new) }
 
     // The link's count of faults rose in the first two cases, and stayed in every other.
     ensures read_fault { result ≡ Served.ReadFault → Rose (L.faults link.old) (L.faults link.new) }
@@ -83,9 +83,9 @@ fn serve_one<H: Host, L: Link>(
     requires ready { H.ready host.now pass.old }
     ensures ready { H.ready host.now pass.new }
     ensures one { (rest : List ℕ) → to_read buffer.old (L.left link.old) ≡ Some rest
-        → OneServed (rules_at (H.shows host.now) H.asks H.too_much H.collects H.looks) number rest buffer.old buffer.new (L.left link.new)
+        → OneServed (rules_at (H.shows host.now) H.asks H.spares H.collects H.looks) number rest buffer.old buffer.new (L.left link.new)
         (H.view pass.old) (H.view pass.new) (told_by L.taken L.given L.asked link.old) (told_by L.taken L.given L.asked link.new) result }
-    ensures ran { (calls : List (Told H.Operation)) × Ran (rules_at (H.shows host.now) H.asks H.too_much H.collects H.looks) (H.view pass.old) calls (H.view pass.new) }
+    ensures ran { (calls : List (Told H.Operation)) × Ran (rules_at (H.shows host.now) H.asks H.spares H.collects H.looks) (H.view pass.old) calls (H.view pass.new) }
     ensures last { StepAsked result (told_by L.taken L.given L.asked link.old) (told_by L.taken L.given L.asked link.new) (L.left link.old) (L.left link.new) }
     ensures faults { CountsServed (L.faults link.old) (L.faults link.new) result }
 {

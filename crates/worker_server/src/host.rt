@@ -31,10 +31,8 @@ pub enum Collected {
 /// view before, the moment at which it is asked, the answer, the operations that it left (a record of
 /// operations, empty where none is kept) and the view after.
 pub trait Host {
-    ghost use Rattle.std.specs.Prelude.{◌≡◌, ◌∷◌, Bool, List, Option, ℕ};
+    ghost use Rattle.std.specs.Prelude.{◌∷◌, Bool, List, Option, ℕ};
     ghost use Rattle.worker_server.specs.Calls.{AtAMoment, call_of, get_of};
-    ghost use Rattle.library_state.specs.declared.refusal.Refusal.TheVariants.{NoMemory};
-    ghost use Rattle.library_state.specs.declared.reply.Reply.TheVariants as reply;
     ghost use Rattle.library_state.specs.declared.call.Call.{Call};
     ghost use Rattle.worker_server.specs.declared.host.Answer.{Answer};
     ghost use Rattle.worker_server.specs.declared.host.Collected.{Collected};
@@ -59,9 +57,9 @@ pub trait Host {
     // A call on a library, asked at this moment, may be answered so.
     ghost asks: { View → List ℕ → Call → ℕ → Answer → List Operation → View → Type 0 };
 
-    // As the host knows, these files and directories of a library, asked for with this secret, have together more than
-    // so many bytes.
-    ghost too_much: { View → List ℕ → Option (List ℕ) → List (List ℕ) → ℕ → Type 0 };
+    // The first of these files and directories of a library, asked for with this secret by one who tells all of them and how many
+    // bytes they may have together, may be answered so in view of that.
+    ghost spares: { View → List ℕ → Option (List ℕ) → List (List ℕ) → ℕ → Answer → List Operation → View → Type 0 };
 
     // A library, asked by the one of this secret, may be collected so, in turns at moments of this kind.
     ghost collects: { (ℕ → Type 0) → View → List ℕ → Option (List ℕ) → Collected → List Operation → View → Type 0 };
@@ -79,8 +77,8 @@ pub trait Host {
 
     /// Asks a library for a file or directory, and tells that `more` will be asked for after it, one after another.
     ///
-    /// Where the host knows that they have together more than `most` bytes, the answer is want of memory, and the view
-    /// stays.
+    /// Whoever asks packs no more than `most` bytes of them. What a host makes of that is its own rule: one that knows that they
+    /// have more together answers so, and reads nothing.
     fn ask_first(
         &self,
         alloc: Global,
@@ -94,9 +92,8 @@ pub trait Host {
         requires ready { ready self.now pass.old }
         ensures ready { ready self.now pass.new }
         ensures asks { (operations : List Operation)
-            × AtAMoment (shows self.now) asks (view pass.old) lib (call_of secret (get_of id)) result operations (view pass.new) }
-        ensures bound { too_much (view pass.old) lib secret (id ∷ more.now) most
-            → (result.reply ≡ reply.Refused NoMemory) × (view pass.new ≡ view pass.old) };
+            × AtAMoment (shows self.now) asks (view pass.old) lib (call_of secret (get_of id)) result operations (view pass.new)
+            × spares (view pass.old) lib secret (id ∷ more.now) most result operations (view pass.new) };
 
     /// Collects a library, in turns at moments that the clock shows, until its collection ended or a turn is refused.
     fn collect(

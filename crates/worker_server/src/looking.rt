@@ -22,7 +22,7 @@ pub fn head_of<H: Host>(
     requires ready { H.ready host.now pass.old }
     ensures ready { H.ready host.now pass.new }
     ensures asks { (operations : List H.Operation)
-        × HeadSo (rules_at (H.shows host.now) H.asks H.too_much H.collects H.looks) (H.view pass.old) lib secret tag result operations (H.view pass.new) }
+        × HeadSo (rules_at (H.shows host.now) H.asks H.spares H.collects H.looks) (H.view pass.old) lib secret tag result operations (H.view pass.new) }
 {
     match tag {
         Some(tag) => head_unless(alloc, host, pass, lib, secret, tag),
@@ -42,7 +42,7 @@ fn head_unless<H: Host>(
     requires ready { H.ready host.now pass.old }
     ensures ready { H.ready host.now pass.new }
     ensures asks { (operations : List H.Operation)
-        × HeadSo (rules_at (H.shows host.now) H.asks H.too_much H.collects H.looks) (H.view pass.old) lib secret (Some tag) result operations (H.view pass.new) }
+        × HeadSo (rules_at (H.shows host.now) H.asks H.spares H.collects H.looks) (H.view pass.old) lib secret (Some tag) result operations (H.view pass.new) }
 {
     if host.look(pass, lib, &secret, tag) {
         return Outcome::Same(tag);

@@ -27,7 +27,7 @@ returns-in-Err-clause-one g c = λ rest e. record {
 
 pub returns-in-None-clause-one : goal.returns-in-None-clause-one
 returns-in-None-clause-one g c = λ rest e.
-    let rules = rules_at (g.H.Host.shows c.args.host.now) g.H.Host.asks g.H.Host.too_much g.H.Host.collects g.H.Host.looks in
+    let rules = rules_at (g.H.Host.shows c.args.host.now) g.H.Host.asks g.H.Host.spares g.H.Host.collects g.H.Host.looks in
     let served = c.in-None.ensures.serves in
     let stands = c.in-Ok.ensures.ok in
     let next = AnswersNext-from_reply rules c.next_request.new.buffer (g.L.Link.left c.next_request.new.link) rest c.in-Ok.head stands.0 stands.1 stands.2 (c.in-Ok.ensures.to_read ∙ e)
@@ -44,7 +44,7 @@ returns-in-None-clause-ran g c = Serves-ran _ _ _ _ _ _ c.in-None.ensures.serves
 
 pub returns-in-Err-give_reply-clause-one : goal.returns-in-Err-give_reply-clause-one
 returns-in-Err-give_reply-clause-one g c = λ rest e.
-    let rules = rules_at (g.H.Host.shows c.args.host.now) g.H.Host.asks g.H.Host.too_much g.H.Host.collects g.H.Host.looks in
+    let rules = rules_at (g.H.Host.shows c.args.host.now) g.H.Host.asks g.H.Host.spares g.H.Host.collects g.H.Host.looks in
     let served = c.in-Some.ensures.serves in
     let stands = c.in-Ok.ensures.ok in
     let next = AnswersNext-from_reply rules c.next_request.new.buffer (g.L.Link.left c.next_request.new.link) rest c.in-Ok.head stands.0 stands.1 stands.2 (c.in-Ok.ensures.to_read ∙ e)
@@ -63,7 +63,7 @@ returns-in-Err-give_reply-clause-ran g c = Serves-ran _ _ _ _ _ _ c.in-Some.ensu
 
 pub returns-clause-one : goal.returns-clause-one
 returns-clause-one g c = λ rest e.
-    let rules = rules_at (g.H.Host.shows c.args.host.now) g.H.Host.asks g.H.Host.too_much g.H.Host.collects g.H.Host.looks in
+    let rules = rules_at (g.H.Host.shows c.args.host.now) g.H.Host.asks g.H.Host.spares g.H.Host.collects g.H.Host.looks in
     let served = c.in-Some.ensures.serves in
     let stands = c.in-Ok.ensures.ok in
     let gave : g.L.Link.given c.give_reply.new.link ≡ append_known (g.L.Link.given c.next_request.new.link) (text served.0 c.closes_at-closes.result) =

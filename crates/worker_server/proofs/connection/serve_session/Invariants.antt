@@ -11,9 +11,9 @@ abbrev pub invariant-loop-number : goal.invariant-loop-number
 invariant-loop-number g l = record {
   ready : g.H.Host.ready l.host l.pass;
   so_far : (input : List ℕ) → g.L.Link.left l.fn.link ≡ Some input
-      → SoFar (rules_at (g.H.Host.shows l.host) g.H.Host.asks g.H.Host.too_much g.H.Host.collects g.H.Host.looks) l.number input l.buffer (told_by g.L.Link.taken g.L.Link.given g.L.Link.asked l.fn.link) (told_by g.L.Link.taken g.L.Link.given g.L.Link.asked l.link)
+      → SoFar (rules_at (g.H.Host.shows l.host) g.H.Host.asks g.H.Host.spares g.H.Host.collects g.H.Host.looks) l.number input l.buffer (told_by g.L.Link.taken g.L.Link.given g.L.Link.asked l.fn.link) (told_by g.L.Link.taken g.L.Link.given g.L.Link.asked l.link)
       (to_read l.buffer (g.L.Link.left l.link)) (g.H.Host.view l.fn.pass) (g.H.Host.view l.pass);
-  ran : (calls : List (Told g.H.Host.Operation)) × Ran (rules_at (g.H.Host.shows l.host) g.H.Host.asks g.H.Host.too_much g.H.Host.collects g.H.Host.looks) (g.H.Host.view l.fn.pass) calls (g.H.Host.view l.pass);
+  ran : (calls : List (Told g.H.Host.Operation)) × Ran (rules_at (g.H.Host.shows l.host) g.H.Host.asks g.H.Host.spares g.H.Host.collects g.H.Host.looks) (g.H.Host.view l.fn.pass) calls (g.H.Host.view l.pass);
   faults : g.L.Link.faults l.link ≡ g.L.Link.faults l.fn.link;
   came : CameLast (told_by g.L.Link.taken g.L.Link.given g.L.Link.asked l.fn.link) (told_by g.L.Link.taken g.L.Link.given g.L.Link.asked l.link) (g.L.Link.left l.link);
 }
