@@ -1,6 +1,6 @@
 -- The room that a call goes to, and its pass, as they are read and written by their place. The key lemmas are ready_at,
--- ready_again, asks_again, looks_again and collects_again.
-use Rattle.std.proofs.Common.{◌≡◌, ℕ, ◌<◌, List, length, refl, sym, subst, arith, Option}
+-- ready_again, spent_again, asks_again, looks_again and collects_again.
+use Rattle.std.proofs.Common.{◌≡◌, ℕ, ◌<◌, List, length, refl, sym, ap, subst, arith, Option, ◌∙◌}
 use Rattle.std.specs.Prelude.{slice_index_or, slice_set, vec_len}
 use Rattle.std.specs.Vec.{with_item}
 use Rattle.std.proofs.lemmas.List.{length-map, map-set}
@@ -10,10 +10,11 @@ use Rattle.object_store.specs.Shelf.{Contents}
 use Rattle.object_store.specs.declared.shelf.Slot.{Slot}
 use Rattle.depot.specs.DepotView.{DepotView}
 use Rattle.turnstile.specs.PassView.{drawn_of, parts_of, passes_of}
+use Rattle.turnstile.specs.Rule.{most_turns}
 use Rattle.sync_calls.specs.Asking.{AsksSo}
 use Rattle.sync_calls.specs.Collecting.{CollectsOne, CollectsSo}
 use Rattle.sync_calls.specs.FirstAsking.{AsksOne, SparesReading}
-use Rattle.sync_calls.specs.Hall.{AreReady, HallOf, IsReadyAt, LibraryRoom, PassOf, drawn_by, made_with, passes_in, rooms_of, shares_of, shown_by}
+use Rattle.sync_calls.specs.Hall.{AreReady, HallOf, IsReadyAt, LibraryRoom, PassOf, StaySpent, drawn_by, made_with, passes_in, rooms_of, shares_of, shown_by}
 use Rattle.sync_calls.specs.Looking.{GlancesOne, GlancesSo}
 use Rattle.sync_calls.specs.Operations.{Line}
 use Rattle.sync_calls.specs.RoomPlace.{IsRoomOf}
@@ -22,7 +23,7 @@ use Rattle.sync_calls.specs.declared.asking.Answer.{Answer}
 use Rattle.sync_calls.specs.declared.collecting.Collected.{Collected}
 use Rattle.sync_calls.specs.declared.looking.Glance.{Glance}
 use Rattle.sync_calls.proofs.CollectingLemmas.{collects_lift}
-use Rattle.sync_calls.proofs.RoomLemmas.{asks_lift, looks_lift, named_at, ready_there}
+use Rattle.sync_calls.proofs.RoomLemmas.{asks_lift, get_map, looks_lift, named_at, ready_there, stay_set}
 
 -- the pass with another to one room
 abbrev pub with_pass : {S : Type 0} → PassOf S → ℕ → LibraryPass S → PassOf S
@@ -48,6 +49,15 @@ module _ {S : Type 0} (contents : S → Option Contents) (may_give : S → Slot 
       (subst (λ (r : LibraryRoom S). IsReadyAt contents may_give texts faults (shares_of pass) (made_with pass) r new) is
       (subst (λ (n : ℕ). IsReadyAt contents may_give texts faults (shares_of pass) n room new) here.among
       (subst (λ (n : ℕ). IsReadyAt contents may_give texts faults n (passes_of to) room new) here.share so)))
+
+  pub spent_again : (new : LibraryPass S) → (drawn_of to ≡ most_turns → drawn_of new ≡ most_turns) → StaySpent (drawn_by pass) (drawn_by (with_pass pass place new))
+  spent_again new stays =
+      let ok = pass.passes.ok.0 in
+      let size = ready.size in
+      let below : place < length (passes_in pass) = omega arith in
+      subst (λ (draws : List ℕ). StaySpent (drawn_by pass) draws) (sym (map-set drawn_of (passes_in pass) place new))
+      (stay_set (drawn_by pass) place (drawn_of (slice_index_or (passes_in pass) place to)) (drawn_of new) (get_map drawn_of (passes_in pass) place to below)
+      (λ was. stays (ap (λ (p : LibraryPass S). drawn_of p) at ∙ was)))
 
   pub asks_again : (too_much : DepotView S → Type 0) (lib : List ℕ) (call : Call) (moment : ℕ) (answer : Answer) (new : LibraryPass S) → IsRoomOf (rooms_of hall) lib place
       → AsksOne contents may_give texts faults too_much (shown_of to) call moment answer (shown_of new) (drawn_of new)

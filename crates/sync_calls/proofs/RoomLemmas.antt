@@ -1,6 +1,6 @@
--- One room of a hall, by its place. The key lemmas are named_at, nowhere_at, ready_there, and asks_lift and looks_lift, which
+-- One room of a hall, by its place. The key lemmas are stay_set, named_at, nowhere_at, ready_there, and asks_lift and looks_lift, which
 -- carry what was done at one library to what is shown of all.
-use Rattle.std.proofs.Common.{◌≡◌, ℕ, zero, suc, ◌<◌, ⊎_elim, List, [], ◌∷◌, length, map as map_list, refl, sym, ◌∙◌, ap, subst, arith, Option, Some}
+use Rattle.std.proofs.Common.{◌≡◌, ℕ, zero, suc, ◌<◌, ◌≤◌, ⊎_elim, List, [], ◌∷◌, length, map as map_list, refl, sym, ◌∙◌, ap, subst, arith, Option, Some}
 use Rattle.std.specs.List.{slice_get}
 use Rattle.std.specs.Prelude.{slice_index_or, slice_set, vec_len, option_map}
 use Rattle.std.proofs.lemmas.Bool.{cases_eq}
@@ -14,9 +14,10 @@ use Rattle.depot.specs.DepotView.{DepotView}
 use Rattle.sync_calls.specs.Asking.{AsksSo, IsAt, IsNowhere}
 use Rattle.sync_calls.specs.Asking.AsksSo.{denied, spent, took}
 use Rattle.turnstile.specs.PassView.{IsPassOf, parts_of, passes_of, start_of}
+use Rattle.turnstile.specs.Rule.{most_turns}
 use Rattle.sync_calls.specs.FirstAsking.{AsksOne, SparesReading}
 use Rattle.sync_calls.specs.FirstAsking.AsksOne.{one_denied, one_spent, one_took}
-use Rattle.sync_calls.specs.Hall.{AreReady, ExitPass, HallOf, IsReadyAt, LibraryRoom, PassOf, made_with, passes_in, rooms_of, shares_of, shown_by}
+use Rattle.sync_calls.specs.Hall.{AreReady, ExitPass, HallOf, IsReadyAt, LibraryRoom, PassOf, StaySpent, made_with, passes_in, rooms_of, shares_of, shown_by}
 use Rattle.sync_calls.specs.Looking.{GlancesOne, GlancesSo}
 use Rattle.sync_calls.specs.Looking.GlancesOne.{denied as one_unseen, looked as one_looked}
 use Rattle.sync_calls.specs.Looking.GlancesSo.{denied as unseen, looked}
@@ -27,6 +28,9 @@ use Rattle.sync_calls.specs.declared.asking.Answer.{Answer}
 use Rattle.sync_calls.specs.declared.looking.Glance.{Glance}
 
 -- ---- lists by place
+
+from_some : {A : Type 0} (a b : A) → Some a ≡ Some b → a ≡ b
+from_some a b e = cc
 
 -- what stands at a place that is set
 pub get_set : {A : Type 0} (xs : List A) (i : ℕ) (a : A) → i < length xs → slice_get (slice_set xs i a) i ≡ Some a
@@ -39,13 +43,22 @@ pub set_again : {A : Type 0} (xs : List A) (i : ℕ) (a b : A) → slice_get xs 
 set_again xs i a b at same =
     ap (λ c. slice_set xs i c) (same ∙ sym (get_or_from_slice_get xs i a a at)) ∙ set-get_or xs i a
 
+-- no turn is drawn behind the last one
+pub not_behind : (before now most : ℕ) → before ≡ most → before ≤ now → now < most → ⊥
+not_behind before now most is grows below = omega arith
+
+-- numbers that were the last turn's stay so where one is set that stays so
+pub stay_set : (xs : List ℕ) (i a b : ℕ) → slice_get xs i ≡ Some a → (a ≡ most_turns → b ≡ most_turns) → StaySpent xs (slice_set xs i b)
+stay_set [] i a b at one library is = is
+stay_set (x ∷ xs) zero a b at one zero is = ap Some (one (from_some a most_turns (sym at ∙ is)))
+stay_set (x ∷ xs) zero a b at one (suc n) is = is
+stay_set (x ∷ xs) (suc i) a b at one zero is = is
+stay_set (x ∷ xs) (suc i) a b at one (suc n) is = stay_set xs i a b at one n is
+
 -- some item, where there is a place
 some_item : {A : Type 0} (xs : List A) (i : ℕ) → i < length xs → A
 some_item [] i below = absurd (omega arith)
 some_item (x ∷ xs) i below = x
-
-from_some : {A : Type 0} (a b : A) → Some a ≡ Some b → a ≡ b
-from_some a b e = cc
 
 -- what stands at a place of a mapped list
 pub get_map : {A B : Type 0} (f : A → B) (xs : List A) (i : ℕ) (d : A) → i < length xs → slice_get (map_list f xs) i ≡ Some (f (slice_index_or xs i d))

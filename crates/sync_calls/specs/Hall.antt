@@ -1,11 +1,13 @@
 -- What a hall and its passes are: for each library a room with its door and its lock, and in each pass one to each room. Our own.
--- Read IsReadyAt, then AreReady.
+-- Read IsReadyAt, then AreReady, and StaySpent.
 use Rattle.std.specs.Prelude.{◌≡◌, ℕ, ◌<◌, ◌≤◌, List, slice_index_or, map as map_list, Option, Some, vec_len, vec_capacity}
+use Rattle.std.specs.List.{slice_get}
 use Rattle.object_store.specs.Shelf.{Contents}
 use Rattle.object_store.specs.declared.shelf.Slot.{Slot}
 use Rattle.depot.specs.DepotView.{DepotView}
 use Rattle.depot.specs.declared.story.Change.{Change}
 use Rattle.turnstile.specs.PassView.{IsPassOf, drawn_of, parts_of, passes_of, start_of}
+use Rattle.turnstile.specs.Rule.{most_turns}
 use Rattle.turnstile.specs.declared.lock.Lock.{Lock}
 use Rattle.turnstile.specs.declared.rule.Turns.{Turns}
 use Rattle.turnstile.specs.declared.seated.Seated.{Seated}
@@ -59,6 +61,10 @@ module _ {S : Type 0} where
 
   abbrev pub made_with : PassOf S → ℕ
   made_with pass = passes_of pass.exit
+
+-- a lock whose last turn was drawn, as the pass has read, stays so
+abbrev pub StaySpent : List ℕ → List ℕ → Type 0
+StaySpent old new = (library : ℕ) → slice_get old library ≡ Some most_turns → slice_get new library ≡ Some most_turns
 
 module _ {S : Type 0} (contents : S → Option Contents) (may_give : S → Slot → Option (List ℕ) → Type 0) (texts faults : S → ℕ) where
   -- the pass is one of this room, for so many of so many; it begins with the library of the room, and knows its history

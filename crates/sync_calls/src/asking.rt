@@ -4,7 +4,8 @@ ghost use Rattle.depot.specs.FirstGet.{fs_call};
 ghost use Rattle.turnstile.specs.PassView.{drawn_of, parts_of, passes_of};
 ghost use Rattle.sync_calls.specs.Asking.{AsksSo, without_turn};
 ghost use Rattle.sync_calls.specs.FirstAsking.{AsksOne, AsksTooMuch, SparesReading};
-ghost use Rattle.sync_calls.specs.Hall.{AreReady, IsReadyAt, LibraryRoom, drawn_by, made_with, shares_of, shown_by};
+ghost use Rattle.turnstile.specs.Rule.{most_turns};
+ghost use Rattle.sync_calls.specs.Hall.{AreReady, IsReadyAt, LibraryRoom, StaySpent, drawn_by, made_with, shares_of, shown_by};
 ghost use Rattle.sync_calls.specs.Operations.{Line};
 ghost use Rattle.sync_calls.specs.RoomPlace.{HasNoRoom, IsRoomOf};
 ghost use Rattle.sync_calls.specs.Shown.{shown_of};
@@ -48,6 +49,7 @@ impl<S: Shelf> Hall<S> {
         requires ready { AreReady S.contents S.may_give S.texts S.faults self.now pass.old }
         ensures ready { AreReady S.contents S.may_give S.texts S.faults self.now pass.new }
         ensures size { (shares_of pass.new ≡ shares_of pass.old) × (made_with pass.new ≡ made_with pass.old) }
+        ensures drawn { StaySpent (drawn_by pass.old) (drawn_by pass.new) }
         ensures asks { (lines : List Line)
             × AsksSo S.contents S.may_give S.texts S.faults (shown_by pass.old) lib call.now moment result lines (shown_by pass.new) (drawn_by pass.new) }
     {
@@ -66,6 +68,7 @@ impl<S: Shelf> Hall<S> {
         requires ready { AreReady S.contents S.may_give S.texts S.faults self.now pass.old }
         ensures ready { AreReady S.contents S.may_give S.texts S.faults self.now pass.new }
         ensures size { (shares_of pass.new ≡ shares_of pass.old) × (made_with pass.new ≡ made_with pass.old) }
+        ensures drawn { StaySpent (drawn_by pass.old) (drawn_by pass.new) }
         ensures asks { (lines : List Line)
             × AsksSo S.contents S.may_give S.texts S.faults (shown_by pass.old) lib call moment result lines (shown_by pass.new) (drawn_by pass.new) }
     {
@@ -90,6 +93,7 @@ impl<S: Shelf> Hall<S> {
         requires ready { AreReady S.contents S.may_give S.texts S.faults self.now pass.old }
         ensures ready { AreReady S.contents S.may_give S.texts S.faults self.now pass.new }
         ensures size { (shares_of pass.new ≡ shares_of pass.old) × (made_with pass.new ≡ made_with pass.old) }
+        ensures drawn { StaySpent (drawn_by pass.old) (drawn_by pass.new) }
         ensures asks { (lines : List Line)
             × (asks : AsksSo S.contents S.may_give S.texts S.faults (shown_by pass.old) lib (fs_call secret.now id) moment result lines (shown_by pass.new) (drawn_by pass.new))
             × SparesReading (AsksTooMuch secret.now (id ∷ more.now) most) asks }
@@ -116,6 +120,7 @@ fn ask_by<S: Shelf, R: Wait, Q: Question<S>>(
     requires ready { AreReady S.contents S.may_give S.texts S.faults hall.now pass.old }
     ensures ready { AreReady S.contents S.may_give S.texts S.faults hall.now pass.new }
     ensures size { (shares_of pass.new ≡ shares_of pass.old) × (made_with pass.new ≡ made_with pass.old) }
+    ensures drawn { StaySpent (drawn_by pass.old) (drawn_by pass.new) }
     ensures asks { (lines : List Line)
         × (asks : AsksSo S.contents S.may_give S.texts S.faults (shown_by pass.old) lib (Q.call question) moment result lines (shown_by pass.new) (drawn_by pass.new))
         × SparesReading (Q.too_much question) asks }
@@ -146,6 +151,7 @@ fn ask_at<S: Shelf, R: Wait, Q: Question<S>>(
 ) -> Answer
     requires ready { IsReadyAt S.contents S.may_give S.texts S.faults (parts_of pass.old) (passes_of pass.old) room.now pass.old }
     ensures ready { IsReadyAt S.contents S.may_give S.texts S.faults (parts_of pass.old) (passes_of pass.old) room.now pass.new }
+    ensures drawn { drawn_of pass.old ≡ most_turns → drawn_of pass.new ≡ most_turns }
     ensures asks { AsksOne S.contents S.may_give S.texts S.faults (Q.too_much question) (shown_of pass.old) (Q.call question) moment result (shown_of pass.new) (drawn_of pass.new) }
 {
     if !question.is_admitted(&room.door) {

@@ -43,6 +43,7 @@ pub(crate) fn take_one<S: Shelf, R: Wait>(
     ensures running { IfOk result (λ taken. RunsAt (shown_of pass.new) taken.running) }
     ensures err { OnErr result ((shown_of pass.new ≡ shown_of pass.old) × (drawn_of pass.new ≡ most_turns)) }
     ensures unspent { OnOk result (drawn_of pass.new < most_turns) }
+    ensures drawn { drawn_of pass.old ≡ most_turns → drawn_of pass.new ≡ most_turns }
 {
     let mut held = pass.turn(rt, lock)?;
     let taken = take(&mut held, goal, moment);

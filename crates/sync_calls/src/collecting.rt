@@ -2,7 +2,8 @@
 ghost use Rattle.std.specs.Prelude.{◌≡◌, List};
 ghost use Rattle.turnstile.specs.PassView.{IsPassOf, drawn_of, parts_of, passes_of};
 ghost use Rattle.sync_calls.specs.Collecting.{CollectsOne, CollectsSo, EndsSo, IsEndSeen, OneTurn, StepsSo, TurnsOnce, next_goal};
-ghost use Rattle.sync_calls.specs.Hall.{AreReady, IsReadyAt, drawn_by, made_with, shares_of, shown_by};
+ghost use Rattle.turnstile.specs.Rule.{most_turns};
+ghost use Rattle.sync_calls.specs.Hall.{AreReady, IsReadyAt, StaySpent, drawn_by, made_with, shares_of, shown_by};
 ghost use Rattle.sync_calls.specs.Operations.{Line};
 ghost use Rattle.sync_calls.specs.ServedTurn.{IsSameShare};
 ghost use Rattle.sync_calls.specs.Shown.{Knows, shown_of};
@@ -66,6 +67,7 @@ impl<S: Shelf> Hall<S> {
         requires ready { AreReady S.contents S.may_give S.texts S.faults self.now pass.old }
         ensures ready { AreReady S.contents S.may_give S.texts S.faults self.now pass.new }
         ensures size { (shares_of pass.new ≡ shares_of pass.old) × (made_with pass.new ≡ made_with pass.old) }
+        ensures drawn { StaySpent (drawn_by pass.old) (drawn_by pass.new) }
         ensures told { (lines : List Line)
             × CollectsSo S.contents S.may_give S.texts S.faults (C.shows clock.now) (shown_by pass.old) lib secret.now result lines (shown_by pass.new) (drawn_by pass.new) }
     {
@@ -93,6 +95,7 @@ fn collect_at<S: Shelf, R: Wait, C: Clock>(
 ) -> Collected
     requires ready { IsReadyAt S.contents S.may_give S.texts S.faults (parts_of pass.old) (passes_of pass.old) room.now pass.old }
     ensures ready { IsReadyAt S.contents S.may_give S.texts S.faults (parts_of pass.old) (passes_of pass.old) room.now pass.new }
+    ensures drawn { drawn_of pass.old ≡ most_turns → drawn_of pass.new ≡ most_turns }
     ensures told { CollectsOne S.contents S.may_give S.texts S.faults (C.shows clock.now) (shown_of pass.old) secret.now result (shown_of pass.new) (drawn_of pass.new) }
 {
     if !admits_collection(&room.door, secret) {
@@ -113,6 +116,7 @@ fn collect_all<S: Shelf, R: Wait, C: Clock>(
     ensures ready { IsPassOf lock.now pass.new }
     ensures known { Knows S.contents S.may_give S.texts S.faults (shown_of pass.new) }
     ensures same { IsSameShare pass.old pass.new }
+    ensures drawn { drawn_of pass.old ≡ most_turns → drawn_of pass.new ≡ most_turns }
     ensures told { (turns : List OneTurn)
         × EndsSo S.contents S.may_give S.texts S.faults (C.shows clock.now) (shown_of pass.old) result turns (shown_of pass.new) (drawn_of pass.new)
         × IsEndSeen turns result (shown_of pass.new) }
@@ -144,6 +148,7 @@ fn turn_on<S: Shelf, R: Wait, C: Clock>(
     ensures ready { IsPassOf lock.now pass.new }
     ensures known { Knows S.contents S.may_give S.texts S.faults (shown_of pass.new) }
     ensures same { IsSameShare pass.old pass.new }
+    ensures drawn { drawn_of pass.old ≡ most_turns → drawn_of pass.new ≡ most_turns }
     ensures told { TurnsOnce S.contents S.may_give S.texts S.faults (C.shows clock.now) (shown_of pass.old) so_far result (shown_of pass.new) (drawn_of pass.new) }
 {
     match take_one(rt, lock, pass, so_far.goal, clock.now()) {

@@ -1,7 +1,8 @@
 //! A look at how long a library's history is, without a turn.
 ghost use Rattle.std.specs.Prelude.{◌≡◌, List};
-ghost use Rattle.turnstile.specs.PassView.{parts_of, passes_of};
-ghost use Rattle.sync_calls.specs.Hall.{AreReady, IsReadyAt, made_with, shares_of, shown_by};
+ghost use Rattle.turnstile.specs.PassView.{drawn_of, parts_of, passes_of};
+ghost use Rattle.turnstile.specs.Rule.{most_turns};
+ghost use Rattle.sync_calls.specs.Hall.{AreReady, IsReadyAt, StaySpent, drawn_by, made_with, shares_of, shown_by};
 ghost use Rattle.sync_calls.specs.Looking.{GlancesOne, GlancesSo, glance_at};
 ghost use Rattle.sync_calls.specs.Operations.{Line};
 ghost use Rattle.sync_calls.specs.Shown.{shown_of};
@@ -42,6 +43,7 @@ impl<S: Shelf> Hall<S> {
         requires ready { AreReady S.contents S.may_give S.texts S.faults self.now pass.old }
         ensures ready { AreReady S.contents S.may_give S.texts S.faults self.now pass.new }
         ensures size { (shares_of pass.new ≡ shares_of pass.old) × (made_with pass.new ≡ made_with pass.old) }
+        ensures drawn { StaySpent (drawn_by pass.old) (drawn_by pass.new) }
         ensures told { (lines : List Line) × GlancesSo S.contents S.may_give S.texts S.faults (shown_by pass.old) lib secret.now tag result lines (shown_by pass.new) }
     {
         let place = match place_of(self.rooms.as_slice(), &lib) {
@@ -61,6 +63,7 @@ fn look_at<S: Shelf>(
 ) -> Glance
     requires ready { IsReadyAt S.contents S.may_give S.texts S.faults (parts_of pass.old) (passes_of pass.old) room.now pass.old }
     ensures ready { IsReadyAt S.contents S.may_give S.texts S.faults (parts_of pass.old) (passes_of pass.old) room.now pass.new }
+    ensures drawn { drawn_of pass.old ≡ most_turns → drawn_of pass.new ≡ most_turns }
     ensures told { GlancesOne (shown_of pass.old) secret.now tag result (shown_of pass.new) }
 {
     if !admits(&room.door, secret, &Act::Head) {

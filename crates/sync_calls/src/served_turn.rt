@@ -43,6 +43,7 @@ pub(crate) fn ask_one<S: Shelf, R: Wait, Q: Question<S>>(
     ensures size { IfOk result (λ served. served.length ≡ length (seen_of pass.new)) }
     ensures err { OnErr result ((shown_of pass.new ≡ shown_of pass.old) × (drawn_of pass.new ≡ most_turns)) }
     ensures unspent { OnOk result (drawn_of pass.new < most_turns) }
+    ensures drawn { drawn_of pass.old ≡ most_turns → drawn_of pass.new ≡ most_turns }
 {
     let mut held = pass.turn(rt, lock)?;
     let served = serve(&mut held, question, moment);

@@ -1,10 +1,12 @@
 -- What the pass knows as the turn ends is what it knew in it, and the collection that runs is the same.
 use Rattle.std.proofs.Common.{◌≡◌, None, false, rules, subst, sym}
 use Rattle.turnstile.specs.HeldTurn.{pass_of}
-use Rattle.turnstile.specs.PassView.{view_of}
+use Rattle.turnstile.specs.PassView.{drawn_of, view_of}
+use Rattle.turnstile.specs.Rule.{most_turns}
 use Rattle.sync_calls.specs.CollectTurn.{RunsAt}
 use Rattle.sync_calls.specs.ServedTurn.{CatchesUp}
 use Rattle.sync_calls.specs.Shown.{Knows, LibraryView, shown_in, shown_of}
+use Rattle.sync_calls.proofs.RoomLemmas.{not_behind}
 use Rattle.sync_calls.proofs.collect_turn.take_one.Goals as goal
 
 pub returns-clause-known : goal.returns-clause-known
@@ -18,3 +20,8 @@ pub returns-clause-running : goal.returns-clause-running
 returns-clause-running g c =
     let same : view_of c.pass-2-1.given.0 ≡ record (view_of (pass_of c.take-taken.new.held)) { ticket = None; turn = false; told = 0 } = search rules in
     subst (λ (v : LibraryView g.row.S.Denot). RunsAt (shown_in v) c.take-taken.result.running) (sym same) c.take-taken.ensures.running
+
+-- a turn isn't drawn behind the last one
+pub returns-clause-drawn : goal.returns-clause-drawn
+returns-clause-drawn g c = λ was.
+    absurd (not_behind (drawn_of c.args.pass.now) (drawn_of (pass_of c.in_ok-held.held)) most_turns was c.in_ok-held.ensures.seen.0.drawn_grows c.in_ok-held.ensures.unspent)

@@ -1,5 +1,7 @@
 -- The turns so far were taken one after another, and the pass is the same.
-use Rattle.turnstile.specs.PassView.{IsPassOf}
+use Rattle.std.proofs.Common.{◌≡◌}
+use Rattle.turnstile.specs.PassView.{IsPassOf, drawn_of}
+use Rattle.turnstile.specs.Rule.{most_turns}
 use Rattle.sync_calls.specs.ServedTurn.{IsSameShare}
 use Rattle.sync_calls.specs.Shown.{Knows, shown_of}
 use Rattle.sync_calls.proofs.CollectingLemmas.{IsCollecting}
@@ -13,5 +15,6 @@ invariant-loop g l =
       ready : IsPassOf l.lock l.pass;
       known : Knows g.S.Shelf.contents g.S.Shelf.may_give g.S.Shelf.texts g.S.Shelf.faults (shown_of l.pass);
       same : IsSameShare l.initial.pass l.pass;
+      drawn : drawn_of l.initial.pass ≡ most_turns → drawn_of l.pass ≡ most_turns;
       so : IsCollecting g.S.Shelf.contents g.S.Shelf.may_give g.S.Shelf.texts g.S.Shelf.faults (g.C.Clock.shows l.clock) (shown_of l.initial.pass) l.so_far (shown_of l.pass);
     }

@@ -37,3 +37,6 @@ returns-clause-told g c =
     (record { new = (c.count-place.ensures.value.1, c.count-place.ensures.value.0); same = ap (λ (v : LibraryView g.row.S.Denot). shown_in v) c.count-place.ensures.view })
     c.args.room.now.door.opening
     (ap (λ o. option_map (λ (depot : DepotView g.row.S.Denot). depot.state.opening) o) c.requires.ready.begins ∙ ap Some (sym c.requires.ready.opens.opening)) c.glance_at.ensures
+
+pub returns-clause-drawn : goal.returns-clause-drawn
+returns-clause-drawn g c = λ was. ap (λ (v : LibraryView g.row.S.Denot). v.drawn) c.count-place.ensures.view ∙ was

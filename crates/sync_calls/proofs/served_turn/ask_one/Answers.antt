@@ -1,11 +1,13 @@
 -- What the pass knows as the turn ends is what it knew in it, and what was done in it stays.
 use Rattle.std.proofs.Common.{◌≡◌, None, false, rules, subst, sym}
 use Rattle.turnstile.specs.HeldTurn.{pass_of}
-use Rattle.turnstile.specs.PassView.{view_of}
+use Rattle.turnstile.specs.PassView.{drawn_of, view_of}
+use Rattle.turnstile.specs.Rule.{most_turns}
 use Rattle.sync_calls.specs.FirstAsking.{Spares}
 use Rattle.sync_calls.specs.Operations.{Called, IsDone}
 use Rattle.sync_calls.specs.ServedTurn.{CatchesUp}
 use Rattle.sync_calls.specs.Shown.{Knows, LibraryView, shown_in, shown_of}
+use Rattle.sync_calls.proofs.RoomLemmas.{not_behind}
 use Rattle.sync_calls.proofs.served_turn.ask_one.Goals as goal
 
 pub returns-clause-known : goal.returns-clause-known
@@ -22,3 +24,8 @@ returns-clause-told g c =
     subst (λ (v : LibraryView g.row.S.Denot). (done : IsDone g.S.Shelf.contents g.S.Shelf.may_give g.S.Shelf.texts g.S.Shelf.faults (shown_of c.args.pass.now) c.serve-served.result.place
     (Called (g.Q.Question.call c.args.question) c.args.moment c.serve-served.result.reply) (shown_in v)) × Spares (g.Q.Question.too_much c.args.question) c.serve-served.result.reply done)
     (sym same) (c.serve-served.ensures.told (shown_of c.args.pass.now) up)
+
+-- a turn isn't drawn behind the last one
+pub returns-clause-drawn : goal.returns-clause-drawn
+returns-clause-drawn g c = λ was.
+    absurd (not_behind (drawn_of c.args.pass.now) (drawn_of (pass_of c.in_ok-held.held)) most_turns was c.in_ok-held.ensures.seen.0.drawn_grows c.in_ok-held.ensures.unspent)

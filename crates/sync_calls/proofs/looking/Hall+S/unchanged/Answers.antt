@@ -3,7 +3,7 @@ use Rattle.std.proofs.Common.{◌<◌, [], refl, subst, arith}
 use Rattle.std.specs.Prelude.{vec_len}
 use Rattle.sync_calls.specs.Looking.GlancesSo.{nowhere}
 use Rattle.sync_calls.specs.RoomPlace.{HasNoRoom, IsRoomOf}
-use Rattle.sync_calls.proofs.EnteredLemmas.{looks_again, ready_again, ready_at}
+use Rattle.sync_calls.proofs.EnteredLemmas.{looks_again, ready_again, ready_at, spent_again}
 use Rattle.sync_calls.proofs.RoomLemmas.{nowhere_at}
 use Rattle.sync_calls.proofs.looking.Hall+S.unchanged.Goals as goal
 
@@ -42,3 +42,15 @@ returns-clause-told g c =
     let within : c.in-Some.place < vec_len c.args.self.now.rooms = omega arith in
     looks_again g.S.Shelf.contents g.S.Shelf.may_give g.S.Shelf.texts g.S.Shelf.faults c.args.self.now c.args.pass.now c.requires.ready c.in-Some.place c.index.result.now c.index_mut.result.now
     within c.index.ensures c.index_mut.ensures.value c.args.lib c.args.secret.now c.args.tag c.look_at.result c.look_at.new.pass found c.look_at.ensures.told
+
+pub returns-in-None-clause-drawn : goal.returns-in-None-clause-drawn
+returns-in-None-clause-drawn g c = λ library is. is
+
+pub returns-clause-drawn : goal.returns-clause-drawn
+returns-clause-drawn g c =
+    let found = subst (λ l. IsRoomOf l c.args.lib c.in-Some.place) c.as_slice.ensures.value c.in-Some.ensures.found in
+    let size = c.args.self.now.rooms.ok.0 in
+    let below = found.within in
+    let within : c.in-Some.place < vec_len c.args.self.now.rooms = omega arith in
+    spent_again g.S.Shelf.contents g.S.Shelf.may_give g.S.Shelf.texts g.S.Shelf.faults c.args.self.now c.args.pass.now c.requires.ready c.in-Some.place c.index.result.now c.index_mut.result.now
+    within c.index.ensures c.index_mut.ensures.value c.look_at.new.pass c.look_at.ensures.drawn
