@@ -1,0 +1,5 @@
+pub mod GoingLemmas
+pub mod CollectingLemmas
+pub mod RanLemmas
+pub mod ShareLemmas
+pub mod SpentLemmas

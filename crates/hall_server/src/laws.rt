@@ -1,0 +1,31 @@
+//! What holds of every connection with a hall: theorems on the definitions, with no code.
+ghost use Rattle.std.specs.Prelude.{List};
+ghost use Rattle.std.specs.List.{AllByRecursion};
+ghost use Rattle.sync_calls.specs.Hall.{StaySpent};
+ghost use Rattle.sync_calls.specs.Operations.{Line};
+ghost use Rattle.worker_server.specs.Calls.{Ran, Told};
+ghost use Rattle.worker_server.specs.ServedConnection.{Answers, Exchange, Run, operations_in};
+ghost use Rattle.hall_server.specs.Serving.{Goes, HallShown, TellsSpentOf, hall_rules};
+
+use library_state::Clock;
+use object_store::Shelf;
+
+/// What the requests that were answered on a connection with a hall leave in its pass are their operations, in their order.
+pub fn the_operations_of_a_connection_are_those_of_its_requests<S: Shelf, C: Clock>()
+    ensures { (clock : C) (old new : HallShown S) (exchanges : List (Exchange Line)) → Run (hall_rules S.contents S.may_give S.texts S.faults (C.shows clock)) old exchanges new
+        → Goes S.contents S.may_give S.texts S.faults old.libraries (operations_in exchanges) new.libraries }
+{}
+
+/// So does one that was asked, also where the connection stopped before its reply was given whole.
+pub fn a_request_leaves_its_operations<S: Shelf, C: Clock>()
+    ensures { (clock : C) (old new : HallShown S) (exchange : Exchange Line) → Answers (hall_rules S.contents S.may_give S.texts S.faults (C.shows clock)) old exchange new
+        → Goes S.contents S.may_give S.texts S.faults old.libraries exchange.operations new.libraries }
+{}
+
+/// A call is told that the lock of its library is spent, without a turn, only where that lock shows so at the end of the connection too.
+pub fn spent_is_told_only_of_a_lock_that_is_spent<S: Shelf, C: Clock>()
+    ensures stays { (clock : C) (old new : HallShown S) (calls : List (Told Line)) → Ran (hall_rules S.contents S.may_give S.texts S.faults (C.shows clock)) old calls new
+        → StaySpent old.drawn new.drawn }
+    ensures told { (clock : C) (old new : HallShown S) (calls : List (Told Line)) → Ran (hall_rules S.contents S.may_give S.texts S.faults (C.shows clock)) old calls new
+        → AllByRecursion (TellsSpentOf new) calls }
+{}
