@@ -1,9 +1,12 @@
--- A collection over storage that never fails, and objects under their own names. The key lemmas are turn_names, turns_whole,
--- collects_here, collects_denied and collects_elsewhere.
-use Rattle.std.proofs.Common.{◌≡◌, ◌≢◌, ℕ, Bool, true, false, cond, List, [], ◌∷◌, refl, sym, ap, ◌∙◌, subst, true≢false, Option, None, Some, option_map}
+-- A collection over storage that never fails, and objects under their own names. The key lemmas are turn_names, turns_whole and
+-- collects_on.
+use Rattle.std.proofs.Common.{◌≡◌, ℕ, Bool, true, false, cond, List, [], ◌∷◌, refl, sym, ap, ◌∙◌, subst, true≢false, Option, None, Some, option_map}
 use Rattle.std.specs.Prelude.{IsFalse}
 use Rattle.std.specs.FinMap as map
 use Rattle.std.specs.List.{AllByRecursion}
+use Rattle.std.specs.Str.{bytes_eq}
+use Rattle.std.proofs.lemmas.Slice.Eq.{bytes_eq-Decides}
+use Rattle.collection_turns.specs.Turns.{CollectsBy}
 use Rattle.ids.proofs.BasicLemmas.{AllByRecursion-middle}
 use Rattle.ids.specs.Key.{Objects}
 use Rattle.ids.specs.declared.key.Key.{Key}
@@ -21,6 +24,7 @@ use Rattle.library_rules.specs.declared.entry.Entry.{Entry}
 use Rattle.library_rules.specs.declared.entry.Step.TheVariants as step
 use Rattle.library_rules.proofs.StepLawLemmas.{by_refused, by_turn}
 use Rattle.library_rules.proofs.StepLemmas.{objects_after}
+use Rattle.library_state.specs.declared.refusal.Refusal.{Refusal}
 use Rattle.library_state.specs.declared.refusal.Refusal.TheVariants as refusal
 use Rattle.library_state.specs.declared.reply.Reply.TheVariants as reply
 use Rattle.object_graph.proofs.KeyLemmas.{same_key}
@@ -30,8 +34,8 @@ use Rattle.object_store.specs.declared.shelf.Slot.{Slot}
 use Rattle.worker_server.specs.declared.host.Collected.{Collected}
 use Rattle.worker_server.specs.declared.host.Collected.TheVariants as collected
 use Rattle.library_server.specs.Answering.{NamesIn, NeverFails, is_of_storage}
-use Rattle.library_server.specs.Collecting.{CollectsOn, EndsAs, TakesTurns, TellsTurns, TurnsOn, ended, endless, is_storage_end, most_in_turn, number_running, told_removed}
-use Rattle.library_server.specs.Counting.{OpenedView}
+use Rattle.library_server.specs.Collecting.{CollectsOn, EndsAs, TellsTurns, TurnsOn, ended, endless, is_storage_end, library_of, most_in_turn, number_running, told_removed}
+use Rattle.library_server.specs.Counting.{IsCounted, OpenedView}
 use Rattle.library_server.proofs.WholeLemmas.{names_of, refusal_whole}
 
 -- ---- what a step of a collection leaves
@@ -115,34 +119,26 @@ module _ {S : Type 0} (contents : S → Option Contents) (may_give : S → Slot 
 
 -- ---- all of a collection that is asked for
 
-module _ {S : Type 0} (contents : S → Option Contents) (may_give : S → Slot → Option (List ℕ) → Type 0) (texts faults : S → ℕ) (shows : ℕ → Type 0) (old : OpenedView S) (lib : List ℕ) (secret : Option (List ℕ)) where
-  pub collects_here : (ends : Collected) (new : OpenedView S) → lib ≡ old.depot.state.lib → permits_collection (token_of old.depot.state.tokens secret) ≡ true
-      → TakesTurns contents may_give texts faults shows old ends new → CollectsOn contents may_give texts faults shows old lib secret ends [] new
-  collects_here ends new same may takes = record {
-    here = λ is_lib permits. takes;
-    denied = λ is_lib denies. absurd (true≢false (sym may ∙ denies));
-    elsewhere = λ other. absurd (other same);
-    steady = λ steady names.
-        let all = turns_whole contents may_give texts faults shows steady old None takes.0 new takes.1 names in
-        (end_whole contents may_give texts faults shows steady takes.0 ends takes.2 all.0, all.1);
-    no_lines = refl;
-  }
+module _ {S : Type 0} (contents : S → Option Contents) (may_give : S → Slot → Option (List ℕ) → Type 0) (texts faults : S → ℕ) (shows : ℕ → Type 0)
+    (old : OpenedView S) (lib : List ℕ) (secret : Option (List ℕ)) (ends : Collected) (new : OpenedView S)
+    (collects : CollectsBy library_of (IsCounted contents faults) contents may_give texts faults shows old lib secret ends new) where
+  -- one that is refused before its first turn
+  refused_whole : (why : Refusal) → is_of_storage why ≡ false → (ends ≡ collected.Refused why) × (new ≡ old) → NamesIn contents old.depot
+      → (is_storage_end ends ≡ false) × NamesIn contents new.depot
+  refused_whole why whole (is, same) names = (ap is_storage_end is ∙ whole, subst (λ (w : OpenedView S). NamesIn contents w.depot) (sym same) names)
 
-  pub collects_denied : lib ≡ old.depot.state.lib → permits_collection (token_of old.depot.state.tokens secret) ≡ false
-      → CollectsOn contents may_give texts faults shows old lib secret (collected.Refused refusal.Denied) [] old
-  collects_denied same denied = record {
-    here = λ is_lib permits. absurd (true≢false (sym permits ∙ denied));
-    denied = λ is_lib denies. (refl, refl);
-    elsewhere = λ other. absurd (other same);
-    steady = λ steady names. (refl, names);
-    no_lines = refl;
-  }
+  collects_whole : NeverFails faults → NamesIn contents old.depot → (is_storage_end ends ≡ false) × NamesIn contents new.depot
+  collects_whole steady names = by (bytes_eq lib old.depot.state.lib) (permits_collection (token_of old.depot.state.tokens secret)) refl refl
+    where
+      by : (here may : Bool) → bytes_eq lib old.depot.state.lib ≡ here → permits_collection (token_of old.depot.state.tokens secret) ≡ may
+          → (is_storage_end ends ≡ false) × NamesIn contents new.depot
+      by true true same is =
+          let takes = collects.here ((bytes_eq-Decides lib old.depot.state.lib).0 same) is in
+          let all = turns_whole contents may_give texts faults shows steady old None takes.0 new takes.1 names in
+          (end_whole contents may_give texts faults shows steady takes.0 ends takes.2 all.0, all.1)
+      by true false same is = refused_whole refusal.Denied refl (collects.denied ((bytes_eq-Decides lib old.depot.state.lib).0 same) is) names
+      by false may other is =
+          refused_whole refusal.NoLibrary refl (collects.elsewhere (λ same. true≢false (sym ((bytes_eq-Decides lib old.depot.state.lib).1 same) ∙ other))) names
 
-  pub collects_elsewhere : lib ≢ old.depot.state.lib → CollectsOn contents may_give texts faults shows old lib secret (collected.Refused refusal.NoLibrary) [] old
-  collects_elsewhere other = record {
-    here = λ is_lib permits. absurd (other is_lib);
-    denied = λ is_lib denies. absurd (other is_lib);
-    elsewhere = λ away. (refl, refl);
-    steady = λ steady names. (refl, names);
-    no_lines = refl;
-  }
+  pub collects_on : CollectsOn contents may_give texts faults shows old lib secret ends [] new
+  collects_on = record { here = collects.here; denied = collects.denied; elsewhere = collects.elsewhere; steady = collects_whole; no_lines = refl }

@@ -8,7 +8,6 @@ pub mod NamesLemmas
 pub mod TokenLemmas
 pub mod CauseLemmas
 pub mod CollectionCauseLemmas
-pub mod CollectingLemmas
 pub mod WholeLemmas
 pub mod CollectingWholeLemmas
 pub mod RunLemmas

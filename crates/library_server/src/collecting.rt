@@ -1,20 +1,33 @@
 //! A collection that is asked for.
 ghost use Rattle.std.specs.Prelude.{[]};
-ghost use Rattle.library_server.specs.Collecting.{CollectsOn, StepsSo};
+ghost use Rattle.library_server.specs.Collecting.{CollectsOn};
 
-use crate::counting::{OpenedLibrary, take_turn};
-use depot::Turn;
+use crate::counting::{Counted, OpenedLibrary, take_turn};
+use collection_turns::Collectable;
+use depot::{Depot, Turn};
 use ids::LibId;
-use library_state::{Clock, Refusal, Secret};
+use library_state::{Clock, Secret};
 use object_store::Shelf;
 use worker_server::Collected;
 
-/// What follows a turn.
-pub(crate) enum Step {
-    /// Another turn; so many objects were removed till now.
-    Goes(u64),
-    /// Nothing.
-    Ends(Collected),
+/// Each turn that changed the library is counted.
+impl<S: Shelf> Collectable for Counted<Depot<S>> {
+    ghost use Rattle.library_server.specs.Collecting.{library_of};
+    ghost use Rattle.library_server.specs.Counting.{IsCounted};
+
+    type Storage = S;
+
+    ghost view = { library_of };
+
+    ghost notes = { IsCounted S.contents S.faults };
+
+    fn depot(&self) -> &Depot<S> {
+        &self.depot
+    }
+
+    fn collect_turn(&mut self, goal: Option<u64>, moment: u64, at_most: u64) -> Turn {
+        take_turn(self, goal, moment, at_most)
+    }
 }
 
 /// Collects a library, turn after turn, until its collection ended or a turn is refused. `NoLibrary` comes exactly where it is
@@ -29,35 +42,5 @@ pub(crate) fn collect<S: Shelf, C: Clock>(
 ) -> Collected
     ensures value { CollectsOn S.contents S.may_give S.texts S.faults (C.shows clock.now) library.old lib secret.now result [] library.new }
 {
-    if lib != library.depot.lib() {
-        return Collected::Refused(Refusal::NoLibrary);
-    }
-    if !library.depot.may_collect(secret) {
-        return Collected::Refused(Refusal::Denied);
-    }
-    let mut goal = None;
-    let mut removed = 0;
-    for _taken in 0..u64::MAX {
-        match step_of(take_turn(library, goal, clock.now()), removed) {
-            Step::Goes(sum) => removed = sum,
-            Step::Ends(told) => return told,
-        }
-        goal = library.depot.running();
-    }
-    // No memory holds the marks of so many turns.
-    Collected::Refused(Refusal::NoMemory)
-}
-
-/// What follows a turn, where so many objects were removed before it.
-fn step_of(turn: Turn, removed: u64) -> Step
-    ensures value { StepsSo turn removed result }
-{
-    match turn {
-        Turn::Began(_) => Step::Goes(removed),
-        Turn::Marked(_) => Step::Goes(removed),
-        Turn::Swept(keys) => Step::Goes(removed.saturating_add(keys.len() as u64)),
-        Turn::Ended(number) => Step::Ends(Collected::Done { number, removed }),
-        Turn::Over(number) => Step::Ends(Collected::Done { number, removed }),
-        Turn::Refused(why, _) => Step::Ends(Collected::Refused(why)),
-    }
+    collection_turns::collect(library, lib, secret, clock)
 }

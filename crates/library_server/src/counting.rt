@@ -1,7 +1,6 @@
 //! A library that was opened, and how many changes were made of it since: both tell its state.
-ghost use Rattle.std.specs.Prelude.{◌≡◌, ◌⊎◌};
+ghost use Rattle.std.specs.Prelude.{◌≡◌, ◌≤◌, ◌⊎◌};
 ghost use Rattle.depot.specs.Story.{IsTurned};
-ghost use Rattle.library_server.specs.Collecting.{most_in_turn};
 ghost use Rattle.library_server.specs.Counting.{IsCounted, count_after};
 
 use depot::{Depot, Turn};
@@ -22,9 +21,6 @@ pub struct Counted<D> {
 
 /// A library that was opened, and how many changes were made of it since: 0 as it is opened.
 pub type OpenedLibrary<S> = Counted<Depot<S>>;
-
-/// The most objects of one turn.
-const MOST: u64 = 1_000;
 
 /// The count after what changed the library, or didn't.
 pub(crate) fn count_after(changes: u64, changed: bool) -> u64
@@ -53,11 +49,13 @@ pub(crate) fn take_turn<S: Shelf>(
     library: &mut OpenedLibrary<S>,
     goal: Option<u64>,
     moment: u64,
+    at_most: u64,
 ) -> Turn
-    ensures turned { IsTurned S.contents S.may_give S.texts S.faults library.old.depot goal moment most_in_turn result library.new.depot }
+    requires some { 1 ≤ at_most }
+    ensures turned { IsTurned S.contents S.may_give S.texts S.faults library.old.depot goal moment at_most result library.new.depot }
     ensures count { IsCounted S.contents S.faults library.old library.new }
 {
-    let (turn, changed) = library.depot.tell_turn(goal, moment, MOST);
+    let (turn, changed) = library.depot.tell_turn(goal, moment, at_most);
     library.changes = count_after(library.changes, changed);
     turn
 }

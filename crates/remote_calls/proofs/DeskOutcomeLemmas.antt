@@ -11,14 +11,21 @@ use Rattle.library_state.specs.declared.tag.Tag.{Tag}
 use Rattle.library_state.specs.declared.call.Act.{Act}
 use Rattle.library_state.specs.declared.call.Call.{Call}
 use Rattle.library_rules.specs.Calls.{token_of}
+use Rattle.library_rules.specs.LibraryState.{Running}
 use Rattle.library_state.specs.declared.refusal.Refusal.{Refusal}
 use Rattle.library_state.specs.declared.refusal.Refusal.TheVariants as refusal
 use Rattle.library_state.specs.declared.reply.Reply.{Reply}
 use Rattle.library_state.specs.declared.reply.Reply.TheVariants as reply
 use Rattle.object_store.specs.Shelf.{Contents}
 use Rattle.object_store.specs.declared.shelf.Slot.{Slot}
-use Rattle.depot.specs.CollectionTurns.{permits_collection}
+use Rattle.ids.specs.declared.key.Key.{Key}
+use Rattle.object_store.specs.StoreView.{Index}
+use Rattle.depot.specs.CollectionTurns.{MayRefuseTurn, permits_collection}
 use Rattle.depot.specs.DepotView.{DepotView}
+use Rattle.depot.specs.declared.turn.Turn.{Turn}
+use Rattle.depot.specs.declared.turn.Turn.TheVariants as turn
+use Rattle.collection_turns.specs.Turns.{EndsAs, TakesTurns, TellsTurns, TurnsOn, ended, endless, itself, notes_nothing, told_removed}
+use Rattle.collection_turns.proofs.CollectingLemmas.{last_taken}
 use Rattle.http_front.specs.Rows.{row_with}
 use Rattle.http_front.specs.declared.order.Order.{Order}
 use Rattle.http_front.specs.declared.order.What.{What}
@@ -34,6 +41,7 @@ use Rattle.worker_server.specs.declared.host.Collected.{Collected}
 use Rattle.worker_server.specs.declared.host.Collected.TheVariants as collected
 use Rattle.remote_calls.specs.DeskRemote.{DeskAnswers, DeskCollects}
 use Rattle.remote_calls.specs.OrderReply.{Asks, MayReply, gives_objects}
+use Rattle.remote_calls.proofs.MayRefuseLemmas.{free_can, tree_refused}
 use Rattle.remote_calls.proofs.OrderReplyLemmas.{may_reply}
 
 -- ---- replies
@@ -152,16 +160,48 @@ module _ {S : Type 0} (contents : S → Option Contents) (may_give : S → Slot 
           let none = is.elsewhere (λ same. true≢false (sym ((bytes_eq-Decides lib old.state.lib).1 same) ∙ other)) in
           subst (MayReply w) (sym none.0) (asks_one w call.act of_it)
 
-module _ {S : Type 0} where
-  -- why a collection takes no turn, the order for one can be told
+-- ---- its collections
+
+-- why a turn is refused
+turn_refused : (index : Index) (gives : Slot → Option (List ℕ) → Type 0) (running : Option Running) (collection : ℕ) (why : Refusal)
+    → MayRefuseTurn index gives running collection why → can_refuse what.Collect why ≡ true
+turn_refused index gives None collection refusal.Spent is = refl
+turn_refused index gives None collection why is = free_can what.Collect why refl is
+turn_refused index gives (Some running) collection why is = tree_refused index gives what.Collect why refl refl is
+
+module _ {S : Type 0} (contents : S → Option Contents) (may_give : S → Slot → Option (List ℕ) → Type 0) (texts faults : S → ℕ) (shows : ℕ → Type 0) where
+  -- what its turns tell
+  ends_can : (old : DepotView S) (ends : Collected) (new : DepotView S) → TakesTurns itself notes_nothing contents may_give texts faults shows old ends new
+      → CanHave what.Collect (collected_outcome ends)
+  ends_can old ends new takes = by takes.2
+    where
+      told : (e : Collected) → CanHave what.Collect (collected_outcome e) → ends ≡ e → CanHave what.Collect (collected_outcome ends)
+      told e can is = subst (λ (x : Collected). CanHave what.Collect (collected_outcome x)) (sym is) can
+
+      refused : (before : List Turn) (why : Refusal) (keys : List Key) → takes.0 ≡ before ++ turn.Refused why keys ∷ [] → can_refuse what.Collect why ≡ true
+      refused before why keys is =
+          let last = last_taken itself notes_nothing contents may_give texts faults shows old None before (turn.Refused why keys) new
+          (subst (λ turns. TurnsOn itself notes_nothing contents may_give texts faults shows old None turns new) is takes.1) in
+          turn_refused last.0.store.index (may_give last.1.store.shelf) last.0.running last.0.state.collection why last.4.may_come.may
+
+      at_last : (before : List Turn) (last : Turn) → takes.0 ≡ before ++ last ∷ [] → EndsAs last (told_removed takes.0) ends → CanHave what.Collect (collected_outcome ends)
+      at_last before (turn.Ended number) is tells = told (collected.Done number (told_removed takes.0)) refl tells
+      at_last before (turn.Refused why keys) is tells = told (collected.Refused why) (refused before why keys is) tells
+      at_last before other is tells = absurd tells
+
+      by : TellsTurns takes.0 ends → CanHave what.Collect (collected_outcome ends)
+      by (ended before last is goes tells) = at_last before last is tells
+      by (endless goes long is) = told (collected.Refused refusal.NoMemory) refl is
+
   pub desk_collects : (old : DepotView S) (lib : List ℕ) (secret : Option (List ℕ)) (ends : Collected) (lines : List ⊤) (new : DepotView S)
-      → DeskCollects old lib secret ends lines new → CanHave what.Collect (collected_outcome ends)
+      → DeskCollects contents may_give texts faults shows old lib secret ends lines new → CanHave what.Collect (collected_outcome ends)
   desk_collects old lib secret ends lines new is = by (bytes_eq lib old.state.lib) (permits_collection (token_of old.state.tokens secret)) refl refl
     where
       told : (why : Refusal) → can_refuse what.Collect why ≡ true → ends ≡ collected.Refused why → CanHave what.Collect (collected_outcome ends)
       told why can same = subst (λ (e : Collected). CanHave what.Collect (collected_outcome e)) (sym same) can
 
       by : (b d : Bool) → bytes_eq lib old.state.lib ≡ b → permits_collection (token_of old.state.tokens secret) ≡ d → CanHave what.Collect (collected_outcome ends)
-      by true true same may = told refusal.NoMemory refl (is.here ((bytes_eq-Decides lib old.state.lib).0 same) may)
-      by true false same may = told refusal.Denied refl (is.denied ((bytes_eq-Decides lib old.state.lib).0 same) may)
-      by false d other may = told refusal.NoLibrary refl (is.elsewhere (λ same. true≢false (sym ((bytes_eq-Decides lib old.state.lib).1 same) ∙ other)))
+      by true true same may = ends_can old ends new (is.collects.here ((bytes_eq-Decides lib old.state.lib).0 same) may)
+      by true false same may = told refusal.Denied refl (is.collects.denied ((bytes_eq-Decides lib old.state.lib).0 same) may).0
+      by false d other may =
+          told refusal.NoLibrary refl (is.collects.elsewhere (λ same. true≢false (sym ((bytes_eq-Decides lib old.state.lib).1 same) ∙ other))).0

@@ -1,5 +1,5 @@
--- The refusals that a library may give, by their cause, are those that an order can have. The key lemmas are said_can, get_can,
--- put_can, update_can and list_can.
+-- The refusals that a library may give, by their cause, are those that an order can have. The key lemmas are said_can, free_can,
+-- get_can, put_can, tree_refused, update_can and list_can.
 use Rattle.std.proofs.Common.{◌≡◌, ℕ, true, false, IsTrue, List, Option, refl, sym, subst, ◌⊎◌, inl, inr}
 use Rattle.std.proofs.lemmas.Bool.{false≢true, or_left}
 use Rattle.ids.specs.declared.key.Key.{Key}
@@ -18,7 +18,7 @@ use Rattle.remote_calls.specs.OrderReply.{MayReply, gives_objects}
 -- ---- refusals, by their cause
 
 -- want of memory and a failure of the storage may come to whatever asks a library
-free_can : (w : What) (why : Refusal) → asks_library w ≡ true → IsTrue (is_free_refusal why) → can_refuse w why ≡ true
+pub free_can : (w : What) (why : Refusal) → asks_library w ≡ true → IsTrue (is_free_refusal why) → can_refuse w why ≡ true
 free_can w refusal.Store asks is = asks
 free_can w refusal.NoMemory asks is = refl
 free_can w other asks is = absurd (false≢true is)
@@ -69,7 +69,7 @@ module _ (index : Index) (gives : Slot → Option (List ℕ) → Type 0) where
 
   -- ---- trees
 
-  tree_refused : (w : What) (why : Refusal) → asks_library w ≡ true → walks w ≡ true → MayRefuseTree index gives why → can_refuse w why ≡ true
+  pub tree_refused : (w : What) (why : Refusal) → asks_library w ≡ true → walks w ≡ true → MayRefuseTree index gives why → can_refuse w why ≡ true
   tree_refused w (refusal.NoObject other) asks walks_it is = fail_can w (refusal.NoObject other) asks is
   tree_refused w (refusal.Incomplete missing) asks walks_it is = walks_it
   tree_refused w (refusal.Unreadable bad) asks walks_it is = walks_it

@@ -12,8 +12,8 @@ use Rattle.library_state.specs.declared.refusal.Refusal.TheVariants as refusal
 use Rattle.library_state.specs.declared.reply.Reply.{Reply}
 use Rattle.library_state.specs.declared.reply.Reply.TheVariants as reply
 use Rattle.library_state.specs.declared.tag.Tag.{Tag}
+use Rattle.collection_turns.specs.Turns.{CollectsBy, itself, notes_nothing}
 use Rattle.depot.specs.Answering.{Serves, permits}
-use Rattle.depot.specs.CollectionTurns.{permits_collection}
 use Rattle.depot.specs.DepotView.{DepotView, IsGood, depot_code}
 use Rattle.depot.specs.FirstGet.{fs_get, sizes_of}
 use Rattle.depot.specs.Giving.{GivesBy, MayLay}
@@ -24,7 +24,6 @@ use Rattle.object_store.specs.declared.shelf.Slot.{Slot}
 use Rattle.worker_server.specs.Calls.{HostRules, ServesOrder, rules_at}
 use Rattle.worker_server.specs.declared.host.Answer.{Answer}
 use Rattle.worker_server.specs.declared.host.Collected.{Collected}
-use Rattle.worker_server.specs.declared.host.Collected.TheVariants as collected
 use Rattle.remote_calls.specs.Sends.{Ending, IsTooLarge, Sent, size_told}
 use Rattle.remote_calls.specs.contracts.error.RemoteFault as fault_contracts
 use Rattle.remote_calls.specs.declared.error.RemoteFault.TheVariants as fault
@@ -77,13 +76,11 @@ AsksTooMuch depot lib secret (id ∷ ids) most =
 abbrev pub DeskSpares : {S : Type 0} → DepotView S → List ℕ → Option (List ℕ) → List (List ℕ) → ℕ → Answer → List ⊤ → DepotView S → Type 0
 DeskSpares old lib secret ids most answer lines new = AsksTooMuch old lib secret ids most → (answer.reply ≡ reply.Refused refusal.NoMemory) × (new ≡ old)
 
--- a collection that is asked for takes no turn: it is refused where the library is another, where the secret isn't an owner's, and
--- else as for want of memory
-pub record DeskCollects {S : Type 0} (old : DepotView S) (lib : List ℕ) (secret : Option (List ℕ)) (ends : Collected) (lines : List ⊤) (new : DepotView S) : Type 0 where
-  pub here : lib ≡ old.state.lib → permits_collection (token_of old.state.tokens secret) ≡ true → ends ≡ collected.Refused refusal.NoMemory
-  pub denied : lib ≡ old.state.lib → permits_collection (token_of old.state.tokens secret) ≡ false → ends ≡ collected.Refused refusal.Denied
-  pub elsewhere : lib ≢ old.state.lib → ends ≡ collected.Refused refusal.NoLibrary
-  pub stays : new ≡ old
+-- a collection that is asked for is taken to its end or a refusal, turn after turn, by one who may; or one who may not is denied; and
+-- there is no other library
+pub record DeskCollects {S : Type 0} (contents : S → Option Contents) (may_give : S → Slot → Option (List ℕ) → Type 0) (texts faults : S → ℕ) (shows : ℕ → Type 0)
+    (old : DepotView S) (lib : List ℕ) (secret : Option (List ℕ)) (ends : Collected) (lines : List ⊤) (new : DepotView S) : Type 0 where
+  pub collects : CollectsBy itself notes_nothing contents may_give texts faults shows old lib secret ends new
   pub no_lines : lines ≡ []
 
 -- a look tells nothing, since no count of changes is kept
@@ -110,7 +107,7 @@ faults_of shelf = shelf.faults
 
 -- the rules of a library in memory, which is asked at this moment
 abbrev pub desk_rules : ℕ → HostRules (DepotView MemoryShelfState) ⊤
-desk_rules moment = rules_at (IsAt moment) (DeskAnswers told_contents gives_told texts_of faults_of) DeskSpares (λ _. DeskCollects) DeskLooks
+desk_rules moment = rules_at (IsAt moment) (DeskAnswers told_contents gives_told texts_of faults_of) DeskSpares (DeskCollects told_contents gives_told texts_of faults_of) DeskLooks
 
 -- ---- a send
 

@@ -1,13 +1,12 @@
 //! A library that is asked at one moment.
-ghost use Rattle.std.specs.Prelude.{◌≡◌, ◌≢◌, ◌∷◌, false, true};
-ghost use Rattle.library_rules.specs.Calls.{token_of};
-ghost use Rattle.depot.specs.CollectionTurns.{permits_collection};
+ghost use Rattle.std.specs.Prelude.{◌≡◌, ◌≢◌, ◌∷◌};
 ghost use Rattle.depot.specs.FirstGet.{fs_call};
 ghost use Rattle.remote_calls.specs.DeskRemote.{AsksTooMuch, DeskReplies};
 
+use collection_turns::collect;
 use depot::Depot;
 use ids::{LibId, ObjId};
-use library_state::{Call, Refusal, Reply, Secret, Tag};
+use library_state::{Call, Clock, Refusal, Reply, Secret, Tag};
 use object_store::Shelf;
 use std::alloc::Global;
 use std::marker::PhantomData;
@@ -21,6 +20,17 @@ const NO_PLACE: u64 = 0;
 pub(crate) struct DeskHost<S> {
     pub moment: u64,
     pub shelf: PhantomData<S>,
+}
+
+/// It shows the one moment.
+impl<S> Clock for DeskHost<S> {
+    ghost use Rattle.remote_calls.specs.DeskRemote.{IsAt};
+
+    ghost shows = { λ host. IsAt host.moment };
+
+    fn now(&self) -> u64 {
+        self.moment
+    }
 }
 
 impl<S: Shelf> Host for DeskHost<S> {
@@ -44,7 +54,7 @@ impl<S: Shelf> Host for DeskHost<S> {
 
     ghost spares = { DeskSpares };
 
-    ghost collects = { λ _. DeskCollects };
+    ghost collects = { DeskCollects S.contents S.may_give S.texts S.faults };
 
     ghost looks = { DeskLooks };
 
@@ -85,7 +95,7 @@ impl<S: Shelf> Host for DeskHost<S> {
         secret: Option<Secret>,
     ) -> Collected {
         let _ = alloc;
-        Collected::Refused(uncollected(pass, lib, &secret))
+        collect(pass, lib, &secret, self)
     }
 
     fn look(&self, pass: &mut Depot<S>, lib: LibId, secret: &Option<Secret>, tag: Tag) -> bool {
@@ -95,22 +105,6 @@ impl<S: Shelf> Host for DeskHost<S> {
         let _ = tag;
         false
     }
-}
-
-/// Why a collection that is asked for takes no turn: the library is another, the secret isn't an owner's, and else as for want
-/// of memory.
-fn uncollected<S: Shelf>(depot: &Depot<S>, lib: LibId, secret: &Option<Secret>) -> Refusal
-    ensures here { lib ≡ depot.now.state.lib → permits_collection (token_of depot.now.state.tokens secret.now) ≡ true → result ≡ Refusal.NoMemory }
-    ensures denied { lib ≡ depot.now.state.lib → permits_collection (token_of depot.now.state.tokens secret.now) ≡ false → result ≡ Refusal.Denied }
-    ensures elsewhere { lib ≢ depot.now.state.lib → result ≡ Refusal.NoLibrary }
-{
-    if lib == depot.lib() {
-        if depot.may_collect(secret) {
-            return Refusal::NoMemory;
-        }
-        return Refusal::Denied;
-    }
-    Refusal::NoLibrary
 }
 
 /// The reply to a call on a library. `NoLibrary` comes exactly where it is another.

@@ -26,7 +26,8 @@ use worker_server::answer_order;
 ///
 /// An order is answered at the moment that is the number of orders taken before, with the library's opening and a count of 0
 /// as its tag. The first order has number 0, the next 1, and so on; one whose number stands in `fails` isn't asked, and has
-/// `Link`. An order that is too large, or that there is no memory to copy, isn't taken and has no number.
+/// `Link`. An order that is too large, or that there is no memory to copy, isn't taken and has no number. One for a collection takes
+/// turns of at most 1,000 objects, all at its moment, until the collection ended or a turn is refused.
 #[derive(Drop)]
 pub struct DeskRemote {
     depot: Depot<MemoryShelf>,
