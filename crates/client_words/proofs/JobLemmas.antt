@@ -1,5 +1,5 @@
 -- The written value of jobs is read as the jobs, and what is read are jobs that can stand together.
--- The key lemmas are jobs_in-data, jobs_of-known and jobs_in-proper.
+-- The key lemmas are jobs_in-data, jobs_of-known, job_by-some and jobs_in-proper.
 use Rattle.std.proofs.Common.{◌≡◌, ◌≢◌, ◌≤◌, ◌&&◌, ℕ, Bool, true, false, cond, nat_le, List, [], ◌∷◌, ◌++◌, map, codes, All, Option, Some, None, Result, Ok, Err, refl, sym, ap, subst, ◌∙◌, append_assoc, append-nil, arith}
 use Rattle.std.proofs.lemmas.Bool.{and_parts, and_from, leb-true}
 use Rattle.std.proofs.lemmas.List.Elements.{All-push, recursion_from_All}
@@ -115,13 +115,13 @@ jobs_of-known bytes d is = ap (λ (o : Option Data). option_and_then jobs_in o) 
 
 -- ---- what is read can stand together
 
-path_in-some : (value : Option (List ℕ)) (path : List ℕ) → path_in value ≡ Some path → path ≢ []
+pub path_in-some : (value : Option (List ℕ)) (path : List ℕ) → path_in value ≡ Some path → path ≢ []
 path_in-some None path is = λ _. let bad : ⊥ = cc in bad
 path_in-some (Some []) path is = λ _. let bad : ⊥ = cc in bad
 path_in-some (Some (c ∷ cs)) path is = λ none. let bad : ⊥ = cc in bad
 
 -- what passes a test is the text, which passes it
-passed : (test : List ℕ → Bool) (text kept : List ℕ) (b : Bool) → test text ≡ b → cond b (Some text) None ≡ Some kept → test kept ≡ true
+pub passed : (test : List ℕ → Bool) (text kept : List ℕ) (b : Bool) → test text ≡ b → cond b (Some text) None ≡ Some kept → test kept ≡ true
 passed test text kept true passes is = let same : text ≡ kept = cc in ap test (sym same) ∙ passes
 passed test text kept false passes is = let bad : ⊥ = cc in absurd bad
 
@@ -129,7 +129,7 @@ host_in-some : (value : Option (List ℕ)) (host : List ℕ) → host_in value �
 host_in-some None host is = let bad : ⊥ = cc in absurd bad
 host_in-some (Some text) host is = passed is_host text host (is_host text) refl is
 
-user_in-some : (value : Option (List ℕ)) (user : List ℕ) → user_in value ≡ Some user → is_name user ≡ true
+pub user_in-some : (value : Option (List ℕ)) (user : List ℕ) → user_in value ≡ Some user → is_name user ≡ true
 user_in-some None user is = let bad : ⊥ = cc in absurd bad
 user_in-some (Some text) user is = passed is_name text user (is_name text) refl is
 
@@ -150,12 +150,12 @@ unfolding number_between
 number_at-bounded low high name d n is = bounded low high (number_field name d) n is
 
 -- the server of a job has a host and a port
-record IsServer (server : Server) : Type 0 where
-  host : is_host server.host ≡ true
-  from_one : 1 ≤ server.port
-  to_port : server.port ≤ 65535
+pub record IsServer (server : Server) : Type 0 where
+  pub host : is_host server.host ≡ true
+  pub from_one : 1 ≤ server.port
+  pub to_port : server.port ≤ 65535
 
-server_by-some : (port : Option ℕ) (host : Option (List ℕ)) (server : Server) → ((n : ℕ) → port ≡ Some n → (1 ≤ n) × (n ≤ 65535))
+pub server_by-some : (port : Option ℕ) (host : Option (List ℕ)) (server : Server) → ((n : ℕ) → port ≡ Some n → (1 ≤ n) × (n ≤ 65535))
     → ((h : List ℕ) → host ≡ Some h → is_host h ≡ true) → server_by port host ≡ Some server → IsServer server
 server_by-some None host server ports hosts is = let bad : ⊥ = cc in absurd bad
 server_by-some (Some n) None server ports hosts is = let bad : ⊥ = cc in absurd bad
@@ -164,7 +164,7 @@ server_by-some (Some n) (Some h) server ports hosts is =
     let same : made ≡ server = cc in
     subst IsServer same (record { host = hosts h refl; from_one = (ports n refl).0; to_port = (ports n refl).1 })
 
-job_by-some : (server : Option Server) (lib secret dir user : Option (List ℕ)) (job : Job) → ((s : Server) → server ≡ Some s → IsServer s)
+pub job_by-some : (server : Option Server) (lib secret dir user : Option (List ℕ)) (job : Job) → ((s : Server) → server ≡ Some s → IsServer s)
     → ((p : List ℕ) → dir ≡ Some p → p ≢ []) → ((u : List ℕ) → user ≡ Some u → is_name u ≡ true) → job_by server lib secret dir user ≡ Some job → IsJob job
 job_by-some None lib secret dir user job servers dirs users is = let bad : ⊥ = cc in absurd bad
 job_by-some (Some s) None secret dir user job servers dirs users is = let bad : ⊥ = cc in absurd bad

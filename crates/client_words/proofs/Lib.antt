@@ -2,3 +2,4 @@ mod AddressLemmas
 mod JobLemmas
 mod JobTextLemmas
 mod MatchLemmas
+mod ProperWordsLemmas

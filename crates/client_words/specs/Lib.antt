@@ -7,3 +7,4 @@ pub mod Lines
 pub mod OptionValues
 pub mod TypedJob
 pub mod WordReading
+pub mod ProperWords

@@ -1,6 +1,7 @@
 //! Reading the words of the command line.
 ghost use Rattle.std.specs.Prelude.{◌≡◌, ◌↔◌, IfOk, IsTrue, codes, map};
 ghost use Rattle.clap.specs.Words.{found_of, rows_of, subcommand_rows_of};
+ghost use Rattle.client_words.specs.ProperWords.{HasProperJob};
 ghost use Rattle.client_words.specs.WordReading.{command_words, desync_by, download_by, entered_words, is_alone, job_in, matched_words, named_words, start_by, sync_by, unsupported_in, words_of};
 ghost use Rattle.clap.specs.Words.{first_of};
 ghost use Rattle.client_words.specs.OptionValues.{path_in, turns_in};
@@ -31,6 +32,7 @@ use std::alloc::{AllocError, Global};
 /// before it is looked at whether the command has what it needs. All other words are `Usage`. Our own.
 pub fn read_words(alloc: Global, words: &[Text]) -> Result<Words, AllocError>
     ensures value { IfOk result (λ asked. asked ≡ words_of words.now) }
+    ensures proper { IfOk result HasProperJob }
 {
     if is_alone("--help", words) {
         return Ok(Words::Help);
