@@ -7,4 +7,7 @@ pub mod OneAnswerLemmas
 pub mod OrderReplyLemmas
 pub mod SendsLemmas
 pub mod SpelledLemmas
+pub mod MadeThereLemmas
+pub mod SentCountLemmas
+pub mod LinksToldLemmas
 pub mod SpellingLemmas

@@ -1,12 +1,13 @@
 -- A server behind links, as contracts see it, and what a send does with its links: which one it goes over, when that is kept
 -- and when another is made. Our own. Read HttpRemoteView first, then keeps, and SendsOver, at the end.
-use Rattle.std.specs.Prelude.{ℕ, ◌≡◌, Bool, true, false, ◌&&◌, not, nat_lt, List, [], ◌∷◌, ◌++◌, Option, None, Some, Result, Ok, Err, map, option_map}
+use Rattle.std.specs.Prelude.{ℕ, ◌≡◌, ◌+◌, Bool, true, false, ◌&&◌, not, nat_lt, List, [], ◌∷◌, ◌++◌, length, Option, None, Some, Result, Ok, Err, map, option_map}
+use Rattle.std.specs.List.{AllByRecursion}
 use Rattle.ids.specs.FaultCount.{Rose}
 use Rattle.http_front.specs.Dial.{IsNothing, count_sum}
 use Rattle.http_front.specs.declared.order.Order.{Order}
 use Rattle.http_client.specs.RequestText.{request_text}
 use Rattle.remote_calls.specs.Exchange.{Exchanges, LinkView, OpenView, open_view}
-use Rattle.remote_calls.specs.Sends.{Ending, IsTooLarge, Sent, size_told}
+use Rattle.remote_calls.specs.Sends.{CountsSends, Ending, IsTooLarge, Sent, size_told}
 use Rattle.remote_calls.specs.declared.error.RemoteFault.{RemoteFault}
 use Rattle.remote_calls.specs.declared.error.RemoteFault.TheVariants as fault
 use Rattle.remote_calls.specs.declared.open_link.OpenLink.{OpenLink}
@@ -18,11 +19,13 @@ pub record LinksView : Type 0 where
   pub back : List LinkView
   pub faults : ℕ
 
--- whom a remote sends to: a server at a port of a host, over a dial to which these links had come back before
+-- whom a remote sends to: a server at a port of a host, over a dial to which these links had come back before, with that count of
+-- faults
 pub record HttpPeer : Type 0 where
   pub host : List ℕ
   pub port : ℕ
   pub start : List LinkView
+  pub faults : ℕ
 
 -- the server, the links to it, and the list of sends
 pub record HttpRemoteView : Type 0 where
@@ -48,11 +51,16 @@ abbrev pub start_of : {D L : Type 0} → (view : L → LinkView) → (back : D �
 start_of view back [] = []
 start_of view back (entry ∷ more) = map view (back entry.0)
 
+-- and its count of faults
+abbrev pub first_count : {D : Type 0} → (faults : D → ℕ) → List (D × ℕ) → ℕ
+first_count faults [] = 0
+first_count faults (entry ∷ more) = count_sum (faults entry.0) 0
+
 -- a remote of these parts: `made` has the dial as it was handed in
 abbrev pub remote_of : {D L : Type 0} → (view : L → LinkView) → (back : D → List L) → (faults : D → ℕ) → (host : List ℕ) → (port : ℕ) → D
     → Option (OpenLink L) → (made : List (D × ℕ)) → List Sent → HttpRemoteView
 remote_of view back faults host port dial kept made sends = record {
-  peer = record { host = host; port = port; start = start_of view back made };
+  peer = record { host = host; port = port; start = start_of view back made; faults = first_count faults made };
   links = links_of view back faults dial kept;
   sends = sends;
 }
@@ -60,6 +68,12 @@ remote_of view back faults host port dial kept made sends = record {
 -- a link of this view was made to a port of a host
 abbrev pub Reaches : {L : Type 0} → (view : L → LinkView) → (reaches : L → List ℕ → ℕ → Type 0) → LinkView → List ℕ → ℕ → Type 0
 Reaches {L} view reaches seen host port = (link : L) × (view link ≡ seen) × reaches link host port
+
+-- as many links came back since, or are kept, as were made to this port of this host
+pub record AreMadeThere (reaches : LinkView → List ℕ → ℕ → Type 0) (peer : HttpPeer) (links : List LinkView) : Type 0 where
+  pub made : List LinkView
+  pub each : AllByRecursion (λ (link : LinkView). reaches link peer.host peer.port) made
+  pub count : length links ≡ length peer.start + length made
 
 -- ---- which link a send goes over
 
@@ -79,6 +93,12 @@ keeps_open (Some o) = keeps o.over o.count
 abbrev pub left_over : Option OpenView → List LinkView
 left_over None = []
 left_over (Some o) = o.link ∷ []
+
+-- what is told of a remote's links beside what they spell: those that came back and the one that is kept are as many as were made to its
+-- port of its host; and its count rose since it was made where the link failed in a send, and stayed where it failed in none
+pub record TellsLinks (reaches : LinkView → List ℕ → ℕ → Type 0) (remote : HttpRemoteView) : Type 0 where
+  pub there : AreMadeThere reaches remote.peer (remote.links.back ++ left_over remote.links.kept)
+  pub counts : CountsSends remote.peer.faults remote.sends remote.links.faults
 
 -- a link that was just made: nothing was moved on it, and nothing is held
 pub record IsNew (o : OpenView) : Type 0 where

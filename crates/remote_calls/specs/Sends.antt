@@ -1,6 +1,8 @@
 -- The list of what a remote was sent, and what came of it. Our own. Read Sent first, then SendsOne and IsTooLarge.
 -- The list stands in proofs alone, so it has the bytes of objects themselves: nothing is kept and nothing hashed for it.
 use Rattle.std.specs.Prelude.{ℕ, ◌≡◌, ◌<◌, not, min, Bool, true, false, List, [], ◌∷◌, ◌++◌, length, Result, Ok, Err}
+use Rattle.std.specs.Bool.{MatchBool}
+use Rattle.std.specs.List.{list_any}
 use Rattle.ids.specs.FaultCount.{Rose}
 use Rattle.http_front.specs.declared.order.Order.{Order}
 use Rattle.http_front.specs.declared.outcome.Outcome.{Outcome}
@@ -36,6 +38,22 @@ SendsOne old new order (Err f) = new ≡ old ++ (order, Err f) ∷ []
 abbrev pub CountsSend : {T : Type 0} → ℕ → ℕ → Result T RemoteFault → Type 0
 CountsSend before now (Err fault.Link) = Rose before now
 CountsSend before now told = now ≡ before
+
+-- ---- the count over all sends
+
+-- a send that came to a failure of the link
+abbrev pub is_link_failure : Ending → Bool
+is_link_failure (Err fault.Link) = true
+is_link_failure _ = false
+
+abbrev pub fails_by_link : List Sent → Bool
+fails_by_link sends = list_any (λ sent. is_link_failure sent.1) sends
+
+-- the count rose since where the link failed in one of these sends, and stayed where it failed in none
+abbrev pub CountsSends : ℕ → List Sent → ℕ → Type 0
+CountsSends before sends now = MatchBool (fails_by_link sends) (Rose before now) (now ≡ before)
+
+-- ---- orders that are too large
 
 -- the length of the body of the order's request, or 2^64 - 1 where that is more
 abbrev pub size_told : Order → ℕ

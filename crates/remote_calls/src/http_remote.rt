@@ -5,8 +5,8 @@ ghost use Rattle.http_client.specs.OrderOutcome.{CanHave};
 ghost use Rattle.http_client.specs.RequestText.{HasRequest, IsHost};
 ghost use Rattle.remote_calls.specs.Exchange.{link_view};
 ghost use Rattle.http_front.specs.Dial.{count_sum};
-ghost use Rattle.remote_calls.specs.HttpRemote.{Reaches, SendsOver, left_over, links_in, links_of, sum_with};
-ghost use Rattle.remote_calls.specs.Sends.{CountsSend, IsTooLarge, SendsOne, is_no_memory, size_told};
+ghost use Rattle.remote_calls.specs.HttpRemote.{AreMadeThere, Reaches, SendsOver, left_over, links_in, links_of, sum_with};
+ghost use Rattle.remote_calls.specs.Sends.{CountsSend, CountsSends, IsTooLarge, SendsOne, is_no_memory, size_told};
 ghost use Rattle.remote_calls.specs.Spelling.{SpellsAll};
 
 use crate::error::RemoteFault;
@@ -38,7 +38,7 @@ pub struct HttpRemote<D: Dial> {
 impl<D: Dial> Model for HttpRemote<D> {
     ghost use Rattle.http_client.specs.RequestText.{IsHost};
     ghost use Rattle.remote_calls.specs.Exchange.{link_view};
-    ghost use Rattle.remote_calls.specs.HttpRemote.{HttpRemoteView, remote_of};
+    ghost use Rattle.remote_calls.specs.HttpRemote.{HttpRemoteView, Reaches, TellsLinks, remote_of};
     ghost use Rattle.remote_calls.specs.Spelling.{IsSpelled};
 
     ghost Value = { HttpRemoteView };
@@ -48,6 +48,8 @@ impl<D: Dial> Model for HttpRemote<D> {
     ghost invariant = { λ a. record {
       name : IsHost a.host;
       spelled : IsSpelled (remote_of (link_view D.L.left D.L.taken D.L.given D.L.asked D.L.faults) D.back D.faults a.host a.port a.dial a.kept a.made.items a.sends.items);
+      links : TellsLinks (Reaches (link_view D.L.left D.L.taken D.L.given D.L.asked D.L.faults) D.reaches)
+          (remote_of (link_view D.L.left D.L.taken D.L.given D.L.asked D.L.faults) D.back D.faults a.host a.port a.dial a.kept a.made.items a.sends.items);
     } };
 }
 
@@ -57,7 +59,12 @@ impl<D: Dial + Drop> HttpRemote<D> {
     pub fn new(dial: D, host: Text, port: u16) -> HttpRemote<D>
         requires name { IsHost host }
         ensures value { result ≡ record {
-          peer = record { host = host; port = port; start = map (link_view D.L.left D.L.taken D.L.given D.L.asked D.L.faults) (D.back dial) };
+          peer = record {
+            host = host;
+            port = port;
+            start = map (link_view D.L.left D.L.taken D.L.given D.L.asked D.L.faults) (D.back dial);
+            faults = count_sum (D.faults dial) 0;
+          };
           links = links_of (link_view D.L.left D.L.taken D.L.given D.L.asked D.L.faults) D.back D.faults dial None;
           sends = [];
         } }
@@ -74,11 +81,15 @@ impl<D: Dial + Drop> HttpRemote<D> {
     }
 
     /// The dial, to which every link went back: the bytes that were moved on those that came back since `new`, where they tell
-    /// them, are the requests and replies of the sends. It takes no memory.
+    /// them, are the requests and replies of the sends, and as many were made to this port of this host. Its count rose since where
+    /// the link failed in a send, and stayed where it failed in none. It takes no memory.
     pub fn end(self) -> D
         ensures back { map (link_view D.L.left D.L.taken D.L.given D.L.asked D.L.faults) (D.back result) ≡ self.links.back ++ left_over self.links.kept }
         ensures told { SpellsAll self.peer.host self.peer.start (map (link_view D.L.left D.L.taken D.L.given D.L.asked D.L.faults) (D.back result)) self.sends }
+        ensures reached { AreMadeThere (Reaches (link_view D.L.left D.L.taken D.L.given D.L.asked D.L.faults) D.reaches) self.peer
+            (map (link_view D.L.left D.L.taken D.L.given D.L.asked D.L.faults) (D.back result)) }
         ensures faults { count_sum (D.faults result) 0 ≡ self.links.faults }
+        ensures cause { CountsSends self.peer.faults self.sends self.links.faults }
     {
         let HttpRemote {
             dial,

@@ -1,7 +1,8 @@
 -- A remote that was sent nothing.
 use Rattle.std.proofs.Common.{None, refl, sym, ap}
 use Rattle.remote_calls.specs.Exchange.{link_view}
-use Rattle.remote_calls.specs.HttpRemote.{remote_of, start_of}
+use Rattle.remote_calls.specs.HttpRemote.{Reaches, first_count, remote_of, start_of}
+use Rattle.remote_calls.proofs.LinksToldLemmas.{tells_first}
 use Rattle.remote_calls.proofs.SpelledLemmas.{made_one, spelled_first}
 use Rattle.remote_calls.proofs.http_remote.HttpRemote.new.Goals as goal
 
@@ -9,7 +10,11 @@ pub invariant_of-result : goal.invariant_of-result
 invariant_of-result g c =
     let view = link_view g.D.L.Link.left g.D.L.Link.taken g.D.L.Link.given g.D.L.Link.asked g.D.L.Link.faults in
     let made = made_one c.and-made.result.items c.new.result.items c.args.dial c.and-made.ensures c.new.ensures in
-    record { name = c.requires.name; spelled = spelled_first _ c.new-2.ensures refl (sym (ap (start_of view g.D.Dial.back) made)) }
+    record {
+      name = c.requires.name;
+      spelled = spelled_first _ c.new-2.ensures refl (sym (ap (start_of view g.D.Dial.back) made));
+      links = tells_first (Reaches view g.D.Dial.reaches) _ c.new-2.ensures refl (sym (ap (start_of view g.D.Dial.back) made)) (sym (ap (first_count g.D.Dial.faults) made));
+    }
 
 pub returns : goal.returns
 returns g c =

@@ -2,6 +2,7 @@
 use Rattle.std.proofs.Common.{refl}
 use Rattle.remote_calls.specs.Exchange.{link_view}
 use Rattle.remote_calls.specs.HttpRemote.{Reaches}
+use Rattle.remote_calls.proofs.LinksToldLemmas.{tells_step}
 use Rattle.remote_calls.proofs.SpelledLemmas.{spelled_step}
 use Rattle.remote_calls.proofs.http_remote.HttpRemoteRemote.send.Goals as goal
 
@@ -11,6 +12,8 @@ invariant_of-self g c =
     record {
       name = c.self.invariant.name;
       spelled = spelled_step (Reaches view g.D.Dial.reaches) _ _ c.args.order.now c.send_over-ending.result c.self.invariant.spelled refl c.send_over-ending.ensures.value c.list_send.ensures.listed;
+      links = tells_step (Reaches view g.D.Dial.reaches) _ _ c.args.order.now c.send_over-ending.result c.self.invariant.links refl c.send_over-ending.ensures.value
+          c.send_over-ending.ensures.faults c.list_send.ensures.listed;
     }
 
 pub returns-clause-value : goal.returns-clause-value

@@ -1,0 +1,54 @@
+-- The count of faults over all sends. The key lemmas are counts_none and counts_step.
+use Rattle.std.proofs.Common.{◌≡◌, ℕ, ◌+◌, ◌-◌, ◌^◌, ◌≤◌, min, Bool, true, false, ◌||◌, List, [], ◌∷◌, ◌++◌, Ok, Err, refl, sym, ap, subst, ◌∙◌, arith}
+use Rattle.std.specs.Bool.{MatchBool}
+use Rattle.std.proofs.lemmas.List.Folds.{list_any-append}
+use Rattle.ids.specs.FaultCount.{Rose}
+use Rattle.http_front.specs.declared.order.Order.{Order}
+use Rattle.remote_calls.specs.Sends.{CountsSend, CountsSends, Ending, SendsOne, Sent, fails_by_link, is_link_failure}
+use Rattle.remote_calls.specs.declared.error.RemoteFault.TheVariants as fault
+
+pub counts_none : (before now : ℕ) (sends : List Sent) → sends ≡ [] → now ≡ before → CountsSends before sends now
+counts_none before now sends none same = subst (λ (ss : List Sent). CountsSends before ss now) (sym none) same
+
+-- ---- one send more
+
+rose_both : (most before mid now : ℕ) → min (before + 1) most ≤ mid → min (mid + 1) most ≤ now → min (before + 1) most ≤ now
+rose_both most before mid now first second = omega (arith, first, second)
+
+or_same : (b : Bool) → (b || false) ≡ b
+or_same true = refl
+or_same false = refl
+
+fails_more : (old : List Sent) (order : Order) (ending : Ending) → fails_by_link (old ++ (order, ending) ∷ []) ≡ (fails_by_link old || is_link_failure ending)
+fails_more old order ending = list_any-append (λ (sent : Sent). is_link_failure sent.1) old ((order, ending) ∷ []) ∙ ap (λ b. fails_by_link old || b) (or_same (is_link_failure ending))
+
+or_so : (b : Bool) → (b || true) ≡ true
+or_so true = refl
+or_so false = refl
+
+-- one that isn't a failure of the link
+counts_other : (before mid now : ℕ) (old new : List Sent) (order : Order) (ending : Ending) → is_link_failure ending ≡ false → new ≡ old ++ (order, ending) ∷ [] → now ≡ mid
+    → CountsSends before old mid → CountsSends before new now
+counts_other before mid now old new order ending other listed same is =
+    let fails : fails_by_link new ≡ fails_by_link old
+    = ap fails_by_link listed ∙ fails_more old order ending ∙ ap (λ b. fails_by_link old || b) other ∙ or_same (fails_by_link old) in
+    subst (λ (b : Bool). MatchBool b (Rose before now) (now ≡ before)) (sym fails) (subst (λ (n : ℕ). CountsSends before old n) (sym same) is)
+
+-- one that is
+counts_failure : (before mid now : ℕ) (old new : List Sent) (order : Order) → new ≡ old ++ (order, Err fault.Link) ∷ [] → Rose mid now
+    → CountsSends before old mid → CountsSends before new now
+counts_failure before mid now old new order listed rose is =
+    let fails : fails_by_link new ≡ true = ap fails_by_link listed ∙ fails_more old order (Err fault.Link) ∙ or_so (fails_by_link old) in
+    subst (λ (b : Bool). MatchBool b (Rose before now) (now ≡ before)) (sym fails) (by (fails_by_link old) is)
+  where
+    by : (b : Bool) → MatchBool b (Rose before mid) (mid ≡ before) → Rose before now
+    by true first = rose_both (2 ^ 64 - 1) before mid now first rose
+    by false same = subst (λ (n : ℕ). Rose n now) same rose
+
+pub counts_step : (before mid now : ℕ) (old new : List Sent) (order : Order) (ending : Ending) → CountsSends before old mid → CountsSend mid now ending
+    → SendsOne old new order ending → CountsSends before new now
+counts_step before mid now old new order (Ok outcome) is counts listed = counts_other before mid now old new order (Ok outcome) refl listed counts is
+counts_step before mid now old new order (Err fault.Link) is counts listed = counts_failure before mid now old new order listed counts is
+counts_step before mid now old new order (Err fault.NoMemory) is counts listed =
+    subst (λ (ss : List Sent). CountsSends before ss now) (sym listed) (subst (λ (n : ℕ). CountsSends before old n) (sym counts) is)
+counts_step before mid now old new order (Err other) is counts listed = counts_other before mid now old new order (Err other) refl listed counts is
