@@ -1,6 +1,6 @@
 -- What a sync sends: which orders, what it puts, in which rounds, and what it asks for. Our own. Read OrdersSo, at the end,
 -- then MadeSo, PutsLacked, GoesInRounds and GetsNeeded. All of it is so over every folder and remote.
-use Rattle.std.specs.Prelude.{ℕ, ◌≡◌, ◌≤◌, ◌&&◌, not, Bool, true, false, All, List, [], ◌∷◌, ◌++◌, length, Option, None, Some, IsSome, Ok, if◌then◌else◌, ⊤}
+use Rattle.std.specs.Prelude.{ℕ, ◌≡◌, ◌≤◌, ◌⊎◌, ◌&&◌, not, Bool, true, false, All, List, [], ◌∷◌, ◌++◌, length, Option, None, Some, IsSome, Ok, if◌then◌else◌, ⊤}
 use Rattle.std.specs.Option.{option_or}
 use Rattle.sha1.specs.Sha1.{sha1}
 use Rattle.ids.specs.Key.{Objects}
@@ -16,6 +16,7 @@ use Rattle.library_state.specs.declared.reply.Reply.TheVariants as reply
 use Rattle.object_graph.specs.Objects.{commit_key}
 use Rattle.object_graph.specs.Reached.{ReachedFrom}
 use Rattle.object_graph.specs.Traversal.{is_in}
+use Rattle.http_client.specs.RequestText.{body_in}
 use Rattle.http_front.specs.declared.order.What.{What}
 use Rattle.http_front.specs.declared.order.What.TheVariants as what
 use Rattle.http_front.specs.declared.outcome.Outcome.TheVariants.{Plain}
@@ -43,9 +44,17 @@ is_sync_what _ = false
 abbrev pub most_asked : ℕ
 most_asked = 10000
 
+-- files and directories that are put at once have no more bytes in their body than this, or there is one alone
+abbrev pub most_bytes : ℕ
+most_bytes = 1048576
+
+abbrev pub IsSmall : List Row → Type 0
+IsSmall rows = (length (body_in (what.PutFs rows)) ≤ most_bytes) ⊎ (length rows ≡ 1)
+
 abbrev pub AsksFew : What → Type 0
 AsksFew (what.GetFs ids) = length ids ≤ most_asked
 AsksFew (what.Missing kind ids) = length ids ≤ most_asked
+AsksFew (what.PutFs rows) = IsSmall rows
 AsksFew _ = ⊤
 
 abbrev pub IsSyncOrder : List ℕ → List ℕ → Sent → Type 0

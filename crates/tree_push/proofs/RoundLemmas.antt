@@ -53,7 +53,7 @@ module _ (library : Library) where
 sync_what : (asked : What) → IsUploadWhat asked → (is_sync_what asked ≡ true) × AsksFew asked
 sync_what (what.Missing kind ids) up = (refl, up.1)
 sync_what (what.Put key bytes) up = (refl, tt)
-sync_what (what.PutFs rows) up = (refl, tt)
+sync_what (what.PutFs rows) up = (refl, up.1)
 sync_what _ up = absurd up
 
 pub upload_what : (asked : What) → IsUploadWhat asked → is_upload asked ≡ true

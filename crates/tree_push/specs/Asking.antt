@@ -8,19 +8,18 @@ use Rattle.ids.specs.declared.key.Kind.TheVariants as kind
 use Rattle.library_state.specs.declared.reply.Reply.{Reply}
 use Rattle.library_state.specs.declared.reply.Reply.TheVariants as reply
 use Rattle.http_client.specs.OrderOutcome.{CanAnswer, are_among}
-use Rattle.http_client.specs.RequestText.{body_in}
 use Rattle.http_front.specs.declared.order.Order.{Order}
 use Rattle.http_front.specs.declared.order.What.{What}
 use Rattle.http_front.specs.declared.order.What.TheVariants as what
 use Rattle.http_front.specs.declared.outcome.Outcome.{Outcome}
 use Rattle.http_front.specs.declared.outcome.Outcome.TheVariants as outcome
-use Rattle.http_front.specs.declared.row.Row.{Row}
 use Rattle.remote_calls.specs.Sends.{Ending, Sent}
 use Rattle.remote_calls.specs.declared.error.RemoteFault.{RemoteFault}
 use Rattle.remote_calls.specs.declared.error.RemoteFault.TheVariants as remote
 use Rattle.sync_rules.specs.Causes.{ends_sync}
 use Rattle.sync_rules.specs.Named.{is_block, put_by}
 use Rattle.sync_rules.specs.Orders.{IsRowNamed, most_asked}
+pub use Rattle.sync_rules.specs.Orders.{IsSmall, most_bytes}
 use Rattle.sync_rules.specs.declared.fault.SyncFault.{SyncFault}
 use Rattle.sync_rules.specs.declared.fault.SyncFault.TheVariants as fault
 use Rattle.tree_push.specs.declared.asking.Library.{Library}
@@ -78,13 +77,6 @@ AsksSo library asked old new (Err f) = ((f ≡ fault.NoMemory) × (new ≡ old))
 abbrev pub is_listed : Kind → Bool
 is_listed kind.Commit = false
 is_listed _ = true
-
--- the bytes of files and directories that are put at once, or there is one alone
-abbrev pub most_bytes : ℕ
-most_bytes = 1048576
-
-abbrev pub IsSmall : List Row → Type 0
-IsSmall rows = (length (body_in (what.PutFs rows)) ≤ most_bytes) ⊎ (length rows ≡ 1)
 
 -- what is uploaded before a library is asked to stand at it: lists of ids that aren't too long, and blocks, files and directories under
 -- their names
