@@ -308,3 +308,59 @@ fn an_order_that_is_too_large_is_not_sent(rt: HostRuntime) -> Result<(), AllocEr
     assert!(rt; has_no_number(rt.alloc(), &mut desk, Bytes::from_vec(bytes)));
     Ok(())
 }
+
+fn counts(outcome: &Outcome, wanted: u64, gone: u64) -> bool {
+    match outcome {
+        Outcome::Collected { number, removed } => *number == wanted && *removed == gone,
+        _ => false,
+    }
+}
+
+fn is_collected(ending: &Ending, number: u64, removed: u64) -> bool {
+    match ending {
+        Ok(outcome) => counts(outcome, number, removed),
+        Err(_) => false,
+    }
+}
+
+fn refuses_order(outcome: &Outcome, why: &Refusal) -> bool {
+    match outcome {
+        Outcome::Refused(refusal) => *refusal == *why,
+        _ => false,
+    }
+}
+
+fn is_not_taken(ending: &Ending, why: &Refusal) -> bool {
+    match ending {
+        Ok(outcome) => refuses_order(outcome, why),
+        Err(_) => false,
+    }
+}
+
+/// Whether a block that nothing needs leaves in the first of two collections.
+fn is_removed_once(alloc: Global, desk: &mut DeskRemote, block: Bytes) -> bool {
+    let key = Key {
+        kind: Kind::Block,
+        id: ObjId::of(b"abc"),
+    };
+    is_kept(alloc, desk, &key, block)
+        && is_collected(&own(alloc, desk, What::Collect), 1, 1)
+        && is_refused(&own(alloc, desk, What::Get(key)), &Refusal::NoObject(key))
+        && is_collected(&own(alloc, desk, What::Collect), 2, 0)
+}
+
+#[test]
+fn a_collection_is_taken_to_its_end(rt: HostRuntime) -> Result<(), AllocError> {
+    let block = Bytes::copy(rt.alloc(), b"abc")?;
+    let mut desk = desk(rt.alloc(), &[])?;
+    assert!(rt; is_removed_once(rt.alloc(), &mut desk, block));
+    Ok(())
+}
+
+#[test]
+fn a_collection_is_denied_to_a_secret_of_no_token(rt: HostRuntime) -> Result<(), AllocError> {
+    let mut desk = desk(rt.alloc(), &[])?;
+    let ending = sent(rt.alloc(), &mut desk, LIB, [0xbb; 20], What::Collect);
+    assert!(rt; is_not_taken(&ending, &Refusal::Denied));
+    Ok(())
+}
