@@ -1,0 +1,4 @@
+pub mod Commands
+pub mod Desk
+pub mod JobList
+pub mod KeptTexts
