@@ -1,3 +1,4 @@
 pub mod KeptLemmas
 pub mod ListLemmas
 pub mod NameTextLemmas
+pub mod OrderLemmas

@@ -1,7 +1,7 @@
 //! What the client keeps, and where its folders and dials come from.
 //!
 //! Shown upward: `Desk`; `jobs_in`, `put_jobs`, `index_in`, `put_index`, the texts in the client's own folder; `job_due`,
-//! `jobs_with`; the commands `init`, `list` and `desync`. Definitions: specs/KeptTexts.antt, specs/JobList.antt,
+//! `jobs_with`; the commands `init`, `list` and `desync`; `laws`. Definitions: specs/KeptTexts.antt, specs/JobList.antt,
 //! specs/Commands.antt. It syncs nothing, reads no words and prints nothing.
 #![tactic(auto)]
 
@@ -9,6 +9,7 @@ mod commands;
 mod desk;
 mod job_list;
 mod kept_texts;
+pub mod laws;
 
 pub use crate::commands::{desync, init, list};
 pub use crate::desk::Desk;
