@@ -1,5 +1,5 @@
-//! Tests of the turnstile, of the depot, of a hall and of how connections end, over their public calls alone: what no scenario over the
-//! built program can show.
+//! Tests of the turnstile, of the depot, of a hall, of how connections end and of one with a hall, over their public calls
+//! alone: what no scenario over the built program can show.
 //!
 //! They stand apart, since a crate with tests is proved twice. It has no code but its tests.
 #![tactic(auto)]
@@ -8,6 +8,8 @@
 mod depot_tests;
 #[cfg(test)]
 mod hall;
+#[cfg(test)]
+mod hall_connection_tests;
 #[cfg(test)]
 mod hall_own_tests;
 #[cfg(test)]

@@ -17,7 +17,7 @@ struct Ending {
 }
 
 /// The block is asked for.
-const GET: &[u8] =
+pub(crate) const GET: &[u8] =
     b"GET /repo/11111111-2222-4333-8444-555555555555/block/a9993e364706816aba3e25717850c26c9cd0d89d HTTP/1.1\r\nHost: x\r\nSeafile-Repo-Token: aaaaaaaaaaaaaaaaaaaaaaaaaaaaaaaaaaaaaaaa\r\n\r\n";
 
 /// It is given.
@@ -91,14 +91,14 @@ const PUT: &[u8] =
 const STORED: &[u8] = b"HTTP/1.1 200 OK\r\nContent-Length: 0\r\n\r\n";
 
 /// A block is put, and this is left of the input.
-fn put_and(alloc: Global, left: &[u8]) -> Result<Vec<u8>, AllocError> {
+pub(crate) fn put_and(alloc: Global, left: &[u8]) -> Result<Vec<u8>, AllocError> {
     let mut asked = Vec::from_slice(alloc, PUT)?;
     asked.extend_from_slice(left)?;
     Ok(asked)
 }
 
 /// A link that gives these bytes in pieces of this size, and whose calls of these numbers fail.
-fn link_of(
+pub(crate) fn link_of(
     alloc: Global,
     asked: &[u8],
     piece: usize,
@@ -183,7 +183,7 @@ const FAILING: &[Failing] = &[
 ];
 
 /// The replies to both.
-const STORED_AND_GIVEN: &[u8] = b"\
+pub(crate) const STORED_AND_GIVEN: &[u8] = b"\
 HTTP/1.1 200 OK\r\nContent-Length: 0\r\n\r\n\
 HTTP/1.1 200 OK\r\nContent-Type: application/octet-stream\r\nContent-Length: 3\r\n\r\nabc";
 
