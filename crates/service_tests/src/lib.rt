@@ -15,6 +15,8 @@ mod hall_own_tests;
 #[cfg(test)]
 mod hall_tests;
 #[cfg(test)]
+mod hall_threads_tests;
+#[cfg(test)]
 mod library;
 #[cfg(test)]
 mod library_server_tests;
