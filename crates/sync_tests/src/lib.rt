@@ -1,0 +1,13 @@
+//! Tests of one sync, over folders and a library in memory.
+//!
+//! They stand apart, since a crate with tests is proved twice. It has no code but its tests.
+#![tactic(auto)]
+
+#[cfg(test)]
+mod failing_ends;
+#[cfg(test)]
+mod household;
+#[cfg(test)]
+mod library;
+#[cfg(test)]
+mod two_folders;
