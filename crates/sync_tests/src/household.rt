@@ -78,6 +78,10 @@ pub(crate) enum Came {
     Denied,
     Folder,
     NoReply,
+    /// Something else came than was asked for.
+    Damaged,
+    /// An update came too late; the last collection has this number.
+    Stale(u64),
     Other,
 }
 
@@ -115,6 +119,8 @@ fn faulted(fault: &SyncFault) -> Came {
         SyncFault::Remote(_) => Came::NoReply,
         SyncFault::NotEmpty => Came::NotEmpty,
         SyncFault::Blocked(_) => Came::Blocked,
+        SyncFault::Damaged { .. } => Came::Damaged,
+        SyncFault::Stale(now) => Came::Stale(*now),
         SyncFault::Refused(why) => refused(why),
         _ => Came::Other,
     }

@@ -10,4 +10,8 @@ mod household;
 #[cfg(test)]
 mod library;
 #[cfg(test)]
+mod meddled_syncs;
+#[cfg(test)]
+mod meddling;
+#[cfg(test)]
 mod two_folders;
