@@ -16,6 +16,7 @@ use sync_rules::{SyncFault, Synced};
 #[derive(Clone, Copy)]
 enum Case {
     ManyFiles,
+    LargeFile,
     Meeting,
     Link,
     Blocking,
@@ -27,6 +28,7 @@ enum Case {
 fn holds(alloc: Global, house: &mut House<DeskRemote>, case: Case) -> Result<bool, AllocError> {
     match case {
         Case::ManyFiles => is_cloned(alloc, house),
+        Case::LargeFile => is_large_one_cloned(alloc, house),
         Case::Meeting => do_meet(alloc, house),
         Case::Link => is_apart(alloc, house),
         Case::Blocking => is_blocked(alloc, house),
@@ -76,6 +78,20 @@ fn three_hundred_files_are_pushed_by_one_commit_and_cloned(
     rt: HostRuntime,
 ) -> Result<(), AllocError> {
     assert!(rt; holds_anew(rt.alloc(), Case::ManyFiles)?);
+    Ok(())
+}
+
+/// Whether a file of 9 MiB of zeros, of which two blocks are the same, is pushed and cloned.
+fn is_large_one_cloned(alloc: Global, house: &mut House<DeskRemote>) -> Result<bool, AllocError> {
+    let mut bytes = Vec::new(alloc);
+    bytes.resize(9_437_184, 0)?;
+    let is_added = add_file(alloc, &mut house.here, "a", bytes.as_slice())?;
+    Ok(is_added && is_shared(alloc, house, 1))
+}
+
+#[test]
+fn a_file_of_nine_mebibytes_is_pushed_and_cloned(rt: HostRuntime) -> Result<(), AllocError> {
+    assert!(rt; holds_anew(rt.alloc(), Case::LargeFile)?);
     Ok(())
 }
 
