@@ -6,6 +6,8 @@
 #[cfg(test)]
 mod folder_side_tests;
 #[cfg(test)]
+mod folder_texts_tests;
+#[cfg(test)]
 mod local_folder_tests;
 #[cfg(test)]
 mod local_index_tests;

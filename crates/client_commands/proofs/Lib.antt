@@ -1,0 +1,13 @@
+pub mod CountLemmas
+pub mod FaultLemmas
+pub mod FolderLemmas
+pub mod KeepLemmas
+pub mod KeptSyncLemmas
+pub mod OverLemmas
+pub mod PrintLemmas
+pub mod RunLemmas
+pub mod SentLemmas
+pub mod StartLemmas
+pub mod StatusLemmas
+pub mod WordLemmas
+pub mod WorktreeLemmas

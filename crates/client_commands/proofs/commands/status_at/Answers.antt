@@ -1,0 +1,33 @@
+-- The jobs' folders are looked at while the client's own is out.
+use Rattle.std.proofs.Common.{refl}
+use Rattle.client_commands.specs.Folders.{unopened}
+use Rattle.client_commands.specs.Statuses.{StatusDoes}
+use Rattle.client_commands.specs.Views.{desk_view, own_view}
+use Rattle.client_commands.proofs.FolderLemmas.{with_own}
+use Rattle.client_commands.proofs.KeepLemmas.{kept_err, kept_out, still_found}
+use Rattle.client_commands.proofs.commands.status_at.Goals as goal
+
+pub give_folder-requires : goal.give_folder-requires
+give_folder-requires g c = record { found = still_found _ _ _ c.args.conf.now c.in-Ok.ensures.told.found c.in-Ok.ensures.told.places c.statuses-lines.ensures.faults.fell.places }
+
+pub returns-in-Err-clause-value : goal.returns-in-Err-clause-value
+returns-in-Err-clause-value g c = unopened c.in-Err.fault refl c.in-Err.ensures.told.0
+
+pub returns-in-Err-clause-faults : goal.returns-in-Err-clause-faults
+returns-in-Err-clause-faults g c =
+    let view = desk_view g.D.Desk.has_place g.D.Desk.holds g.D.Desk.dials g.D.Desk.folder_faults g.D.Desk.dial_faults in
+    kept_err (view c.args.desk.now) (view c.take_folder.new.desk) c.in-Err.fault c.in-Err.ensures.told.1
+
+pub returns-clause-value : goal.returns-clause-value
+returns-clause-value g c =
+    let view = desk_view g.D.Desk.has_place g.D.Desk.holds g.D.Desk.dials g.D.Desk.folder_faults g.D.Desk.dial_faults in
+    let own = own_view g.D.F.Folder.told g.D.F.Folder.faults in
+    with_own c.args.conf.now (own c.in-Ok.folder) (own c.statuses-lines.new.conf) (view c.args.desk.now) (view c.take_folder.new.desk) (view c.statuses-lines.new.desk) (view c.give_folder.new.desk)
+    c.in-Ok.ensures.told c.give_folder.ensures.after StatusDoes c.statuses-lines.result c.statuses-lines.ensures.value
+
+pub returns-clause-faults : goal.returns-clause-faults
+returns-clause-faults g c =
+    let view = desk_view g.D.Desk.has_place g.D.Desk.holds g.D.Desk.dials g.D.Desk.folder_faults g.D.Desk.dial_faults in
+    let own = own_view g.D.F.Folder.told g.D.F.Folder.faults in
+    kept_out c.args.conf.now (own c.in-Ok.folder) (own c.statuses-lines.new.conf) (view c.args.desk.now) (view c.take_folder.new.desk) (view c.statuses-lines.new.desk) (view c.give_folder.new.desk)
+    c.in-Ok.ensures.told c.give_folder.ensures.after c.statuses-lines.result c.statuses-lines.ensures.faults

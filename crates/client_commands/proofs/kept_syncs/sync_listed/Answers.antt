@@ -1,0 +1,52 @@
+-- The index is read, the folder synced, and the index put again.
+use Rattle.std.proofs.Common.{Err, Ok, refl}
+use Rattle.client_commands.specs.KeptSyncs.{unread_index, worked}
+use Rattle.client_commands.specs.Views.{desk_view, own_view}
+use Rattle.client_commands.proofs.KeepLemmas.{desk_kept, index_local, own_kept, put_fault, put_kept}
+use Rattle.client_commands.proofs.KeptSyncLemmas.{kept_index, kept_index_free}
+use Rattle.client_commands.proofs.kept_syncs.sync_listed.Goals as goal
+
+pub returns-in-Err : goal.returns-in-Err
+returns-in-Err g c =
+    let view = desk_view g.D.Desk.has_place g.D.Desk.holds g.D.Desk.dials g.D.Desk.folder_faults g.D.Desk.dial_faults in
+    let own = own_view g.D.F.Folder.told g.D.F.Folder.faults in
+    record {
+      value = unread_index c.in-Err.fault refl (λ held told. c.in-Err.ensures.value held told) c.index_in.ensures.stays refl;
+      faults = own_kept (own c.args.conf.now) (own c.index_in.new.conf) (view c.args.desk.now) (view c.args.desk.now) (Err c.in-Err.fault) c.in-Err.ensures.faults
+          (index_local c.in-Err.fault c.in-Err.ensures.may) refl;
+    }
+
+pub returns-in-Err-sync_folder : goal.returns-in-Err-sync_folder
+returns-in-Err-sync_folder g c =
+    let view = desk_view g.D.Desk.has_place g.D.Desk.holds g.D.Desk.dials g.D.Desk.folder_faults g.D.Desk.dial_faults in
+    let own = own_view g.D.F.Folder.told g.D.F.Folder.faults in
+    record {
+      value = worked c.in-Ok.index c.sync_folder.new.index (Err c.in-Err-sync_folder.fault) c.in-Ok.ensures.library (λ held told. c.in-Ok.ensures.value held told) c.in-Err-sync_folder.ensures.value
+          (refl, c.index_in.ensures.stays);
+      faults = desk_kept (own c.args.conf.now) (own c.index_in.new.conf) (view c.args.desk.now) (view c.sync_folder.new.desk) (Err c.in-Err-sync_folder.fault) c.in-Ok.ensures.faults
+          c.in-Err-sync_folder.ensures.faults;
+    }
+
+pub returns-in-Ok-put_index : goal.returns-in-Ok-put_index
+returns-in-Ok-put_index g c =
+    let view = desk_view g.D.Desk.has_place g.D.Desk.holds g.D.Desk.dials g.D.Desk.folder_faults g.D.Desk.dial_faults in
+    let own = own_view g.D.F.Folder.told g.D.F.Folder.faults in
+    record {
+      value = worked c.in-Ok.index c.sync_folder.new.index (Ok c.in-Ok-sync_folder.synced) c.in-Ok.ensures.library (λ held told. c.in-Ok.ensures.value held told) c.in-Ok-sync_folder.ensures.value
+          (kept_index c.sync_folder.new.index c.in-Ok-sync_folder.synced (g.D.F.Folder.told c.args.conf.now) (g.D.F.Folder.told c.index_in.new.conf) (g.D.F.Folder.told c.put_index.new.conf)
+          c.index_in.ensures.stays c.in-Ok-put_index.ensures.value);
+      faults = put_kept (own c.args.conf.now) (own c.index_in.new.conf) (own c.put_index.new.conf) (view c.args.desk.now) (view c.sync_folder.new.desk) c.in-Ok-sync_folder.synced c.in-Ok.ensures.faults
+          c.in-Ok-sync_folder.ensures.faults c.in-Ok-put_index.ensures.faults;
+    }
+
+pub returns : goal.returns
+returns g c =
+    let view = desk_view g.D.Desk.has_place g.D.Desk.holds g.D.Desk.dials g.D.Desk.folder_faults g.D.Desk.dial_faults in
+    let own = own_view g.D.F.Folder.told g.D.F.Folder.faults in
+    record {
+      value = worked c.in-Ok.index c.sync_folder.new.index (Ok c.in-Ok-sync_folder.synced) c.in-Ok.ensures.library (λ held told. c.in-Ok.ensures.value held told) c.in-Ok-sync_folder.ensures.value
+          (kept_index_free c.sync_folder.new.index c.in-Ok-sync_folder.synced (g.D.F.Folder.told c.args.conf.now) (g.D.F.Folder.told c.index_in.new.conf) (g.D.F.Folder.told c.put_index.new.conf)
+          c.index_in.ensures.stays c.in-Err-put_index.fault c.in-Err-put_index.ensures.value c.in-Err-put_index.ensures.free);
+      faults = put_fault (own c.args.conf.now) (own c.index_in.new.conf) (own c.put_index.new.conf) (view c.args.desk.now) (view c.sync_folder.new.desk) c.in-Ok-sync_folder.synced c.in-Err-put_index.fault
+          c.in-Ok.ensures.faults c.in-Ok-sync_folder.ensures.faults c.in-Err-put_index.ensures.faults c.in-Err-put_index.ensures.free;
+    }

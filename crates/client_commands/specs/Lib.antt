@@ -1,0 +1,12 @@
+pub mod Folders
+pub mod JobSyncs
+pub mod Keeping
+pub mod KeptSyncs
+pub mod Printing
+pub mod Runs
+pub mod SentFaults
+pub mod Starts
+pub mod Statuses
+pub mod SyncFaults
+pub mod Views
+pub mod Worktrees

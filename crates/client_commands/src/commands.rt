@@ -1,0 +1,121 @@
+//! The commands, with the client's own folder, which the desk hands out first and takes back in the end.
+ghost use Rattle.http_client.specs.RequestText.{IsHost};
+ghost use Rattle.remote_calls.specs.Exchange.{link_view};
+ghost use Rattle.client_commands.specs.Folders.{WithFolder};
+ghost use Rattle.client_commands.specs.Keeping.{DeskKeeps};
+ghost use Rattle.client_commands.specs.KeptSyncs.{SyncsOwn};
+ghost use Rattle.client_commands.specs.Runs.{DesyncDoes, InOwn, InitDoes, ListDoes};
+ghost use Rattle.client_commands.specs.Statuses.{StatusDoes};
+ghost use Rattle.client_commands.specs.Views.{desk_view, links_back};
+
+use crate::folders::{give_folder, take_folder};
+use crate::kept_syncs::sync_asked;
+use crate::statuses::statuses;
+use crate::wanted::Wanted;
+use client_desk::{Desk, desync, init, list};
+use client_words::{Fault, Job, Line};
+use ids::{Items, LibId, Text};
+use library_state::Clock;
+use std::alloc::Global;
+use sync_rules::Synced;
+
+/// `init` in the client's own folder.
+pub(crate) fn init_at<D: Desk>(alloc: Global, desk: &mut D, conf: &Text) -> Result<(), Fault>
+    ensures value { WithFolder conf.now (InOwn InitDoes) (desk_view D.has_place D.holds D.dials D.folder_faults D.dial_faults desk.old)
+        (desk_view D.has_place D.holds D.dials D.folder_faults D.dial_faults desk.new) result }
+    ensures faults { DeskKeeps (desk_view D.has_place D.holds D.dials D.folder_faults D.dial_faults desk.old)
+        (desk_view D.has_place D.holds D.dials D.folder_faults D.dial_faults desk.new) result }
+{
+    let mut folder = match take_folder(desk, conf) {
+        Ok(folder) => folder,
+        Err(fault) => return Err(fault),
+    };
+    let done = init(alloc, &mut folder);
+    give_folder(desk, conf, folder);
+    done
+}
+
+/// `list` of the client's own folder.
+pub(crate) fn list_at<D: Desk>(
+    alloc: Global,
+    desk: &mut D,
+    conf: &Text,
+) -> Result<Items<Line>, Fault>
+    ensures value { WithFolder conf.now (InOwn ListDoes) (desk_view D.has_place D.holds D.dials D.folder_faults D.dial_faults desk.old)
+        (desk_view D.has_place D.holds D.dials D.folder_faults D.dial_faults desk.new) result }
+    ensures faults { DeskKeeps (desk_view D.has_place D.holds D.dials D.folder_faults D.dial_faults desk.old)
+        (desk_view D.has_place D.holds D.dials D.folder_faults D.dial_faults desk.new) result }
+{
+    let mut folder = match take_folder(desk, conf) {
+        Ok(folder) => folder,
+        Err(fault) => return Err(fault),
+    };
+    let lines = list(alloc, &mut folder);
+    give_folder(desk, conf, folder);
+    lines
+}
+
+/// `desync` in the client's own folder.
+pub(crate) fn desync_at<D: Desk>(
+    alloc: Global,
+    desk: &mut D,
+    conf: &Text,
+    dir: &Text,
+) -> Result<LibId, Fault>
+    ensures value { WithFolder conf.now (InOwn (DesyncDoes dir.now)) (desk_view D.has_place D.holds D.dials D.folder_faults D.dial_faults desk.old)
+        (desk_view D.has_place D.holds D.dials D.folder_faults D.dial_faults desk.new) result }
+    ensures faults { DeskKeeps (desk_view D.has_place D.holds D.dials D.folder_faults D.dial_faults desk.old)
+        (desk_view D.has_place D.holds D.dials D.folder_faults D.dial_faults desk.new) result }
+{
+    let mut folder = match take_folder(desk, conf) {
+        Ok(folder) => folder,
+        Err(fault) => return Err(fault),
+    };
+    let done = desync(alloc, &mut folder, dir);
+    give_folder(desk, conf, folder);
+    done
+}
+
+/// `status` of the jobs of the client's own folder.
+pub(crate) fn status_at<D: Desk>(
+    alloc: Global,
+    desk: &mut D,
+    conf: &Text,
+) -> Result<Items<Line>, Fault>
+    ensures value { WithFolder conf.now StatusDoes (desk_view D.has_place D.holds D.dials D.folder_faults D.dial_faults desk.old)
+        (desk_view D.has_place D.holds D.dials D.folder_faults D.dial_faults desk.new) result }
+    ensures faults { DeskKeeps (desk_view D.has_place D.holds D.dials D.folder_faults D.dial_faults desk.old)
+        (desk_view D.has_place D.holds D.dials D.folder_faults D.dial_faults desk.new) result }
+{
+    let mut folder = match take_folder(desk, conf) {
+        Ok(folder) => folder,
+        Err(fault) => return Err(fault),
+    };
+    let lines = statuses(alloc, desk, &mut folder);
+    give_folder(desk, conf, folder);
+    lines
+}
+
+/// `sync` or `download`, with the client's own folder.
+pub(crate) fn sync_at<D: Desk, C: Clock>(
+    alloc: Global,
+    desk: &mut D,
+    conf: &Text,
+    asked: Job,
+    wanted: Wanted,
+    clock: &C,
+) -> Result<Synced, Fault>
+    requires name { IsHost asked.host }
+    ensures value { WithFolder conf.now (SyncsOwn (links_back (link_view D.N.L.left D.N.L.taken D.N.L.given D.N.L.asked D.N.L.faults) D.N.back) (C.shows clock.now) wanted asked) (desk_view D.has_place D.holds D.dials D.folder_faults D.dial_faults desk.old)
+        (desk_view D.has_place D.holds D.dials D.folder_faults D.dial_faults desk.new) result }
+    ensures faults { DeskKeeps (desk_view D.has_place D.holds D.dials D.folder_faults D.dial_faults desk.old)
+        (desk_view D.has_place D.holds D.dials D.folder_faults D.dial_faults desk.new) result }
+{
+    let mut folder = match take_folder(desk, conf) {
+        Ok(folder) => folder,
+        Err(fault) => return Err(fault),
+    };
+    let synced = sync_asked(alloc, desk, &mut folder, asked, wanted, clock);
+    give_folder(desk, conf, folder);
+    synced
+}
