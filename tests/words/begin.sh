@@ -1,4 +1,5 @@
-# Runs one row, tests/rows/NAME/row, in an empty folder: `begin.sh WORDS ROW`, with the program's path in PROGRAM.
+# Runs one row, tests/rows/NAME/row, in an empty folder: `begin.sh WORDS ROW`, with the server's path in PROGRAM, and
+# the client's in CLIENT.
 set -eu
 LC_ALL=C
 export LC_ALL
@@ -8,6 +9,7 @@ tab=$(printf '\t')
 . "$1/objects.sh"
 . "$1/requests.sh"
 . "$1/runs.sh"
+. "$1/client.sh"
 ROW=$2
 mkdir kept sent kept/block kept/fs kept/commit kept/size
 . "$ROW/row"

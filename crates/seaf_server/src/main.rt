@@ -3,18 +3,12 @@
 //! `main` makes the real objects and calls `library_server::run`, whose clauses say what is done.
 #![tactic(auto)]
 
-mod adapters;
-
-use crate::adapters::{StandardLink, StandardSink, SystemClock};
 use folder_storage::FolderGround;
-use ids::{Items, Text};
+use ids::Text;
 use library_server::{run, run_in_memory};
 use server_words::names_memory;
-use std::alloc::{AllocError, Global};
-use std::env;
-use std::io::ErrorKind;
 use std::process::ExitCode;
-use std::rt::Env;
+use system_edges::{StandardLink, StandardSink, SystemClock, words_of};
 
 fn main(rt: HostRuntime) -> ExitCode {
     match words_of(&rt, rt.alloc()) {
@@ -49,23 +43,4 @@ fn run_words(rt: &HostRuntime, words: &[Text]) -> u8 {
         &clock,
         &mut out,
     )
-}
-
-/// The words after the program's name. Words that aren't all UTF-8 are no command, like no word.
-fn words_of<R: Env + AllocGlobal>(rt: &R, alloc: Global) -> Result<Items<Text>, AllocError> {
-    let mut words = Items::new(alloc);
-    let given = match env::args(rt) {
-        Ok(given) => given,
-        Err(fault) => {
-            return if fault.kind() == ErrorKind::OutOfMemory {
-                Err(AllocError)
-            } else {
-                Ok(words)
-            };
-        }
-    };
-    for word in given.skip(1) {
-        words.push(Text::from_string(word))?;
-    }
-    Ok(words)
 }

@@ -1,0 +1,48 @@
+//! The client program: it syncs folders with the libraries of servers.
+//!
+//! `main` makes the real objects and calls `client_commands::cli`, whose clauses say what is done.
+#![tactic(auto)]
+
+mod own_folder;
+mod progress;
+mod shown_folder;
+mod system_desk;
+
+use crate::own_folder::own_folder;
+use crate::system_desk::SystemDesk;
+use client_commands::cli;
+use http_front::Sink;
+use ids::Text;
+use std::fs::{File, Files};
+use std::io::Stderr;
+use std::net::{Net, TcpStream};
+use std::process::ExitCode;
+use std::time::Clock;
+use system_edges::{StandardSink, SystemClock, words_of};
+
+fn main(rt: HostRuntime) -> ExitCode {
+    let words = match words_of(&rt, rt.alloc()) {
+        Ok(words) => words,
+        Err(_) => return ExitCode::from(3u8),
+    };
+    let clock = match rt.clone() {
+        Ok(times) => SystemClock::new(times),
+        Err(_) => return ExitCode::from(3u8),
+    };
+    let mut out = StandardSink::new(rt.stdout());
+    ExitCode::from(run_over(&rt, words.slice(), rt.stderr(), &clock, &mut out))
+}
+
+/// Runs the command over the folders and the network of this runtime.
+fn run_over<
+    R: Files<File = File> + Net<Stream = TcpStream> + Clock + AllocGlobal + Clone + Drop,
+    C: library_state::Clock,
+    O: Sink,
+>(rt: &R, words: &[Text], err: Stderr, clock: &C, out: &mut O) -> u8 {
+    let own = match own_folder(rt.alloc(), words) {
+        Ok(own) => own,
+        Err(_) => return 3,
+    };
+    let mut desk = SystemDesk::new(rt, own, err);
+    cli(rt, rt.alloc(), words, &mut desk, clock, out)
+}

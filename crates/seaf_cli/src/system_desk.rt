@@ -1,0 +1,132 @@
+//! The folders of the file system and the network, as the client's desk.
+ghost use Rattle.std.specs.Prelude.{◌≡◌, IfOk};
+
+use crate::own_folder::OwnFolder;
+use crate::progress::Progress;
+use crate::shown_folder::ShownFolder;
+use client_desk::Desk;
+use folder_side::FolderFault;
+use http_server::Log;
+use local_folder::{LocalFolder, Permissions, SystemDirectories, answer};
+use std::fs::{DirBuilder, File, Files};
+use std::io;
+use std::io::{ErrorKind, Stderr};
+use std::net::{Net, TcpStream};
+use std::os::unix::fs::DirBuilderExt;
+use std::time::Clock;
+use tcp_links::TcpDial;
+
+/// The folders of a runtime's file system, and dials over its network. It tells no contents, and counts the faults of its
+/// folders and those of its dials.
+///
+/// What is made in the client's own folder is its owner's alone. That folder is made where the client is to begin in it and it
+/// isn't there; no other is: one that isn't there is a fault, since an empty one would be synced as one whose files were
+/// removed.
+#[derive(Drop)]
+pub struct SystemDesk<'a, R> {
+    rt: &'a R,
+    own: OwnFolder,
+    err: Stderr,
+    folder_faults: u64,
+    dial_faults: u64,
+    // The dials that came back, for proofs alone.
+    dials: Log<TcpDial<&'a R>, u64>,
+}
+
+impl<'a, R> SystemDesk<'a, R> {
+    /// A desk over this runtime, for a client whose own folder this is, which shows on standard error what is done in the others.
+    pub fn new(rt: &'a R, own: OwnFolder, err: Stderr) -> SystemDesk<'a, R> {
+        SystemDesk {
+            rt,
+            own,
+            err,
+            folder_faults: 0,
+            dial_faults: 0,
+            dials: Log::new(),
+        }
+    }
+}
+
+impl<'a, R: Files<File = File> + Net<Stream = TcpStream> + Clock + AllocGlobal + Clone + Drop> Desk
+    for SystemDesk<'a, R> {
+    ghost use Rattle.std.specs.Prelude.{None, map, true};
+
+    type F = ShownFolder<LocalFolder<SystemDirectories<R>>, &'a R>;
+
+    type N = TcpDial<&'a R>;
+
+    ghost has_place = { λ desk dir. true };
+
+    ghost holds = { λ desk dir. None };
+
+    ghost dials = { λ desk. map (λ entry. entry.0) desk.dials.items };
+
+    ghost folder_faults = { λ desk. desk.folder_faults };
+
+    ghost dial_faults = { λ desk. desk.dial_faults };
+
+    fn folder(
+        &mut self,
+        dir: &str,
+    ) -> Result<ShownFolder<LocalFolder<SystemDirectories<R>>, &'a R>, FolderFault> {
+        let opened = open(self.rt, &self.own, dir);
+        let folder = match answer(&mut self.folder_faults, opened) {
+            Ok(folder) => folder,
+            Err(fault) => return Err(fault),
+        };
+        let is_wanted = self.own.path.slice() != dir;
+        let progress = Progress::new(self.rt, self.rt.alloc(), self.err, is_wanted);
+        Ok(ShownFolder::new(folder, progress))
+    }
+
+    fn give_back(
+        &mut self,
+        dir: &str,
+        folder: ShownFolder<LocalFolder<SystemDirectories<R>>, &'a R>,
+    ) {
+        let _ = dir;
+        let folder = folder.into_folder();
+        self.folder_faults = self.folder_faults.saturating_add(folder.end());
+    }
+
+    fn dial(&mut self) -> TcpDial<&'a R> {
+        TcpDial::new(self.rt)
+    }
+
+    fn hang_up(&mut self, dial: TcpDial<&'a R>) {
+        self.dial_faults = self.dial_faults.saturating_add(dial.faults());
+        self.dials = self.dials.and(&dial, &0);
+    }
+}
+
+/// The folder at a path.
+fn open<R: Files<File = File> + AllocGlobal + Clone + Drop>(
+    rt: &R,
+    own: &OwnFolder,
+    dir: &str,
+) -> io::Result<LocalFolder<SystemDirectories<R>>>
+    ensures faults { IfOk result (λ folder. folder.faults ≡ 0) }
+{
+    let permissions = permissions_of(rt, own, dir)?;
+    let directories = SystemDirectories::new(rt.clone()?, permissions);
+    LocalFolder::open(directories, dir)
+}
+
+/// Who may use what is made in the folder at a path. The client's own folder is made, where it is to begin in it.
+fn permissions_of<R: Files>(rt: &R, own: &OwnFolder, dir: &str) -> io::Result<Permissions> {
+    if own.path.slice() != dir {
+        return Ok(Permissions::Usual);
+    }
+    if own.begins {
+        make(rt, dir)?;
+    }
+    Ok(Permissions::OwnersAlone)
+}
+
+/// Makes a folder that is its owner's alone, where nothing stands at the path.
+fn make<R: Files>(rt: &R, dir: &str) -> io::Result<()> {
+    match DirBuilder::new().mode(0o700).create(rt, dir) {
+        Err(failure) if failure.kind() != ErrorKind::AlreadyExists => Err(failure),
+        _ => Ok(()),
+    }
+}

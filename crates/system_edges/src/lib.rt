@@ -1,0 +1,15 @@
+//! The edges of a program: its standard streams, the system's clock, and the words that it is given.
+//!
+//! Shown upward: `StandardLink`, an `http_front::Link` over a reader and a writer; `StandardSink`, an `http_front::Sink` over a
+//! writer; `SystemClock`, a `library_state::Clock`; `words_of`. They know no command and no library.
+#![tactic(auto)]
+
+mod program_words;
+mod standard_link;
+mod standard_sink;
+mod system_clock;
+
+pub use crate::program_words::words_of;
+pub use crate::standard_link::StandardLink;
+pub use crate::standard_sink::StandardSink;
+pub use crate::system_clock::SystemClock;
