@@ -13,4 +13,6 @@ mod order_tests;
 #[cfg(test)]
 mod reply_tests;
 #[cfg(test)]
+mod tcp_ear_tests;
+#[cfg(test)]
 mod tcp_link_tests;
