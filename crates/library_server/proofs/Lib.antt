@@ -14,3 +14,5 @@ pub mod RunLemmas
 pub mod CollectedLemmas
 pub mod FewTurnsLemmas
 pub mod SparedLemmas
+pub mod BringingLemmas
+pub mod HallEndLemmas

@@ -1,7 +1,7 @@
--- What the top call printed, and its status. The key lemmas are runs_usage, printed_as and
--- kept_alone.
-use Rattle.std.proofs.Common.{◌≡◌, ℕ, List, Option, Some, Result, Ok, Err, refl, sym, ap, subst, ◌∙◌, arith}
-use Rattle.std.specs.Prelude.{IfErr, IfOk, ⊤}
+-- What the top call printed, and its status. The key lemmas are runs_usage, printed_as, kept_alone,
+-- one_named and alone_is.
+use Rattle.std.proofs.Common.{◌≡◌, ◌≤◌, ℕ, zero, suc, List, [], ◌∷◌, length, Option, Some, Result, Ok, Err, refl, sym, ap, subst, ◌∙◌, arith}
+use Rattle.std.specs.Prelude.{IfErr, IfOk, slice_index_or, ⊤}
 use Rattle.std.specs.Io.KnownBytes.{append_known}
 use Rattle.folder_storage.specs.Ground.{MayGive}
 use Rattle.library_rules.specs.Creation.{opening_commit}
@@ -14,8 +14,9 @@ use Rattle.server_words.specs.declared.fault.Fault.{Fault}
 use Rattle.server_words.specs.declared.fault.Fault.TheVariants as fault
 use Rattle.server_words.specs.declared.line.Line.TheVariants as line
 use Rattle.worker_server.specs.declared.served.Served.{Served}
-use Rattle.worker_server.specs.declared.served.Served.TheVariants as served
+use Rattle.worker_server.specs.declared.served.Served.TheVariants as end_of
 use Rattle.library_server.specs.Connections.{LinkView, ServesOpened, opened, status_of, unbrought}
+use Rattle.library_server.specs.HallConnections.{no_room, one as only, served, several, stopped}
 use Rattle.library_server.specs.Counting.{OpenedView, opened_now}
 use Rattle.library_server.specs.Lines.{fault_of_not_added, fault_of_not_made, fault_of_not_brought}
 use Rattle.server_words.specs.declared.command.Location.{Location}
@@ -24,7 +25,8 @@ use Rattle.library_server.specs.Making.{IsNotMade, RoseWhere, is_unmade_counted}
 use Rattle.library_server.specs.declared.adding.NewToken.{NewToken}
 use Rattle.library_server.specs.declared.making.NewLibrary.{NewLibrary}
 use Rattle.library_server.specs.Runs.{IsAdded, IsCreated, OnlyNamedGivesMore, Printed, PrintsSo, RunsSo, SinkView, added_line, adds, created_line, creates, help_printed, in_part, line_printed, printed_of, prints, serves, unread, version_printed, whole}
-use Rattle.library_server.specs.Standing.{GroundView}
+use Rattle.library_server.specs.Bringing.{UnnamedGiveNoMore}
+use Rattle.library_server.specs.Standing.{GroundView, OthersGiveNoMore}
 use Rattle.library_server.specs.declared.not_done.NotAdded.{NotAdded}
 use Rattle.library_server.specs.declared.not_done.NotMade.{NotMade}
 
@@ -43,7 +45,7 @@ no_addition (Ok done) e = cc
 no_addition (Err why) e = no_fault (fault_of_not_added why) e
 
 no_end : (how : Served) → status_of how ≡ 2 → ⊥
-no_end served.Ended e = cc
+no_end end_of.Ended e = cc
 no_end other e = cc
 
 -- what was put with another status than that of its text failed
@@ -58,7 +60,7 @@ usage_alone : (command : Command) (printed : Printed) → printed_of command ≡
     → (command ≡ Usage) × (printed.text ≡ line_text line.Usage)
 usage_alone (Create location lib name user secret) printed e two = absurd (cc)
 usage_alone (Token location lib user secret right) printed e two = absurd (cc)
-usage_alone (Inetd location lib) printed e two = absurd (cc)
+usage_alone (Inetd location libs) printed e two = absurd (cc)
 usage_alone Help printed e two = absurd (zero_two (sym (ap (λ z. z.status) (unwrapped help_printed printed e)) ∙ two))
   where
     zero_two : ◌≡◌ {A = ℕ} 0 2 → ⊥
@@ -82,10 +84,15 @@ module _ {S : Type 0} (contents : S → Option Contents) (may_give : S → Slot 
       absurd (no_print (line_printed (created_line lib made.created)) out_before out_now status made.prints (no_creation lib made.created) two)
   runs_usage command old new before now out_before out_now status (adds location lib token is added left) two =
       absurd (no_print (line_printed (added_line added.added)) out_before out_now status added.prints (no_addition added.added) two)
-  runs_usage command old new before now out_before out_now status (serves location lib is (opened depot after state opens given none service caused good back) out) two =
+  runs_usage command old new before now out_before out_now status (serves location libs is (only lib same (opened depot after state opens given none service caused good back)) out) two =
       absurd (no_service (opened_now depot) after before now status service two)
-  runs_usage command old new before now out_before out_now status (serves location lib is (unbrought why refused code left) out) two =
+  runs_usage command old new before now out_before out_now status (serves location libs is (only lib same (unbrought why refused code left)) out) two =
       absurd (no_fault (fault_of_not_brought why) (sym code ∙ two))
+  runs_usage command old new before now out_before out_now status (serves location libs is (several some (served depots afters brought held back good)) out) two =
+      absurd (no_end held.how (sym held.status_is ∙ two))
+  runs_usage command old new before now out_before out_now status (serves location libs is (several some (stopped why at code left)) out) two =
+      absurd (no_fault (fault_of_not_brought why) (sym code ∙ two))
+  runs_usage command old new before now out_before out_now status (serves location libs is (several some (no_room depots afters brought same back good code left)) out) two = absurd (cc (code, two))
   runs_usage command old new before now out_before out_now status (prints printed is (whole put kept code) same left) two =
       let alone = usage_alone command printed is (sym code ∙ two) in
       (alone.0, put ∙ ap (append_known out_before.given) alone.1)
@@ -123,7 +130,25 @@ named_alone old new command named is others = subst (λ (k : Command). OnlyNamed
 pub kept_alone : (old : MayGive) (command : Command) → OnlyNamedGivesMore command old old
 kept_alone old (Create location lib name user secret) = λ f l apart slot given is. is
 kept_alone old (Token location lib user secret right) = λ f l apart slot given is. is
-kept_alone old (Inetd location lib) = λ f l apart slot given is. is
+kept_alone old (Inetd location libs) = λ f l apart slot given is. is
 kept_alone old Help = λ f l slot given is. is
 kept_alone old Version = λ f l slot given is. is
 kept_alone old Usage = λ f l slot given is. is
+
+-- one library is all that is named
+pub one_named : (old new : MayGive) (folder lib : List ℕ) (libs : List (List ℕ)) → libs ≡ lib ∷ [] → OthersGiveNoMore old new folder lib → UnnamedGiveNoMore old new folder libs 0 (length libs)
+one_named old new folder lib libs same others =
+    subst (λ (all : List (List ℕ)). UnnamedGiveNoMore old new folder all 0 (length all)) (sym same)
+    (λ f l none. others f l (λ both. none both.0 0 lib (omega arith) (omega arith) (sym both.1)))
+
+-- so where there is one, and it is this
+pub alone_is : (libs : List (List ℕ)) (lib : List ℕ) → length libs ≡ 1 → lib ≡ slice_index_or libs 0 lib → libs ≡ lib ∷ []
+alone_is [] lib single is = absurd (omega (arith, single))
+alone_is (x ∷ []) lib single is = ap (λ (l : List ℕ). l ∷ []) (sym is)
+alone_is (x ∷ y ∷ more) lib single is = absurd (omega (arith, single))
+
+-- more than one, where there is some
+pub two_or_more : (count size : ℕ) → count ≡ size → 1 ≤ size → (count ≡ 1 → ⊥) → 2 ≤ size
+two_or_more count zero same some not_one = absurd (omega (arith, some))
+two_or_more count (suc zero) same some not_one = absurd (not_one same)
+two_or_more count (suc (suc size)) same some not_one = omega arith

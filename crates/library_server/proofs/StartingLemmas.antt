@@ -79,7 +79,7 @@ unmade_before new moment (unmade.Storage failed) gives is = tt
 unmade_before new moment unmade.Exists gives is = tt
 unmade_before new moment (unmade.Refused fault) gives is = make_before gives (opening_object (opening_commit new.lib new.user moment)) fault is
 
-unbrought_before : {before now : Slot → Option (List ℕ) → Type 0} (location : Location) (lib : List ℕ) (shows : ℕ → Type 0) (why : NotBrought)
+pub unbrought_before : {before now : Slot → Option (List ℕ) → Type 0} (location : Location) (lib : List ℕ) (shows : ℕ → Type 0) (why : NotBrought)
     → GivesNoMore before now → IsNotBrought now location lib shows why → IsNotBrought before location lib shows why
 unbrought_before location lib shows (unbrought.Storage failed) gives is = tt
 unbrought_before location lib shows unbrought.Absent gives is = is

@@ -6,8 +6,10 @@ pub mod Collecting
 pub mod Whole
 pub mod Making
 pub mod Starting
+pub mod Bringing
 pub mod Creating
 pub mod Adding
 pub mod Connections
+pub mod HallConnections
 pub mod Runs
 pub mod WholeRuns

@@ -1,5 +1,5 @@
 -- What the top call does, and its status. Read RunsSo first, at the end, and OnlyNamedGivesMore.
-use Rattle.std.specs.Prelude.{◌≡◌, ℕ, List, Option, None, Some, Result, Ok, Err, ⊤}
+use Rattle.std.specs.Prelude.{◌≡◌, ℕ, List, length, Option, None, Some, Result, Ok, Err, ⊤}
 use Rattle.std.specs.Io.KnownBytes.{append_known}
 use Rattle.ids.specs.FaultCount.{Rose}
 use Rattle.folder_storage.specs.Ground.{AllGiveNoMore, MayGive, Standing}
@@ -15,8 +15,10 @@ use Rattle.server_words.specs.declared.command.Location.{Location}
 use Rattle.server_words.specs.declared.line.Line.{Line}
 use Rattle.server_words.specs.declared.line.Line.TheVariants as line
 use Rattle.library_server.specs.Adding.{AddsSo, IsAddedTo, IsNotAdded, is_unadded_counted}
-use Rattle.library_server.specs.Connections.{LinkView, ServesLocation}
+use Rattle.library_server.specs.Bringing.{UnnamedGiveNoMore}
+use Rattle.library_server.specs.Connections.{LinkView}
 use Rattle.library_server.specs.Creating.{CreatesSo}
+use Rattle.library_server.specs.HallConnections.{ServesNamed}
 use Rattle.library_server.specs.Lines.{fault_of_not_added, fault_of_not_made}
 use Rattle.library_server.specs.Making.{IsNotMade, RoseWhere, is_unmade_counted}
 use Rattle.library_server.specs.Standing.{GroundView, OthersGiveNoMore, Returned}
@@ -60,7 +62,7 @@ printed_of Version = Some version_printed
 printed_of Usage = Some (line_printed line.Usage)
 printed_of (Create location lib name user secret) = None
 printed_of (Token location lib user secret right) = None
-printed_of (Inetd location lib) = None
+printed_of (Inetd location libs) = None
 
 -- ---- the commands that change a library
 
@@ -119,19 +121,19 @@ pub data RunsSo {S : Type 0} (contents : S → Option Contents) (may_give : S �
   adds : (location : Location) (lib : List ℕ) (token : NewToken) → command ≡ Token location lib token.user token.secret token.right
       → AddsToken contents gives shows location lib token old new out_before out_now status
       → now ≡ before → RunsSo contents may_give texts faults gives shows command old new before now out_before out_now status
-  serves : (location : Location) (lib : List ℕ) → command ≡ Inetd location lib
-      → ServesLocation contents may_give texts faults gives location lib shows old new before now status
+  serves : (location : Location) (libs : List (List ℕ)) → command ≡ Inetd location libs
+      → ServesNamed contents may_give texts faults gives location libs shows old new before now status
       → out_now ≡ out_before → RunsSo contents may_give texts faults gives shows command old new before now out_before out_now status
   prints : (printed : Printed) → printed_of command ≡ Some printed → PrintsSo printed out_before out_now status
       → new ≡ old → now ≡ before → RunsSo contents may_give texts faults gives shows command old new before now out_before out_now status
   unread : status ≡ 3 → new ≡ old → now ≡ before → out_now ≡ out_before
       → RunsSo contents may_give texts faults gives shows command old new before now out_before out_now status
 
--- no library may give more than it might before the command, but the one that the command names
+-- no library may give more than it might before the command, but those that the command names
 abbrev pub OnlyNamedGivesMore : Command → MayGive → MayGive → Type 0
 OnlyNamedGivesMore (Create location lib name user secret) old new = OthersGiveNoMore old new (location_text location) lib
 OnlyNamedGivesMore (Token location lib user secret right) old new = OthersGiveNoMore old new (location_text location) lib
-OnlyNamedGivesMore (Inetd location lib) old new = OthersGiveNoMore old new (location_text location) lib
+OnlyNamedGivesMore (Inetd location libs) old new = UnnamedGiveNoMore old new (location_text location) libs 0 (length libs)
 OnlyNamedGivesMore Help old new = AllGiveNoMore old new
 OnlyNamedGivesMore Version old new = AllGiveNoMore old new
 OnlyNamedGivesMore Usage old new = AllGiveNoMore old new

@@ -12,6 +12,7 @@ use Rattle.worker_server.specs.Calls.{Told, call_asked, collection_asked, look_a
 use Rattle.library_server.specs.Answering.{is_storage_reply}
 use Rattle.library_server.specs.Collecting.{is_storage_end}
 use Rattle.library_server.specs.Connections.{LinkView, ServesLocation, opened, unbrought}
+use Rattle.library_server.specs.HallConnections.{ServesNamed, one, several}
 use Rattle.library_server.specs.Lines.{fault_of_not_brought, is_storage_fault}
 use Rattle.library_server.specs.Runs.{RunsSo, SinkView, added_line, adds, created_line, creates, prints, serves, unread}
 use Rattle.library_server.specs.Standing.{GroundView}
@@ -38,6 +39,13 @@ abbrev pub ServesWhole : {S : Type 0} {contents : S → Option Contents} {may_gi
 ServesWhole (opened depot after state opens given none service caused good back) = NoneOfStorage service.ran.0
 ServesWhole (unbrought why refused code left) = is_storage_fault (fault_of_not_brought why) ≡ false
 
+-- of the libraries that were named: of one that is served alone it is that; of several nothing is said
+abbrev pub NamedWhole : {S : Type 0} {contents : S → Option Contents} {may_give : S → Slot → Option (List ℕ) → Type 0} {texts faults : S → ℕ} {gives : MayGive}
+    {location : Location} {libs : List (List ℕ)} {shows : ℕ → Type 0} {old new : GroundView} {before now : LinkView} {status : ℕ}
+    → ServesNamed contents may_give texts faults gives location libs shows old new before now status → Type 0
+NamedWhole (one lib same service) = ServesWhole service
+NamedWhole (several some service) = ⊤
+
 -- of what a command did: the line that it put tells no fault of the storage, or it served so; a text and a status alone tell
 -- none
 abbrev pub RunsWhole : {S : Type 0} {contents : S → Option Contents} {may_give : S → Slot → Option (List ℕ) → Type 0} {texts faults : S → ℕ} {gives : MayGive}
@@ -45,6 +53,6 @@ abbrev pub RunsWhole : {S : Type 0} {contents : S → Option Contents} {may_give
     → RunsSo contents may_give texts faults gives shows command old new before now out_before out_now status → Type 0
 RunsWhole (creates location lib name user secret is made left) = is_storage_line (created_line lib made.created) ≡ false
 RunsWhole (adds location lib token is added left) = is_storage_line (added_line added.added) ≡ false
-RunsWhole (serves location lib is service out) = ServesWhole service
+RunsWhole (serves location libs is service out) = NamedWhole service
 RunsWhole (prints printed is put same left) = ⊤
 RunsWhole (unread three same left out) = ⊤

@@ -65,7 +65,7 @@ fn serve_opened<S: Shelf, L: Link, C: Clock>(
 }
 
 /// The status of a connection's end.
-fn status_of(how: Served) -> u8
+pub(crate) fn status_of(how: Served) -> u8
     ensures value { result ≡ status_of how }
 {
     match how {

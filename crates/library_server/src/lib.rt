@@ -6,10 +6,12 @@
 #![tactic(auto)]
 
 mod adding;
+mod bringing;
 mod collecting;
 mod counting;
 mod creating;
 mod inetd;
+mod inetd_hall;
 pub mod laws;
 mod looking;
 mod making;

@@ -2,7 +2,7 @@
 ghost use Rattle.library_state.specs.declared.state.TheConstants.{MAX_STATE_NAME};
 ghost use Rattle.std.specs.Prelude.{◌≡◌, ◌≤◌, false, length, Some};
 ghost use Rattle.std.specs.Io.KnownBytes.{append_known};
-ghost use Rattle.server_words.specs.CommandLine.{NamesFit, command_of};
+ghost use Rattle.server_words.specs.CommandLine.{AreLibraries, NamesFit, command_of};
 ghost use Rattle.server_words.specs.Lines.{line_text};
 ghost use Rattle.server_words.specs.declared.line.Line.TheVariants as lines;
 ghost use Rattle.folder_storage.specs.Ground.{Standing};
@@ -10,15 +10,18 @@ ghost use Rattle.folder_storage.specs.SteadyShelf.{SteadyShelfState};
 ghost use Rattle.http_front.specs.Link.{told_by};
 ghost use Rattle.server_words.specs.Spelling.{location_text};
 ghost use Rattle.library_server.specs.Answering.{NeverFails};
+ghost use Rattle.library_server.specs.Bringing.{UnnamedGiveNoMore};
 ghost use Rattle.library_server.specs.Connections.{LinkView};
+ghost use Rattle.library_server.specs.HallConnections.{ServesNamed};
 ghost use Rattle.library_server.specs.Runs.{AddsToken, CreatesLibrary, OnlyNamedGivesMore, PrintsSo, RunsSo, SinkView, added_line, created_line, help_printed, line_printed, version_printed};
 ghost use Rattle.library_server.specs.Standing.{GroundView, OthersGiveNoMore};
 ghost use Rattle.library_server.specs.Whole.{AreWhole, IsWhole, empty_gives, empty_ground, holds_in};
-ghost use Rattle.library_server.specs.WholeRuns.{RunsWhole, is_storage_line};
+ghost use Rattle.library_server.specs.WholeRuns.{NamedWhole, RunsWhole, is_storage_line};
 
 use crate::adding::{NewToken, add_token};
 use crate::creating::create;
 use crate::inetd::inetd;
+use crate::inetd_hall::inetd_hall;
 use crate::making::NewLibrary;
 use crate::not_done::{NotAdded, NotMade};
 use crate::starting::folder_word;
@@ -28,19 +31,20 @@ use ids::{LibId, ObjId, Text};
 use library_state::Clock;
 use server_words::{Command, Line, Location, help_text, read_command, version_text};
 use std::alloc::Global;
+use std::sync::Wait;
 
 /// Runs the command that the words are, and gives its status.
 ///
 /// `create FOLDER LIB NAME USER TOKEN` makes a library in `libraries`, `token FOLDER LIB USER TOKEN RIGHT` adds a token to
-/// one, and each puts its line or a fault line to `out`. `inetd FOLDER LIB` serves one connection over the link, and puts
-/// nothing. `--help` and `--version`, alone, put their texts. Other words put the usage line. Where FOLDER is `:memory:`,
-/// `token` and `inetd` first make a library that is not there, of the name `memory`, the user `me` and a secret of forty
-/// `a`. What `libraries` handed out is back.
+/// one, and each puts its line or a fault line to `out`. `inetd FOLDER LIB [LIB..]` serves one connection over the link, with one
+/// library alone or with several through a hall, where it may wait, and puts nothing. `--help` and `--version`, alone, put their
+/// texts. Other words put the usage line. Where FOLDER is `:memory:`, `token` and `inetd` first make a library that is not there, of
+/// the name `memory`, the user `me` and a secret of forty `a`. What `libraries` handed out is back.
 ///
 /// The status is 0 where the command was done, for `inetd` where the connection ended well or met its limit; 1 after a
 /// fault, and where the sink failed; 2 for words that are no command; 3 for want of memory and nothing else, without a
 /// line where there was none for the words.
-pub fn run<G: Ground, L: Link, C: Clock, O: Sink, R>(
+pub fn run<G: Ground, L: Link, C: Clock, O: Sink, R: Wait>(
     rt: &R,
     alloc: Global,
     words: &[Text],
@@ -73,16 +77,15 @@ pub fn run<G: Ground, L: Link, C: Clock, O: Sink, R>(
     ensures usage { result ≡ 2
         → (command_of words.now ≡ Command.Usage) × (O.given out.new ≡ append_known (O.given out.old) (line_text lines.Usage)) }
 {
-    let _ = rt;
     match read_command(alloc, words) {
-        Ok(command) => perform(alloc, command, libraries, link, clock, out),
+        Ok(command) => perform(rt, alloc, command, libraries, link, clock, out),
         Err(_) => 3,
     }
 }
 
 /// Runs the command that the words are over libraries in memory, of which none is there at first and none is left, and
 /// gives its status. Their storage never fails: no line tells a fault of it, and no reply of a connection is one.
-pub fn run_in_memory<L: Link, C: Clock, O: Sink, R>(
+pub fn run_in_memory<L: Link, C: Clock, O: Sink, R: Wait>(
     rt: &R,
     alloc: Global,
     words: &[Text],
@@ -106,7 +109,8 @@ pub fn run_in_memory<L: Link, C: Clock, O: Sink, R>(
 }
 
 /// Does what a command asks for.
-fn perform<G: Ground, L: Link, C: Clock, O: Sink>(
+fn perform<G: Ground, L: Link, C: Clock, O: Sink, R: Wait>(
+    rt: &R,
     alloc: Global,
     command: Command,
     libraries: &mut G,
@@ -161,11 +165,40 @@ fn perform<G: Ground, L: Link, C: Clock, O: Sink>(
             };
             add_printed(alloc, libraries, &location, lib, &new, clock, out)
         }
-        Command::Inetd { location, lib } => inetd(alloc, libraries, &location, lib, link, clock),
+        Command::Inetd { location, libs } => {
+            serve_named(rt, alloc, libraries, &location, libs.slice(), link, clock)
+        }
         Command::Help => print(out, help_text(), 0),
         Command::Version => print(out, version_text(), 0),
         Command::Usage => print_line(out, Line::Usage),
     }
+}
+
+/// Serves one connection with the libraries that a command names: one alone, several through a hall.
+fn serve_named<G: Ground, L: Link, C: Clock, R: Wait>(
+    rt: &R,
+    alloc: Global,
+    libraries: &mut G,
+    location: &Location,
+    libs: &[LibId],
+    link: &mut L,
+    clock: &C,
+) -> u8
+    requires named { AreLibraries libs.now }
+    ensures serves { (named : ServesNamed G.S.contents G.S.may_give G.S.texts G.S.faults (G.may_give libraries.old) location.now libs.now (C.shows clock.now)
+        (record { stands = G.stands libraries.old; faults = G.faults libraries.old })
+        (record { stands = G.stands libraries.new; faults = G.faults libraries.new })
+        (record { left = L.left link.old; tells = told_by L.taken L.given L.asked link.old; faults = L.faults link.old })
+        (record { left = L.left link.new; tells = told_by L.taken L.given L.asked link.new; faults = L.faults link.new }) result)
+        × (NeverFails G.S.faults → AreWhole (G.stands libraries.old) → NamedWhole named) }
+    ensures others { UnnamedGiveNoMore (G.may_give libraries.old) (G.may_give libraries.new) (location_text location.now) libs.now 0 (length libs.now) }
+{
+    let count = libs.len();
+    if count == 1 {
+        let place = 0;
+        return inetd(alloc, libraries, location, libs[place], link, clock);
+    }
+    inetd_hall(rt, alloc, libraries, location, libs, link, clock)
 }
 
 /// Makes a library, and puts the line that tells it.

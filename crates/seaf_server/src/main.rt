@@ -8,18 +8,19 @@ use ids::Text;
 use library_server::{run, run_in_memory};
 use server_words::names_memory;
 use std::process::ExitCode;
+use std::sync::Wait;
 use system_edges::{StandardLink, StandardSink, SystemClock, words_of};
 
 fn main(rt: HostRuntime) -> ExitCode {
     match words_of(&rt, rt.alloc()) {
-        Ok(words) => ExitCode::from(run_words(&rt, words.slice())),
+        Ok(words) => ExitCode::from(run_words(&rt, &rt, words.slice())),
         Err(_) => ExitCode::from(3u8),
     }
 }
 
 /// Runs the command over standard input and output and the system's clock, in memory where its words name that, and else
-/// in folders.
-fn run_words(rt: &HostRuntime, words: &[Text]) -> u8 {
+/// in folders. What waits for a lock waits by `waiting`.
+fn run_words<W: Wait>(rt: &HostRuntime, waiting: &W, words: &[Text]) -> u8 {
     let clock = match rt.clone() {
         Ok(times) => SystemClock::new(times),
         Err(_) => return 3,
@@ -31,11 +32,11 @@ fn run_words(rt: &HostRuntime, words: &[Text]) -> u8 {
     let mut link = StandardLink::new(rt.stdin(), rt.stdout());
     let mut out = StandardSink::new(rt.stdout());
     if names_memory(words) {
-        return run_in_memory(rt, rt.alloc(), words, &mut link, &clock, &mut out);
+        return run_in_memory(waiting, rt.alloc(), words, &mut link, &clock, &mut out);
     }
     let mut libraries = FolderGround::new(files);
     run(
-        rt,
+        waiting,
         rt.alloc(),
         words,
         &mut libraries,

@@ -5,7 +5,7 @@ use Rattle.std.specs.Str.{bytes_eq}
 use Rattle.json_words.specs.IdText.{library_id_of}
 use Rattle.library_state.specs.Rights.{right_of}
 use Rattle.library_state.specs.declared.right.Right.{Right}
-use Rattle.server_words.specs.CommandLine.{command_of, create_by, create_command, inetd_by, is_memory, is_name, names_memory, location_in, location_word, secret_of, token_by, token_command}
+use Rattle.server_words.specs.CommandLine.{command_of, create_by, create_command, inetd_by, inetd_command, is_memory, is_name, libraries_of, other_command, names_memory, location_in, location_word, secret_of, token_by, token_command}
 use Rattle.server_words.specs.declared.command.Command.{Command}
 use Rattle.server_words.specs.declared.command.Command.TheVariants.{Create, Token, Help, Version, Usage}
 use Rattle.server_words.specs.declared.command.Location.{Location}
@@ -58,16 +58,11 @@ token_in memory user (Some p) None s r is = usage_in memory
 token_in memory user (Some p) (Some lib) None r is = usage_in memory
 token_in memory user (Some p) (Some lib) (Some secret) None is = usage_in memory
 
-inetd_in : (memory : Bool) (p : Option Location) (l : Option (List ℕ)) → IfSome p (λ location. memory ≡ is_memory location) → IsIn memory (inetd_by p l)
+inetd_in : (memory : Bool) (p : Option Location) (l : Option (List (List ℕ))) → IfSome p (λ location. memory ≡ is_memory location) → IsIn memory (inetd_by p l)
 unfolding IsIn
-inetd_in memory (Some p) (Some lib) is = λ q e. same_place memory p q is e
+inetd_in memory (Some p) (Some libs) is = λ q e. same_place memory p q is e
 inetd_in memory None l is = λ q e. absurd (none_some q e)
 inetd_in memory (Some p) None is = λ q e. absurd (none_some q e)
-
-short_in : (memory b : Bool) (folder lib : List ℕ) → IfSome (location_word folder) (λ location. memory ≡ is_memory location)
-    → IsIn memory (cond b (inetd_by (location_word folder) (library_id_of lib)) Usage)
-short_in memory true folder lib is = inetd_in memory (location_word folder) (library_id_of lib) is
-short_in memory false folder lib is = usage_in memory
 
 long_in : (memory b d : Bool) (folder lib third fourth fifth : List ℕ) → IfSome (location_word folder) (λ location. memory ≡ is_memory location)
     → IsIn memory (cond b (create_command folder lib third fourth fifth) (cond d (token_command folder lib third fourth fifth) Usage))
@@ -82,15 +77,21 @@ lone_in true d = λ q e. absurd (none_some q e)
 lone_in false true = λ q e. absurd (none_some q e)
 lone_in false false = λ q e. absurd (none_some q e)
 
+other_in : (memory : Bool) (word folder : List ℕ) (more : List (List ℕ)) → IfSome (location_word folder) (λ location. memory ≡ is_memory location) → IsIn memory (other_command word folder more)
+other_in memory word folder (lib ∷ a ∷ b ∷ c ∷ []) is = long_in memory (bytes_eq word (codes "create")) (bytes_eq word (codes "token")) folder lib a b c is
+other_in memory word folder [] is = usage_in memory
+other_in memory word folder (lib ∷ []) is = usage_in memory
+other_in memory word folder (lib ∷ a ∷ []) is = usage_in memory
+other_in memory word folder (lib ∷ a ∷ b ∷ []) is = usage_in memory
+other_in memory word folder (lib ∷ a ∷ b ∷ c ∷ d ∷ more) is = usage_in memory
+
+placed_in : (memory b : Bool) (word folder : List ℕ) (more : List (List ℕ)) → IfSome (location_word folder) (λ location. memory ≡ is_memory location)
+    → IsIn memory (cond b (inetd_command folder more) (other_command word folder more))
+placed_in memory true word folder more is = inetd_in memory (location_word folder) (libraries_of more) is
+placed_in memory false word folder more is = other_in memory word folder more is
+
 pub location_of_words : (words : List (List ℕ)) (location : Location) → location_in (command_of words) ≡ Some location → names_memory words ≡ is_memory location
 unfolding IsIn
 location_of_words [] = λ q e. absurd (none_some q e)
 location_of_words (word ∷ []) = lone_in (bytes_eq word (codes "--help")) (bytes_eq word (codes "--version"))
-location_of_words (word ∷ folder ∷ []) = λ q e. absurd (none_some q e)
-location_of_words (word ∷ folder ∷ lib ∷ []) =
-    short_in (bytes_eq folder (codes ":memory:")) (bytes_eq word (codes "inetd")) folder lib (folder_location folder)
-location_of_words (word ∷ folder ∷ lib ∷ a ∷ []) = λ q e. absurd (none_some q e)
-location_of_words (word ∷ folder ∷ lib ∷ a ∷ b ∷ []) = λ q e. absurd (none_some q e)
-location_of_words (word ∷ folder ∷ lib ∷ a ∷ b ∷ c ∷ []) =
-    long_in (bytes_eq folder (codes ":memory:")) (bytes_eq word (codes "create")) (bytes_eq word (codes "token")) folder lib a b c (folder_location folder)
-location_of_words (word ∷ folder ∷ lib ∷ a ∷ b ∷ c ∷ d ∷ more) = λ q e. absurd (none_some q e)
+location_of_words (word ∷ folder ∷ more) = placed_in (bytes_eq folder (codes ":memory:")) (bytes_eq word (codes "inetd")) word folder more (folder_location folder)

@@ -1,6 +1,7 @@
 -- What is read as a command is its spelling, and the spelling of a command is read as it.
 -- The key lemmas are command_of-words_of and words_of-command_of, at the end.
-use Rattle.std.proofs.Common.{◌≡◌, ◌≢◌, ℕ, Bool, true, false, ◌&&◌, List, [], ◌∷◌, Option, Some, None, inl, refl, sym, cond, codes}
+use Rattle.std.proofs.Common.{◌≡◌, ◌≢◌, ℕ, Bool, true, false, ◌&&◌, List, [], ◌∷◌, All, Option, Some, None, ap, ap₂, inl, map, refl, sym, cond, codes}
+use Rattle.std.proofs.lemmas.List.Elements.{All-head, All-tail}
 use Rattle.std.specs.Option.{IfSome}
 use Rattle.std.specs.Result.{result_ok}
 use Rattle.std.specs.Str.{bytes_eq}
@@ -17,7 +18,7 @@ use Rattle.json_words.proofs.IdLemmas.{IsOf-has_form, library_id_of-good, object
 use Rattle.library_state.specs.Rights.{right_of, right_text}
 use Rattle.library_state.specs.declared.right.Right.{Right}
 use Rattle.library_state.specs.declared.right.Right.TheVariants.{Read, Write, Owner}
-use Rattle.server_words.specs.CommandLine.{command_of, create_by, create_command, inetd_by, is_name, location_word, secret_of, token_by, token_command}
+use Rattle.server_words.specs.CommandLine.{command_of, create_by, create_command, ids_of, inetd_by, inetd_command, is_line_of_libraries, is_name, joined, libraries_of, location_word, other_command, secret_of, token_by, token_command}
 use Rattle.server_words.specs.Spelling.{IsBytesOf, IsCommand, IsLocation, location_text, words_of}
 use Rattle.server_words.specs.declared.command.Command.{Command}
 use Rattle.server_words.specs.declared.command.Command.TheVariants.{Create, Token, Inetd, Help, Version, Usage}
@@ -97,12 +98,29 @@ token_spelling folder lib user token right (Some location) None s r same-p same-
 token_spelling folder lib user token right (Some location) (Some id) None r same-p same-l same-s same-r = λ other. absurd (other refl)
 token_spelling folder lib user token right (Some location) (Some id) (Some secret) None same-p same-l same-s same-r = λ other. absurd (other refl)
 
-inetd_spelling : (folder lib : List ℕ) (p : Option Location) (l : Option (List ℕ)) → IfSome p (λ location. folder ≡ location_text location)
-    → IfSome l (λ id. lib ≡ hyphenated_text lower id) → IsSpelling (codes "inetd" ∷ folder ∷ lib ∷ []) (inetd_by p l)
+joined_text : (word : List ℕ) (words : List (List ℕ)) (l : Option (List ℕ)) (ls : Option (List (List ℕ))) → IfSome l (λ id. word ≡ hyphenated_text lower id)
+    → IfSome ls (λ ids. words ≡ map (hyphenated_text lower) ids) → IfSome (joined l ls) (λ ids. word ∷ words ≡ map (hyphenated_text lower) ids)
+joined_text word words (Some id) (Some ids) same all = ap₂ (λ (x : List ℕ) (xs : List (List ℕ)). x ∷ xs) same all
+joined_text word words (Some id) None same all = tt
+joined_text word words None ls same all = tt
+
+pub ids_text : (words : List (List ℕ)) → IfSome (ids_of words) (λ ids. words ≡ map (hyphenated_text lower) ids)
+ids_text [] = refl
+ids_text (word ∷ words) = joined_text word words (library_id_of word) (ids_of words) (library_text word) (ids_text words)
+
+libraries_text_at : (words : List (List ℕ)) (b : Bool) → IfSome (cond b (ids_of words) None) (λ ids. words ≡ map (hyphenated_text lower) ids)
+libraries_text_at words true = ids_text words
+libraries_text_at words false = tt
+
+libraries_text : (words : List (List ℕ)) → IfSome (libraries_of words) (λ ids. words ≡ map (hyphenated_text lower) ids)
+libraries_text words = libraries_text_at words (is_line_of_libraries words)
+
+inetd_spelling : (folder : List ℕ) (words : List (List ℕ)) (p : Option Location) (l : Option (List (List ℕ))) → IfSome p (λ location. folder ≡ location_text location)
+    → IfSome l (λ ids. words ≡ map (hyphenated_text lower) ids) → IsSpelling (codes "inetd" ∷ folder ∷ words) (inetd_by p l)
 unfolding IsSpelling
-inetd_spelling folder lib (Some location) (Some id) same-p same-l = λ other. rw (same-p, same-l)
-inetd_spelling folder lib None l same-p same-l = λ other. absurd (other refl)
-inetd_spelling folder lib (Some location) None same-p same-l = λ other. absurd (other refl)
+inetd_spelling folder words (Some location) (Some ids) same-p same-l = λ other. ap₂ (λ (f : List ℕ) (xs : List (List ℕ)). codes "inetd" ∷ f ∷ xs) same-p same-l
+inetd_spelling folder words None l same-p same-l = λ other. absurd (other refl)
+inetd_spelling folder words (Some location) None same-p same-l = λ other. absurd (other refl)
 
 lone_spelling_at : (word : List ℕ) (b d : Bool) → (b ≡ true → word ≡ codes "--help") → (d ≡ true → word ≡ codes "--version")
     → IsSpelling (word ∷ []) (cond b Help (cond d Version Usage))
@@ -110,13 +128,6 @@ unfolding IsSpelling
 lone_spelling_at word true d help version = λ other. rw (help refl)
 lone_spelling_at word false true help version = λ other. rw (version refl)
 lone_spelling_at word false false help version = λ other. absurd (other refl)
-
-short_spelling_at : (word folder lib : List ℕ) (b : Bool) → (b ≡ true → word ≡ codes "inetd")
-    → IsSpelling (word ∷ folder ∷ lib ∷ []) (cond b (inetd_by (location_word folder) (library_id_of lib)) Usage)
-unfolding IsSpelling
-short_spelling_at word folder lib true inetd = λ other.
-    rw (inetd refl) (inetd_spelling folder lib (location_word folder) (library_id_of lib) (location_word_text folder) (library_text lib) other)
-short_spelling_at word folder lib false inetd = λ other. absurd (other refl)
 
 long_spelling_at : (word folder lib third fourth fifth : List ℕ) (b d : Bool) → (b ≡ true → word ≡ codes "create") → (d ≡ true → word ≡ codes "token")
     → IsSpelling (word ∷ folder ∷ lib ∷ third ∷ fourth ∷ fifth ∷ [])
@@ -131,19 +142,30 @@ long_spelling_at word folder lib third fourth fifth false true create token = λ
     (location_word_text folder) (library_text lib) (secret_text fourth) (right_word_text fifth) other)
 long_spelling_at word folder lib third fourth fifth false false create token = λ other. absurd (other refl)
 
+other_spelling : (word folder : List ℕ) (more : List (List ℕ)) → IsSpelling (word ∷ folder ∷ more) (other_command word folder more)
+unfolding IsSpelling
+other_spelling word folder (lib ∷ a ∷ b ∷ c ∷ []) =
+    long_spelling_at word folder lib a b c (bytes_eq word (codes "create")) (bytes_eq word (codes "token")) (same_from_bytes_eq word (codes "create")) (same_from_bytes_eq word (codes "token"))
+other_spelling word folder [] = λ other. absurd (other refl)
+other_spelling word folder (lib ∷ []) = λ other. absurd (other refl)
+other_spelling word folder (lib ∷ a ∷ []) = λ other. absurd (other refl)
+other_spelling word folder (lib ∷ a ∷ b ∷ []) = λ other. absurd (other refl)
+other_spelling word folder (lib ∷ a ∷ b ∷ c ∷ d ∷ more) = λ other. absurd (other refl)
+
+placed_spelling_at : (word folder : List ℕ) (more : List (List ℕ)) (b : Bool) → (b ≡ true → word ≡ codes "inetd")
+    → IsSpelling (word ∷ folder ∷ more) (cond b (inetd_command folder more) (other_command word folder more))
+unfolding IsSpelling
+placed_spelling_at word folder more true inetd = λ other.
+    rw (inetd refl) (inetd_spelling folder more (location_word folder) (libraries_of more) (location_word_text folder) (libraries_text more) other)
+placed_spelling_at word folder more false inetd = other_spelling word folder more
+
 pub words_of-command_of : (words : List (List ℕ)) → command_of words ≢ Usage → words ≡ words_of (command_of words)
 unfolding IsSpelling
 words_of-command_of [] other = absurd (other refl)
 words_of-command_of (word ∷ []) other =
     lone_spelling_at word (bytes_eq word (codes "--help")) (bytes_eq word (codes "--version")) (same_from_bytes_eq word (codes "--help")) (same_from_bytes_eq word (codes "--version")) other
-words_of-command_of (word ∷ folder ∷ []) other = absurd (other refl)
-words_of-command_of (word ∷ folder ∷ lib ∷ []) other =
-    short_spelling_at word folder lib (bytes_eq word (codes "inetd")) (same_from_bytes_eq word (codes "inetd")) other
-words_of-command_of (word ∷ folder ∷ lib ∷ a ∷ []) other = absurd (other refl)
-words_of-command_of (word ∷ folder ∷ lib ∷ a ∷ b ∷ []) other = absurd (other refl)
-words_of-command_of (word ∷ folder ∷ lib ∷ a ∷ b ∷ c ∷ []) other =
-    long_spelling_at word folder lib a b c (bytes_eq word (codes "create")) (bytes_eq word (codes "token")) (same_from_bytes_eq word (codes "create")) (same_from_bytes_eq word (codes "token")) other
-words_of-command_of (word ∷ folder ∷ lib ∷ a ∷ b ∷ c ∷ d ∷ more) other = absurd (other refl)
+words_of-command_of (word ∷ folder ∷ more) other =
+    placed_spelling_at word folder more (bytes_eq word (codes "inetd")) (same_from_bytes_eq word (codes "inetd")) other
 
 -- what spells a part of a command is read as it
 location_word-location_text : (location : Location) → IsLocation location → location_word (location_text location) ≡ Some location
@@ -158,12 +180,17 @@ secret_of-digits : (secret : List ℕ) → IsBytesOf 20 secret → secret_of (en
 secret_of-digits secret is =
     object_id_of-good (encode_lower secret) secret (IsOf-encode_lower secret is.0 is.1) (decode_of-encode_lower secret (IsBytes-from_All secret is.1))
 
+ids_of-texts : (libs : List (List ℕ)) → All (IsBytesOf 16) libs → ids_of (map (hyphenated_text lower) libs) ≡ Some libs
+ids_of-texts [] all = refl
+ids_of-texts (lib ∷ libs) all =
+    ap₂ joined (library_id_of-text lib (All-head (IsBytesOf 16) lib libs all)) (ids_of-texts libs (All-tail (IsBytesOf 16) lib libs all))
+
 pub command_of-words_of : (command : Command) → command ≢ Usage → IsCommand command → command_of (words_of command) ≡ command
 command_of-words_of (Create location lib name user secret) other is =
     rw (location_word-location_text location is.0, library_id_of-text lib is.1, secret_of-digits secret is.4, is.2, is.3)
 command_of-words_of (Token location lib user secret right) other is =
     rw (location_word-location_text location is.0, library_id_of-text lib is.1, secret_of-digits secret is.3, right_of-text right, is.2)
-command_of-words_of (Inetd location lib) other is = rw (location_word-location_text location is.0, library_id_of-text lib is.1)
+command_of-words_of (Inetd location libs) other is = rw (location_word-location_text location is.0, is.2, ids_of-texts libs is.1)
 command_of-words_of Help other is = refl
 command_of-words_of Version other is = refl
 command_of-words_of Usage other is = absurd (other refl)

@@ -1,6 +1,6 @@
 -- The words of the command line, without the program's name, as a command. Our own. Read command_of first, at the end.
 use Rattle.library_state.specs.declared.state.TheConstants.{MAX_STATE_NAME}
-use Rattle.std.specs.Prelude.{ℕ, ◌≤◌, ◌==◌, ◌&&◌, ◌||◌, Bool, true, false, not, nat_lt, nat_le, ⊤, if◌then◌else◌, List, [], ◌∷◌, length, Option, None, Some, codes}
+use Rattle.std.specs.Prelude.{ℕ, ◌≡◌, ◌≢◌, ◌<◌, ◌≤◌, ◌==◌, ◌&&◌, ◌||◌, Bool, true, false, not, nat_lt, nat_le, ⊤, if◌then◌else◌, List, [], ◌∷◌, length, slice_index_or, Option, None, Some, codes}
 use Rattle.std.specs.List.{list_any}
 use Rattle.std.specs.Str.{bytes_eq}
 use Rattle.json_words.specs.IdText.{library_id_of, object_id_of}
@@ -42,9 +42,36 @@ token_by user (Some location) (Some lib) (Some secret) (Some right) =
     if is_name user then Token location lib user secret right else Usage
 token_by user _ _ _ _ = Usage
 
-abbrev pub inetd_by : Option Location → Option (List ℕ) → Command
-inetd_by (Some location) (Some lib) = Inetd location lib
+abbrev pub inetd_by : Option Location → Option (List (List ℕ)) → Command
+inetd_by (Some location) (Some libs) = Inetd location libs
 inetd_by _ _ = Usage
+
+-- ---- the libraries of one connection
+
+abbrev pub most_libraries : ℕ
+most_libraries = 1000
+
+-- the ids that words are, where each is one
+abbrev pub joined : Option (List ℕ) → Option (List (List ℕ)) → Option (List (List ℕ))
+joined (Some id) (Some ids) = Some (id ∷ ids)
+joined _ _ = None
+
+abbrev pub ids_of : List (List ℕ) → Option (List (List ℕ))
+ids_of [] = Some []
+ids_of (word ∷ words) = joined (library_id_of word) (ids_of words)
+
+-- no word stands there twice
+abbrev pub is_distinct : List (List ℕ) → Bool
+is_distinct [] = true
+is_distinct (word ∷ words) = not (list_any (bytes_eq word) words) && is_distinct words
+
+-- 1 to most_libraries words, no two alike
+abbrev pub is_line_of_libraries : List (List ℕ) → Bool
+is_line_of_libraries words = nat_le 1 (length words) && (nat_le (length words) most_libraries && is_distinct words)
+
+-- the libraries whose ids these words are
+abbrev pub libraries_of : List (List ℕ) → Option (List (List ℕ))
+libraries_of words = if is_line_of_libraries words then ids_of words else None
 
 -- the command of a word that stands alone
 abbrev pub lone_command : List ℕ → Command
@@ -53,10 +80,9 @@ lone_command word =
     else if bytes_eq word (codes "--version") then Version
     else Usage
 
--- the command of a word with two words after it
-abbrev pub short_command : List ℕ → List ℕ → List ℕ → Command
-short_command word folder lib =
-    if bytes_eq word (codes "inetd") then inetd_by (location_word folder) (library_id_of lib) else Usage
+-- `inetd FOLDER LIB [LIB..]`
+abbrev pub inetd_command : List ℕ → List (List ℕ) → Command
+inetd_command folder libs = inetd_by (location_word folder) (libraries_of libs)
 
 -- `create FOLDER LIB NAME USER TOKEN`
 abbrev pub create_command : List ℕ → List ℕ → List ℕ → List ℕ → List ℕ → Command
@@ -75,18 +101,25 @@ long_command word folder lib third fourth fifth =
     else if bytes_eq word (codes "token") then token_command folder lib third fourth fifth
     else Usage
 
+-- the command of a word and a folder, with words after them
+abbrev pub other_command : List ℕ → List ℕ → List (List ℕ) → Command
+other_command word folder (lib ∷ third ∷ fourth ∷ fifth ∷ []) = long_command word folder lib third fourth fifth
+other_command word folder _ = Usage
+
+abbrev pub placed_command : List ℕ → List ℕ → List (List ℕ) → Command
+placed_command word folder more = if bytes_eq word (codes "inetd") then inetd_command folder more else other_command word folder more
+
 -- the command that the words are
 abbrev pub command_of : List (List ℕ) → Command
+command_of [] = Usage
 command_of (word ∷ []) = lone_command word
-command_of (word ∷ folder ∷ lib ∷ []) = short_command word folder lib
-command_of (word ∷ folder ∷ lib ∷ third ∷ fourth ∷ fifth ∷ []) = long_command word folder lib third fourth fifth
-command_of words = Usage
+command_of (word ∷ folder ∷ more) = placed_command word folder more
 
 -- where a command that names a place keeps its libraries
 abbrev pub location_in : Command → Option Location
 location_in (Create location lib name user secret) = Some location
 location_in (Token location lib user secret right) = Some location
-location_in (Inetd location lib) = Some location
+location_in (Inetd location libs) = Some location
 location_in _ = None
 
 abbrev pub is_memory : Location → Bool
@@ -98,6 +131,16 @@ abbrev pub names_memory : List (List ℕ) → Bool
 names_memory (word ∷ folder ∷ more) = bytes_eq folder (codes ":memory:")
 names_memory _ = false
 
+-- no two of these are alike
+abbrev pub AreApart : List (List ℕ) → Type 0
+AreApart libs = (i j : ℕ) (d e : List ℕ) → i < j → j < length libs → slice_index_or libs i d ≢ slice_index_or libs j e
+
+-- 1 to most_libraries libraries, none of which is named twice
+pub record AreLibraries (libs : List (List ℕ)) : Type 0 where
+  pub some : 1 ≤ length libs
+  pub few : length libs ≤ most_libraries
+  pub apart : AreApart libs
+
 -- the names of a command have 1 to MAX_STATE_NAME bytes
 abbrev pub IsNameSize : List ℕ → Type 0
 IsNameSize text = (1 ≤ length text) × (length text ≤ MAX_STATE_NAME)
@@ -105,4 +148,5 @@ IsNameSize text = (1 ≤ length text) × (length text ≤ MAX_STATE_NAME)
 abbrev pub NamesFit : Command → Type 0
 NamesFit (Create location lib name user secret) = IsNameSize name × IsNameSize user
 NamesFit (Token location lib user secret right) = IsNameSize user
+NamesFit (Inetd location libs) = AreLibraries libs
 NamesFit _ = ⊤

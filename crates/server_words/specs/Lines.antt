@@ -93,7 +93,7 @@ abbrev pub help_text : List ℕ
 help_text =
     printed (codes "usage: seaf-server create FOLDER LIB NAME USER TOKEN")
     ++ printed (codes "       seaf-server token FOLDER LIB USER TOKEN RIGHT")
-    ++ printed (codes "       seaf-server inetd FOLDER LIB")
+    ++ printed (codes "       seaf-server inetd FOLDER LIB [LIB..]")
     ++ printed (codes "FOLDER keeps the libraries, or is :memory:. LIB is a UUID.")
     ++ printed (codes "TOKEN has 40 lower-case hexadecimal digits. RIGHT is r, rw or own.")
     ++ printed (codes "inetd serves one connection over standard input and output.")

@@ -1,10 +1,10 @@
 -- How a command is spelled: the words that read as it, which are one list for each command. Our own.
 -- Read words_of, then IsCommand.
-use Rattle.std.specs.Prelude.{ℕ, ◌≢◌, ◌<◌, ◌≡◌, All, IsTrue, ⊤, List, [], ◌∷◌, length, codes}
+use Rattle.std.specs.Prelude.{ℕ, ◌≢◌, ◌<◌, ◌≡◌, All, IsTrue, ⊤, List, [], ◌∷◌, length, map, codes}
 use Rattle.hex.specs.Hex.{encode_lower}
 use Rattle.uuid.specs.Text.{hyphenated_text, lower}
 use Rattle.library_state.specs.Rights.{right_text}
-use Rattle.server_words.specs.CommandLine.{is_name}
+use Rattle.server_words.specs.CommandLine.{is_line_of_libraries, is_name}
 use Rattle.server_words.specs.declared.command.Command.{Command}
 use Rattle.server_words.specs.declared.command.Command.TheVariants.{Create, Token, Inetd, Help, Version, Usage}
 use Rattle.server_words.specs.declared.command.Location.{Location}
@@ -21,7 +21,7 @@ words_of (Create location lib name user secret) =
     codes "create" ∷ location_text location ∷ hyphenated_text lower lib ∷ name ∷ user ∷ encode_lower secret ∷ []
 words_of (Token location lib user secret right) =
     codes "token" ∷ location_text location ∷ hyphenated_text lower lib ∷ user ∷ encode_lower secret ∷ right_text right ∷ []
-words_of (Inetd location lib) = codes "inetd" ∷ location_text location ∷ hyphenated_text lower lib ∷ []
+words_of (Inetd location libs) = codes "inetd" ∷ location_text location ∷ map (hyphenated_text lower) libs
 words_of Help = codes "--help" ∷ []
 words_of Version = codes "--version" ∷ []
 words_of Usage = []
@@ -40,7 +40,7 @@ abbrev pub IsCommand : Command → Type 0
 IsCommand (Create location lib name user secret) =
     IsLocation location × IsBytesOf 16 lib × IsTrue (is_name name) × IsTrue (is_name user) × IsBytesOf 20 secret
 IsCommand (Token location lib user secret right) = IsLocation location × IsBytesOf 16 lib × IsTrue (is_name user) × IsBytesOf 20 secret
-IsCommand (Inetd location lib) = IsLocation location × IsBytesOf 16 lib
+IsCommand (Inetd location libs) = IsLocation location × All (IsBytesOf 16) libs × IsTrue (is_line_of_libraries (map (hyphenated_text lower) libs))
 IsCommand Help = ⊤
 IsCommand Version = ⊤
 IsCommand Usage = ⊤

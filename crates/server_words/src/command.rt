@@ -1,5 +1,5 @@
 //! What the words of the command line can ask for.
-use ids::{LibId, Text};
+use ids::{Items, LibId, Text};
 use library_state::{Right, Secret};
 
 /// Where libraries are kept.
@@ -30,10 +30,10 @@ pub enum Command {
         secret: Secret,
         right: Right,
     },
-    /// Serve one connection over standard input and output.
+    /// Serve one connection over standard input and output, with 1 to 1,000 libraries, none of which is named twice.
     Inetd {
         location: Location,
-        lib: LibId,
+        libs: Items<LibId>,
     },
     /// Print the words that there are.
     Help,

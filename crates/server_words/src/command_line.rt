@@ -1,11 +1,12 @@
 //! Reading the words of the command line.
-ghost use Rattle.std.specs.Prelude.{◌≡◌, IfOk};
+ghost use Rattle.std.specs.Prelude.{◌≡◌, IfOk, IfSome};
 ghost use Rattle.std.specs.Bool.{OnTrue};
 ghost use Rattle.std.specs.List.{list_any};
-ghost use Rattle.server_words.specs.CommandLine.{IsNameSize, NamesFit, command_of, create_command, is_control, is_name, lone_command, long_command, names_memory, location_word, secret_of, short_command, token_command};
+ghost use Rattle.std.specs.Str.{bytes_eq};
+ghost use Rattle.server_words.specs.CommandLine.{AreLibraries, IsNameSize, NamesFit, command_of, create_command, ids_of, inetd_command, is_control, is_distinct, is_line_of_libraries, is_name, libraries_of, lone_command, long_command, names_memory, location_word, placed_command, secret_of, token_command};
 
 use crate::command::{Command, Location};
-use ids::Text;
+use ids::{Items, LibId, Text};
 use json_words::library_id;
 use library_state::{MAX_STATE_NAME, Right, Secret};
 use std::alloc::{AllocError, Global};
@@ -16,10 +17,10 @@ use std::alloc::{AllocError, Global};
 /// |---|---|
 /// | `create FOLDER LIB NAME USER TOKEN` | make a library |
 /// | `token FOLDER LIB USER TOKEN RIGHT` | add a token |
-/// | `inetd FOLDER LIB` | serve one connection |
+/// | `inetd FOLDER LIB [LIB..]` | serve one connection with 1 to 1,000 libraries |
 /// | `--help`, `--version` | alone |
 ///
-/// FOLDER is not empty, and `:memory:` is no folder but the place in memory. LIB is a library id of 36 characters,
+/// FOLDER is not empty, and `:memory:` is no folder but the place in memory. LIB is a library id of 36 characters, none of which stands there twice,
 /// TOKEN 40 lower-case hexadecimal digits, RIGHT `r`, `rw` or `own`. A NAME or USER without a byte, with more than
 /// 255, or with a control character in it (0 to 31, or 127) is refused. Other words are `Usage`. Our own.
 pub fn read_command(alloc: Global, words: &[Text]) -> Result<Command, AllocError>
@@ -28,16 +29,7 @@ pub fn read_command(alloc: Global, words: &[Text]) -> Result<Command, AllocError
 {
     match words {
         [word] => Ok(lone_command(word.slice())),
-        [word, folder, lib] => short_command(alloc, word.slice(), folder.slice(), lib.slice()),
-        [word, folder, lib, third, fourth, fifth] => long_command(
-            alloc,
-            word.slice(),
-            folder.slice(),
-            lib.slice(),
-            third.slice(),
-            fourth.slice(),
-            fifth.slice(),
-        ),
+        [word, folder, ..] => { placed_command(alloc, word.slice(), folder.slice(), &words[2..]) }
         _ => Ok(Command::Usage),
     }
 }
@@ -68,21 +60,100 @@ fn lone_command(word: &str) -> Command
     Command::Usage
 }
 
-/// The command of a word with two words after it.
-fn short_command(alloc: Global, word: &str, folder: &str, lib: &str) -> Result<Command, AllocError>
-    ensures value { IfOk result (λ command. command ≡ short_command word.now folder.now lib.now) }
+/// The command of a word and a folder, with words after them.
+fn placed_command(
+    alloc: Global,
+    word: &str,
+    folder: &str,
+    more: &[Text],
+) -> Result<Command, AllocError>
+    ensures value { IfOk result (λ command. command ≡ placed_command word.now folder.now more.now) }
+    ensures bound { IfOk result NamesFit }
 {
-    if word != "inetd" {
-        return Ok(Command::Usage);
+    if word == "inetd" {
+        return inetd_command(alloc, folder, more);
     }
-    let lib = match library_id(lib) {
-        Some(lib) => lib,
+    match more {
+        [lib, third, fourth, fifth] => long_command(
+            alloc,
+            word,
+            folder,
+            lib.slice(),
+            third.slice(),
+            fourth.slice(),
+            fifth.slice(),
+        ),
+        _ => Ok(Command::Usage),
+    }
+}
+
+/// The command `inetd` with these words.
+fn inetd_command(alloc: Global, folder: &str, words: &[Text]) -> Result<Command, AllocError>
+    ensures value { IfOk result (λ command. command ≡ inetd_command folder.now words.now) }
+    ensures bound { IfOk result NamesFit }
+{
+    let libs = match read_libraries(alloc, words)? {
+        Some(libs) => libs,
         None => return Ok(Command::Usage),
     };
     match location_word(alloc, folder)? {
-        Some(location) => Ok(Command::Inetd { location, lib }),
+        Some(location) => Ok(Command::Inetd { location, libs }),
         None => Ok(Command::Usage),
     }
+}
+
+/// The most libraries that one connection serves.
+const MOST_LIBRARIES: usize = 1_000;
+
+/// The libraries whose ids these words are: 1 to 1,000, none twice.
+fn read_libraries(alloc: Global, words: &[Text]) -> Result<Option<Items<LibId>>, AllocError>
+    ensures value { IfOk result (λ libs. libs ≡ libraries_of words.now) }
+    ensures fits { IfOk result (λ libs. IfSome libs AreLibraries) }
+{
+    if !is_line_of_libraries(words) {
+        return Ok(None);
+    }
+    library_ids(alloc, words)
+}
+
+/// Whether these are 1 to 1,000 words, none of which stands there twice.
+fn is_line_of_libraries(words: &[Text]) -> bool
+    ensures value { result ≡ is_line_of_libraries words.now }
+{
+    1 <= words.len() && words.len() <= MOST_LIBRARIES && is_distinct(words)
+}
+
+/// The ids that these words are, where each is one.
+fn library_ids(alloc: Global, words: &[Text]) -> Result<Option<Items<LibId>>, AllocError>
+    ensures value { IfOk result (λ libs. libs ≡ ids_of words.now) }
+{
+    let mut ids = Vec::with_capacity(alloc, words.len())?;
+    for word in words {
+        match library_id(word.slice()) {
+            Some(id) => ids.push_reserved(id),
+            None => return Ok(None),
+        }
+    }
+    Ok(Some(Items::from_vec(ids)))
+}
+
+/// Whether no word stands there twice.
+fn is_distinct(words: &[Text]) -> bool
+    ensures value { result ≡ is_distinct words.now }
+{
+    for at in 0..words.len() {
+        if stands_in(words[at].slice(), &words[at + 1..]) {
+            return false;
+        }
+    }
+    true
+}
+
+/// Whether a word is one of these.
+fn stands_in(word: &str, words: &[Text]) -> bool
+    ensures value { result ≡ list_any (bytes_eq word.now) words.now }
+{
+    words.iter().any(|other| word == other.slice())
 }
 
 /// The place that a folder word names, and none where it is empty.

@@ -169,5 +169,5 @@ pub fn version_text() -> &'static [u8]
 pub fn help_text() -> &'static [u8]
     ensures value { result.now ≡ help_text }
 {
-    b"usage: seaf-server create FOLDER LIB NAME USER TOKEN\n       seaf-server token FOLDER LIB USER TOKEN RIGHT\n       seaf-server inetd FOLDER LIB\nFOLDER keeps the libraries, or is :memory:. LIB is a UUID.\nTOKEN has 40 lower-case hexadecimal digits. RIGHT is r, rw or own.\ninetd serves one connection over standard input and output.\n"
+    b"usage: seaf-server create FOLDER LIB NAME USER TOKEN\n       seaf-server token FOLDER LIB USER TOKEN RIGHT\n       seaf-server inetd FOLDER LIB [LIB..]\nFOLDER keeps the libraries, or is :memory:. LIB is a UUID.\nTOKEN has 40 lower-case hexadecimal digits. RIGHT is r, rw or own.\ninetd serves one connection over standard input and output.\n"
 }

@@ -1,6 +1,8 @@
 -- A command makes a library, adds a token, serves, or prints its text.
-use Rattle.std.proofs.Common.{refl, ap}
+use Rattle.std.proofs.Common.{ℕ, List, refl, ap, subst, sym}
+use Rattle.server_words.specs.CommandLine.{AreLibraries, NamesFit}
 use Rattle.server_words.specs.Spelling.{location_text}
+use Rattle.server_words.specs.declared.command.Command.{Command}
 use Rattle.library_server.specs.Runs.{adds, creates, help_printed, line_printed, printed_of, prints, serves, version_printed}
 use Rattle.server_words.specs.declared.line.Line.TheVariants as line
 use Rattle.library_server.proofs.RunLemmas.{kept_alone, named_alone, printed_as}
@@ -28,16 +30,19 @@ returns-in-Token g c = record {
   others = named_alone (g.G.Ground.may_give c.args.libraries.now) (g.G.Ground.may_give c.add_printed.new.libraries) c.args.command _ c.in-Token.is c.add_printed.ensures.others;
 }
 
-pub returns-in-Inetd : goal.returns-in-Inetd
-returns-in-Inetd g c = record {
-  runs = serves c.in-Inetd.location c.in-Inetd.lib c.in-Inetd.is c.inetd.ensures.serves.0 refl;
-  steady = λ steady all.
-      let whole = all (location_text c.in-Inetd.location) c.in-Inetd.lib in (
-        serves c.in-Inetd.location c.in-Inetd.lib c.in-Inetd.is c.inetd.ensures.serves.0 refl,
-        c.inetd.ensures.serves.1 steady whole.0 whole.1 whole.2,
-      );
-  others = named_alone (g.G.Ground.may_give c.args.libraries.now) (g.G.Ground.may_give c.inetd.new.libraries) c.args.command _ c.in-Inetd.is c.inetd.ensures.others;
+pub serve_named-requires : goal.serve_named-requires
+serve_named-requires g c = record {
+  named = subst (λ (libs : List (List ℕ)). AreLibraries libs) (sym c.slice.ensures.value) (subst (λ (k : Command). NamesFit k) c.in-Inetd.is c.requires.fits);
 }
+
+pub returns-in-Inetd : goal.returns-in-Inetd
+returns-in-Inetd g c =
+    let served = rw c.slice.ensures.value at c.serve_named.ensures.serves in
+    record {
+      runs = serves c.in-Inetd.location c.in-Inetd.libs c.in-Inetd.is served.0 refl;
+      steady = λ steady all. (serves c.in-Inetd.location c.in-Inetd.libs c.in-Inetd.is served.0 refl, served.1 steady all);
+      others = named_alone (g.G.Ground.may_give c.args.libraries.now) (g.G.Ground.may_give c.serve_named.new.libraries) c.args.command _ c.in-Inetd.is (rw c.slice.ensures.value at c.serve_named.ensures.others);
+    }
 
 pub returns-in-Help : goal.returns-in-Help
 returns-in-Help g c =

@@ -1,0 +1,117 @@
+-- The libraries that come out of a hall after a connection, and back to where they are kept. The key lemmas are led and served_named.
+use Rattle.std.proofs.Common.{◌≡◌, ℕ, zero, suc, ◌<◌, ◌≤◌, List, [], ◌∷◌, length, Option, Some, refl, sym, ap, subst, ◌∙◌, arith}
+use Rattle.std.specs.Prelude.{map as map_list, slice_index_or, slice_set}
+use Rattle.std.specs.List.{slice_get}
+use Rattle.std.proofs.lemmas.List.{get_or_default, length-map, length-set}
+use Rattle.depot.specs.DepotView.{DepotView, IsGood}
+use Rattle.depot.specs.Story.{ComesBy}
+use Rattle.folder_storage.specs.Ground.{MayGive, Standings}
+use Rattle.object_store.specs.Shelf.{Contents}
+use Rattle.object_store.specs.declared.shelf.Slot.{Slot}
+use Rattle.server_words.specs.Spelling.{location_text}
+use Rattle.server_words.specs.declared.command.Location.{Location}
+use Rattle.sync_calls.specs.Closing.{AreClosed, IsClosed}
+use Rattle.sync_calls.specs.Making.{AreSame, new_shown}
+use Rattle.sync_calls.specs.Operations.{Line, Lines, Moves}
+use Rattle.sync_calls.specs.Shown.{LibraryPass, Shown, all_shown, shown_of}
+use Rattle.turnstile.specs.Lists.{Has}
+use Rattle.hall_server.proofs.GoingLemmas.{done_start, from_some}
+use Rattle.hall_server.specs.Serving.{Goes}
+use Rattle.library_server.specs.Bringing.{AreBrought, AreOut, AreTaken}
+use Rattle.library_server.specs.Connections.{LinkView}
+use Rattle.library_server.specs.HallConnections.{AreGood, AreLedTo, HoldsHall, ServesLibraries, held, no_room, not_held, served}
+use Rattle.library_server.specs.Standing.{GroundView}
+use Rattle.library_server.proofs.BringingLemmas.{came_back_all}
+
+-- ---- how each history began
+
+module _ {S : Type 0} where
+  -- one is set that begins as it did
+  set_start : (us : List (Shown S)) (k : ℕ) (before after : Shown S) → slice_get us k ≡ Some before → after.start ≡ before.start → (i : ℕ) (v u : Shown S) → i < length us
+      → (slice_index_or (slice_set us k after) i v).start ≡ (slice_index_or us i u).start
+  set_start [] k before after was same i v u below = absurd (omega (arith, below))
+  set_start (x ∷ xs) zero before after was same zero v u below = same ∙ ap (λ (w : Shown S). w.start) (sym (from_some x before was))
+  set_start (x ∷ xs) zero before after was same (suc i) v u below = ap (λ (w : Shown S). w.start) (get_or_default xs i v u (omega (arith, below)))
+  set_start (x ∷ xs) (suc k) before after was same zero v u below = refl
+  set_start (x ∷ xs) (suc k) before after was same (suc i) v u below = set_start xs k before after was same i v u (omega (arith, below))
+
+  -- the pass in a place, and what it shows
+  pass_at : (passes : List (LibraryPass S)) (i : ℕ) (v : Shown S) → i < length passes
+      → (p : LibraryPass S) × (slice_index_or passes i p ≡ p) × (slice_index_or (all_shown passes) i v ≡ shown_of p)
+  pass_at [] i v below = absurd (omega (arith, below))
+  pass_at (p ∷ passes) zero v below = (p, refl, refl)
+  pass_at (p ∷ passes) (suc i) v below = pass_at passes i v (omega (arith, below))
+
+  -- a library that nothing was seen of begins as it is
+  new_start : (depots : List (DepotView S)) (i : ℕ) (v : Shown S) (d : DepotView S) → i < length depots → (slice_index_or (map_list new_shown depots) i v).start ≡ Some (slice_index_or depots i d)
+  new_start [] i v d below = absurd (omega (arith, below))
+  new_start (x ∷ xs) zero v d below = refl
+  new_start (x ∷ xs) (suc i) v d below = new_start xs i v d (omega (arith, below))
+
+module _ {S : Type 0} (contents : S → Option Contents) (may_give : S → Slot → Option (List ℕ) → Type 0) (texts faults : S → ℕ) where
+  -- so many stay, each with its start
+  abbrev StayStarted : List (Shown S) → List (Shown S) → Type 0
+  StayStarted us vs = (length vs ≡ length us) × ((i : ℕ) (v u : Shown S) → i < length us → (slice_index_or vs i v).start ≡ (slice_index_or us i u).start)
+
+  moved_start : (us : List (Shown S)) (line : Line) (vs : List (Shown S)) → Moves contents may_give texts faults us line vs → StayStarted us vs
+  moved_start us line vs moves =
+      subst (λ (ws : List (Shown S)). StayStarted us ws) (sym moves.is) (
+        length-set us line.library moves.after,
+        set_start us line.library moves.before moves.after moves.was (done_start contents may_give texts faults moves.before line.place line.deed moves.after moves.done),
+      )
+
+  stay_started : (us : List (Shown S)) (lines : List Line) (vs : List (Shown S)) → Lines contents may_give texts faults us lines vs → StayStarted us vs
+  stay_started us [] vs same =
+      subst (λ (ws : List (Shown S)). StayStarted us ws) (sym same) (refl, λ i v u below. ap (λ (w : Shown S). w.start) (get_or_default us i v u below))
+  stay_started us (line ∷ lines) vs (mid, moves, rest) =
+      let first = moved_start us line mid moves in
+      let later = stay_started mid lines vs rest in (
+        later.0 ∙ first.0,
+        λ i v u below. later.1 i v u (subst (λ (n : ℕ). i < n) (sym first.0) below) ∙ first.1 i u u below,
+      )
+
+  -- ---- the libraries that come out
+
+  pub led : (depots afters : List (DepotView S)) (us : List (Shown S)) (lines : List Line) (passes : List (LibraryPass S)) → us ≡ map_list new_shown depots → Goes contents may_give texts faults us lines (all_shown passes)
+      → AreClosed contents may_give texts faults passes afters → AreLedTo contents may_give texts faults depots (all_shown passes) afters
+  led depots afters us lines passes begins goes closed =
+      let stays : StayStarted us (all_shown passes) = stay_started us goes.all (all_shown passes) goes.leads in
+      let first : length us ≡ length depots = ap length begins ∙ length-map depots new_shown in
+      let shown : length (all_shown passes) ≡ length passes = length-map passes shown_of in
+      let size : length passes ≡ length depots = sym shown ∙ (stays.0 ∙ first) in (
+        closed.0 ∙ size,
+        λ i v d e below. one i v d e below (subst (λ (n : ℕ). i < n) (sym size) below) (subst (λ (n : ℕ). i < n) (sym first) below) stays.1 (pass_at passes i v (subst (λ (n : ℕ). i < n) (sym size) below)),
+      )
+    where
+      one : (i : ℕ) (v : Shown S) (d e : DepotView S) → i < length depots → i < length passes → i < length us
+          → ((i : ℕ) (v u : Shown S) → i < length us → (slice_index_or (all_shown passes) i v).start ≡ (slice_index_or us i u).start)
+          → (p : LibraryPass S) × (slice_index_or passes i p ≡ p) × (slice_index_or (all_shown passes) i v ≡ shown_of p)
+          → ComesBy contents may_give texts faults (slice_index_or depots i d) (slice_index_or (all_shown passes) i v).seen (slice_index_or afters i e)
+          × ((p : ℕ) → p < length (slice_index_or (all_shown passes) i v).seen → Has p (slice_index_or (all_shown passes) i v).book)
+      one i v d e below among within stays (p, is, shows) =
+          let out : IsClosed contents may_give texts faults p (slice_index_or afters i e)
+          = subst (λ (q : LibraryPass S). IsClosed contents may_give texts faults q (slice_index_or afters i e)) is (closed.1 i p e among) in
+          let begun : (shown_of p).start ≡ Some (slice_index_or depots i d)
+          = ap (λ (w : Shown S). w.start) (sym shows) ∙ (stays i v v within ∙ (ap (λ (ws : List (Shown S)). (slice_index_or ws i v).start) begins ∙ new_start depots i v d below)) in
+          let same : out.start ≡ slice_index_or depots i d = from_some out.start (slice_index_or depots i d) (sym out.begins ∙ begun) in
+          subst (λ (w : Shown S). ComesBy contents may_give texts faults (slice_index_or depots i d) w.seen (slice_index_or afters i e) × ((p : ℕ) → p < length w.seen → Has p w.book)) (sym shows)
+          (subst (λ (x : DepotView S). ComesBy contents may_give texts faults x (shown_of p).seen (slice_index_or afters i e)) same out.comes, out.each)
+
+  -- ---- all of it
+
+  -- so many come out as went in
+  pub held_size : (shows : ℕ → Type 0) (depots afters : List (DepotView S)) (before now : LinkView) (status : ℕ) → HoldsHall contents may_give texts faults shows depots afters before now status
+      → length afters ≡ length depots
+  held_size shows depots afters before now status (held serves) = serves.each.0
+  held_size shows depots afters before now status (not_held same is left) = same.0
+
+  -- the libraries are back
+  pub served_named : (gives : MayGive) (location : Location) (libs : List (List ℕ)) (shows : ℕ → Type 0) (old new : GroundView) (mid : Standings) (depots afters : List (DepotView S))
+      (before now : LinkView) (status : ℕ) → AreBrought contents may_give faults gives location shows old.stands libs (length libs) depots
+      → AreOut old.stands mid (location_text location) libs (length libs) → HoldsHall contents may_give texts faults shows depots afters before now status
+      → AreTaken contents mid new.stands (location_text location) libs afters 0 (length libs) → AreGood contents faults afters (length libs)
+      → ServesLibraries contents may_give texts faults gives location libs shows old new before now status
+  served_named gives location libs shows old new mid depots afters before now status brought out (held serves) taken good =
+      served depots afters brought serves (came_back_all contents (location_text location) libs afters old.stands mid new.stands (length libs) out taken) good
+  served_named gives location libs shows old new mid depots afters before now status brought out (not_held same is left) taken good =
+      no_room depots afters brought same (came_back_all contents (location_text location) libs afters old.stands mid new.stands (length libs) out taken) good is left
