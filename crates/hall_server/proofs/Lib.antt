@@ -3,3 +3,4 @@ pub mod CollectingLemmas
 pub mod RanLemmas
 pub mod ShareLemmas
 pub mod SpentLemmas
+pub mod CauseLemmas

@@ -9,7 +9,7 @@ use Rattle.hall_server.proofs.CollectingLemmas.{collects_goes}
 use Rattle.hall_server.proofs.GoingLemmas.{asks_goes, glances_goes, goes_append, goes_none}
 
 module _ {S : Type 0} (contents : S → Option Contents) (may_give : S → Slot → Option (List ℕ) → Type 0) (texts faults : S → ℕ) (shows : ℕ → Type 0) where
-  told_goes : (u : HallShown S) (t : Told Line) (v : HallShown S) → AnsweredSo (hall_rules contents may_give texts faults shows) u t v
+  pub told_goes : (u : HallShown S) (t : Told Line) (v : HallShown S) → AnsweredSo (hall_rules contents may_give texts faults shows) u t v
       → Goes contents may_give texts faults u.libraries (left_by t) v.libraries
   told_goes u (call_asked lib call answer lines) v (moment, shown, (given, asks, stays, is)) = asks_goes contents may_give texts faults u.libraries lib call moment given lines v.libraries v.drawn asks
   told_goes u (collection_asked lib secret ends lines) v is = collects_goes contents may_give texts faults shows u lib secret ends lines v is

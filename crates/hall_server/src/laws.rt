@@ -5,6 +5,7 @@ ghost use Rattle.sync_calls.specs.Hall.{StaySpent};
 ghost use Rattle.sync_calls.specs.Operations.{Line};
 ghost use Rattle.worker_server.specs.Calls.{Ran, Told};
 ghost use Rattle.worker_server.specs.ServedConnection.{Answers, Exchange, Run, operations_in};
+ghost use Rattle.hall_server.specs.Causes.{AreCausedAt};
 ghost use Rattle.hall_server.specs.Serving.{Goes, HallShown, TellsSpentOf, hall_rules};
 
 use library_state::Clock;
@@ -28,4 +29,11 @@ pub fn spent_is_told_only_of_a_lock_that_is_spent<S: Shelf, C: Clock>()
         → StaySpent old.drawn new.drawn }
     ensures told { (clock : C) (old new : HallShown S) (calls : List (Told Line)) → Ran (hall_rules S.contents S.may_give S.texts S.faults (C.shows clock)) old calls new
         → AllByRecursion (TellsSpentOf new) calls }
+{}
+
+/// Damage that is told on a connection has its cause in what the library that was asked might give as its history began, or in that
+/// nothing lies under a key: what calls lay since lies under names that its bytes don't contradict, whichever pass asked them.
+pub fn damage_on_a_connection_has_its_cause<S: Shelf, C: Clock>()
+    ensures { (clock : C) (old new : HallShown S) (calls : List (Told Line)) → Ran (hall_rules S.contents S.may_give S.texts S.faults (C.shows clock)) old calls new
+        → AreCausedAt S.may_give old.libraries calls }
 {}
