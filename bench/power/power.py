@@ -8,7 +8,7 @@ here = os.path.dirname(os.path.abspath(__file__))
 sys.path[:0] = [here, os.path.join(here, ".."), os.path.join(here, "..", "kill")]
 from kill import LIBRARY, TOKEN, Load
 from pipe_client import Connection, Odd, command
-from storage import Storage, calls_of
+from storage import BEGUN, Storage, calls_of
 
 TRACED = "open,openat,close,write,writev,pwrite64,fsync,fdatasync,sync,syncfs,mkdir,rmdir,unlink,rename,renameat,renameat2,link,ftruncate"
 
@@ -19,7 +19,7 @@ class Recorder:
     def __init__(self, server, work):
         self.script, self.work, self.runs = f"{work}/recorded", work, 0
         with open(self.script, "w") as file:
-            file.write(f'#!/bin/sh\nexec strace -ttt -xx -s 1000000 -e signal=none -e trace={TRACED} '
+            file.write(f'#!/bin/sh\nexec strace -f -ttt -xx -s 1000000 -e signal=none -e trace={TRACED} '
                        f'-o "$RECORD" "{server}" "$@"\n')
         os.chmod(self.script, 0o700)
 
@@ -133,7 +133,7 @@ def main():
                 lost += 1
                 print(f"LOST at call {number} of {total} (run {run + 1}, {call[1]}): {fault}")
             shutil.rmtree(f"{work}/cut")
-        syncs += call[1] in ("fsync", "fdatasync")
+        syncs += call[1] == BEGUN
         storage.do(call)
     print(f"seed {seed}: {len(told) - 1} updates in {len(runs)} runs, {total} calls of which {syncs} sync; "
           f"{done} cuts: {unmade} before the library was made, {lost} lost anything")

@@ -2,19 +2,31 @@
 
 A name in a folder stands after a cut for any of what it stood for since the folder was last synced, each name by itself; a
 file that was written and not synced since has any of its lengths, zeros in the place of its bytes, or all of them. What was
-synced is as it was then. Times are those of the calls that are kept, to 4 ms as the system keeps them.
+synced is as it was when that sync began, and only once it has ended: threads sync at once, and each cut may fall in between.
+Times are those of the calls that are kept, to 4 ms as the system keeps them.
 """
 import os
 import re
 
-CALL = re.compile(r"^(\d+)\.(\d+) (\w+)\((.*)\)\s+= (-?\d+)")
+LINE = re.compile(r"^(?:(\d+) +)?(\d+)\.(\d+) (.*)$")
+CALL = re.compile(r"^(\w+)\((.*)\)\s+= (-?\d+)")
+BEGINNING = re.compile(r"^(\w+)\((.*) <unfinished \.\.\.>$")
+ENDING = re.compile(r"^<\.\.\. (\w+) resumed>(.*)$")
 TEXT = re.compile(r'"((?:\\x[0-9a-f]{2})*)"')
 GRAIN = 4_000_000
+SYNCS, BEGUN = ("fsync", "fdatasync"), "begin of a sync"
 
 
 class File:
     def __init__(self, moment):
         self.data, self.moment, self.kept = b"", moment, None
+
+    def seen(self):
+        """What a sync that begins now makes durable."""
+        return self.data
+
+    def sync(self, seen):
+        self.kept = seen
 
     def after_a_cut(self, chance):
         """Bytes that may be left of it."""
@@ -40,15 +52,25 @@ class Folder:
         self.names.setdefault(name, [(None, 0)]).append((node, moment))
         self.moment = moment
 
-    def sync(self):
-        self.names = {name: [ways[-1]] for name, ways in self.names.items() if ways[-1][0] is not None}
+    def seen(self):
+        """What a sync that begins now makes durable: what each name stands for."""
+        return {name: ways[-1] for name, ways in self.names.items()}
+
+    def sync(self, seen):
+        for name, way in seen.items():
+            ways = self.names.get(name, [])
+            places = [place for place, other in enumerate(ways) if other is way]
+            if places:
+                self.names[name] = ways[places[0]:]
+                if self.names[name] == [way] and way[0] is None:
+                    del self.names[name]
 
 
 class Storage:
     """The folder at `root`, and what a recorded run does with it and with its own input and output."""
 
     def __init__(self, root):
-        self.root, self.top, self.open = root, Folder(0), {}
+        self.root, self.top, self.open, self.syncing = root, Folder(0), {}, {}
 
     def find(self, path):
         """The folder that a path is in, and its last name; None where it is outside."""
@@ -77,8 +99,13 @@ class Storage:
             self.open.pop(int(words.split(",")[0]), None)
         elif name == "write":
             return self.do_write(moment, int(words.split(",")[0]), texts[0][:result])
-        elif name in ("fsync", "fdatasync"):
-            self.do_sync(self.open[int(words.split(",")[0])])
+        elif name == BEGUN:
+            node = self.open[int(words.split(",")[0])]
+            self.syncing[words] = node, node.seen() if node is not None else None
+        elif name in SYNCS:
+            node, seen = self.syncing.pop(words)
+            if node is not None:
+                node.sync(seen)
         elif name == "mkdir":
             self.put(texts[0], Folder(moment), moment)
         elif name in ("unlink", "rmdir"):
@@ -116,13 +143,6 @@ class Storage:
             node.data, node.moment = node.data + data, moment
         return None
 
-    @staticmethod
-    def do_sync(node):
-        if isinstance(node, Folder):
-            node.sync()
-        elif node is not None:
-            node.kept = node.data
-
     def lay_out(self, to, chance):
         """Makes a folder of what a cut of the power may leave."""
         lay_out_folder(self.top, to, chance)
@@ -145,16 +165,39 @@ def lay_out_folder(folder, to, chance):
     os.utime(to, ns=(moment, moment))
 
 
+def whole_calls(lines):
+    """The calls of all threads, (moment, name, words, result), each as it ended. A close stands where it began, since another
+    thread may have its number before it ended; and a sync stands where it began too, under another name."""
+    begun = {}
+    for line in lines:
+        found = LINE.match(line)
+        if not found:
+            continue
+        thread, seconds, fraction, said = found.groups()
+        moment = int(seconds) * 10**9 + int(fraction.ljust(9, "0"))
+        beginning, ending = BEGINNING.match(said), ENDING.match(said)
+        if beginning:
+            name, words = begun[thread] = beginning.groups()
+            if name in SYNCS:
+                yield moment, BEGUN, words, 0
+            elif name == "close":
+                yield moment, name, words, 0
+            continue
+        if ending:
+            said = "%s(%s%s" % (*begun.pop(thread), ending.group(2))
+        whole = CALL.match(said)
+        if whole and not (ending and whole.group(1) == "close"):
+            name, words, result = whole.groups()
+            if name in SYNCS and not ending:
+                yield moment, BEGUN, words, 0
+            yield moment, name, words, int(result)
+
+
 def calls_of(path):
     """The calls that strace wrote to a file: (moment, name, texts, all words, result)."""
     calls = []
     with open(path) as lines:
-        for line in lines:
-            found = CALL.match(line)
-            if not found:
-                continue
-            seconds, fraction, name, words, result = found.groups()
-            moment = int(seconds) * 10**9 + int(fraction.ljust(9, "0"))
+        for moment, name, words, result in whole_calls(lines):
             texts = [bytes.fromhex(text.replace("\\x", "")) for text in TEXT.findall(words)]
-            calls.append((moment - moment % GRAIN, name, texts, TEXT.sub("", words), int(result)))
+            calls.append((moment - moment % GRAIN, name, texts, TEXT.sub("", words), result))
     return calls

@@ -76,6 +76,17 @@ only-after old mid new keys done only = record {
   no_text = syncs-append (map SyncedObject keys) only.syncs (objects-syncs keys) only.no_text;
 }
 
+-- what was done from the same steps on
+pub begun-ok : {E : Type 0} (old mid new : Option (List Step)) (more : List Step) (result : Result ⊤ E) → mid ≡ old
+    → OnOk result (new ≡ with_steps mid more) → OnOk result (new ≡ with_steps old more)
+begun-ok old mid new more result same done = subst (λ told. OnOk result (new ≡ with_steps told more)) same done
+
+pub begun-err : {E : Type 0} (old mid new : Option (List Step)) (result : Result ⊤ E) → mid ≡ old → OnErr result (OnlySyncs mid new) → OnErr result (OnlySyncs old new)
+begun-err old mid new result same failed = subst (λ told. OnErr result (OnlySyncs told new)) same failed
+
+pub none-synced : (old new : Option (List Step)) → new ≡ old → OnlySyncs old new
+none-synced old new same = record { syncs = []; steps = same ∙ no-steps old; no_text = _ }
+
 -- the objects, and then the folders
 pub both-synced : (old mid new : Option (List Step)) (keys : List Key) (directories : List Directory) → AreNamedIn keys directories
     → mid ≡ with_steps old (map SyncedObject keys) → new ≡ with_steps mid (map SyncedDirectory directories) → SyncsEach old new keys

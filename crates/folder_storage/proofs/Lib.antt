@@ -1,3 +1,4 @@
+pub mod AtOnceLemmas
 pub mod DurabilityLemmas
 pub mod LibraryFolderLemmas
 pub mod PathLemmas

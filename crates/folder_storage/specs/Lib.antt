@@ -1,3 +1,4 @@
+pub mod AtOnce
 pub mod Durability
 pub mod Ground
 pub mod LibraryFolder
@@ -5,4 +6,5 @@ pub mod Listing
 pub mod MemoryGround
 pub mod Paths
 pub mod SteadyShelf
+pub mod SyncAnswer
 pub mod ToldDisk

@@ -25,6 +25,11 @@ pub(crate) trait Disk {
     /// What is known of an object that was written beside its slot.
     type Way;
 
+    /// What is known of objects whose files were synced at once, and of folders whose names were.
+    type Files: Drop;
+
+    type Names: Drop;
+
     // What was done, in its order.
     ghost steps: { Self → Option (List Step) };
 
@@ -49,13 +54,21 @@ pub(crate) trait Disk {
         ensures ok { OnOk result (steps self.new ≡ with_steps (steps self.old) (BeganSyncs keys.now ∷ [])) }
         ensures err { OnErr result (steps self.new ≡ steps self.old) };
 
-    /// Makes an object's file durable.
-    fn sync_object(&mut self, key: &Key) -> io::Result<()>
+    /// Syncs the files of these objects at once, as far as it can. What came of each is told by `sync_object`.
+    fn begin_files(&mut self, keys: &[Key]) -> io::Result<Self::Files>
+        ensures stays { steps self.new ≡ steps self.old };
+
+    /// Makes an object's file durable, unless that was done with others.
+    fn sync_object(&mut self, files: &Self::Files, key: &Key) -> io::Result<()>
         ensures ok { OnOk result (steps self.new ≡ with_steps (steps self.old) (SyncedObject key.now ∷ [])) }
         ensures err { OnErr result (steps self.new ≡ steps self.old) };
 
-    /// Makes the names in a folder durable.
-    fn sync_directory(&mut self, directory: Directory) -> io::Result<()>
+    /// Syncs the names in these folders at once, as far as it can. What came of each is told by `sync_directory`.
+    fn begin_names(&mut self, directories: &[Directory]) -> io::Result<Self::Names>
+        ensures stays { steps self.new ≡ steps self.old };
+
+    /// Makes the names in a folder durable, unless that was done with others.
+    fn sync_directory(&mut self, names: &Self::Names, directory: Directory) -> io::Result<()>
         ensures ok { OnOk result (steps self.new ≡ with_steps (steps self.old) (SyncedDirectory directory ∷ [])) }
         ensures err { OnErr result (steps self.new ≡ steps self.old) };
 
@@ -89,8 +102,20 @@ fn sync_objects<D: Disk>(disk: &mut D, keys: &[Key]) -> io::Result<()>
     ensures ok { OnOk result (D.steps disk.new ≡ with_steps (D.steps disk.old) (map SyncedObject keys.now)) }
     ensures err { OnErr result (OnlySyncs (D.steps disk.old) (D.steps disk.new)) }
 {
+    let files = match disk.begin_files(keys) {
+        Ok(files) => files,
+        Err(failure) => return Err(failure),
+    };
+    sync_each_object(disk, &files, keys)
+}
+
+/// Makes the objects' files durable one after another, up to the first failure.
+fn sync_each_object<D: Disk>(disk: &mut D, files: &D::Files, keys: &[Key]) -> io::Result<()>
+    ensures ok { OnOk result (D.steps disk.new ≡ with_steps (D.steps disk.old) (map SyncedObject keys.now)) }
+    ensures err { OnErr result (OnlySyncs (D.steps disk.old) (D.steps disk.new)) }
+{
     for key in keys {
-        if let Err(failure) = disk.sync_object(key) {
+        if let Err(failure) = disk.sync_object(files, key) {
             return Err(failure);
         }
     }
@@ -102,8 +127,24 @@ fn sync_directories<D: Disk>(disk: &mut D, directories: &[Directory]) -> io::Res
     ensures ok { OnOk result (D.steps disk.new ≡ with_steps (D.steps disk.old) (map SyncedDirectory directories.now)) }
     ensures err { OnErr result (OnlySyncs (D.steps disk.old) (D.steps disk.new)) }
 {
+    let names = match disk.begin_names(directories) {
+        Ok(names) => names,
+        Err(failure) => return Err(failure),
+    };
+    sync_each_directory(disk, &names, directories)
+}
+
+/// Makes the names in the folders durable one after another, up to the first failure.
+fn sync_each_directory<D: Disk>(
+    disk: &mut D,
+    names: &D::Names,
+    directories: &[Directory],
+) -> io::Result<()>
+    ensures ok { OnOk result (D.steps disk.new ≡ with_steps (D.steps disk.old) (map SyncedDirectory directories.now)) }
+    ensures err { OnErr result (OnlySyncs (D.steps disk.old) (D.steps disk.new)) }
+{
     for directory in directories {
-        if let Err(failure) = disk.sync_directory(*directory) {
+        if let Err(failure) = disk.sync_directory(names, *directory) {
             return Err(failure);
         }
     }
@@ -150,7 +191,7 @@ fn has(directories: &[Directory], directory: Directory) -> bool
 }
 
 /// Whether two directories are one.
-fn is_same(one: &Directory, other: &Directory) -> bool
+pub(crate) fn is_same(one: &Directory, other: &Directory) -> bool
     ensures value { IsTrue result → other.now ≡ one.now }
 {
     *one == *other

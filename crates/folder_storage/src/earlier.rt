@@ -7,14 +7,14 @@ use ids::{Key, Kind};
 use std::alloc::Global;
 use std::io;
 
-/// How many nanoseconds two file times may be off: the clocks of file systems are set.
+/// How many nanoseconds a folder may be older than the file that was moved into it: the clock may be set in between.
 const MARGIN: i64 = 10_000_000_000;
 
 /// The objects in a library's folder that no state text vouches for, as it was opened, and those that one vouches for
 /// only as far as file times can be trusted.
 #[derive(Drop)]
 pub(crate) struct Earlier {
-    /// Those that are older than the state text by less than times may be off, sorted. They aren't read.
+    /// Those that are older than the state text, where the clock was set back after it, sorted. They aren't read.
     pub(crate) near: Vec<Key>,
     /// Those that no text vouches for, and that read back as what their names say, sorted.
     pub(crate) whole: Vec<Key>,
@@ -25,11 +25,11 @@ pub(crate) struct Earlier {
 
 /// The times by which files are told apart.
 #[derive(Clone, Copy)]
-struct Times {
-    /// The oldest file that may be later than the state text.
-    since: i64,
-    /// That of the state text: it vouches for what is older.
-    text: i64,
+pub(crate) struct Times {
+    /// That of the state text, and the least one where there is none: it vouches for what is older.
+    pub(crate) text: i64,
+    /// Whether the mark stands that something was put after that text whose file is older.
+    pub(crate) is_set_back: bool,
 }
 
 impl Earlier {
@@ -43,12 +43,17 @@ impl Earlier {
     }
 }
 
-/// The objects in a library's folder that may be later than its state text. Without a state text they are all of them.
+/// The objects in a library's folder that may be later than its state text. Without a state text they are all of them, and
+/// so they are where the mark of a clock that was set back stands.
 ///
-/// What a run puts after a state text has a file time, and gives its `xx` folder one, that is not before that of
-/// `status`. A folder that has no such time is not read. A file that can't be read is a failure, and no torn object.
-pub(crate) fn earlier_objects<F: FileSystem>(files: &mut F, library: &str) -> io::Result<Earlier> {
-    let times = times_of(files, library)?;
+/// What a run puts after a state text has a file time that is not before that of `status`, else that mark stands; and so
+/// has, but for what the clock was set in between, its `xx` folder. A folder that has no such time is not read. A file that
+/// can't be read is a failure, and no torn object.
+pub(crate) fn earlier_objects<F: FileSystem>(
+    files: &mut F,
+    library: &str,
+    times: Times,
+) -> io::Result<Earlier> {
     let mut earlier = Earlier::none(files.alloc());
     for kind in [Kind::Commit, Kind::Fs, Kind::Block] {
         for first in 0..=u8::MAX {
@@ -64,25 +69,22 @@ pub(crate) fn earlier_objects<F: FileSystem>(files: &mut F, library: &str) -> io
     Ok(earlier)
 }
 
-/// The time of the state text, and that from which on a file may be later.
-fn times_of<F: FileSystem>(files: &mut F, library: &str) -> io::Result<Times> {
+/// The time of the state text, and whether the mark stands that the clock was set back after it.
+pub(crate) fn times_of<F: FileSystem>(files: &mut F, library: &str) -> io::Result<Times> {
+    let mark = named_path(files.alloc(), library, "set-back")?;
+    let is_set_back = files.look(mark.as_str())?.is_some();
     let status = named_path(files.alloc(), library, "status")?;
-    match files.look_through(status.as_str())? {
-        Some(facts) => Ok(Times {
-            since: facts.changed.saturating_sub(MARGIN),
-            text: facts.changed,
-        }),
-        None => Ok(Times {
-            since: i64::MIN,
-            text: i64::MIN,
-        }),
-    }
+    let text = match files.look_through(status.as_str())? {
+        Some(facts) => facts.changed,
+        None => i64::MIN,
+    };
+    Ok(Times { text, is_set_back })
 }
 
-/// Whether something is there that may be later than the state text.
+/// Whether a folder is there that may have been given an object after the state text.
 fn is_since(facts: Option<FileFacts>, times: Times) -> bool {
     match facts {
-        Some(facts) => facts.changed >= times.since,
+        Some(facts) => { times.is_set_back || facts.changed >= times.text.saturating_sub(MARGIN) }
         None => false,
     }
 }
@@ -127,13 +129,16 @@ fn add_object<F: FileSystem>(
     times: Times,
     earlier: &mut Earlier,
 ) -> io::Result<()> {
-    if facts.kind != FileKind::File || facts.changed < times.since {
+    if facts.kind != FileKind::File {
         return Ok(());
     }
-    if facts.changed < times.text {
-        return Ok(earlier.near.push(key)?);
+    if facts.changed >= times.text {
+        return add_read(files, path, key, earlier);
     }
-    add_read(files, path, key, earlier)
+    if times.is_set_back {
+        earlier.near.push(key)?;
+    }
+    Ok(())
 }
 
 /// Adds an object that no state text vouches for to those that read back, or to those that don't.

@@ -1,4 +1,8 @@
 //! The calls of the system by which libraries are kept in folders.
+ghost use Rattle.std.specs.Prelude.{◌≡◌};
+ghost use Rattle.folder_storage.specs.declared.file_system.SyncEnding.TheVariants.{Failed};
+ghost use Rattle.folder_storage.specs.SyncAnswer.{ending_after, is_done_by};
+
 use std::alloc::Global;
 use std::io;
 
@@ -18,6 +22,62 @@ pub struct FileFacts {
     pub size: u64,
     /// When it was changed last, in nanoseconds since 1970 began in UTC; as far as 64 bits go.
     pub changed: i64,
+}
+
+/// What came of the sync of a file or folder.
+#[derive(Clone, Copy, Debug, PartialEq, Eq)]
+pub enum SyncEnding {
+    Synced,
+    /// Nothing stands there.
+    Missing,
+    /// It may be durable or not, and another sync would not tell.
+    Failed,
+}
+
+impl SyncEnding {
+    /// Whether what stood there is durable by this sync, or nothing has to be.
+    pub fn is_done(self) -> bool
+        ensures value { result ≡ is_done_by self }
+    {
+        match self {
+            SyncEnding::Synced => true,
+            SyncEnding::Missing => true,
+            SyncEnding::Failed => false,
+        }
+    }
+}
+
+/// A file or folder that is to be made durable, beside others.
+#[derive(Drop)]
+pub struct SyncPlace {
+    pub path: String,
+    /// What came of it. Until that is told it counts as failed.
+    pub ending: SyncEnding,
+}
+
+impl SyncPlace {
+    /// What stands at this path, as yet to be made durable.
+    pub fn new(path: String) -> SyncPlace
+        ensures path { result.path ≡ path }
+        ensures told { result.ending ≡ Failed }
+    {
+        SyncPlace {
+            path,
+            ending: SyncEnding::Failed,
+        }
+    }
+
+    /// Tells what a sync of it answered, which is whether it is there.
+    pub fn tell(&mut self, answer: io::Result<bool>)
+        ensures path { self.new.path ≡ self.old.path }
+        ensures told { self.new.ending ≡ ending_after answer }
+    {
+        self.ending = match answer {
+            Ok(true) => SyncEnding::Synced,
+            Ok(false) => SyncEnding::Missing,
+            Err(_) => SyncEnding::Failed,
+        };
+    }
 }
 
 /// The calls of the system by which libraries are kept in folders. `SystemFiles` hands them to the system; a stand-in may
@@ -46,11 +106,12 @@ pub trait FileSystem {
     /// Writes a file with these bytes, its owner's alone, in place of what stands there; durably if that is asked.
     fn write(&mut self, path: &str, bytes: &[u8], is_durable: bool) -> io::Result<()>;
 
-    /// Makes the bytes of a file durable. The answer is whether it is there.
-    fn sync_file(&mut self, path: &str) -> io::Result<bool>;
-
     /// Makes the names in a folder durable. The answer is whether it is there.
     fn sync_folder(&mut self, path: &str) -> io::Result<bool>;
+
+    /// Makes what stands at these paths durable, the bytes of files and the names in folders, in any order and several at
+    /// once, and tells of each what came of it. Each path stays at its place.
+    fn sync_at_once(&mut self, places: &mut [SyncPlace]);
 
     /// Gives a file or folder another name, in place of the file that has it.
     fn rename(&mut self, from: &str, to: &str) -> io::Result<()>;

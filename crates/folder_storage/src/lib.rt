@@ -10,6 +10,8 @@
 #![tactic(auto)]
 
 mod answer;
+mod at_once;
+mod clock;
 mod counted_shelf;
 mod durability;
 mod earlier;
@@ -23,6 +25,7 @@ mod listing;
 mod memory_ground;
 mod opening;
 mod paths;
+mod settling;
 mod steady_shelf;
 mod syncing;
 mod system_files;
@@ -31,7 +34,7 @@ mod unsynced;
 mod whole;
 
 pub use crate::counted_shelf::CountedShelf;
-pub use crate::file_system::{FileFacts, FileKind, FileSystem};
+pub use crate::file_system::{FileFacts, FileKind, FileSystem, SyncEnding, SyncPlace};
 pub use crate::folder_ground::FolderGround;
 pub use crate::folder_shelf::FolderShelf;
 pub use crate::ground::Ground;

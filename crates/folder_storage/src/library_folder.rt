@@ -46,6 +46,10 @@ pub(crate) struct LibraryFolder<F> {
     pub(crate) is_in_doubt: bool,
     /// Whether a folder's own name is in doubt, so that this run puts nothing any more.
     pub(crate) is_adrift: bool,
+    /// When the state text was written, or one that may stand, in nanoseconds: what is put after it is no older.
+    pub(crate) text_time: i64,
+    /// Whether the mark stands that something was put after the state text whose file is older.
+    pub(crate) is_set_back: bool,
     /// What was listed last.
     listing: Option<Listing>,
 }
@@ -69,6 +73,8 @@ impl<F: FileSystem + Drop> LibraryFolder<F> {
             is_marked: false,
             is_in_doubt: false,
             is_adrift: false,
+            text_time: i64::MIN,
+            is_set_back: false,
             listing: None,
         }
     }
@@ -111,6 +117,7 @@ impl<F: FileSystem + Drop> LibraryFolder<F> {
         self.commits.reserve(1)?;
         let way = self.way_of(key)?;
         self.write_spare(way.spare.as_str(), bytes, false)?;
+        self.watch_clock(way.spare.as_str())?;
         Ok(way)
     }
 

@@ -3,7 +3,7 @@ ghost use Rattle.std.specs.Prelude.{◌≡◌, IfOk, IfSome, IsSomeAnd};
 ghost use Rattle.std.specs.String.{string_bytes};
 ghost use Rattle.folder_storage.specs.Paths.{library_text};
 
-use crate::earlier::{Earlier, earlier_objects};
+use crate::earlier::{Earlier, earlier_objects, times_of};
 use crate::file_system::{FileKind, FileSystem};
 use crate::library_folder::LibraryFolder;
 use crate::paths::{draft_path, library_path, listed_folder, moved_path, named_path};
@@ -33,11 +33,14 @@ pub(crate) fn find_library<F: FileSystem + Drop>(
     let mark = named_path(files.alloc(), path.as_str(), "syncing")?;
     let is_marked = files.look(mark.as_str())?.is_some();
     bring_back(&mut files, path.as_str())?;
-    let earlier = earlier_objects(&mut files, path.as_str())?;
+    let times = times_of(&mut files, path.as_str())?;
+    let earlier = earlier_objects(&mut files, path.as_str(), times)?;
     let above = String::from_str(files.alloc(), folder)?;
     let mut library = LibraryFolder::new(files, path, above, earlier);
     library.is_marked = is_marked;
     library.is_in_doubt = is_marked;
+    library.text_time = times.text;
+    library.is_set_back = times.is_set_back;
     Ok(Some(library))
 }
 
@@ -112,7 +115,7 @@ fn take_away<F: FileSystem>(files: &mut F, path: &str) -> io::Result<()> {
         let folder = named_path(files.alloc(), path, name)?;
         files.remove_all(folder.as_str())?;
     }
-    for name in ["status", "syncing"] {
+    for name in ["status", "syncing", "set-back"] {
         let file = named_path(files.alloc(), path, name)?;
         files.remove_file(file.as_str())?;
     }

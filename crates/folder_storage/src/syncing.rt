@@ -1,12 +1,13 @@
 //! How a library's folder makes durable what was put, and the state text after it.
-ghost use Rattle.std.specs.Prelude.{◌≡◌, [], is_some, not, option_map, string_bytes, true, IsErr, OnErr, OnOk};
+ghost use Rattle.std.specs.Prelude.{◌≡◌, [], is_some, not, option_map, string_bytes, true, IfOk, IsErr, OnErr, OnOk};
 ghost use Rattle.folder_storage.specs.Durability.{AddsEarlier, AreAmong};
 ghost use Rattle.folder_storage.specs.LibraryFolder.{doubts_of, ended};
 
+use crate::at_once::{FileEndings, NameEndings};
 use crate::durability::{Directory, Disk, first_byte};
-use crate::file_system::FileSystem;
+use crate::file_system::{FileSystem, SyncEnding};
 use crate::library_folder::{LibraryFolder, Way};
-use crate::paths::{kind_path, listed_folder, moved_path, named_path, object_path};
+use crate::paths::{moved_path, named_path, object_path};
 use crate::unsynced::note;
 use crate::whole::is_whole;
 use ids::{Key, Kind, ObjId};
@@ -136,6 +137,7 @@ impl<F: FileSystem + Drop> LibraryFolder<F> {
         }
         let spare = self.spare()?;
         self.write_spare(spare.as_str(), bytes.as_slice(), true)?;
+        self.watch_clock(spare.as_str())?;
         self.move_spare(spare.as_str(), path)
     }
 
@@ -211,49 +213,6 @@ impl<F: FileSystem + Drop> LibraryFolder<F> {
             }
         }
     }
-
-    /// Makes the name of the state text durable, and that of the library's folder.
-    fn settle(&mut self) -> io::Result<()>
-        ensures after { doubts_of self.new ≡ record (doubts_of self.old) { is_adrift = self.new.is_adrift; path = string_bytes self.new.path; home = option_map string_bytes self.new.home; above = option_map string_bytes self.new.above } }
-    {
-        self.files.sync_folder(self.path.as_str())?;
-        match self.home.take() {
-            Some(home) => self.take_name(home),
-            None => self.sync_above(),
-        }
-    }
-
-    /// Gives a new library's folder its name. Where that can't be made durable it has no name again.
-    fn take_name(&mut self, home: String) -> io::Result<()>
-        ensures after { doubts_of self.new ≡ record (doubts_of self.old) { is_adrift = self.new.is_adrift; path = string_bytes self.new.path; home = option_map string_bytes self.new.home; above = option_map string_bytes self.new.above } }
-    {
-        if let Err(failure) = self.files.rename(self.path.as_str(), home.as_str()) {
-            self.home = Some(home);
-            return Err(failure);
-        }
-        let synced = self.sync_above();
-        if synced.is_err() && self.files.rename(home.as_str(), self.path.as_str()).is_ok() {
-            self.is_adrift = false;
-            self.home = Some(home);
-            return synced;
-        }
-        self.path = home;
-        synced
-    }
-
-    /// Makes the name of the library's folder durable, once in this run.
-    fn sync_above(&mut self) -> io::Result<()>
-        ensures after { doubts_of self.new ≡ record (doubts_of self.old) { is_adrift = self.new.is_adrift; above = option_map string_bytes self.new.above } }
-    {
-        if let Some(above) = &self.above {
-            if let Err(failure) = self.files.sync_folder(above.as_str()) {
-                self.is_adrift = true;
-                return Err(failure);
-            }
-        }
-        self.above = None;
-        Ok(())
-    }
 }
 
 impl<F: FileSystem + Drop> Disk for LibraryFolder<F> {
@@ -261,6 +220,10 @@ impl<F: FileSystem + Drop> Disk for LibraryFolder<F> {
     ghost use Rattle.folder_storage.specs.LibraryFolder.{PutsOne, doubts_of};
 
     type Way = Way;
+
+    type Files = FileEndings;
+
+    type Names = NameEndings;
 
     ghost steps = { λ _. None };
 
@@ -313,14 +276,25 @@ impl<F: FileSystem + Drop> Disk for LibraryFolder<F> {
         }
     }
 
+    /// Syncs them at once, but where what was put is in doubt: then each is written anew.
+    fn begin_files(&mut self, keys: &[Key]) -> io::Result<FileEndings>
+        ensures none { self.old.is_in_doubt ≡ true → IfOk result (λ files. files.keys.items ≡ []) }
+        ensures after { doubts_of self.new ≡ doubts_of self.old }
+    {
+        if self.is_in_doubt {
+            return Ok(FileEndings::none(self.files.alloc()));
+        }
+        self.sync_files_at_once(keys)
+    }
+
     /// Makes an object's file durable. One whose sync may have failed is written anew.
-    fn sync_object(&mut self, key: &Key) -> io::Result<()>
+    fn sync_object(&mut self, files: &FileEndings, key: &Key) -> io::Result<()>
         ensures after { doubts_of self.new ≡ record (doubts_of self.old) { lost = self.new.lost } }
     {
-        let path = object_path(self.files.alloc(), self.path.as_str(), key)?;
-        if !self.is_in_doubt && self.files.sync_file(path.as_str()).is_ok() {
+        if files.is_done(key) {
             return Ok(());
         }
+        let path = object_path(self.files.alloc(), self.path.as_str(), key)?;
         let anew = self.write_anew(key, path.as_str());
         match anew {
             Ok(()) => Ok(()),
@@ -333,26 +307,24 @@ impl<F: FileSystem + Drop> Disk for LibraryFolder<F> {
         }
     }
 
+    fn begin_names(&mut self, directories: &[Directory]) -> io::Result<NameEndings>
+        ensures after { doubts_of self.new ≡ doubts_of self.old }
+    {
+        self.sync_names_at_once(directories)
+    }
+
     /// Makes a folder's names durable. A folder of objects that isn't there has none.
-    fn sync_directory(&mut self, directory: Directory) -> io::Result<()>
+    fn sync_directory(&mut self, names: &NameEndings, directory: Directory) -> io::Result<()>
         ensures stays { doubts_of self.new ≡ doubts_of self.old }
     {
-        let alloc = self.files.alloc();
-        let is_there = match directory {
-            Directory::Objects(kind, first) => {
-                let folder = listed_folder(alloc, self.path.as_str(), kind, first)?;
-                self.files.sync_folder(folder.as_str())?;
-                true
-            }
-            Directory::OfKind(kind) => {
-                let folder = kind_path(alloc, self.path.as_str(), kind)?;
-                self.files.sync_folder(folder.as_str())?
-            }
-        };
-        if is_there {
-            return Ok(());
+        match names.ending_of(directory) {
+            SyncEnding::Synced => Ok(()),
+            SyncEnding::Missing => match directory {
+                Directory::Objects(_, _) => Ok(()),
+                Directory::OfKind(_) => Err(io::Error::from(ErrorKind::NotFound)),
+            },
+            SyncEnding::Failed => Err(io::Error::from(ErrorKind::Other)),
         }
-        Err(io::Error::from(ErrorKind::NotFound))
     }
 
     /// Puts the state text, durably. With its first one a new library's folder takes its name.
@@ -362,6 +334,7 @@ impl<F: FileSystem + Drop> Disk for LibraryFolder<F> {
         let status = named_path(self.files.alloc(), self.path.as_str(), "status")?;
         let spare = self.spare()?;
         self.write_spare(spare.as_str(), text, true)?;
+        let time = self.begin_text(spare.as_str())?;
         let moved = self.move_spare(spare.as_str(), status.as_str());
         if let Err(failure) = moved {
             return Err(after_a_change(failure));
@@ -369,6 +342,7 @@ impl<F: FileSystem + Drop> Disk for LibraryFolder<F> {
         if let Err(failure) = self.settle() {
             return Err(after_a_change(failure));
         }
+        self.end_text(time);
         self.unmark();
         Ok(())
     }

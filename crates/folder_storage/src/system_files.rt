@@ -1,9 +1,11 @@
 //! The file system of the runtime.
-use crate::file_system::{FileFacts, FileKind, FileSystem};
-use std::alloc::Global;
+use crate::file_system::{FileFacts, FileKind, FileSystem, SyncEnding, SyncPlace};
+use std::alloc::{AllocError, Global};
 use std::fs::{DirBuilder, DirEntry, File, Files, Metadata, OpenOptions};
 use std::io::{ErrorKind, Write};
+use std::marker::PhantomData;
 use std::os::unix::fs::{DirBuilderExt, MetadataExt, OpenOptionsExt};
+use std::thread::{Threads, for_each_mut};
 use std::{fs, io};
 
 /// Who may look into a folder that is made: its owner alone.
@@ -11,6 +13,12 @@ const FOLDER_MODE: u32 = 0o700;
 
 /// Who may read and write a file that is made: its owner alone.
 const FILE_MODE: u32 = 0o600;
+
+/// How many files are open at once, to be synced.
+const OPEN: usize = 256;
+
+/// How many syncs the system is asked for at once. A disk's flush serves all that were asked for before it began.
+const AT_ONCE: usize = 64;
 
 /// The file system of the runtime, with the lock that was taken through it.
 #[derive(Drop)]
@@ -27,7 +35,8 @@ impl<R> SystemFiles<R> {
     }
 }
 
-impl<R: Files<File = File> + AllocGlobal + Clone + Drop> FileSystem for SystemFiles<R> {
+impl<R: Files<File = File> + AllocGlobal + Threads + Sync + Clone + Drop> FileSystem
+    for SystemFiles<R> {
     fn alloc(&self) -> Global {
         self.rt.alloc()
     }
@@ -81,12 +90,21 @@ impl<R: Files<File = File> + AllocGlobal + Clone + Drop> FileSystem for SystemFi
         Ok(())
     }
 
-    fn sync_file(&mut self, path: &str) -> io::Result<bool> {
+    fn sync_folder(&mut self, path: &str) -> io::Result<bool> {
         sync(&self.rt, path)
     }
 
-    fn sync_folder(&mut self, path: &str) -> io::Result<bool> {
-        sync(&self.rt, path)
+    fn sync_at_once(&mut self, places: &mut [SyncPlace]) {
+        let alloc = self.rt.alloc();
+        for some in places.chunks_mut(OPEN) {
+            match open_all(&self.rt, alloc, some) {
+                Ok(mut opened) => {
+                    sync_opened(&Leave::<R> { of: PhantomData }, opened.as_mut_slice());
+                    take_endings(some, opened.as_slice());
+                }
+                Err(_) => sync_each(&self.rt, some),
+            }
+        }
     }
 
     fn rename(&mut self, from: &str, to: &str) -> io::Result<()> {
@@ -147,6 +165,81 @@ fn sync<R: Files<File = File>>(rt: &R, path: &str) -> io::Result<bool> {
         }
         Err(failure) if failure.kind() == ErrorKind::NotFound => Ok(false),
         Err(failure) => Err(failure),
+    }
+}
+
+/// What stands at a path, opened to be made durable, and what came of that.
+#[derive(Drop)]
+struct Opened {
+    file: Option<File>,
+    ending: SyncEnding,
+}
+
+/// The leave of a runtime to start threads, and nothing else of it: a trait's method can't tell a thread that it may share
+/// the runtime itself.
+struct Leave<R> {
+    of: PhantomData<R>,
+}
+
+impl<R: Threads> Threads for Leave<R> {}
+
+/// Makes them durable, in threads of their own where they can be made.
+fn sync_opened<R: Threads + Sync>(rt: &R, opened: &mut [Opened]) {
+    for_each_mut(rt, opened, AT_ONCE, &|_, one: &mut Opened| end_sync(one));
+}
+
+/// Opens what stands at these paths.
+fn open_all<R: Files<File = File>>(
+    rt: &R,
+    alloc: Global,
+    places: &[SyncPlace],
+) -> Result<Vec<Opened>, AllocError> {
+    let mut opened = Vec::with_capacity(alloc, places.len())?;
+    for place in places {
+        opened.push(open(rt, place.path.as_str()))?;
+    }
+    Ok(opened)
+}
+
+/// Opens what stands at a path.
+fn open<R: Files<File = File>>(rt: &R, path: &str) -> Opened {
+    match File::open(rt, path) {
+        Ok(file) => Opened {
+            file: Some(file),
+            ending: SyncEnding::Failed,
+        },
+        Err(failure) if failure.kind() == ErrorKind::NotFound => Opened {
+            file: None,
+            ending: SyncEnding::Missing,
+        },
+        Err(_) => Opened {
+            file: None,
+            ending: SyncEnding::Failed,
+        },
+    }
+}
+
+/// Makes it durable, and tells what came of it.
+fn end_sync(opened: &mut Opened) {
+    if let Some(file) = &opened.file {
+        if file.sync_all().is_ok() {
+            opened.ending = SyncEnding::Synced;
+        }
+    }
+}
+
+/// Tells of each place what came of it.
+fn take_endings(places: &mut [SyncPlace], opened: &[Opened]) {
+    for (place, one) in places.iter_mut().zip(opened.iter()) {
+        place.ending = one.ending;
+    }
+}
+
+/// Makes what stands at these paths durable, one after another, for want of memory.
+fn sync_each<R: Files<File = File>>(rt: &R, places: &mut [SyncPlace]) {
+    for place in places.iter_mut() {
+        let answer = sync(rt, place.path.as_str());
+        place.tell(answer);
     }
 }
 

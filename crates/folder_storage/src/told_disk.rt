@@ -82,6 +82,10 @@ impl Disk for ToldDisk {
 
     type Way = ();
 
+    type Files = ();
+
+    type Names = ();
+
     ghost steps = { λ disk. Some (steps_of disk.done.items) };
 
     ghost puts = { λ _ _ _ _ _. ⊤ };
@@ -102,11 +106,23 @@ impl Disk for ToldDisk {
         self.pass_noted(&done)
     }
 
-    fn sync_object(&mut self, key: &Key) -> io::Result<()> {
+    fn begin_files(&mut self, keys: &[Key]) -> io::Result<()> {
+        let _ = keys;
+        Ok(())
+    }
+
+    fn sync_object(&mut self, files: &(), key: &Key) -> io::Result<()> {
+        let _ = files;
         self.pass_noted(&Done::SyncFile(*key))
     }
 
-    fn sync_directory(&mut self, directory: Directory) -> io::Result<()> {
+    fn begin_names(&mut self, directories: &[Directory]) -> io::Result<()> {
+        let _ = directories;
+        Ok(())
+    }
+
+    fn sync_directory(&mut self, names: &(), directory: Directory) -> io::Result<()> {
+        let _ = names;
         self.pass_noted(&Done::SyncNames(directory))
     }
 

@@ -3,7 +3,7 @@
 //! `main` makes the real objects and calls `library_server::run`, whose clauses say what is done.
 #![tactic(auto)]
 
-use folder_storage::FolderGround;
+use folder_storage::{FolderGround, Ground};
 use ids::Text;
 use library_server::{run, run_in_memory};
 use server_words::names_memory;
@@ -12,21 +12,28 @@ use std::sync::Wait;
 use system_edges::{StandardLink, StandardSink, SystemClock, words_of};
 
 fn main(rt: HostRuntime) -> ExitCode {
-    match words_of(&rt, rt.alloc()) {
-        Ok(words) => ExitCode::from(run_words(&rt, &rt, words.slice())),
-        Err(_) => ExitCode::from(3u8),
-    }
-}
-
-/// Runs the command over standard input and output and the system's clock, in memory where its words name that, and else
-/// in folders. What waits for a lock waits by `waiting`.
-fn run_words<W: Wait>(rt: &HostRuntime, waiting: &W, words: &[Text]) -> u8 {
-    let clock = match rt.clone() {
-        Ok(times) => SystemClock::new(times),
-        Err(_) => return 3,
+    let words = match words_of(&rt, rt.alloc()) {
+        Ok(words) => words,
+        Err(_) => return ExitCode::from(3u8),
     };
     let files = match rt.clone() {
         Ok(files) => files,
+        Err(_) => return ExitCode::from(3u8),
+    };
+    let mut libraries = FolderGround::new(files);
+    ExitCode::from(run_words(&rt, &rt, words.slice(), &mut libraries))
+}
+
+/// Runs the command over standard input and output and the system's clock, in memory where its words name that, and else
+/// over these libraries. What waits for a lock waits by `waiting`.
+fn run_words<G: Ground, W: Wait>(
+    rt: &HostRuntime,
+    waiting: &W,
+    words: &[Text],
+    libraries: &mut G,
+) -> u8 {
+    let clock = match rt.clone() {
+        Ok(times) => SystemClock::new(times),
         Err(_) => return 3,
     };
     let mut link = StandardLink::new(rt.stdin(), rt.stdout());
@@ -34,12 +41,11 @@ fn run_words<W: Wait>(rt: &HostRuntime, waiting: &W, words: &[Text]) -> u8 {
     if names_memory(words) {
         return run_in_memory(waiting, rt.alloc(), words, &mut link, &clock, &mut out);
     }
-    let mut libraries = FolderGround::new(files);
     run(
         waiting,
         rt.alloc(),
         words,
-        &mut libraries,
+        libraries,
         &mut link,
         &clock,
         &mut out,

@@ -145,6 +145,42 @@ fn an_update_syncs_each_object_and_each_folder(rt: HostRuntime) -> Result<(), Fa
     Ok(())
 }
 
+/// Whether a first update waits so often for the disk: once for all objects, once for all their folders, and then for the
+/// text, the library's folder, and the one above.
+fn waits_five_times(shelf: &mut FolderShelf<LossyFiles>) -> Result<bool, Fail> {
+    put_what_lacks(shelf)?;
+    Ok(shelf.put(Slot::Status, b"2").is_ok() && shelf.files().waits() == 5)
+}
+
+#[test]
+fn what_is_synced_at_once_is_waited_for_once(rt: HostRuntime) -> Result<(), Fail> {
+    let mut shelf = opened(with_text(rt.alloc())?)?;
+    assert!(rt; waits_five_times(&mut shelf)?);
+    Ok(())
+}
+
+/// Puts so many blocks.
+fn put_numbers(alloc: Global, shelf: &mut FolderShelf<LossyFiles>, count: u32) -> Result<(), Fail> {
+    for number in 0..count {
+        let text = format!(in alloc; "{number}")?;
+        done(shelf.put(slot_of(Kind::Block, text.as_str()), text.as_bytes()))?;
+    }
+    Ok(())
+}
+
+/// Whether the text after so many blocks waits once more, since 256 of them are asked for in one call.
+fn waits_once_more(alloc: Global, shelf: &mut FolderShelf<LossyFiles>) -> Result<bool, Fail> {
+    put_numbers(alloc, shelf, 257)?;
+    Ok(shelf.put(Slot::Status, b"2").is_ok() && shelf.files().waits() == 6)
+}
+
+#[test]
+fn many_objects_are_asked_for_256_at_a_time(rt: HostRuntime) -> Result<(), Fail> {
+    let mut shelf = opened(with_text(rt.alloc())?)?;
+    assert!(rt; waits_once_more(rt.alloc(), &mut shelf)?);
+    Ok(())
+}
+
 /// The cases that are to be tried.
 const CASES: u64 = 17;
 

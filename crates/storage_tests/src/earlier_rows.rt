@@ -8,14 +8,17 @@ use object_store::{Shelf, Slot};
 use std::alloc::Global;
 use std::test::Fail;
 
-/// When the state text of these rows was written, in nanoseconds.
+/// When the state text of these rows was written, in nanoseconds: long before what the rows put.
 const WRITTEN: i64 = 1_000_000_000_000_000_000;
+
+/// The same of a text that was written before the clock was set back: long after.
+const AHEAD: i64 = 3_000_000_000_000_000_000;
 
 /// A second, in nanoseconds.
 const SECOND: i64 = 1_000_000_000;
 
-// Three texts whose ids begin with the same byte, in the order of their ids: one older than the text by more than times may
-// be off, one by no more, and one that is later.
+// Three texts whose ids begin with the same byte, in the order of their ids: one older than the text, one of the same time,
+// and one that is later.
 const OLD: &str = "70";
 
 const COARSE: &str = "79";
@@ -85,8 +88,8 @@ fn texts_sync(shelf: &mut FolderShelf<LossyFiles>, calls: &[&str], syncs: u64) -
 /// Sets the times by which they are told apart.
 fn set_times(files: &mut LossyFiles) -> Result<(), Fail> {
     files.set_changed(STATUS, WRITTEN)?;
-    files.set_changed(OLD_FILE, WRITTEN - 11 * SECOND)?;
-    files.set_changed(COARSE_FILE, WRITTEN - 10 * SECOND)?;
+    files.set_changed(OLD_FILE, WRITTEN - 1)?;
+    files.set_changed(COARSE_FILE, WRITTEN)?;
     files.set_changed(OLD_FOLDER, WRITTEN - 11 * SECOND)?;
     Ok(())
 }
@@ -98,6 +101,63 @@ fn objects_of_an_earlier_run_are_made_durable(rt: HostRuntime) -> Result<(), Fai
     let mut shelf = opened(files)?;
     // Besides two folders of objects and the two of their kinds, the text, and the folders that name it and the library.
     assert!(rt; texts_sync(&mut shelf, &SYNCED, 10));
+    Ok(())
+}
+
+/// The calls of a put whose file is older than the state text.
+const PUT_BEHIND: &str = "\
+write F/11111111-2222-4333-8444-555555555555/tmp/spare
+write F/11111111-2222-4333-8444-555555555555/set-back
+sync F/11111111-2222-4333-8444-555555555555/set-back
+sync F/11111111-2222-4333-8444-555555555555
+make F/11111111-2222-4333-8444-555555555555/blocks/b7
+rename to F/11111111-2222-4333-8444-555555555555/blocks/b7/103ca278a75cad8f7d065acda0c2e80da0b7dc
+";
+
+/// Those of the next one, into the same folder.
+const PUT_NEXT: &str = "\
+write F/11111111-2222-4333-8444-555555555555/tmp/spare
+rename to F/11111111-2222-4333-8444-555555555555/blocks/b7/4f5ee9461495ba5ca4c72a7108a23904c27a05
+";
+
+/// The files of a library whose state text was written before the clock was set back.
+fn set_back(alloc: Global) -> Result<LossyFiles, Fail> {
+    let mut files = with_text(alloc)?;
+    files.set_changed(STATUS, AHEAD)?;
+    Ok(files)
+}
+
+/// Whether a put of a block makes these calls after those that were made.
+fn puts_so(shelf: &mut FolderShelf<LossyFiles>, text: &str, made: &str, calls: &str) -> bool {
+    shelf
+        .put(slot_of(Kind::Block, text), text.as_bytes())
+        .is_ok()
+        && shelf.files().calls().strip_prefix(made) == Some(calls)
+}
+
+/// Whether a first put leaves the mark before its move, and a second one leaves none.
+fn leaves_a_mark_once(shelf: &mut FolderShelf<LossyFiles>) -> bool {
+    puts_so(shelf, OLD, "", PUT_BEHIND) && puts_so(shelf, COARSE, PUT_BEHIND, PUT_NEXT)
+}
+
+/// The end of the mark.
+const UNMARKED: &str = "remove F/11111111-2222-4333-8444-555555555555/set-back\n";
+
+/// Whether a first text makes both durable, and takes the mark away.
+fn syncs_both(shelf: &mut FolderShelf<LossyFiles>) -> bool {
+    // Besides the folder of both and that of their kind, the text, and the folders that name it and the library.
+    texts_sync(shelf, &BOTH, 7) && shelf.files().calls().contains(UNMARKED)
+}
+
+/// Whether that is so, and a later run syncs both.
+fn is_watched(shelf: &mut FolderShelf<LossyFiles>) -> Result<bool, Fail> {
+    Ok(leaves_a_mark_once(shelf) && syncs_both(&mut opened(shelf.files().another()?)?))
+}
+
+#[test]
+fn what_is_put_after_the_clock_was_set_back_is_made_durable(rt: HostRuntime) -> Result<(), Fail> {
+    let mut shelf = opened(set_back(rt.alloc())?)?;
+    assert!(rt; is_watched(&mut shelf)?);
     Ok(())
 }
 

@@ -1,7 +1,7 @@
 //! What a folder's shelf does on the disk.
 use crate::library::slot_of;
-use crate::scratch::{clear, made, scratch};
-use folder_storage::{FileSystem, FolderShelf};
+use crate::scratch::{clear, ground, made, scratch};
+use folder_storage::{FileSystem, FolderShelf, SyncEnding, SyncPlace};
 use ids::{Kind, ObjId};
 use object_store::{Found, Shelf};
 use std::alloc::{AllocError, Global};
@@ -64,15 +64,15 @@ fn told_blocks<S: Shelf>(shelf: &mut S) -> (u64, u64) {
 }
 
 /// Whether all are told, with the 10,890 bytes of their texts.
-fn tells_each_once(rt: &HostRuntime, folder: &str) -> Result<bool, Fail> {
-    let mut shelf = made(rt, folder)?;
-    Ok(put_blocks(rt.alloc(), &mut shelf)? && told_blocks(&mut shelf) == (BLOCKS, 10_890))
+fn tells_each_once<S: Shelf>(alloc: Global, shelf: &mut S) -> Result<bool, AllocError> {
+    Ok(put_blocks(alloc, shelf)? && told_blocks(shelf) == (BLOCKS, 10_890))
 }
 
 #[test]
 fn thousands_of_blocks_are_told_once_each(rt: HostRuntime) -> Result<(), Fail> {
     let folder = scratch(&rt, "thousands")?;
-    assert!(rt; tells_each_once(&rt, folder.as_str())?);
+    let mut shelf = made(&mut ground(&rt)?, folder.as_str())?;
+    assert!(rt; tells_each_once(rt.alloc(), &mut shelf)?);
     Ok(clear(&rt, folder.as_str())?)
 }
 
@@ -81,20 +81,49 @@ const NEVER_DURABLE: &str = "/dev/null";
 
 /// Whether each call that is to make it durable fails, and a write that isn't asked to be durable is done.
 fn asks_for_syncs<F: FileSystem>(files: &mut F) -> bool {
-    files.sync_file(NEVER_DURABLE).is_err()
-        && files.sync_folder(NEVER_DURABLE).is_err()
+    files.sync_folder(NEVER_DURABLE).is_err()
         && files.write(NEVER_DURABLE, b"abc", true).is_err()
         && files.write(NEVER_DURABLE, b"abc", false).is_ok()
 }
 
+/// A path at which nothing is.
+const NOT_THERE: &str = "/not-there";
+
+/// Whether these are the endings of a sync that fails, one that is done, and one of nothing.
+fn are_told(places: &[SyncPlace]) -> bool {
+    match places {
+        [failed, done, nothing] => {
+            failed.ending == SyncEnding::Failed
+                && done.ending == SyncEnding::Synced
+                && nothing.ending == SyncEnding::Missing
+        }
+        _ => false,
+    }
+}
+
+/// Whether what comes of three syncs at once is told of each.
+fn tells_each_sync<F: FileSystem>(files: &mut F, folder: &str) -> Result<bool, AllocError> {
+    let alloc = files.alloc();
+    let mut places = Vec::new(alloc);
+    for path in [NEVER_DURABLE, folder, NOT_THERE] {
+        places.push(SyncPlace::new(String::from_str(alloc, path)?))?;
+    }
+    files.sync_at_once(places.as_mut_slice());
+    Ok(are_told(places.as_slice()))
+}
+
 /// The same of the files that a shelf stands on.
-fn stands_on_syncs<F: FileSystem + Drop>(shelf: &FolderShelf<F>) -> Result<bool, Fail> {
-    Ok(asks_for_syncs(&mut shelf.files().another()?))
+fn stands_on_syncs<F: FileSystem + Drop>(
+    shelf: &FolderShelf<F>,
+    folder: &str,
+) -> Result<bool, Fail> {
+    let mut files = shelf.files().another()?;
+    Ok(asks_for_syncs(&mut files) && tells_each_sync(&mut files, folder)?)
 }
 
 #[test]
 fn a_sync_that_the_system_refuses_is_told(rt: HostRuntime) -> Result<(), Fail> {
     let folder = scratch(&rt, "syncs")?;
-    assert!(rt; stands_on_syncs(&made(&rt, folder.as_str())?)?);
+    assert!(rt; stands_on_syncs(&made(&mut ground(&rt)?, folder.as_str())?, folder.as_str())?);
     Ok(clear(&rt, folder.as_str())?)
 }

@@ -1,7 +1,7 @@
 //! Rows over grounds: which libraries are there, and who has them.
 use crate::library::{LIB, holds, is_absent, is_fault, lib, there};
 use crate::scratch::{clear, ground, scratch, within};
-use folder_storage::{FolderGround, Ground, MemoryGround, SystemFiles};
+use folder_storage::{Ground, MemoryGround};
 use ids::LibId;
 use object_store::{Shelf, Slot};
 use std::fs;
@@ -72,23 +72,18 @@ fn memory_keeps_libraries(rt: HostRuntime) -> Result<(), Fail> {
     Ok(())
 }
 
-/// Whether libraries in a folder are kept so.
-fn folder_keeps(rt: &HostRuntime, folder: &str) -> Result<bool, Fail> {
-    keeps_libraries(&mut ground(rt)?, folder)
-}
-
 #[test]
 fn a_folder_keeps_libraries(rt: HostRuntime) -> Result<(), Fail> {
     let folder = scratch(&rt, "keeps")?;
-    assert!(rt; folder_keeps(&rt, folder.as_str())?);
+    assert!(rt; keeps_libraries(&mut ground(&rt)?, folder.as_str())?);
     Ok(clear(&rt, folder.as_str())?)
 }
 
-/// The ground of these rows.
-type Libraries = FolderGround<SystemFiles<HostRuntime>>;
-
 /// Makes the library, puts its state text, and gives it back. The answer is whether that was done.
-fn make_library(libraries: &mut Libraries, folder: &str) -> Result<bool, Fail> {
+fn make_library<G: Ground>(libraries: &mut G, folder: &str) -> Result<bool, Fail>
+where
+    G::S: Drop,
+{
     let mut shelf = there(libraries.make(folder, lib()))?;
     let is_put = shelf.put(Slot::Status, b"state").is_ok();
     libraries.give_back(folder, lib(), shelf);
@@ -107,7 +102,10 @@ fn fails_away(rt: &HostRuntime, shelf: &mut impl Shelf, folder: &str) -> Result<
 
 /// A library is moved away for one call: whether that fails and is counted once, by the shelf and, once that is back, by
 /// the ground.
-fn one_fault(rt: &HostRuntime, libraries: &mut Libraries, folder: &str) -> Result<bool, Fail> {
+fn one_fault<G: Ground>(rt: &HostRuntime, libraries: &mut G, folder: &str) -> Result<bool, Fail>
+where
+    G::S: Drop,
+{
     let mut shelf = there(libraries.find(folder, lib()))?;
     let is_counted = fails_away(rt, &mut shelf, folder)?;
     libraries.give_back(folder, lib(), shelf);
@@ -115,7 +113,10 @@ fn one_fault(rt: &HostRuntime, libraries: &mut Libraries, folder: &str) -> Resul
 }
 
 /// Whether a shelf that is handed out has counted no fault, and adds none as it comes back.
-fn is_fresh(libraries: &mut Libraries, folder: &str) -> Result<bool, Fail> {
+fn is_fresh<G: Ground>(libraries: &mut G, folder: &str) -> Result<bool, Fail>
+where
+    G::S: Drop,
+{
     let shelf = there(libraries.find(folder, lib()))?;
     let fresh = shelf.faults();
     libraries.give_back(folder, lib(), shelf);
@@ -123,24 +124,29 @@ fn is_fresh(libraries: &mut Libraries, folder: &str) -> Result<bool, Fail> {
 }
 
 /// Whether a fault is counted once, and a shelf that is handed out after it has counted none.
-fn counts_once(rt: &HostRuntime, folder: &str) -> Result<bool, Fail> {
-    let mut libraries = ground(rt)?;
+fn counts_once<G: Ground>(rt: &HostRuntime, libraries: &mut G, folder: &str) -> Result<bool, Fail>
+where
+    G::S: Drop,
+{
     Ok(
-        make_library(&mut libraries, folder)?
-            && one_fault(rt, &mut libraries, folder)?
-            && is_fresh(&mut libraries, folder)?,
+        make_library(libraries, folder)?
+            && one_fault(rt, libraries, folder)?
+            && is_fresh(libraries, folder)?,
     )
 }
 
 #[test]
 fn a_fault_is_counted_once(rt: HostRuntime) -> Result<(), Fail> {
     let folder = scratch(&rt, "once")?;
-    assert!(rt; counts_once(&rt, folder.as_str())?);
+    assert!(rt; counts_once(&rt, &mut ground(&rt)?, folder.as_str())?);
     Ok(clear(&rt, folder.as_str())?)
 }
 
 /// Whether no library is found or made in the folder of no name.
-fn refuses_no_name(libraries: &mut Libraries) -> bool {
+fn refuses_no_name<G: Ground>(libraries: &mut G) -> bool
+where
+    G::S: Drop,
+{
     is_fault(libraries.find("", lib())) && is_fault(libraries.make("", lib()))
 }
 
@@ -151,7 +157,10 @@ fn a_folder_without_a_name_is_a_fault(rt: HostRuntime) -> Result<(), Fail> {
 }
 
 /// Whether a library that is out is a fault for a second ground, made or found, counted twice, and stays as it is.
-fn is_refused<S: Shelf>(second: &mut Libraries, shelf: &mut S, folder: &str) -> bool {
+fn is_refused<G: Ground, S: Shelf>(second: &mut G, shelf: &mut S, folder: &str) -> bool
+where
+    G::S: Drop,
+{
     is_fault(second.make(folder, lib()))
         && shelf.put(Slot::Status, b"state").is_ok()
         && is_fault(second.find(folder, lib()))
@@ -160,11 +169,10 @@ fn is_refused<S: Shelf>(second: &mut Libraries, shelf: &mut S, folder: &str) -> 
 }
 
 /// Whether that is so while the first has the library, which is then given back.
-fn is_had_by_one(
-    first: &mut Libraries,
-    second: &mut Libraries,
-    folder: &str,
-) -> Result<bool, Fail> {
+fn is_had_by_one<G: Ground>(first: &mut G, second: &mut G, folder: &str) -> Result<bool, Fail>
+where
+    G::S: Drop,
+{
     let mut shelf = there(first.make(folder, lib()))?;
     let is_refused = is_refused(second, &mut shelf, folder);
     first.give_back(folder, lib(), shelf);
@@ -172,12 +180,13 @@ fn is_had_by_one(
 }
 
 /// Whether the second then finds it, and the first has counted no fault.
-fn is_handed_on(rt: &HostRuntime, folder: &str) -> Result<bool, Fail> {
-    let mut first = ground(rt)?;
-    let mut second = ground(rt)?;
+fn is_handed_on<G: Ground>(first: &mut G, second: &mut G, folder: &str) -> Result<bool, Fail>
+where
+    G::S: Drop,
+{
     Ok(
-        is_had_by_one(&mut first, &mut second, folder)?
-            && is_found_again(&mut second, folder)?
+        is_had_by_one(first, second, folder)?
+            && is_found_again(second, folder)?
             && first.faults() == 0,
     )
 }
@@ -185,6 +194,6 @@ fn is_handed_on(rt: &HostRuntime, folder: &str) -> Result<bool, Fail> {
 #[test]
 fn a_library_that_another_has_is_a_fault_and_stays(rt: HostRuntime) -> Result<(), Fail> {
     let folder = scratch(&rt, "lock")?;
-    assert!(rt; is_handed_on(&rt, folder.as_str())?);
+    assert!(rt; is_handed_on(&mut ground(&rt)?, &mut ground(&rt)?, folder.as_str())?);
     Ok(clear(&rt, folder.as_str())?)
 }

@@ -24,3 +24,5 @@ mod lossy_nodes;
 mod scratch;
 #[cfg(test)]
 mod shelf_rows;
+#[cfg(test)]
+mod told_rows;

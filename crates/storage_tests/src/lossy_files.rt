@@ -1,6 +1,6 @@
 //! A file system in memory that fails one sync, and loses what was not made durable.
-use crate::lossy_nodes::{Also, Failures, Home, NOWHERE, Node};
-use folder_storage::{FileFacts, FileKind, FileSystem};
+use crate::lossy_nodes::{Also, Failures, Home, NOWHERE, Node, parted};
+use folder_storage::{FileFacts, FileKind, FileSystem, SyncPlace};
 use std::alloc::{AllocError, Global};
 use std::io;
 use std::io::ErrorKind;
@@ -18,18 +18,12 @@ pub(crate) struct LossyFiles {
     fails: Failures,
     /// All calls of this handle that change something or sync it, a line each.
     calls: String,
+    /// How often this handle waited for a flush: those that are asked for at once wait for one.
+    waits: u64,
 }
 
 fn failure(kind: ErrorKind) -> io::Error {
     io::Error::from(kind)
-}
-
-/// The folder of a path, and its last name.
-fn parted(path: &str) -> (&str, &str) {
-    match path.rsplit_once('/') {
-        Some(parts) => parts,
-        None => ("", path),
-    }
 }
 
 impl LossyFiles {
@@ -42,6 +36,7 @@ impl LossyFiles {
             names: Vec::new(alloc),
             fails: Failures::one(u64::MAX),
             calls: String::new(alloc),
+            waits: 0,
         };
         let nowhere = Home {
             folder: NOWHERE,
@@ -85,6 +80,10 @@ impl LossyFiles {
 
     pub(crate) fn syncs(&self) -> u64 {
         self.fails.syncs
+    }
+
+    pub(crate) fn waits(&self) -> u64 {
+        self.waits
     }
 
     pub(crate) fn calls(&self) -> &str {
@@ -194,6 +193,18 @@ impl LossyFiles {
         Ok((number, self.fails.is_failing()))
     }
 
+    /// Syncs what stands at a path: the bytes of a file, the names in a folder.
+    fn sync_at(&mut self, path: &str) -> io::Result<bool> {
+        let (number, is_failing) = self.begin_sync(path)?;
+        if let Some(node) = self.nodes.get_mut(number) {
+            node.sync_bytes(is_failing);
+        }
+        for node in self.nodes.iter_mut() {
+            node.sync_in(number, is_failing);
+        }
+        synced(is_failing)
+    }
+
     fn push_name(&self, names: &mut Vec<String>, number: usize) -> Result<(), AllocError> {
         if let Some(name) = self.names.get(number) {
             names.push(name.clone()?)?;
@@ -251,6 +262,7 @@ impl FileSystem for LossyFiles {
                 ..self.fails
             },
             calls: String::new(self.alloc),
+            waits: 0,
         })
     }
 
@@ -294,25 +306,23 @@ impl FileSystem for LossyFiles {
         self.note("write ", path)?;
         self.add(path, FileKind::File, bytes)?;
         if is_durable {
-            self.sync_file(path)?;
+            self.waits = self.waits.saturating_add(1);
+            self.sync_at(path)?;
         }
         Ok(())
     }
 
-    fn sync_file(&mut self, path: &str) -> io::Result<bool> {
-        let (number, is_failing) = self.begin_sync(path)?;
-        if let Some(node) = self.nodes.get_mut(number) {
-            node.sync_bytes(is_failing);
-        }
-        synced(is_failing)
+    fn sync_folder(&mut self, path: &str) -> io::Result<bool> {
+        self.waits = self.waits.saturating_add(1);
+        self.sync_at(path)
     }
 
-    fn sync_folder(&mut self, path: &str) -> io::Result<bool> {
-        let (folder, is_failing) = self.begin_sync(path)?;
-        for node in self.nodes.iter_mut() {
-            node.sync_in(folder, is_failing);
+    fn sync_at_once(&mut self, places: &mut [SyncPlace]) {
+        self.waits = self.waits.saturating_add(1);
+        for place in places.iter_mut() {
+            let answer = self.sync_at(place.path.as_str());
+            place.tell(answer);
         }
-        synced(is_failing)
     }
 
     fn rename(&mut self, from: &str, to: &str) -> io::Result<()> {

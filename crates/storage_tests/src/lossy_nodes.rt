@@ -7,6 +7,14 @@ pub(crate) const NOWHERE: usize = usize::MAX;
 /// When a file or folder was changed, unless it is set: long after any time that a row sets.
 const NOW: i64 = 2_000_000_000_000_000_000;
 
+/// The folder of a path, and its last name.
+pub(crate) fn parted(path: &str) -> (&str, &str) {
+    match path.rsplit_once('/') {
+        Some(parts) => parts,
+        None => ("", path),
+    }
+}
+
 /// Where something is named: the number of a folder, and that of a name in it.
 #[derive(Clone, Copy, PartialEq, Eq)]
 pub(crate) struct Home {

@@ -1,6 +1,6 @@
 //! A temporary folder, and the library of these tests in it.
 use crate::library::{lib, there};
-use folder_storage::{FolderGround, FolderShelf, Ground, SystemFiles};
+use folder_storage::{FolderGround, Ground, SystemFiles};
 use std::test::Fail;
 use std::{env, fs, io, process};
 
@@ -29,9 +29,9 @@ pub(crate) fn ground(rt: &HostRuntime) -> Result<FolderGround<SystemFiles<HostRu
 }
 
 /// The library of these tests, made in a folder.
-pub(crate) fn made(
-    rt: &HostRuntime,
-    folder: &str,
-) -> Result<FolderShelf<SystemFiles<HostRuntime>>, Fail> {
-    there(ground(rt)?.make(folder, lib()))
+pub(crate) fn made<G: Ground>(libraries: &mut G, folder: &str) -> Result<G::S, Fail>
+where
+    G::S: Drop,
+{
+    there(libraries.make(folder, lib()))
 }

@@ -1,10 +1,11 @@
 //! Rows that every shelf meets: those in memory, those over another shelf, and the one over a folder.
 use crate::library::{holds, is_fault, slot_of};
-use crate::scratch::{clear, made, scratch};
+use crate::scratch::{clear, ground, made, scratch};
 use folder_storage::{CountedShelf, SteadyShelf};
 use ids::{Bytes, Items, Key, Kind, ObjId};
 use object_store::{Found, FuseShelf, MemoryShelf, OddShelf, Shelf, ShelfFailed, Slot};
 use std::alloc::{AllocError, Global};
+use std::io;
 use std::test::Fail;
 
 /// An empty shelf whose calls of these numbers fail.
@@ -163,15 +164,11 @@ fn every_shelf_gives_what_was_put_and_tells_names_in_order(
     Ok(())
 }
 
-/// Whether the shelf of a library in this folder does.
-fn folder_gives(rt: &HostRuntime, folder: &str) -> Result<bool, Fail> {
-    Ok(gives_and_tells(rt.alloc(), &mut made(rt, folder)?)?)
-}
-
 #[test]
 fn a_folder_gives_what_was_put_and_tells_names_in_order(rt: HostRuntime) -> Result<(), Fail> {
     let folder = scratch(&rt, "gives")?;
-    assert!(rt; folder_gives(&rt, folder.as_str())?);
+    let mut shelf = made(&mut ground(&rt)?, folder.as_str())?;
+    assert!(rt; gives_and_tells(rt.alloc(), &mut shelf)?);
     Ok(clear(&rt, folder.as_str())?)
 }
 
@@ -240,16 +237,20 @@ fn a_fuse_that_is_spent_leaves_the_old(rt: HostRuntime) -> Result<(), AllocError
 }
 
 /// Whether each call over a library whose folder is lost fails, is told as a fault, and is counted.
-fn counts_without_folder(rt: &HostRuntime, folder: &str) -> Result<bool, Fail> {
-    let mut shelf = made(rt, folder)?;
+fn counts_without_folder<S: Shelf>(
+    rt: &HostRuntime,
+    shelf: &mut S,
+    folder: &str,
+) -> io::Result<bool> {
     clear(rt, folder)?;
-    Ok(counts_each_call(&mut shelf, 0))
+    Ok(counts_each_call(shelf, 0))
 }
 
 #[test]
 fn a_lost_folder_is_a_fault_and_no_empty_slot(rt: HostRuntime) -> Result<(), Fail> {
     let folder = scratch(&rt, "lost")?;
-    assert!(rt; counts_without_folder(&rt, folder.as_str())?);
+    let mut shelf = made(&mut ground(&rt)?, folder.as_str())?;
+    assert!(rt; counts_without_folder(&rt, &mut shelf, folder.as_str())?);
     Ok(())
 }
 

@@ -1,8 +1,17 @@
-use Rattle.std.proofs.Common.{take}
-use Rattle.folder_storage.proofs.DurabilityLemmas.{directories-only}
+use Rattle.std.proofs.Common.{map}
+use Rattle.folder_storage.specs.Durability.{SyncedDirectory}
+use Rattle.folder_storage.proofs.DurabilityLemmas.{begun-err, begun-ok, none-synced}
 use Rattle.folder_storage.proofs.durability.sync_directories.Goals as goal
 
 pub returns-in-Err-clause-err : goal.returns-in-Err-clause-err
-returns-in-Err-clause-err g c =
-    directories-only (g.D.Disk.steps c.args.disk.now) (g.D.Disk.steps c.loop-directory.disk) (g.D.Disk.steps c.sync_directory.new.self) (take c.loop-directory.directory-index c.args.directories.now)
-    c.loop-directory.invariant c.in-Err.ensures.err
+returns-in-Err-clause-err g c = none-synced (g.D.Disk.steps c.args.disk.now) (g.D.Disk.steps c.begin_names.new.self) c.begin_names.ensures.stays
+
+pub returns-clause-ok : goal.returns-clause-ok
+returns-clause-ok g c =
+    begun-ok (g.D.Disk.steps c.args.disk.now) (g.D.Disk.steps c.begin_names.new.self) (g.D.Disk.steps c.sync_each_directory.new.disk) (map SyncedDirectory c.args.directories.now)
+    c.sync_each_directory.result c.begin_names.ensures.stays c.sync_each_directory.ensures.ok
+
+pub returns-clause-err : goal.returns-clause-err
+returns-clause-err g c =
+    begun-err (g.D.Disk.steps c.args.disk.now) (g.D.Disk.steps c.begin_names.new.self) (g.D.Disk.steps c.sync_each_directory.new.disk)
+    c.sync_each_directory.result c.begin_names.ensures.stays c.sync_each_directory.ensures.err

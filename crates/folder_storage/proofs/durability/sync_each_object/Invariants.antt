@@ -1,6 +1,6 @@
 use Rattle.std.proofs.Common.{◌≡◌, map, take}
 use Rattle.folder_storage.specs.Durability.{SyncedObject, with_steps}
-use Rattle.folder_storage.proofs.durability.sync_objects.Given as goal
+use Rattle.folder_storage.proofs.durability.sync_each_object.Given as goal
 
 -- the steps of those that were passed
 abbrev pub invariant-loop-key : goal.invariant-loop-key

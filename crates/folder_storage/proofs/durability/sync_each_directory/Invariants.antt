@@ -1,6 +1,6 @@
 use Rattle.std.proofs.Common.{◌≡◌, map, take}
 use Rattle.folder_storage.specs.Durability.{SyncedDirectory, with_steps}
-use Rattle.folder_storage.proofs.durability.sync_directories.Given as goal
+use Rattle.folder_storage.proofs.durability.sync_each_directory.Given as goal
 
 -- the steps of those that were passed
 abbrev pub invariant-loop-directory : goal.invariant-loop-directory
