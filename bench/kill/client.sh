@@ -1,0 +1,11 @@
+#!/usr/bin/env bash
+# Kills the client by SIGKILL at COUNT random moments of pushes and checkouts of two folders that follow one library, and looks
+# after each whether anything is lost, and whether the next sync ends well. It kills only what it has started itself.
+#   bench/kill/client.sh SERVER CLIENT [COUNT [SECONDS [SEED]]]      the built seaf-server and seaf-cli; at most SECONDS (600)
+set -eu
+here=$(cd "$(dirname "$0")" && pwd)
+server=$(realpath "$1")
+client=$(realpath "$2")
+work=$(mktemp -d)
+trap 'rm -rf "$work"' EXIT
+timeout "$((${4:-600} + 120))" python3 "$here/client.py" "$server" "$client" "$work" "${3:-200}" "${4:-600}" "${5:-$RANDOM}"
