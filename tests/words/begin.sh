@@ -11,5 +11,5 @@ tab=$(printf '\t')
 . "$1/runs.sh"
 . "$1/client.sh"
 ROW=$2
-mkdir kept sent kept/block kept/fs kept/commit kept/size
+mkdir kept openings sent kept/block kept/fs kept/commit kept/size
 . "$ROW/row"

@@ -1,7 +1,8 @@
 # Objects: each of these words keeps an object in a file under its name, and tells the name.
 
-# The library of the rows, the secret of its first token, and forty zeros.
+# The library of the rows, a second one, the secret of a library's first token, and forty zeros.
 LIB=11111111-2222-4333-8444-555555555555
+OTHER=11111111-2222-4333-8444-555555555556
 SECRET=aaaaaaaaaaaaaaaaaaaaaaaaaaaaaaaaaaaaaaaa
 NIL=0000000000000000000000000000000000000000
 

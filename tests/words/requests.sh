@@ -5,6 +5,11 @@ as() {
     secret=$1
 }
 
+# of LIBRARY: the next words speak of this library.
+of() {
+    LIB=$1
+}
+
 # closing: the next request asks to close.
 closing() {
     closes=yes
@@ -66,12 +71,13 @@ recv_fs() (
     ask_file POST recv-fs body
 )
 
-# upload: puts each block that was kept and not uploaded, and then, in one request, each such file and directory. All are stored.
+# upload: puts each block that was kept and not uploaded to this library, and then, in one request, each such file and directory.
+# All are stored.
 upload() (
     for path in kept/block/*; do
         id=${path##*/}
-        if [ -e "$path" ] && [ ! -e "sent/$id" ]; then
-            : > "sent/$id"
+        if [ -e "$path" ] && [ ! -e "sent/$LIB.$id" ]; then
+            : > "sent/$LIB.$id"
             ask_file PUT "block/$id" "$path"
             stored
         fi
@@ -79,8 +85,8 @@ upload() (
     set --
     for path in kept/fs/*; do
         id=${path##*/}
-        if [ -e "$path" ] && [ ! -e "sent/$id" ]; then
-            : > "sent/$id"
+        if [ -e "$path" ] && [ ! -e "sent/$LIB.$id" ]; then
+            : > "sent/$LIB.$id"
             set -- "$@" "$id"
         fi
     done
@@ -127,14 +133,14 @@ shows() {
 }
 
 # reply STATUS TYPE FILE: a reply of these bytes, without a type where it has none. Where $tagged is a count, or `*` for any, it has
-# the tag of this opening of the library and that count.
+# the tag of the library's opening and that count.
 reply() {
     reply_size=$(($(wc -c < "$3")))
     {
         printf 'HTTP/1.1 %s\r\n' "$(status_line "$1")"
         [ "$reply_size" = 0 ] || printf 'Content-Type: application/%s\r\n' "$2"
         [ "$1" = 304 ] || printf 'Content-Length: %s\r\n' "$reply_size"
-        [ -z "$tagged" ] || printf 'ETag: "@-%s"\r\n' "$tagged"
+        [ -z "$tagged" ] || printf 'ETag: "%s-%s"\r\n' "$(cat "openings/$LIB")" "$tagged"
         [ "$closes" = no ] || printf 'Connection: close\r\n'
         printf '\r\n'
         cat "$3"
@@ -180,10 +186,10 @@ no_call() { told 404 '{"reason":"no-call"}'; }
 # this connection. The row finds its name in $merged, once in a connection.
 merged() {
     [ "$piece" = 0 ] || fail 'a connection has one merge'
-    printf 'HTTP/1.1 200 OK\r\nContent-Type: application/json\r\nContent-Length: 78\r\nETag: "@-*"\r\n\r\n{"head_commit_id":"' >> wanted.0
+    printf 'HTTP/1.1 200 OK\r\nContent-Type: application/json\r\nContent-Length: 78\r\nETag: "%s-*"\r\n\r\n{"head_commit_id":"' "$(cat "openings/$LIB")" >> wanted.0
     piece=1
     printf '","is_corrupted":0}' > wanted.1
-    merge_parent=$1 merge_second=$2 merge_root=$3 merge_flag=${4-}
+    merge_of=$LIB merge_parent=$1 merge_second=$2 merge_root=$3 merge_flag=${4-}
 }
 
 # ends_with STATUS REASON: what was sent last is no request, so the connection ends with this reply.

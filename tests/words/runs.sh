@@ -38,7 +38,7 @@ ended() {
 # library: makes the library in the folder `folder`, of `me`, by a run of its own. The row finds its first commit in
 # $opening, and that commit's moment in $opened_at: the line that was printed tells a commit of a moment of this run.
 library() {
-    mkdir folder
+    mkdir -p folder
     server create folder "$LIB" docs me "$SECRET" < /dev/null
     for opened_at in $(seq "$began" "$ended"); do
         opening=$(make_commit "$opened_at" none none "$NIL" 'Created library')
@@ -53,20 +53,24 @@ token() {
     ended 0 'token added'
 }
 
-# connect [PLACE [LIB]]: a connection with the library of this place, `folder` if left out.
+# connect [PLACE [LIB..]]: a connection with these libraries of this place, the library of `folder` if left out.
 connect() {
-    place=${1-folder} asked_of=${2-$LIB} piece=0 merge_parent='' secret=$SECRET closes=no tagged='' shown=''
-    opened_as "$place/$asked_of/status"
+    place=${1-folder}
+    [ "$#" = 0 ] || shift
+    asked_of=${*:-$LIB} piece=0 merge_of=$LIB merge_parent='' secret=$SECRET closes=no tagged='' shown=''
+    for one_asked in $asked_of; do
+        will_open "$one_asked" "$place/$one_asked/status"
+    done
     : > asked
     rm -f wanted.*
     : > wanted.0
 }
 
-# opened_as STATUS: the opening number of the library after its next start is that of its state text and one more; 1 in memory.
-opened_as() {
+# will_open LIB STATUS: the opening number of the library after its next start is that of its state text and one more; 1 in memory.
+will_open() {
     before=0
-    [ ! -e "$1" ] || before=$(sed -n 's/.*"opening":\([0-9]*\).*/\1/p' "$1")
-    opening_told=$((${before:-0} + 1))
+    [ ! -e "$2" ] || before=$(sed -n 's/.*"opening":\([0-9]*\).*/\1/p' "$2")
+    printf '%s' "$((${before:-0} + 1))" > "openings/$1"
 }
 
 # given: what the connection is sent. A row may send it in another way.
@@ -77,20 +81,19 @@ given() {
 # hang_up STATUS: runs the connection, which must give the replies in this order, nothing else, and that status.
 hang_up() {
     given | {
-        server inetd "$place" "$asked_of"
+        server inetd "$place" $asked_of
         printf '%s %s %s\n' "$status" "$began" "$ended" > how
     }
     read -r status began ended < how
     met "$1"
 }
 
-# tag FILE: each tag of the file has the opening number of the run, and where its count may be any, that of the tag at its place
-# among those that were given.
+# tag FILE: each tag of the file whose count may be any has that of the tag at its place among those that were given.
 tag() {
     grep -a '^ETag: "' got | sed 's/^[^-]*-\([0-9]*\).*/\1/' > counts || :
-    grep -an '^ETag: "@-' "$1" | sed 's/:.*//' > lines || :
+    grep -an '^ETag: "' "$1" | sed 's/:.*//' > lines || :
     paste -d ' ' lines counts | while read -r at given_count; do
-        [ -z "$at" ] || printf '%ss/@-/%s-/;%ss/-[*]/-%s/\n' "$at" "$opening_told" "$at" "${given_count:-none}"
+        [ -z "$at" ] || printf '%ss/-[*]/-%s/\n' "$at" "${given_count:-none}"
     done > tags
     sed -f tags "$1" > with_tags
     mv with_tags "$1"
@@ -102,7 +105,7 @@ spell() {
     tag wanted
     if [ -n "$merge_parent" ]; then
         for merged_at in $(seq "$began" "$ended"); do
-            merged=$(make_commit "$merged_at" "$merge_parent" "$merge_second" "$merge_root" 'Auto merge by system' $merge_flag)
+            merged=$(of "$merge_of"; make_commit "$merged_at" "$merge_parent" "$merge_second" "$merge_root" 'Auto merge by system' $merge_flag)
             { cat wanted.0; printf '%s' "$merged"; cat wanted.1; } > wanted
             tag wanted
             ! cmp -s wanted got || break
@@ -120,13 +123,13 @@ met() {
     [ ! -s complaint ] || fail "$ran: it wrote to standard error: $(cat -v complaint)"
 }
 
-# begin [PLACE [LIB]]: like connect, but the program runs from here on. What is asked goes out with the word `replied`.
+# begin [PLACE [LIB..]]: like connect, but the program runs from here on. What is asked goes out with the word `replied`.
 begin() {
     connect "$@"
     rm -f input
     mkfifo input
     began=$(date +%s)
-    "$PROGRAM" inetd "$place" "$asked_of" < input > got 2> complaint &
+    "$PROGRAM" inetd "$place" $asked_of < input > got 2> complaint &
     process=$!
     exec 3> input
 }
