@@ -1,5 +1,5 @@
--- What a sweep takes, key after key. The key lemmas are took_none, took_then, took_err, took_refused, still_known, gives_then,
--- least_then, least_err, strays_at_key, strays_after, and those of what a sweep answers.
+-- What a sweep takes, key after key. The key lemmas are took_none, took_then, took_err, took_refused, still_known, gives_told,
+-- gives_refused, gives_on, least_then, least_err, strays_at_key, strays_after, and those of what a sweep answers.
 use Rattle.std.proofs.Common.{◌≡◌, ◌≢◌, ◌&&◌, ◌||◌, ◌⊎◌, ◌<◌, ◌≤◌, ◌+◌, inl, inr, ℕ, Bool, true, false, cond, not, if◌then◌else◌, is_some, arith, List, [], ◌∷◌, ◌++◌, length, take, refl, sym, ap, ◌∙◌, subst, subst₂, true≢false, IsTrue, Option, None, Some, option_map, Result, Ok, Err}
 use Rattle.std.specs.Prelude.{⊤, IfErr, IfOk, IfSome}
 use Rattle.std.specs.Result.{result_err}
@@ -21,7 +21,7 @@ use Rattle.ids.proofs.KeyOrderLemmas.{key_cmp_exact, key_cmp_total}
 use Rattle.library_rules.specs.Changes.{without}
 use Rattle.object_graph.specs.Traversal.{is_in}
 use Rattle.object_graph.proofs.KeyLemmas.{in_append, in_pushed, same_key, same_key-itself, same_key-true}
-use Rattle.object_store.specs.Shelf.{Contents, removed_known}
+use Rattle.object_store.specs.Shelf.{Contents, GivesAlso, GivesNoMore, removed_known}
 use Rattle.object_store.specs.Store.{CountsShelf, is_free, is_of_shelf}
 use Rattle.object_store.specs.StoreView.{AddsNoStray, Index, IsStray, RemovalChanges, StoreView, left_after, objects_of}
 use Rattle.object_store.specs.declared.error.StoreFault.{StoreFault}
@@ -125,12 +125,50 @@ still_known contents old new before after removed known took key there =
     parts : (is_listed before key ≡ true) × (not (is_in removed key) ≡ true)
     parts = and_parts (is_listed before key) (not (is_in removed key)) (sym (took.candidates key) ∙ there)
 
-pub gives_then : (first next last : Slot → Option (List ℕ) → Type 0) → GivesOrNothing first next → GivesOrNothing next last → GivesOrNothing first last
-gives_then first next last one two slot given is = by (two slot given is)
-  where
-    by : next slot given ⊎ ((key : Key) × (slot ≡ Object key) × (given ≡ None)) → first slot given ⊎ ((key : Key) × (slot ≡ Object key) × (given ≡ None))
-    by (inl was) = one slot given was
-    by (inr gone) = inr gone
+-- the keys that were told before are told still, where this one is told last
+told_on : (removed told : List Key) (key : Key) → told ≡ removed ++ key ∷ [] → (other : Key) → is_in removed other ≡ true → is_in told other ≡ true
+told_on removed told key is other there =
+    ap (λ (keys : List Key). is_in keys other) is ∙ in_append removed (key ∷ []) other ∙ or_left (is_in removed other) (is_in (key ∷ []) other) there
+
+-- it is told
+told_itself : (removed told : List Key) (key : Key) → told ≡ removed ++ key ∷ [] → is_in told key ≡ true
+told_itself removed told key is =
+    ap (λ (keys : List Key). is_in keys key) is ∙ in_append removed (key ∷ []) key
+    ∙ or_right (is_in removed key) (is_in (key ∷ []) key) (or_left (same_key key key) (is_in [] key) (same_key-itself key))
+
+-- what may be given besides, once a key left that is told last
+pub gives_told : (before now : Slot → Option (List ℕ) → Type 0) (removed told : List Key) (key : Key) → told ≡ removed ++ key ∷ [] → GivesAlso before now (Object key) None
+    → GivesOrNothing before now told
+gives_told before now removed told key is also slot given may = elim (also slot given may) [ inl was ↦ inl was | inr gone ↦ inr (key, told_itself removed told key is, gone.0, gone.1) ]
+
+-- the same where it was refused
+pub gives_refused : {S : Type 0} (contents : S → Option Contents) (old new : StoreView S) (candidates after : Candidates) (before now : Slot → Option (List ℕ) → Type 0)
+    (removed told : List Key) (key : Key) (fault : StoreFault) → TookOne contents old new candidates after removed told key (Err fault)
+    → GivesAlso before now (Object key) None → (is_of_shelf fault ≡ false → GivesNoMore before now) → GivesOrNothing before now told
+gives_refused contents old new candidates after before now removed told key Shelf one also same = gives_told before now removed told key one.removed also
+gives_refused contents old new candidates after before now removed told key NoMemory one also same = λ slot given may. inl (same refl slot given may)
+gives_refused contents old new candidates after before now removed told key (Taken id) one also same = absurd one
+gives_refused contents old new candidates after before now removed told key (Wrong id) one also same = absurd one
+gives_refused contents old new candidates after before now removed told key (Damaged want got) one also same = absurd one
+
+pub gives_then : (first next last : Slot → Option (List ℕ) → Type 0) (removed told : List Key) → ((key : Key) → is_in removed key ≡ true → is_in told key ≡ true)
+    → GivesOrNothing first next removed → GivesOrNothing next last told → GivesOrNothing first last told
+gives_then first next last removed told on one two slot given is = elim (two slot given is) [
+  | inl was ↦ elim (one slot given was) [ inl earlier ↦ inl earlier | inr gone ↦ inr (gone.0, on gone.0 gone.1, gone.2, gone.3) ]
+  | inr gone ↦ inr gone
+]
+
+-- after one more, which left or was refused
+pub gives_on : {S : Type 0} (contents : S → Option Contents) (old new : StoreView S) (candidates after : Candidates) (first next last : Slot → Option (List ℕ) → Type 0)
+    (removed told : List Key) (key : Key) (result : Result ⊤ StoreFault) → TookOne contents old new candidates after removed told key result
+    → GivesOrNothing first next removed → GivesOrNothing next last told → GivesOrNothing first last told
+gives_on contents old new candidates after first next last removed told key (Ok done) one = gives_then first next last removed told (told_on removed told key one.removed)
+gives_on contents old new candidates after first next last removed told key (Err Shelf) one = gives_then first next last removed told (told_on removed told key one.removed)
+gives_on contents old new candidates after first next last removed told key (Err NoMemory) one =
+    gives_then first next last removed told (λ other there. ap (λ (keys : List Key). is_in keys other) one.removed ∙ there)
+gives_on contents old new candidates after first next last removed told key (Err (Taken id)) one = absurd one
+gives_on contents old new candidates after first next last removed told key (Err (Wrong id)) one = absurd one
+gives_on contents old new candidates after first next last removed told key (Err (Damaged want got)) one = absurd one
 
 -- ---- in which order they leave
 

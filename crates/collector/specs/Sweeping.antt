@@ -64,10 +64,10 @@ abbrev pub StraysAtEnd : {S : Type 0} → (S → Option Contents) → StoreView 
 StraysAtEnd contents old new removed None = AddsNoStray contents old new
 StraysAtEnd contents old new removed (Some fault) = StraysIf (is_of_shelf fault) contents old new removed
 
--- the shelf may give what it might give before, or that nothing lies in an object's slot
-abbrev pub GivesOrNothing : (Slot → Option (List ℕ) → Type 0) → (Slot → Option (List ℕ) → Type 0) → Type 0
-GivesOrNothing before now = (slot : Slot) (given : Option (List ℕ)) → now slot given
-    → before slot given ⊎ ((key : Key) × (slot ≡ Object key) × (given ≡ None))
+-- the shelf may give what it might give before, or that nothing lies under one of the keys that left
+abbrev pub GivesOrNothing : (Slot → Option (List ℕ) → Type 0) → (Slot → Option (List ℕ) → Type 0) → List Key → Type 0
+GivesOrNothing before now removed = (slot : Slot) (given : Option (List ℕ)) → now slot given
+    → before slot given ⊎ ((key : Key) × (is_in removed key ≡ true) × (slot ≡ Object key) × (given ≡ None))
 
 -- ---- for private clauses
 

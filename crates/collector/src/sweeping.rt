@@ -40,7 +40,7 @@ impl Marks {
         ensures free { IfSome result.fault (λ fault. IsTrue (is_free fault)) }
         ensures failed { EndsAtFault result.removed result.fault }
         ensures unwritten { status_of S.contents store.new ≡ status_of S.contents store.old }
-        ensures gives { GivesOrNothing (S.may_give store.old.shelf) (S.may_give store.new.shelf) }
+        ensures gives { GivesOrNothing (S.may_give store.old.shelf) (S.may_give store.new.shelf) result.removed }
         ensures texts { S.texts store.new.shelf ≡ S.texts store.old.shelf }
         ensures order { TookLeast self.new.candidates result.removed }
         ensures lying { StraysAtEnd S.contents store.old store.new result.removed result.fault }
@@ -87,7 +87,7 @@ fn take_some<S: Shelf>(
     ensures free { IfErr result (λ fault. IsTrue (is_free fault)) }
     ensures failed { EndsSo removed.new.items result }
     ensures unwritten { status_of S.contents store.new ≡ status_of S.contents store.old }
-    ensures gives { GivesOrNothing (S.may_give store.old.shelf) (S.may_give store.new.shelf) }
+    ensures gives { GivesOrNothing (S.may_give store.old.shelf) (S.may_give store.new.shelf) removed.new.items }
     ensures texts { S.texts store.new.shelf ≡ S.texts store.old.shelf }
     ensures order { TookLeast candidates.new removed.new.items }
     ensures lying { StraysAtEnd S.contents store.old store.new removed.new.items (result_err result) }
@@ -119,7 +119,7 @@ fn take<S: Shelf>(
     ensures value { TookOne S.contents store.old store.new candidates.old candidates.new removed.old.items removed.new.items key.now result }
     ensures free { IfErr result (λ fault. IsTrue (is_free fault)) }
     ensures unwritten { status_of S.contents store.new ≡ status_of S.contents store.old }
-    ensures gives { GivesOrNothing (S.may_give store.old.shelf) (S.may_give store.new.shelf) }
+    ensures gives { GivesOrNothing (S.may_give store.old.shelf) (S.may_give store.new.shelf) removed.new.items }
     ensures texts { S.texts store.new.shelf ≡ S.texts store.old.shelf }
     ensures lying { StraysAtEnd S.contents store.old store.new removed.new.items (result_err result) }
     ensures faults { CountsShelf (S.faults store.old.shelf) (S.faults store.new.shelf) result }

@@ -1,4 +1,4 @@
--- A sound state is written as a proper one, so that its text is read back. The key lemma is sound_is_proper.
+-- A sound state is written as a proper one, so that its text is read back. The key lemmas are read_not_zeros and sound_is_proper.
 use Rattle.std.proofs.Common.{◌≡◌, ◌≢◌, ◌||◌, ℕ, suc, ◌≤◌, Bool, true, false, if◌then◌else◌, List, [], ◌∷◌, length, refl, sym, ◌∙◌, subst, true≢false, arith, Option, None, Some, option_and_then, Result, Ok, Err}
 use Rattle.std.proofs.lemmas.List.Elements.{All-from_recursion}
 use Rattle.std.specs.Cmp.Lexicographic.{bytes_decides}
@@ -22,7 +22,7 @@ use Rattle.commit_objects.specs.declared.fault.CommitKey.TheVariants.{KCommitId,
 use Rattle.library_state.specs.ProperState.{IsProper, IsProperInstall, IsProperToken}
 use Rattle.library_state.specs.declared.history.Install.{Install}
 use Rattle.library_state.specs.declared.token.Token.{Token}
-use Rattle.object_graph.specs.Objects.{commit_key, commit_in, of_name, same_id}
+use Rattle.object_graph.specs.Objects.{commit_at, commit_key, commit_in, of_name, same_id}
 use Rattle.object_graph.specs.Traversal.{IsComplete}
 use Rattle.object_graph.specs.declared.fault.TreeFault.TheVariants.{Unreadable}
 use Rattle.object_graph.proofs.CommitLemmas.{commit_root}
@@ -83,21 +83,23 @@ commit_not_zeros bytes commit is =
     let object = went_on (holds (is_object d.value) NotJson) _ commit d.goes in
     from_not_zeros d.value commit object.goes
 
-pub complete_not_zeros : (A : Objects) (id : List ℕ) → IsComplete A id → id ≢ nil
-complete_not_zeros A id complete = by (map.get A (commit_key id)) (commit_root A id complete).0 (commit_root A id complete).1
+pub read_not_zeros : (A : Objects) (id : List ℕ) (commit : Commit) → commit_at A id ≡ Ok commit → id ≢ nil
+read_not_zeros A id commit is = by (map.get A (commit_key id)) is
   where
-    named : (c commit : Commit) → c.id ≢ nil → (b : Bool) → same_id c.id id ≡ b
-        → (if b then Ok c else Err (Unreadable (commit_key id))) ≡ Ok commit → id ≢ nil
-    named c commit some true same is = subst (λ x. x ≢ nil) (same_id-true c.id id same) some
-    named c commit some false same is = cc
+    named : (c : Commit) → c.id ≢ nil → (b : Bool) → same_id c.id id ≡ b → (if b then Ok c else Err (Unreadable (commit_key id))) ≡ Ok commit → id ≢ nil
+    named c some true same is = subst (λ x. x ≢ nil) (same_id-true c.id id same) some
+    named c some false same is = cc
 
-    read : (bytes : List ℕ) (commit : Commit) (r : Result Commit BadCommit) → commit_of bytes ≡ r → of_name id r ≡ Ok commit → id ≢ nil
-    read bytes commit (Ok c) gave is = named c commit (commit_not_zeros bytes c gave) (same_id c.id id) refl is
-    read bytes commit (Err bad) gave is = cc
+    read : (bytes : List ℕ) (r : Result Commit BadCommit) → commit_of bytes ≡ r → of_name id r ≡ Ok commit → id ≢ nil
+    read bytes (Ok c) gave is = named c (commit_not_zeros bytes c gave) (same_id c.id id) refl is
+    read bytes (Err bad) gave is = cc
 
-    by : (o : Option (List ℕ)) (commit : Commit) → commit_in id o ≡ Ok commit → id ≢ nil
-    by None commit is = cc
-    by (Some bytes) commit is = read bytes commit (commit_of bytes) refl is
+    by : (o : Option (List ℕ)) → commit_in id o ≡ Ok commit → id ≢ nil
+    by None is = cc
+    by (Some bytes) is = read bytes (commit_of bytes) refl is
+
+pub complete_not_zeros : (A : Objects) (id : List ℕ) → IsComplete A id → id ≢ nil
+complete_not_zeros A id complete = read_not_zeros A id (commit_root A id complete).0 (commit_root A id complete).1
 
 -- ---- the parts of a state
 

@@ -1,5 +1,5 @@
 -- What a shelf with one odd slot may give after a call. The key lemmas are odd_kept, odd_put and odd_removed.
-use Rattle.std.proofs.Common.{◌≡◌, ◌⊎◌, inl, inr, Bool, true, false, cond, ℕ, List, Option, None, Some, Ok, refl, sym, ap, ◌∙◌, true≢false}
+use Rattle.std.proofs.Common.{◌≡◌, ◌⊎◌, inl, inr, Bool, true, false, cond, ℕ, List, Option, None, Some, Ok, Err, refl, sym, ap, ◌∙◌, true≢false}
 use Rattle.std.specs.Prelude.{⊤}
 use Rattle.std.specs.Cmp.{eq_by_cmp_equiv}
 use Rattle.std.specs.FinMap as map
@@ -11,7 +11,8 @@ use Rattle.object_store.proofs.MapLemmas.{tied_key}
 use Rattle.object_store.proofs.ShelfLemmas.{put_lies, removed_lies}
 use Rattle.object_store.specs.MemoryShelf.{ShelfAnswers, MemoryShelfState}
 use Rattle.object_store.specs.OddShelf.{GivesOdd, OddAfter, OddShelfState, odd_or}
-use Rattle.object_store.specs.Shelf.{Contents, GivesAlso, GivesNoMore, Tells, lies_in, with_put, without}
+use Rattle.object_store.specs.Shelf.{Contents, GivesAlso, GivesNoMore, LaysBy, Tells, is_counted, lies_in, with_put, without}
+use Rattle.object_store.specs.declared.shelf.ShelfFailed.{ShelfFailed}
 use Rattle.object_store.specs.declared.shelf.Slot.{Slot}
 use Rattle.object_store.specs.declared.shelf.Slot.TheVariants.{Object, Status}
 
@@ -103,3 +104,8 @@ module _ (old new : OddShelfState) where
   pub odd_removed_by : (slot : Slot) (done : ⊤) → ShelfAnswers old.inner new.inner (without old.inner.contents slot) (Ok done) → OddAfter old new slot (Ok done)
       → GivesAlso (GivesOdd old) (GivesOdd new) slot None
   odd_removed_by slot done is odd = odd_removed slot (ap (λ (s : MemoryShelfState). s.contents) is.after) odd.0 odd.1.0 odd.1.1
+
+  -- it was refused
+  pub odd_unremoved : (slot : Slot) (failed : ShelfFailed) → ShelfAnswers {T = ⊤} old.inner new.inner (without old.inner.contents slot) (Err failed) → OddAfter old new slot (Err failed)
+      → LaysBy {T = ⊤} is_counted (GivesOdd old) (GivesOdd new) (Err failed)
+  odd_unremoved slot failed is odd = λ _. odd_kept (ap (λ (s : MemoryShelfState). s.contents) is.after) odd.slot odd.odd

@@ -9,7 +9,7 @@ use Rattle.ids.specs.declared.key.Key.{Key}
 use Rattle.ids.proofs.KeyOrderLemmas.{key_cmp_total}
 use Rattle.object_store.proofs.MapLemmas.{tied_key}
 use Rattle.object_store.specs.MemoryShelf.{ShelfAnswers, MemoryShelfState}
-use Rattle.object_store.specs.Shelf.{Changes, Contents, GivesAlso, GivesNoMore, Tells, lies_in, put_known, removed_known, texts_after, with_put, without}
+use Rattle.object_store.specs.Shelf.{Changes, Contents, GivesAlso, GivesNoMore, LaysBy, Tells, is_counted, lies_in, put_known, removed_known, texts_after, with_put, without}
 use Rattle.object_store.specs.StoreView.{ChangesShelf, ReadsShelf}
 use Rattle.object_store.specs.declared.shelf.ShelfFailed.{ShelfFailed}
 use Rattle.object_store.specs.declared.shelf.ShelfFailed.TheVariants.{Shelf, NoMemory}
@@ -85,6 +85,12 @@ answers_removed old new slot (Ok done) is =
     changed_lies old.contents (without old.contents slot) new.contents slot None (removed_lies old.contents slot) (inr (ap (λ (s : MemoryShelfState). s.contents) is.after))
 answers_removed old new slot (Err failed) is =
     changed_lies old.contents (without old.contents slot) new.contents slot None (removed_lies old.contents slot) (inl (ap (λ (s : MemoryShelfState). s.contents) is.after))
+
+-- a removal that was refused
+pub answers_unremoved : (old new : MemoryShelfState) (slot : Slot) (result : Result ⊤ ShelfFailed)
+    → ShelfAnswers old new (without old.contents slot) result → LaysBy is_counted (Tells old.contents) (Tells new.contents) result
+answers_unremoved old new slot (Ok done) is = tt
+answers_unremoved old new slot (Err failed) is = λ _ at given may. may ∙ ap (λ (s : MemoryShelfState). lies_in s.contents at) is.after
 
 -- ---- calls one after another, over any shelf
 

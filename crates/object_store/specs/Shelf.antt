@@ -1,5 +1,5 @@
 -- What a shelf holds, and what its calls do to it. Our own. Read Contents first, then Changes and FindsNext, then
--- GivesNoMore and GivesAlso.
+-- GivesNoMore, GivesAlso and LaysBy.
 -- What is told is an Option: a shelf in memory tells its contents, an adapter over a real one tells None.
 use Rattle.std.specs.Prelude.{◌≡◌, ◌⊎◌, ◌+◌, ℕ, Bool, true, false, List, length, Option, None, Some, IsSome, Result, Ok, Err, ⊤, option_map, refl}
 use Rattle.std.specs.Coded.{Coded, code_by, coded×, coded_list, coded_option, coded_ℕ}
@@ -91,6 +91,11 @@ GivesNoMore before now = (slot : Slot) (given : Option (List ℕ)) → now slot 
 abbrev pub GivesAlso : (Slot → Option (List ℕ) → Type 0) → (Slot → Option (List ℕ) → Type 0) → Slot → Option (List ℕ) → Type 0
 GivesAlso before now slot laid =
     (at : Slot) (given : Option (List ℕ)) → now at given → before at given ⊎ ((at ≡ slot) × (given ≡ laid))
+
+-- a call that was refused, but for such failures, lets a fetch give no more
+abbrev pub LaysBy : {E T : Type 0} → (E → Bool) → (Slot → Option (List ℕ) → Type 0) → (Slot → Option (List ℕ) → Type 0) → Result T E → Type 0
+LaysBy may before now (Ok done) = ⊤
+LaysBy may before now (Err why) = may why ≡ false → GivesNoMore before now
 
 -- the number of status texts that were put, once one is put into this slot
 abbrev pub texts_after : Slot → ℕ → ℕ

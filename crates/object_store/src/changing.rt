@@ -1,9 +1,9 @@
 //! The changes of one slot, in the index and on the shelf together.
 ghost use Rattle.std.specs.Prelude.{◌≡◌, None, Some, length, OnErr, OnOk};
 ghost use Rattle.std.specs.FinMap as map;
-ghost use Rattle.object_store.specs.Shelf.{put_known, removed_known};
+ghost use Rattle.object_store.specs.Shelf.{LaysBy, put_known, removed_known};
 ghost use Rattle.object_store.specs.Steps.{ChangesBoth};
-ghost use Rattle.object_store.specs.Store.{CountsShelf};
+ghost use Rattle.object_store.specs.Store.{CountsShelf, is_of_shelf};
 ghost use Rattle.object_store.specs.StoreView.{ChangesShelf, IsIndexed};
 
 use crate::error::StoreFault;
@@ -88,6 +88,7 @@ pub(crate) fn remove_object<S: Shelf>(
     ensures value { ChangesBoth index.old (map.remove index.old key.now) (map.remove index.old key.now) index.new
         (S.contents shelf.old) (removed_known (S.contents shelf.old) (Slot.Object key.now)) (S.contents shelf.new) result }
     ensures shelf { ChangesShelf S.may_give S.texts shelf.old shelf.new (Slot.Object key.now) None }
+    ensures untouched { LaysBy is_of_shelf (S.may_give shelf.old) (S.may_give shelf.new) result }
     ensures faults { CountsShelf (S.faults shelf.old) (S.faults shelf.new) result }
 {
     match shelf.remove(Slot::Object(*key)) {

@@ -1,7 +1,7 @@
 //! A shelf that stops after so many calls, as a machine that loses power.
 ghost use Rattle.std.specs.Prelude.{◌≡◌, ◌<◌, ◌^◌, ◌-◌, ℕ, List, IfOk, None, Some, nat_lt};
 ghost use Rattle.object_store.specs.FuseShelf.{PassesChange, PassesRead, burnt, failed_by};
-ghost use Rattle.object_store.specs.Shelf.{Changes, Contents, CountsFaults, FindsNext, GivesAlso, GivesNoMore, Tells, lies_in, put_known, removed_known, texts_after, with_put, without};
+ghost use Rattle.object_store.specs.Shelf.{Changes, Contents, CountsFaults, FindsNext, GivesAlso, GivesNoMore, LaysBy, Tells, is_counted, lies_in, put_known, removed_known, texts_after, with_put, without};
 
 use crate::call_count::CallCount;
 use crate::memory_shelf::MemoryShelf;
@@ -146,6 +146,7 @@ impl Shelf for FuseShelf {
         ensures ok { Changes (Some self.old.inner.contents) (removed_known (Some self.old.inner.contents) slot) (Some self.new.inner.contents) result }
         ensures faults { CountsFaults self.old.faults self.new.faults result }
         ensures gives { GivesAlso (Tells self.old.inner.contents) (Tells self.new.inner.contents) slot None }
+        ensures untouched { LaysBy is_counted (Tells self.old.inner.contents) (Tells self.new.inner.contents) result }
         ensures texts { self.new.texts ≡ self.old.texts }
         ensures value { PassesChange self.old self.new (without self.old.inner.contents slot) result }
     {

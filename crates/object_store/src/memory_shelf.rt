@@ -3,7 +3,7 @@ ghost use Rattle.std.specs.Prelude.{◌≡◌, ◌<◌, ◌^◌, ℕ, List, leng
 ghost use Rattle.std.specs.FinMap as map;
 ghost use Rattle.ids.specs.FaultCount.{is_due};
 ghost use Rattle.object_store.specs.MemoryShelf.{ShelfAnswers, FindsAt, FindsKey, HasIds, IsLeastFrom, begun, fails_next};
-ghost use Rattle.object_store.specs.Shelf.{Changes, Contents, CountsFaults, FindsNext, GivesAlso, GivesNoMore, Tells, lies_in, put_known, removed_known, texts_after, with_put, without};
+ghost use Rattle.object_store.specs.Shelf.{Changes, Contents, CountsFaults, FindsNext, GivesAlso, GivesNoMore, LaysBy, Tells, is_counted, lies_in, put_known, removed_known, texts_after, with_put, without};
 
 use crate::call_count::CallCount;
 use crate::shelf::{Found, Shelf, ShelfFailed, Slot};
@@ -188,6 +188,7 @@ impl Shelf for MemoryShelf {
         ensures ok { Changes (Some self.old.contents) (removed_known (Some self.old.contents) slot) (Some self.new.contents) result }
         ensures faults { CountsFaults self.old.faults self.new.faults result }
         ensures gives { GivesAlso (Tells self.old.contents) (Tells self.new.contents) slot None }
+        ensures untouched { LaysBy is_counted (Tells self.old.contents) (Tells self.new.contents) result }
         ensures texts { self.new.texts ≡ self.old.texts }
         ensures value { ShelfAnswers self.old self.new (without self.old.contents slot) result }
     {

@@ -2,7 +2,7 @@
 ghost use Rattle.std.specs.Prelude.{◌≡◌, ◌↔◌, ℕ, List, IfOk, IfErr, IsTrue, Some, None, Option};
 ghost use Rattle.object_store.specs.MemoryShelf.{ShelfAnswers};
 ghost use Rattle.object_store.specs.OddShelf.{GivesOdd, KeepsOdd, OddAfter, odd_or};
-ghost use Rattle.object_store.specs.Shelf.{Changes, Contents, CountsFaults, FindsNext, GivesAlso, GivesNoMore, put_known, removed_known, texts_after, with_put, without};
+ghost use Rattle.object_store.specs.Shelf.{Changes, Contents, CountsFaults, FindsNext, GivesAlso, GivesNoMore, LaysBy, is_counted, put_known, removed_known, texts_after, with_put, without};
 
 use crate::memory_shelf::MemoryShelf;
 use crate::shelf::{Found, Shelf, ShelfFailed, Slot};
@@ -98,6 +98,7 @@ impl Shelf for OddShelf {
         ensures ok { Changes None (removed_known None slot) None result }
         ensures faults { CountsFaults self.old.inner.faults self.new.inner.faults result }
         ensures gives { GivesAlso (GivesOdd self.old) (GivesOdd self.new) slot None }
+        ensures untouched { LaysBy is_counted (GivesOdd self.old) (GivesOdd self.new) result }
         ensures texts { self.new.inner.texts ≡ self.old.inner.texts }
         ensures value { ShelfAnswers self.old.inner self.new.inner (without self.old.inner.contents slot) result }
         ensures odd { OddAfter self.old self.new slot result }

@@ -1,6 +1,6 @@
 //! A shelf: slots of bytes, which storage or a stand-in for it keeps.
 ghost use Rattle.std.specs.Prelude.{◌≡◌, ℕ, List, IfOk, None, Some};
-ghost use Rattle.object_store.specs.Shelf.{Changes, Contents, CountsFaults, FindsNext, GivesAlso, GivesNoMore, lies_in, put_known, removed_known, texts_after};
+ghost use Rattle.object_store.specs.Shelf.{Changes, Contents, CountsFaults, FindsNext, GivesAlso, GivesNoMore, LaysBy, is_counted, lies_in, put_known, removed_known, texts_after};
 
 use ids::{Bytes, Key, Kind, ObjId};
 
@@ -32,7 +32,7 @@ pub struct Found {
 /// call that answers `Shelf` and in no other, up to 2^64 - 1.
 ///
 /// No call makes it give more than it might before, but what a put lays into its slot, or nothing where a removal empties
-/// it. Each put of the status text is counted, whatever it answers. That count stands in proofs alone: a caller that may
+/// it; a removal for which there was no memory doesn't. Each put of the status text is counted, whatever it answers. That count stands in proofs alone: a caller that may
 /// not write a text can't have put one where it stays.
 pub trait Shelf {
     ghost use Rattle.std.specs.Prelude.{Option};
@@ -82,6 +82,7 @@ pub trait Shelf {
         ensures ok { Changes (contents self.old) (removed_known (contents self.old) slot) (contents self.new) result }
         ensures faults { CountsFaults (faults self.old) (faults self.new) result }
         ensures gives { GivesAlso (may_give self.old) (may_give self.new) slot None }
+        ensures untouched { LaysBy is_counted (may_give self.old) (may_give self.new) result }
         ensures texts { texts self.new ≡ texts self.old };
 
     /// The object of the kind with the least id above `after`, or the least of all, if there is one.

@@ -7,6 +7,7 @@ ghost use Rattle.ids.specs.declared.key.Key.{Key};
 ghost use Rattle.ids.specs.MapView.{IsNext};
 ghost use Rattle.ids.specs.ObjectId.{nil};
 ghost use Rattle.ids.specs.Outcome.{ExactlyWith, RefusesAs};
+ghost use Rattle.object_store.specs.Shelf.{LaysBy};
 ghost use Rattle.object_store.specs.Store.{CountsShelf, IsFoundSame, IsGetFault, IsOfStored, IsPutFault, IsWhole, damage_at, has_other_name, is_free, is_of_shelf, is_want, put_refusal, same_bytes};
 ghost use Rattle.object_store.specs.StoreView.{AddsNoStray, ChangesShelf, HasNoStray, IsStarted, Keeps, NoteChanges, PutChanges, ReadsShelf, RemovalChanges, StartReads, StartsSo, StraysBy, left_after, objects_of, status_of, with_object};
 
@@ -204,6 +205,7 @@ impl<S: Shelf> Store<S> {
         ensures changes { RemovalChanges S.contents self.old self.new key result }
         ensures lying { StraysBy is_of_shelf S.contents self.old self.new result }
         ensures shelf { ChangesShelf S.may_give S.texts self.old.shelf self.new.shelf (Slot.Object key) None }
+        ensures untouched { LaysBy is_of_shelf (S.may_give self.old.shelf) (S.may_give self.new.shelf) result }
         ensures faults { CountsShelf (S.faults self.old.shelf) (S.faults self.new.shelf) result }
     {
         remove_object(&mut self.shelf, &mut self.index, &key)

@@ -1,9 +1,9 @@
 -- One candidate more leaves; none is left, the shelf fails, or as many left as were asked for.
-use Rattle.std.proofs.Common.{Err, Some, ap, arith, inl, length, refl, subst, ◌∙◌, ℕ}
+use Rattle.std.proofs.Common.{Err, Ok, Some, ap, arith, inl, length, refl, subst, ◌∙◌, ℕ}
 use Rattle.std.proofs.lemmas.List.{length_push}
 use Rattle.std.specs.Prelude.{⊤}
 use Rattle.object_store.specs.Store.{CountsShelf}
-use Rattle.collector.proofs.SweepLemmas.{few_err, gives_then, least_err, least_none, least_then, none_len, still_known, strays_after, told_err, took_err, took_nothing, took_then}
+use Rattle.collector.proofs.SweepLemmas.{few_err, gives_on, least_err, least_none, least_then, none_len, still_known, strays_after, told_err, took_err, took_nothing, took_then}
 use Rattle.collector.proofs.sweeping.take_some.Goals as goal
 
 pub loop-candidates-init : goal.loop-candidates-init
@@ -44,7 +44,9 @@ loop-candidates-preserved g c =
       few = omega (arith, c.loop-candidates-test.true, ap length c.in-Ok.ensures.value.removed, length_push c.loop-candidates.removed.items c.in-Some.key);
       unwritten = c.take.ensures.unwritten ∙ inv.unwritten;
       gives =
-          gives_then (g.S.Shelf.may_give c.args.store.now.shelf) (g.S.Shelf.may_give c.loop-candidates.store.shelf) (g.S.Shelf.may_give c.take.new.store.shelf) inv.gives c.take.ensures.gives;
+          gives_on g.S.Shelf.contents c.loop-candidates.store c.take.new.store c.loop-candidates.candidates c.take.new.candidates
+          (g.S.Shelf.may_give c.args.store.now.shelf) (g.S.Shelf.may_give c.loop-candidates.store.shelf) (g.S.Shelf.may_give c.take.new.store.shelf)
+          c.loop-candidates.removed.items c.take.new.removed.items c.in-Some.key (Ok tt) c.in-Ok.ensures.value inv.gives c.take.ensures.gives;
       texts = c.take.ensures.texts ∙ inv.texts;
       strays = λ key stray. inv.strays key (c.in-Ok.ensures.lying key stray);
       count = c.in-Ok.ensures.faults ∙ inv.count;
@@ -81,8 +83,9 @@ returns-in-Err-clause-failed g c =
 
 pub returns-in-Err-clause-gives : goal.returns-in-Err-clause-gives
 returns-in-Err-clause-gives g c =
-    gives_then (g.S.Shelf.may_give c.args.store.now.shelf) (g.S.Shelf.may_give c.loop-candidates.store.shelf) (g.S.Shelf.may_give c.take.new.store.shelf)
-    c.loop-candidates.invariant.gives c.take.ensures.gives
+    gives_on g.S.Shelf.contents c.loop-candidates.store c.take.new.store c.loop-candidates.candidates c.take.new.candidates
+    (g.S.Shelf.may_give c.args.store.now.shelf) (g.S.Shelf.may_give c.loop-candidates.store.shelf) (g.S.Shelf.may_give c.take.new.store.shelf)
+    c.loop-candidates.removed.items c.take.new.removed.items c.in-Some.key (Err c.in-Err.fault) c.in-Err.ensures.value c.loop-candidates.invariant.gives c.take.ensures.gives
 
 pub returns-in-Err-clause-order : goal.returns-in-Err-clause-order
 returns-in-Err-clause-order g c =

@@ -10,7 +10,7 @@ invariant-loop-candidates g l = record {
   least : TookLeast l.candidates l.removed.items;
   few : length l.removed.items ≤ l.at_most;
   unwritten : status_of g.S.Shelf.contents l.store ≡ status_of g.S.Shelf.contents l.initial.store;
-  gives : GivesOrNothing (g.S.Shelf.may_give l.initial.store.shelf) (g.S.Shelf.may_give l.store.shelf);
+  gives : GivesOrNothing (g.S.Shelf.may_give l.initial.store.shelf) (g.S.Shelf.may_give l.store.shelf) l.removed.items;
   texts : g.S.Shelf.texts l.store.shelf ≡ g.S.Shelf.texts l.initial.store.shelf;
   strays : AddsNoStray g.S.Shelf.contents l.initial.store l.store;
   count : g.S.Shelf.faults l.store.shelf ≡ g.S.Shelf.faults l.initial.store.shelf;
