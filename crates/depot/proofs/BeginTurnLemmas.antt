@@ -273,7 +273,7 @@ module _ {S : Type 0} (contents : S → Option Contents) (may_give : S → Shelf
         counts =
             subst (λ (b : Bool). MatchBool b ((faults store.shelf ≤ faults new.shelf) × Rose (faults store.shelf) (faults new.shelf)) (faults new.shelf ≡ faults store.shelf)) (counted_same fault) count
 
-        wider : (slot : ShelfSlot) (given : Option (List ℕ)) → may_give store.shelf slot given ⊎ IsOwnText state.lib slot given → may_give store.shelf slot given ⊎ IsOfSweep state.lib slot given
+        wider : (slot : ShelfSlot) (given : Option (List ℕ)) → may_give store.shelf slot given ⊎ IsOwnText state.lib slot given → may_give store.shelf slot given ⊎ IsOfSweep state.lib [] slot given
         wider slot given (inl before) = inl before
         wider slot given (inr text) = inr (inl text)
 

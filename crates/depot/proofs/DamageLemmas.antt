@@ -13,7 +13,7 @@ use Rattle.fs_objects.specs.FsObject.{fs_of}
 use Rattle.fs_objects.specs.declared.fault.BadFs.{BadFs}
 use Rattle.fs_objects.specs.declared.fs_object.FsObject.{FsObject}
 use Rattle.depot.specs.Answering.{MayAnswer, MayDo, is_free_reply, MayRefuseTree, is_free_refusal}
-use Rattle.depot.specs.Giving.{GivesBy, MayLay, IsNothing}
+use Rattle.depot.specs.Giving.{GivesBy, IsGone, IsOfSweep, MayLay}
 use Rattle.library_rules.specs.Calls.{act_decided, decided, first_refusal, may, not_commit, not_fs, put_refusals, token_decided, token_of}
 use Rattle.library_rules.specs.LibraryState.{head_of, is_day_count, is_kept, Running}
 use Rattle.library_state.specs.declared.call.Act.{Act}
@@ -23,12 +23,13 @@ use Rattle.library_state.specs.declared.reply.Reply.{Reply}
 use Rattle.library_state.specs.declared.state.LibState.{LibState}
 use Rattle.library_state.specs.declared.token.Token.{Token}
 use Rattle.object_graph.specs.Objects.{commit_key, is_nil, same_id}
+use Rattle.object_graph.specs.Traversal.{is_in}
 use Rattle.object_store.specs.Store.{IsDamage, IsOther, has_other_name, name_refusal, same_bytes}
 use Rattle.ids.specs.ObjectId.{nil}
 use Rattle.object_store.specs.StoreView.{Index}
 use Rattle.object_store.specs.declared.shelf.Slot.{Slot}
 use Rattle.object_store.specs.declared.shelf.Slot.TheVariants.{Object, Status}
-use Rattle.depot.specs.CollectionTurns.{MayLayIn, MayLayRefused, MayTurn}
+use Rattle.depot.specs.CollectionTurns.{MayLayIn, MayLayRefused, MayTurn, removed_in}
 use Rattle.depot.specs.declared.turn.Turn.{Turn}
 use Rattle.depot.specs.declared.turn.Turn.TheVariants.{Began, Marked, Swept, Ended, Over, Refused}
 use Rattle.ids.specs.declared.key.Kind.TheVariants as kind
@@ -37,7 +38,7 @@ use Rattle.library_state.specs.declared.call.Op.TheVariants as op
 use Rattle.library_state.specs.declared.refusal.Refusal.TheVariants as refusal
 use Rattle.library_state.specs.declared.reply.Reply.TheVariants as reply
 use Rattle.object_store.specs.declared.error.StoreFault.TheVariants as store
-use Rattle.depot.specs.Damage.{IsCaused, IsCausedReply, OrNothing}
+use Rattle.depot.specs.Damage.{IsCaused, IsCausedReply, OrGone, OrNothing}
 
 -- ---- a refusal that the state decides tells of no damage
 
@@ -198,7 +199,7 @@ laid_harmless lib (act.Check op.Download) key given is = absurd is
 laid_harmless lib (act.Check op.Upload) key given is = absurd (no_text key is.at)
 laid_harmless lib act.Head key given is = absurd is
 laid_harmless lib (act.Get other) key given is = absurd is
-laid_harmless lib (act.Put other bytes) key given is = (bytes, is.is, subst (λ k. has_other_name k bytes ≡ false) (sym (same_key key other is.at)) is.named)
+laid_harmless lib (act.Put other bytes) key given is = (bytes, is.1.is, subst (λ k. has_other_name k bytes ≡ false) (sym (same_key key other is.1.at)) is.1.named)
 laid_harmless lib (act.Missing k ids) key given is = absurd is
 laid_harmless lib (act.Update commit) key given (inl is) =
     (is.bytes, is.is, subst (λ k. has_other_name k is.bytes ≡ false) (sym (same_key key is.key is.at)) (own_named is.key is.bytes is.named))
@@ -235,28 +236,38 @@ nothing_more before now harmless key given is = by (harmless key given is)
     by (inr own) = inr own
 
 -- what a turn lays under a key is nothing
-refused_laid : (lib : List ℕ) (why : Refusal) (key : Key) (given : Option (List ℕ)) → MayLayRefused lib why (Object key) given → IsNothing (Object key) given
-refused_laid lib refusal.Store key given (inl text) = absurd (no_text key text.at)
-refused_laid lib refusal.Store key given (inr nothing) = nothing
-refused_laid lib refusal.NoMemory key given (inl text) = absurd (no_text key text.at)
-refused_laid lib refusal.NoMemory key given (inr nothing) = nothing
-refused_laid lib other key given laid = absurd laid
+sweep_laid : (lib : List ℕ) (keys : List Key) (key : Key) (given : Option (List ℕ)) → IsOfSweep lib keys (Object key) given → IsGone keys (Object key) given
+sweep_laid lib keys key given (inl text) = absurd (no_text key text.at)
+sweep_laid lib keys key given (inr gone) = gone
 
-turn_laid : (lib : List ℕ) (turn : Turn) (key : Key) (given : Option (List ℕ)) → MayLayIn lib turn (Object key) given → IsNothing (Object key) given
+refused_laid : (lib : List ℕ) (why : Refusal) (keys : List Key) (key : Key) (given : Option (List ℕ)) → MayLayRefused lib why keys (Object key) given → IsGone keys (Object key) given
+refused_laid lib refusal.Store keys key given laid = sweep_laid lib keys key given laid
+refused_laid lib refusal.NoMemory keys key given laid = sweep_laid lib keys key given laid
+refused_laid lib other keys key given laid = absurd laid
+
+turn_laid : (lib : List ℕ) (turn : Turn) (key : Key) (given : Option (List ℕ)) → MayLayIn lib turn (Object key) given → IsGone (removed_in turn) (Object key) given
 turn_laid lib (Began number) key given laid = absurd (no_text key laid.at)
 turn_laid lib (Marked count) key given laid = absurd laid
-turn_laid lib (Swept keys) key given (inl text) = absurd (no_text key text.at)
-turn_laid lib (Swept keys) key given (inr nothing) = nothing
+turn_laid lib (Swept keys) key given laid = sweep_laid lib keys key given laid
 turn_laid lib (Ended number) key given laid = absurd laid
 turn_laid lib (Over number) key given laid = absurd laid
-turn_laid lib (Refused why keys) key given laid = refused_laid lib why key given laid
+turn_laid lib (Refused why keys) key given laid = refused_laid lib why keys key given laid
 
 pub turn_harmless : (gives mid now : Slot → Option (List ℕ) → Type 0) (lib : List ℕ) (turn : Turn) → Harmless (OrNothing gives) mid → GivesBy (MayLayIn lib turn) mid now → Harmless (OrNothing gives) now
 turn_harmless gives mid now lib turn harmless more key given is = by (more (Object key) given is)
   where
     by : mid (Object key) given ⊎ MayLayIn lib turn (Object key) given → OrNothing gives (Object key) given ⊎ ((bytes : List ℕ) × (given ≡ Some bytes) × (has_other_name key bytes ≡ false))
     by (inl was) = harmless key given was
-    by (inr laid) = inl (inr (turn_laid lib turn key given laid))
+    by (inr laid) = let gone = turn_laid lib turn key given laid in inl (inr (gone.0, gone.2, gone.3))
+
+-- and so where these keys are told
+pub turn_leaves : (gives mid now : Slot → Option (List ℕ) → Type 0) (lib : List ℕ) (keys : List Key) (turn : Turn) → ((key : Key) → is_in (removed_in turn) key ≡ true → is_in keys key ≡ true)
+    → Harmless (OrGone keys gives) mid → GivesBy (MayLayIn lib turn) mid now → Harmless (OrGone keys gives) now
+turn_leaves gives mid now lib keys turn among harmless more key given is = by (more (Object key) given is)
+  where
+    by : mid (Object key) given ⊎ MayLayIn lib turn (Object key) given → OrGone keys gives (Object key) given ⊎ ((bytes : List ℕ) × (given ≡ Some bytes) × (has_other_name key bytes ≡ false))
+    by (inl was) = harmless key given was
+    by (inr laid) = let gone = turn_laid lib turn key given laid in inl (inr (gone.0, among gone.0 gone.1, gone.2, gone.3))
 
 -- a refusal that a turn may have: who asks and which library are looked at before
 abbrev pub IsOfTurn : Refusal → Type 0

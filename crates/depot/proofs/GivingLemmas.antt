@@ -1,7 +1,8 @@
 -- What a shelf may give after several calls. The key lemmas are then_by,
--- read_by, wider_by, text_by, object_by, named_by and made_by.
-use Rattle.std.proofs.Common.{◌≡◌, ◌⊎◌, inl, inr, ℕ, Bool, true, false, List, refl, ap, ◌∙◌, Option, None, Some}
+-- read_by, wider_by, text_by, object_by, put_as, named_by and made_by.
+use Rattle.std.proofs.Common.{◌≡◌, ◌⊎◌, inl, inr, ℕ, Bool, true, false, List, refl, sym, subst, ap, ◌∙◌, Option, None, Some}
 use Rattle.ids.specs.declared.key.Key.{Key}
+use Rattle.ids.specs.declared.key.Kind.{Kind}
 use Rattle.library_state.specs.StateSpelling.{text_of}
 use Rattle.library_state.specs.declared.state.LibState.{LibState}
 use Rattle.object_store.specs.Shelf.{GivesAlso, GivesNoMore}
@@ -9,7 +10,7 @@ use Rattle.object_store.specs.Store.{has_other_name, name_refusal}
 use Rattle.object_store.specs.declared.shelf.Slot.{Slot}
 use Rattle.object_store.specs.declared.shelf.Slot.TheVariants.{Object, Status}
 use Rattle.library_rules.specs.declared.entry.Stored.{Stored}
-use Rattle.depot.specs.Giving.{GivesBy, IsLaidAs, IsNamedObject, IsObject, IsOfMaking, IsOwnText}
+use Rattle.depot.specs.Giving.{GivesBy, IsLaidAs, IsNamedObject, IsObject, IsOfMaking, IsOwnText, IsPut, IsReadAs}
 
 -- nothing more may be given than before
 pub no_more : {before now : Slot → Option (List ℕ) → Type 0} (laid : Slot → Option (List ℕ) → Type 0) → GivesNoMore before now → GivesBy laid before now
@@ -81,6 +82,10 @@ module _ {before now : Slot → Option (List ℕ) → Type 0} where
       by : (other : Bool) → has_other_name key bytes ≡ other → GivesBy (IsObject key bytes) before now
       by true other = no_more (IsObject key bytes) (refused other)
       by false named = put_by key bytes named gives
+
+  -- an object that is read as its kind asks
+  pub put_as : (key : Key) (bytes : List ℕ) (kind : Kind) → key.kind ≡ kind → IsReadAs kind key.id bytes → GivesBy (IsObject key bytes) before now → GivesBy (IsPut key bytes) before now
+  put_as key bytes kind is read = wider_by {wider = IsPut key bytes} (λ slot given object. (subst (λ k. IsReadAs k key.id bytes) (sym is) read, object))
 
   -- what is laid after a reading
   pub also_read : {earlier : Slot → Option (List ℕ) → Type 0} {at : Slot} {laid : Option (List ℕ)} → GivesNoMore earlier before → GivesAlso before now at laid → GivesAlso earlier now at laid

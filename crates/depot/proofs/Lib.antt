@@ -59,3 +59,4 @@ pub mod StoryLemmas
 pub mod SizeLemmas
 pub mod TellingLemmas
 pub mod DamageLemmas
+pub mod GivenLemmas

@@ -87,7 +87,7 @@ free_needed s keys other free = tt
 
 -- a turn that they end lays what a sweep does
 pub refused_lays : (lib : List ℕ) (why : Refusal) (keys : List Key) (fault : StoreFault) (before now : Slot → Option (List ℕ) → Type 0) → why ≡ store_refusal fault → IsTrue (is_free fault)
-    → GivesBy (IsOfSweep lib) before now → GivesBy (MayLayIn lib (Refused why keys)) before now
+    → GivesBy (IsOfSweep lib keys) before now → GivesBy (MayLayIn lib (Refused why keys)) before now
 refused_lays lib why keys fault before now refusal free gives = subst (λ (w : Refusal). GivesBy (MayLayIn lib (Refused w keys)) before now) (sym refusal) (by fault free)
   where
     by : (f : StoreFault) → IsTrue (is_free f) → GivesBy (MayLayIn lib (Refused (store_refusal f) keys)) before now

@@ -1,9 +1,11 @@
 -- The history of a library: chains of changes, and the legal list that a chain is. The key lemmas are leads_on, leads_same, lib_stays,
--- answered_lays, turned_lays, comes_on, history_of, sound_still, keys_stay, stored_stays and stored_not_missing.
-use Rattle.std.proofs.Common.{◌≡◌, ◌⊎◌, inl, inr, ℕ, zero, suc, ◌+◌, List, [], ◌∷◌, ◌++◌, length, refl, sym, ap, ◌∙◌, subst, Bool, true, false, ◌||◌, if◌then◌else◌, is_some, true≢false, Option, None, Some, option_map, add-one}
+-- answered_lays, turned_lays, ran_same, ran_on, comes_on, history_of, sound_still, keys_stay, stored_stays and stored_not_missing.
+use Rattle.std.proofs.Common.{◌≡◌, ◌⊎◌, inl, inr, ℕ, zero, suc, ◌+◌, List, [], ◌∷◌, ◌++◌, length, refl, sym, ap, ◌∙◌, subst, Bool, true, false, ◌||◌, if◌then◌else◌, is_some, true≢false, Option, None, Some, option_map, add-one, ◌≤◌, arith, take, drop, take-append-drop}
 use Rattle.std.specs.FinMap as map
 use Rattle.std.specs.List.{slice_get}
 use Rattle.ids.specs.declared.key.Key.{Key}
+use Rattle.ids.specs.declared.key.Kind.{Kind}
+use Rattle.ids.specs.declared.key.Kind.TheVariants as kinds
 use Rattle.library_rules.specs.Changes.{apply, head_in, is_refused, with_install}
 use Rattle.library_rules.specs.History.{Enters, IsPermitted, StepPermits, after}
 use Rattle.library_rules.specs.LibraryState.{IsSound, State, is_kept}
@@ -26,17 +28,20 @@ use Rattle.ids.specs.ObjectId.{nil}
 use Rattle.object_store.specs.Shelf.{Contents}
 use Rattle.object_graph.specs.Traversal.{is_in}
 use Rattle.object_graph.proofs.KeyLemmas.{in_append, same_key-itself}
+use Rattle.std.proofs.lemmas.Bool.{or_left, or_right}
+use Rattle.collector.proofs.CountedLemmas.{fewer_fit}
+use Rattle.ids.proofs.BasicLemmas.{same_from_some}
 use Rattle.object_store.specs.StoreView.{Index, objects_of}
 use Rattle.object_store.specs.declared.shelf.Slot.{Slot}
 use Rattle.object_store.specs.Store.{has_other_name, name_refusal, same_bytes}
 use Rattle.object_store.specs.declared.error.StoreFault.TheVariants.{Taken, Wrong}
 use Rattle.depot.specs.Answering.{AnswersBySome}
 use Rattle.depot.specs.CollectionTurns.{MayLayIn, MayLayRefused, TurnsBySome, removed_in, state_after_turn}
-use Rattle.depot.specs.Giving.{GivesBy, IsLaid, IsOfSweep, MayLay}
+use Rattle.depot.specs.Giving.{GivesBy, IsLaid, IsLaidAs, IsNamedAs, IsOfSweep, IsReadAs, MayLay}
 use Rattle.depot.specs.NextState.{next_by, next_state, state_after}
 use Rattle.depot.proofs.GivingLemmas.{then_by, wider_by}
 use Rattle.depot.specs.DepotView.{DepotView, running_library, state_of}
-use Rattle.depot.specs.Story.{ComesBy, HistoryOf, IsAnswered, IsOther, IsSame, IsTurned, LeadsTo, Links, MadeBy, removed_of, reply_of, reply_of_turn, removed_through, same_itself, step_of, step_of_turn}
+use Rattle.depot.specs.Story.{ComesBy, Done, HistoryOf, IsAnswered, IsAsked, IsDoneSo, IsMadeAs, IsOther, IsSame, IsTurned, LeadsTo, Links, MadeBy, RanBy, removed_of, reply_of, reply_of_turn, removed_through, same_itself, step_of, step_of_turn}
 use Rattle.depot.specs.Held.{HoldsPut, IndexSo, TellsMissing}
 use Rattle.depot.specs.declared.story.Change.{Change}
 use Rattle.depot.specs.declared.story.Made.{Made}
@@ -93,36 +98,89 @@ named_bytes key bytes = by (has_other_name key bytes)
     by true none = cc none
     by false none = refl
 
-call_lays : (lib : List ℕ) (a : Act) (slot : Slot) (given : Option (List ℕ)) → MayLay lib a slot given → IsLaid lib slot given
+-- under a name that is its own
+read_named : (kind : Kind) (id bytes : List ℕ) → IsReadAs kind id bytes → IsNamedAs kind id bytes
+read_named kinds.Commit id bytes read = (read.0, inl read.1, read.2)
+read_named kinds.Fs id bytes read = tt
+read_named kinds.Block id bytes read = tt
+
+laid_named : (kind : Kind) (id bytes : List ℕ) → IsLaidAs kind id bytes → IsNamedAs kind id bytes
+laid_named kinds.Commit id bytes laid = (laid.0, inr laid.1, laid.2)
+laid_named kinds.Fs id bytes laid = tt
+laid_named kinds.Block id bytes laid = absurd laid
+
+call_lays : (lib : List ℕ) (a : Act) (slot : Slot) (given : Option (List ℕ)) → MayLay lib a slot given → IsLaid lib [] slot given
 call_lays lib (act.Check op.Download) slot given none = absurd none
 call_lays lib (act.Check op.Upload) slot given text = inl text
 call_lays lib act.Head slot given none = absurd none
 call_lays lib (act.Get key) slot given none = absurd none
-call_lays lib (act.Put key bytes) slot given object = inr (inl (key, bytes, object))
+call_lays lib (act.Put key bytes) slot given object = inr (inl (key, bytes, read_named key.kind key.id bytes object.0, object.1))
 call_lays lib (act.Missing k ids) slot given none = absurd none
 call_lays lib (act.Update pushed) slot given (inl laid) =
-    inr (inl (laid.key, laid.bytes, record { at = laid.at; is = laid.is; named = named_bytes laid.key laid.bytes laid.named }))
+    inr (inl (laid.key, laid.bytes, laid_named laid.key.kind laid.key.id laid.bytes laid.laid_as, record { at = laid.at; is = laid.is; named = named_bytes laid.key laid.bytes laid.named }))
 call_lays lib (act.Update pushed) slot given (inr text) = inl text
 call_lays lib (act.Limit days) slot given text = inl text
 call_lays lib (act.Ids server client) slot given none = absurd none
 
--- and a turn
-sweep_lays : (lib : List ℕ) (slot : Slot) (given : Option (List ℕ)) → IsOfSweep lib slot given → IsLaid lib slot given
-sweep_lays lib slot given (inl text) = inl text
-sweep_lays lib slot given (inr nothing) = inr (inr nothing)
+-- and a turn, by which its keys leave
+sweep_lays : (lib : List ℕ) (keys : List Key) (slot : Slot) (given : Option (List ℕ)) → IsOfSweep lib keys slot given → IsLaid lib keys slot given
+sweep_lays lib keys slot given (inl text) = inl text
+sweep_lays lib keys slot given (inr gone) = inr (inr gone)
 
-refused_lays : (lib : List ℕ) (why : Refusal) (slot : Slot) (given : Option (List ℕ)) → MayLayRefused lib why slot given → IsLaid lib slot given
-refused_lays lib refusal.Store slot given laid = sweep_lays lib slot given laid
-refused_lays lib refusal.NoMemory slot given laid = sweep_lays lib slot given laid
-refused_lays lib other slot given none = absurd none
+refused_lays : (lib : List ℕ) (why : Refusal) (keys : List Key) (slot : Slot) (given : Option (List ℕ)) → MayLayRefused lib why keys slot given → IsLaid lib keys slot given
+refused_lays lib refusal.Store keys slot given laid = sweep_lays lib keys slot given laid
+refused_lays lib refusal.NoMemory keys slot given laid = sweep_lays lib keys slot given laid
+refused_lays lib other keys slot given none = absurd none
 
-turn_lays : (lib : List ℕ) (taken : Turn) (slot : Slot) (given : Option (List ℕ)) → MayLayIn lib taken slot given → IsLaid lib slot given
+turn_lays : (lib : List ℕ) (taken : Turn) (slot : Slot) (given : Option (List ℕ)) → MayLayIn lib taken slot given → IsLaid lib (removed_in taken) slot given
 turn_lays lib (turn.Began number) slot given text = inl text
 turn_lays lib (turn.Marked count) slot given none = absurd none
-turn_lays lib (turn.Swept keys) slot given laid = sweep_lays lib slot given laid
+turn_lays lib (turn.Swept keys) slot given laid = sweep_lays lib keys slot given laid
 turn_lays lib (turn.Ended number) slot given none = absurd none
 turn_lays lib (turn.Over number) slot given none = absurd none
-turn_lays lib (turn.Refused why keys) slot given laid = refused_lays lib why slot given laid
+turn_lays lib (turn.Refused why keys) slot given laid = refused_lays lib why keys slot given laid
+
+-- what is laid as keys leave is laid as more leave
+pub laid_more : (lib : List ℕ) (keys more : List Key) → ((key : Key) → is_in keys key ≡ true → is_in more key ≡ true) → (slot : Slot) (given : Option (List ℕ)) → IsLaid lib keys slot given
+    → IsLaid lib more slot given
+laid_more lib keys more among slot given (inl text) = inl text
+laid_more lib keys more among slot given (inr (inl object)) = inr (inl object)
+laid_more lib keys more among slot given (inr (inr gone)) = inr (inr (gone.0, among gone.0 gone.1, gone.2, gone.3))
+
+pub among_none : (more : List Key) (key : Key) → is_in [] key ≡ true → is_in more key ≡ true
+among_none more key none = absurd (true≢false (sym none))
+
+-- the keys that left stay those that left as changes follow
+pub removed_on : {V : Type 0} (cs ds : List (Change V)) (key : Key) → is_in (removed_through cs) key ≡ true → is_in (removed_through (cs ++ ds)) key ≡ true
+removed_on [] ds key none = absurd (true≢false (sym none))
+removed_on (c ∷ cs) ds key there =
+    in_append (removed_of c.made) (removed_through (cs ++ ds)) key
+    ∙ by (is_in (removed_of c.made) key) (removed_on cs ds key) (sym (in_append (removed_of c.made) (removed_through cs) key) ∙ there)
+  where
+    by : (b : Bool) → (is_in (removed_through cs) key ≡ true → is_in (removed_through (cs ++ ds)) key ≡ true) → (b || is_in (removed_through cs) key) ≡ true
+        → (b || is_in (removed_through (cs ++ ds)) key) ≡ true
+    by true more is = refl
+    by false more is = more is
+
+-- so of all changes up to a place
+pub removed_front : {V : Type 0} (n : ℕ) (cs : List (Change V)) (key : Key) → is_in (removed_through (take n cs)) key ≡ true → is_in (removed_through cs) key ≡ true
+removed_front {V} n cs key there = subst (λ (l : List (Change V)). is_in (removed_through l) key ≡ true) (take-append-drop n cs) (removed_on (take n cs) (drop n cs) key there)
+
+-- those of the change at a place are among them
+pub removed_at : {V : Type 0} (cs : List (Change V)) (n : ℕ) (c : Change V) (key : Key) → slice_get cs n ≡ Some c → is_in (removed_of c.made) key ≡ true → is_in (removed_through cs) key ≡ true
+removed_at [] n c key at there = cc
+removed_at {V} (d ∷ cs) zero c key at there =
+    in_append (removed_of d.made) (removed_through cs) key
+    ∙ or_left (is_in (removed_of d.made) key) (is_in (removed_through cs) key) (subst (λ (e : Change V). is_in (removed_of e.made) key ≡ true) (sym (same_from_some d c at)) there)
+removed_at (d ∷ cs) (suc n) c key at there =
+    in_append (removed_of d.made) (removed_through cs) key ∙ or_right (is_in (removed_of d.made) key) (is_in (removed_through cs) key) (removed_at cs n c key at there)
+
+-- and those of the last one
+pub removed_last : {V : Type 0} (cs : List (Change V)) (c : Change V) (key : Key) → is_in (removed_of c.made) key ≡ true → is_in (removed_through (cs ++ c ∷ [])) key ≡ true
+removed_last [] c key there = in_append (removed_of c.made) [] key ∙ or_left (is_in (removed_of c.made) key) (is_in [] key) there
+removed_last (d ∷ cs) c key there =
+    in_append (removed_of d.made) (removed_through (cs ++ c ∷ [])) key
+    ∙ or_right (is_in (removed_of d.made) key) (is_in (removed_through (cs ++ c ∷ [])) key) (removed_last cs c key there)
 
 -- neither makes another library's state
 lib_next : (state : LibState) (secret : Option (List ℕ)) (moment : ℕ) (a : Act) (r : Reply) → (next_by state secret moment a r).lib ≡ state.lib
@@ -157,12 +215,21 @@ lib_after state call moment r = by (is_refused r)
 
 module _ {S : Type 0} (contents : S → Option Contents) (may_give : S → Slot → Option (List ℕ) → Type 0) (texts faults : S → ℕ) where
   pub answered_lays : (x : DepotView S) (call : Call) (moment : ℕ) (r : Reply) (y : DepotView S) → IsAnswered contents may_give texts faults x call moment r y
-      → GivesBy (IsLaid x.state.lib) (may_give x.store.shelf) (may_give y.store.shelf)
+      → GivesBy (IsLaid x.state.lib []) (may_give x.store.shelf) (may_give y.store.shelf)
   answered_lays x call moment r y answered = wider_by (call_lays x.state.lib call.act) answered.gives
 
   pub turned_lays : (x : DepotView S) (goal : Option ℕ) (moment at_most : ℕ) (taken : Turn) (y : DepotView S) → IsTurned contents may_give texts faults x goal moment at_most taken y
-      → GivesBy (IsLaid x.state.lib) (may_give x.store.shelf) (may_give y.store.shelf)
+      → GivesBy (IsLaid x.state.lib (removed_in taken)) (may_give x.store.shelf) (may_give y.store.shelf)
   turned_lays x goal moment at_most taken y turned = wider_by (turn_lays x.state.lib taken) turned.takes.gives
+
+  -- a turn that left the library as it was let no key go
+  pub turned_same : (x : DepotView S) (goal : Option ℕ) (moment at_most : ℕ) (taken : Turn) (y : DepotView S) → IsTurned contents may_give texts faults x goal moment at_most taken y
+      → IsSame contents faults x y → removed_in taken ≡ []
+  turned_same x goal moment at_most taken y turned same = none_by (removed_in taken) (omega (arith, turned.takes.number, fewer_fit x.store.index y.store.index (λ key there. same.keys key ∙ there)))
+    where
+      none_by : (keys : List Key) → length keys ≤ 0 → keys ≡ []
+      none_by [] none = refl
+      none_by (key ∷ keys) none = absurd (omega (arith, none))
 
   lib_made : (m : Made) (old : DepotView S) (moment : ℕ) (new : DepotView S) → MadeBy contents may_give texts faults m old moment new → new.state.lib ≡ old.state.lib
   lib_made (made.Asked call said) old moment new by = ap (λ (s : LibState). s.lib) by.serves.left ∙ lib_after old.state call.value moment said.value
@@ -174,12 +241,29 @@ module _ {S : Type 0} (contents : S → Option Contents) (may_give : S → Slot 
   lib_stays x (c ∷ cs) y leads =
       lib_stays c.after.value cs y leads.2 ∙ lib_made c.made c.before.value c.moment c.after.value leads.1.by ∙ ap (λ (s : LibState). s.lib) leads.0.state
 
-  -- a library comes on by what is laid after it
+  -- a call or turn more, which changed nothing
+  pub ran_same : (x : DepotView S) (cs : List (Change (DepotView S))) (y : DepotView S) (done : Done) (z : DepotView S) → RanBy contents may_give texts faults x cs y → IsAsked done
+      → IsDoneSo contents may_give texts faults y done z → IsSame contents faults y z → RanBy contents may_give texts faults x cs z
+  ran_same x cs y done z ran asked did same = record { dones = done ∷ ran.dones; runs = (y, ran.runs, did); are = inl (asked, same, ran.are) }
+
+  -- or made a change
+  pub ran_on : (x : DepotView S) (cs : List (Change (DepotView S))) (y : DepotView S) (done : Done) (z : DepotView S) (c : Change (DepotView S)) → RanBy contents may_give texts faults x cs y
+      → IsDoneSo contents may_give texts faults y done z → c.before.value ≡ y → IsMadeAs c.made c.moment done → c.after.value ≡ z → RanBy contents may_give texts faults x (cs ++ c ∷ []) z
+  ran_on x cs y done z c ran did from is_made to = record {
+    dones = done ∷ ran.dones;
+    runs = (y, ran.runs, did);
+    are = inr (cs, record { change = c; is = refl; from = from; made = is_made; to = to }, ran.are);
+  }
+
+  -- a library comes on by what is laid after it, while keys that left stay those that left
   pub comes_on : (x : DepotView S) (cs : List (Change (DepotView S))) (y : DepotView S) (ds : List (Change (DepotView S))) (z : DepotView S) → ComesBy contents may_give texts faults x cs y
-      → LeadsTo contents may_give texts faults x ds z → GivesBy (IsLaid y.state.lib) (may_give y.store.shelf) (may_give z.store.shelf) → ComesBy contents may_give texts faults x ds z
-  comes_on x cs y ds z comes leads gives = record {
+      → LeadsTo contents may_give texts faults x ds z → GivesBy (IsLaid y.state.lib (removed_through ds)) (may_give y.store.shelf) (may_give z.store.shelf) → RanBy contents may_give texts faults x ds z
+      → ((key : Key) → is_in (removed_through cs) key ≡ true → is_in (removed_through ds) key ≡ true) → ComesBy contents may_give texts faults x ds z
+  comes_on x cs y ds z comes leads gives ran among = record {
     leads = leads;
-    gives = then_by comes.gives (subst (λ (lib : List ℕ). GivesBy (IsLaid lib) (may_give y.store.shelf) (may_give z.store.shelf)) (lib_stays x cs y comes.leads) gives);
+    gives = then_by (wider_by (laid_more x.state.lib (removed_through cs) (removed_through ds) among) comes.gives)
+        (subst (λ (lib : List ℕ). GivesBy (IsLaid lib (removed_through ds)) (may_give y.store.shelf) (may_give z.store.shelf)) (lib_stays x cs y comes.leads) gives);
+    ran = ran;
   }
 
 -- ---- the legal list

@@ -162,22 +162,23 @@ module _ {S : Type 0} (contents : S → Option Contents) (may_give : S → Shelf
           },
         )
 
--- what a sweep lays: the text before, and then nothing in slots
-pub sweep_gives : (lib : List ℕ) (first mid last : ShelfSlot → Option (List ℕ) → Type 0) → GivesBy (IsOwnText lib) first mid → GivesOrNothing mid last → GivesBy (IsOfSweep lib) first last
-sweep_gives lib first mid last text nothing_more slot given is = by (nothing_more slot given is)
+-- what a sweep lays: the text before, and then nothing in the slots of what left
+pub sweep_gives : (lib : List ℕ) (keys : List Key) (first mid last : ShelfSlot → Option (List ℕ) → Type 0) → GivesBy (IsOwnText lib) first mid → GivesOrNothing mid last keys
+    → GivesBy (IsOfSweep lib keys) first last
+sweep_gives lib keys first mid last text nothing_more slot given is = by (nothing_more slot given is)
   where
-    before : first slot given ⊎ IsOwnText lib slot given → first slot given ⊎ IsOfSweep lib slot given
+    before : first slot given ⊎ IsOwnText lib slot given → first slot given ⊎ IsOfSweep lib keys slot given
     before (inl was) = inl was
     before (inr own) = inr (inl own)
 
-    by : mid slot given ⊎ ((key : Key) × (slot ≡ Object key) × (given ≡ None)) → first slot given ⊎ IsOfSweep lib slot given
+    by : mid slot given ⊎ ((key : Key) × (is_in keys key ≡ true) × (slot ≡ Object key) × (given ≡ None)) → first slot given ⊎ IsOfSweep lib keys slot given
     by (inl was) = before (text slot given was)
     by (inr gone) = inr (inr gone)
 
 -- and only the text, where it ended there
-pub text_gives : (lib : List ℕ) (first last : ShelfSlot → Option (List ℕ) → Type 0) → GivesBy (IsOwnText lib) first last → GivesBy (IsOfSweep lib) first last
-text_gives lib first last text slot given is = before (text slot given is)
+pub text_gives : (lib : List ℕ) (keys : List Key) (first last : ShelfSlot → Option (List ℕ) → Type 0) → GivesBy (IsOwnText lib) first last → GivesBy (IsOfSweep lib keys) first last
+text_gives lib keys first last text slot given is = before (text slot given is)
   where
-    before : first slot given ⊎ IsOwnText lib slot given → first slot given ⊎ IsOfSweep lib slot given
+    before : first slot given ⊎ IsOwnText lib slot given → first slot given ⊎ IsOfSweep lib keys slot given
     before (inl was) = inl was
     before (inr own) = inr (inl own)

@@ -84,7 +84,7 @@ module _ {S : Type 0} (contents : S → Option Contents) (may_give : S → Shelf
   -- ---- keys left
 
   sweeps_takes : (goal : Option ℕ) (moment at_most : ℕ) (keys : List Key) → IsAimed goal state.collection → 1 ≤ at_most → map.len before.marks.candidates ≢ 0
-      → SweepsSo contents may_give texts faults store before at_most (Swept keys) new after → GivesBy (IsOfSweep state.lib) (may_give store.shelf) (may_give new.shelf)
+      → SweepsSo contents may_give texts faults store before at_most (Swept keys) new after → GivesBy (IsOfSweep state.lib keys) (may_give store.shelf) (may_give new.shelf)
       → TurnSlotSo moment (Swept keys) unsettled state (status_of contents store) still (status_of contents new) (texts store.shelf) (texts new.shelf)
       → SettlesBefore unsettled state (status_of contents store) still (status_of contents new) keys
       → TakesTurn contents may_give texts faults (depot_of store state unsettled (Some before)) goal moment at_most (Swept keys) (depot_of new state still (Some after))
@@ -121,7 +121,7 @@ module _ {S : Type 0} (contents : S → Option Contents) (may_give : S → Shelf
   -- ---- the turn was refused, and what left is told
 
   stops_takes : (goal : Option ℕ) (moment at_most : ℕ) (why : Refusal) (keys : List Key) → IsAimed goal state.collection
-      → SweepsSo contents may_give texts faults store before at_most (Refused why keys) new after → GivesBy (IsOfSweep state.lib) (may_give store.shelf) (may_give new.shelf)
+      → SweepsSo contents may_give texts faults store before at_most (Refused why keys) new after → GivesBy (IsOfSweep state.lib keys) (may_give store.shelf) (may_give new.shelf)
       → TurnSlotSo moment (Refused why keys) unsettled state (status_of contents store) still (status_of contents new) (texts store.shelf) (texts new.shelf)
       → SettlesBefore unsettled state (status_of contents store) still (status_of contents new) keys
       → TakesTurn contents may_give texts faults (depot_of store state unsettled (Some before)) goal moment at_most (Refused why keys) (depot_of new state still (Some after))
@@ -163,21 +163,21 @@ module _ {S : Type 0} (contents : S → Option Contents) (may_give : S → Shelf
           (counted_same fault ∙ sym (ap is_of_store refusal)) sweeps.count
 
   pub sweep_turn : (goal : Option ℕ) (moment at_most : ℕ) (turn : Turn) (later : LibState) → IsAimed goal state.collection → 1 ≤ at_most → map.len before.marks.candidates ≢ 0
-      → SweepsSo contents may_give texts faults store before at_most turn new after → later ≡ state → GivesBy (IsOfSweep state.lib) (may_give store.shelf) (may_give new.shelf)
+      → SweepsSo contents may_give texts faults store before at_most turn new after → later ≡ state → GivesBy (IsOfSweep state.lib (removed_in turn)) (may_give store.shelf) (may_give new.shelf)
       → TurnSlotSo moment turn unsettled state (status_of contents store) still (status_of contents new) (texts store.shelf) (texts new.shelf)
       → SettlesBefore unsettled state (status_of contents store) still (status_of contents new) (removed_in turn)
       → TakesTurn contents may_give texts faults (depot_of store state unsettled (Some before)) goal moment at_most turn (depot_of new later still (collection_after turn after))
   sweep_turn goal moment at_most turn later aimed least left so same gives slot settles =
       subst (λ (l : LibState). TakesTurn contents may_give texts faults (depot_of store state unsettled (Some before)) goal moment at_most turn (depot_of new l still (collection_after turn after))) (sym same)
-      (by turn so slot settles)
+      (by turn so gives slot settles)
     where
-      by : (t : Turn) → SweepsSo contents may_give texts faults store before at_most t new after
+      by : (t : Turn) → SweepsSo contents may_give texts faults store before at_most t new after → GivesBy (IsOfSweep state.lib (removed_in t)) (may_give store.shelf) (may_give new.shelf)
           → TurnSlotSo moment t unsettled state (status_of contents store) still (status_of contents new) (texts store.shelf) (texts new.shelf)
           → SettlesBefore unsettled state (status_of contents store) still (status_of contents new) (removed_in t)
           → TakesTurn contents may_give texts faults (depot_of store state unsettled (Some before)) goal moment at_most t (depot_of new state still (collection_after t after))
-      by (Swept keys) sweeps slot_so settles_so = sweeps_takes goal moment at_most keys aimed least left sweeps gives slot_so settles_so
-      by (Refused why keys) stops slot_so settles_so = stops_takes goal moment at_most why keys aimed stops gives slot_so settles_so
-      by other none slot_so settles_so = absurd none
+      by (Swept keys) sweeps gives_so slot_so settles_so = sweeps_takes goal moment at_most keys aimed least left sweeps gives_so slot_so settles_so
+      by (Refused why keys) stops gives_so slot_so settles_so = stops_takes goal moment at_most why keys aimed stops gives_so slot_so settles_so
+      by other none gives_so slot_so settles_so = absurd none
 
   -- ---- the invariant after a sweep
 
@@ -278,18 +278,18 @@ module _ {S : Type 0} (contents : S → Option Contents) (may_give : S → Shelf
       same_state e = cc
 
   pub sweep_stands : (at_most : ℕ) (turn : Turn) (later : LibState) (knows : KnownView) → 1 ≤ at_most → map.len before.marks.candidates ≢ 0 → SweepsSo contents may_give texts faults store before at_most turn new after
-      → later ≡ state → GivesBy (IsOfSweep state.lib) (may_give store.shelf) (may_give new.shelf)
+      → later ≡ state → GivesBy (IsOfSweep state.lib (removed_in turn)) (may_give store.shelf) (may_give new.shelf)
       → ((moment : ℕ) → TurnSlotSo moment turn unsettled state (status_of contents store) still (status_of contents new) (texts store.shelf) (texts new.shelf))
       → SettlesBefore unsettled state (status_of contents store) still (status_of contents new) (removed_in turn) → ((knows ≡ known) × (removed_in turn ≡ [])) ⊎ KeepsMet before.marks known knows
       → IsKept contents faults (depot_of new later still (Some after)) knows (Some after)
   sweep_stands at_most turn later knows least left so same gives slot settles knows_so =
-      subst (λ (l : LibState). IsKept contents faults (depot_of new l still (Some after)) knows (Some after)) (sym same) (by turn so (slot 0) settles knows_so)
+      subst (λ (l : LibState). IsKept contents faults (depot_of new l still (Some after)) knows (Some after)) (sym same) (by turn so gives (slot 0) settles knows_so)
     where
-      by : (t : Turn) → SweepsSo contents may_give texts faults store before at_most t new after
+      by : (t : Turn) → SweepsSo contents may_give texts faults store before at_most t new after → GivesBy (IsOfSweep state.lib (removed_in t)) (may_give store.shelf) (may_give new.shelf)
           → TurnSlotSo 0 t unsettled state (status_of contents store) still (status_of contents new) (texts store.shelf) (texts new.shelf)
           → SettlesBefore unsettled state (status_of contents store) still (status_of contents new) (removed_in t) → ((knows ≡ known) × (removed_in t ≡ [])) ⊎ KeepsMet before.marks known knows
           → IsKept contents faults (depot_of new state still (Some after)) knows (Some after)
-      by (Swept keys) (size, sweeps) slot_so settles_so knows_it =
+      by (Swept keys) (size, sweeps) gives_so slot_so settles_so knows_it =
           let are = took_are before.marks after.marks sweeps.took in
           swept_kept keys sweeps.took knows knows_it settles_so (λ key. ap (λ (r : Running). set.contains r.fresh key) sweeps.runs)
           (λ there told.
@@ -297,13 +297,13 @@ module _ {S : Type 0} (contents : S → Option Contents) (may_give : S → Shelf
           (collects_state (swept false (moved (at there) [] keys)) state (faults new.shelf) (turned_once before.running) after.marks refl
           (sweeps_collect (at there) before.running before.marks after.marks keys (sound_there there told) (collects_there there told) none_waits are.0 sweeps.same are.1
           (some_keys keys at_most (map.len before.marks.candidates) size least left))))
-          (sound_after None 0 at_most (Swept keys) keys sweeps.took (sweeps_takes None 0 at_most keys tt least left (size, sweeps) gives slot_so settles_so))
-      by (Refused why keys) (few, fault, refusal, free, sweeps) slot_so settles_so knows_it =
+          (sound_after None 0 at_most (Swept keys) keys sweeps.took (sweeps_takes None 0 at_most keys tt least left (size, sweeps) gives_so slot_so settles_so))
+      by (Refused why keys) (few, fault, refusal, free, sweeps) gives_so slot_so settles_so knows_it =
           let are = took_are before.marks after.marks sweeps.took in
           swept_kept keys sweeps.took knows knows_it settles_so (λ key. ap (λ (r : Running). set.contains r.fresh key) sweeps.runs)
           (λ there told.
           subst (λ (r : Running). Collects (running_library state (Some r) (faults new.shelf) (without there keys)) r after.marks) (sym sweeps.runs)
           (collects_state (moved (at there) [] keys) state (faults new.shelf) before.running after.marks refl
           (stops_collect (at there) before.running before.marks after.marks keys (sound_there there told) (collects_there there told) none_waits are.0 sweeps.same are.1)))
-          (sound_after None 0 at_most (Refused why keys) keys sweeps.took (stops_takes None 0 at_most why keys tt (few, fault, refusal, free, sweeps) gives slot_so settles_so))
-      by other none slot_so settles_so knows_it = absurd none
+          (sound_after None 0 at_most (Refused why keys) keys sweeps.took (stops_takes None 0 at_most why keys tt (few, fault, refusal, free, sweeps) gives_so slot_so settles_so))
+      by other none gives_so slot_so settles_so knows_it = absurd none

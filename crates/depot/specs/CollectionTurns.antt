@@ -219,22 +219,22 @@ abbrev pub SettlesBefore : (unsettled : Bool) (present : LibState) (old : Slot) 
 SettlesBefore unsettled present old still new removed =
     ((still ≡ false) × (new ≡ settled unsettled present old)) ⊎ ((removed ≡ []) × (still ≡ unsettled) × ((new ≡ old) ⊎ IsWritten present old new))
 
--- what a refused turn may lay: where the shelf failed or memory was wanting the present text, and nothing in slots of objects; and
+-- what a refused turn may lay: where the shelf failed or memory was wanting the present text, and nothing in the slots of the keys that left; and
 -- for any other refusal, as one that is spent or met damage, nothing at all
-abbrev pub MayLayRefused : List ℕ → Refusal → ShelfSlot → Option (List ℕ) → Type 0
-MayLayRefused lib refusal.Store slot given = IsOfSweep lib slot given
-MayLayRefused lib refusal.NoMemory slot given = IsOfSweep lib slot given
-MayLayRefused lib other slot given = ⊥
+abbrev pub MayLayRefused : List ℕ → Refusal → List Key → ShelfSlot → Option (List ℕ) → Type 0
+MayLayRefused lib refusal.Store keys slot given = IsOfSweep lib keys slot given
+MayLayRefused lib refusal.NoMemory keys slot given = IsOfSweep lib keys slot given
+MayLayRefused lib other keys slot given = ⊥
 
 -- what a turn on the library of this id may lay onto its shelf, beside what it might give before: a begin the text; a sweep
 -- the present text, where it was open, and nothing in the slots of the keys that leave; a refused turn no more than these
 abbrev pub MayLayIn : List ℕ → Turn → ShelfSlot → Option (List ℕ) → Type 0
 MayLayIn lib (Began number) slot given = IsOwnText lib slot given
 MayLayIn lib (Marked count) slot given = ⊥
-MayLayIn lib (Swept keys) slot given = IsOfSweep lib slot given
+MayLayIn lib (Swept keys) slot given = IsOfSweep lib keys slot given
 MayLayIn lib (Ended number) slot given = ⊥
 MayLayIn lib (Over number) slot given = ⊥
-MayLayIn lib (Refused why keys) slot given = MayLayRefused lib why slot given
+MayLayIn lib (Refused why keys) slot given = MayLayRefused lib why keys slot given
 
 -- ---- who may collect
 

@@ -7,7 +7,7 @@ use Rattle.library_state.specs.declared.reply.Reply.{Reply}
 use Rattle.library_state.specs.declared.reply.Reply.TheVariants as reply
 use Rattle.object_store.specs.Store.{IsDamage}
 use Rattle.object_store.specs.declared.shelf.Slot.{Slot}
-use Rattle.depot.specs.Giving.{IsNothing}
+use Rattle.depot.specs.Giving.{IsGone, IsNothing}
 
 -- where a refusal tells damage this may be given for a key of the wanted id: nothing, or bytes of the other name that is told
 abbrev pub IsCaused : (Slot → Option (List ℕ) → Type 0) → Refusal → Type 0
@@ -21,3 +21,7 @@ IsCausedReply gives other = ⊤
 -- this may be given, or nothing for some key
 abbrev pub OrNothing : (Slot → Option (List ℕ) → Type 0) → Slot → Option (List ℕ) → Type 0
 OrNothing gives slot given = gives slot given ⊎ IsNothing slot given
+
+-- or nothing for one of these keys
+abbrev pub OrGone : List Key → (Slot → Option (List ℕ) → Type 0) → Slot → Option (List ℕ) → Type 0
+OrGone keys gives slot given = gives slot given ⊎ IsGone keys slot given

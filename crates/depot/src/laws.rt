@@ -1,5 +1,5 @@
 //! What a library that is kept leaves on its shelf, and which history its changes are: theorems on the definitions, with no code.
-ghost use Rattle.std.specs.Prelude.{◌≡◌, ◌==◌, if◌then◌else◌, List, ℕ, Bool, false, is_some, None, Option, Some, true};
+ghost use Rattle.std.specs.Prelude.{◌≡◌, ◌⊎◌, ◌==◌, if◌then◌else◌, List, ℕ, Bool, false, is_some, None, Option, Some, true};
 ghost use Rattle.std.specs.FinMap as map;
 ghost use Rattle.ids.specs.Key.{Objects};
 ghost use Rattle.ids.specs.declared.key.Key.{Key};
@@ -8,15 +8,18 @@ ghost use Rattle.library_rules.specs.Recovery.{StandsFor};
 ghost use Rattle.library_state.specs.declared.call.Act.TheVariants as act;
 ghost use Rattle.library_state.specs.declared.call.Call.{Call};
 ghost use Rattle.library_state.specs.declared.reply.Reply.{Reply};
-ghost use Rattle.library_state.specs.declared.reply.Reply.TheVariants.{Stored};
+ghost use Rattle.library_state.specs.declared.reply.Reply.TheVariants.{Got, Stored};
+ghost use Rattle.object_graph.specs.Objects.{commit_key};
 ghost use Rattle.object_graph.specs.Traversal.{is_in};
 ghost use Rattle.object_store.specs.Shelf.{Contents};
 ghost use Rattle.object_store.specs.StoreView.{HasNoStray, StoreView, objects_of};
+ghost use Rattle.object_store.specs.declared.shelf.Slot.TheVariants.{Object};
 ghost use Rattle.depot.specs.DepotView.{DepotView, IsGood, state_of};
+ghost use Rattle.depot.specs.Giving.{IsCommitOf};
 ghost use Rattle.depot.specs.Held.{TellsMissing};
 ghost use Rattle.depot.specs.Start.{start_refusal};
 ghost use Rattle.depot.specs.Standing.{IsOnShelf};
-ghost use Rattle.depot.specs.Story.{HistoryOf, IsAnswered, LeadsTo, removed_through};
+ghost use Rattle.depot.specs.Story.{ComesBy, HistoryOf, IsAnswered, LeadsTo, removed_through};
 ghost use Rattle.depot.specs.declared.error.StartFault.TheVariants.{Worn};
 ghost use Rattle.depot.specs.declared.story.Change.{Change};
 
@@ -33,6 +36,15 @@ pub fn a_shelf_stands_for_its_library<S: Shelf>()
 pub fn a_shelf_that_stands_for_a_library_opens_to_it()
     ensures { (s : State) → (slot : Option (List ℕ)) → (lying : Objects) → IsSound s → StandsFor slot lying s
         → start_refusal lying slot ≡ (if s.state.opening == last_number then Some Worn else None) }
+{}
+
+/// Over any shelf, a commit that is got was given as it might be as the history began, or it is one of this id: no SHA-1 tells a commit's
+/// name, and none is laid under an id that it doesn't have.
+pub fn a_commit_is_given_as_it_might_be_or_under_its_own_id<S: Shelf>()
+    ensures { (start : DepotView S) → (changes : List (Change (DepotView S))) → (before : DepotView S) → (call : Call) → (moment : ℕ) → (after : DepotView S)
+        → (id : List ℕ) → (bytes : List ℕ) → ComesBy S.contents S.may_give S.texts S.faults start changes before
+        → IsAnswered S.contents S.may_give S.texts S.faults before call moment (Got bytes) after → call.act ≡ act.Get (commit_key id)
+        → S.may_give start.store.shelf (Object (commit_key id)) (Some bytes) ⊎ IsCommitOf id bytes }
 {}
 
 /// Where no object lies on the shelf that the store doesn't hold, the store's objects are exactly those that lie there.

@@ -11,7 +11,7 @@ ghost use Rattle.object_store.specs.StoreView.{AddsNoStray, Keeps, objects_of, s
 ghost use Rattle.depot.specs.Answering.{MayAnswer, MayGet, ServesAct, put_decided};
 ghost use Rattle.depot.specs.Fresh.{EndsPut, is_stored_reply};
 ghost use Rattle.depot.specs.Held.{HoldsPut};
-ghost use Rattle.depot.specs.Giving.{GivesBy, IsObject};
+ghost use Rattle.depot.specs.Giving.{GivesBy, IsObject, IsPut};
 ghost use Rattle.depot.specs.ObjectCalls.{Counts, DoneSo, IsToldDamage, SaysOr, is_counted, store_decided, store_due};
 ghost use Rattle.depot.specs.Writing.{with_stored};
 
@@ -40,7 +40,7 @@ impl<S: Shelf> Depot<S> {
     /// Stores an object.
     pub(crate) fn put(&mut self, key: &Key, bytes: &[u8]) -> Reply
         ensures value { ServesAct S.contents S.may_give S.texts S.faults self.old (act.Put key.now bytes.now) result self.new }
-        ensures gives { GivesBy (IsObject key.now bytes.now) (S.may_give self.old.store.shelf) (S.may_give self.new.store.shelf) }
+        ensures gives { GivesBy (IsPut key.now bytes.now) (S.may_give self.old.store.shelf) (S.may_give self.new.store.shelf) }
         ensures held { HoldsPut key.now result self.old.store.index self.new.store.index }
     {
         let new = match freshen(self.parts.alloc, &mut self.running, &[*key]) {
@@ -115,7 +115,7 @@ fn put_object<S: Shelf>(
     ensures damaged { (objects : Objects) → objects_of S.contents store.old ≡ Some objects → IsToldDamage objects result }
     ensures lying { is_counted result ≡ false → AddsNoStray S.contents store.old store.new }
     ensures written { S.texts store.new.shelf ≡ S.texts store.old.shelf }
-    ensures gives { GivesBy (IsObject key.now bytes.now) (S.may_give store.old.shelf) (S.may_give store.new.shelf) }
+    ensures gives { GivesBy (IsPut key.now bytes.now) (S.may_give store.old.shelf) (S.may_give store.new.shelf) }
     ensures faults { Counts (S.faults store.old.shelf) (S.faults store.new.shelf) result }
 {
     match key.kind {
@@ -160,7 +160,7 @@ fn put_fs<S: Shelf>(alloc: Global, store: &mut Store<S>, key: &Key, bytes: &[u8]
     ensures damaged { (objects : Objects) → objects_of S.contents store.old ≡ Some objects → IsToldDamage objects result }
     ensures lying { is_counted result ≡ false → AddsNoStray S.contents store.old store.new }
     ensures written { S.texts store.new.shelf ≡ S.texts store.old.shelf }
-    ensures gives { GivesBy (IsObject key.now bytes.now) (S.may_give store.old.shelf) (S.may_give store.new.shelf) }
+    ensures gives { GivesBy (IsPut key.now bytes.now) (S.may_give store.old.shelf) (S.may_give store.new.shelf) }
     ensures faults { Counts (S.faults store.old.shelf) (S.faults store.new.shelf) result }
 {
     match FsObject::read(alloc, bytes) {
@@ -201,7 +201,7 @@ fn put_commit_text<S: Shelf>(
     ensures damaged { (objects : Objects) → objects_of S.contents store.old ≡ Some objects → IsToldDamage objects result }
     ensures lying { is_counted result ≡ false → AddsNoStray S.contents store.old store.new }
     ensures written { S.texts store.new.shelf ≡ S.texts store.old.shelf }
-    ensures gives { GivesBy (IsObject key.now bytes.now) (S.may_give store.old.shelf) (S.may_give store.new.shelf) }
+    ensures gives { GivesBy (IsPut key.now bytes.now) (S.may_give store.old.shelf) (S.may_give store.new.shelf) }
     ensures faults { Counts (S.faults store.old.shelf) (S.faults store.new.shelf) result }
 {
     let commit = match Commit::read(alloc, bytes) {

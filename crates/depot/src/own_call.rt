@@ -11,7 +11,7 @@ ghost use Rattle.library_state.specs.declared.call.Act.TheVariants as act;
 ghost use Rattle.object_store.specs.StoreView.{AddsNoStray, objects_of, status_of};
 ghost use Rattle.depot.specs.Answering.{MayAnswer, MayAsk, Serves, ServesAct, permits};
 ghost use Rattle.depot.specs.DepotView.{IsGood, state_of};
-ghost use Rattle.depot.specs.Giving.{GivesBy, IsObject, MayLay};
+ghost use Rattle.depot.specs.Giving.{GivesBy, IsObject, IsPut, MayLay};
 ghost use Rattle.depot.specs.Held.{HoldsPut, IndexSo};
 ghost use Rattle.depot.specs.ObjectCalls.{Counts, DoneSo, IsToldDamage, is_counted, store_decided, store_due};
 ghost use Rattle.depot.specs.Writing.{with_stored};
@@ -75,7 +75,7 @@ impl<S: Shelf> Depot<S> {
     /// Stores an object.
     fn put_own(&mut self, key: &Key, bytes: Bytes) -> Reply
         ensures value { ServesAct S.contents S.may_give S.texts S.faults self.old (act.Put key.now bytes) result self.new }
-        ensures gives { GivesBy (IsObject key.now bytes) (S.may_give self.old.store.shelf) (S.may_give self.new.store.shelf) }
+        ensures gives { GivesBy (IsPut key.now bytes) (S.may_give self.old.store.shelf) (S.may_give self.new.store.shelf) }
         ensures held { HoldsPut key.now result self.old.store.index self.new.store.index }
     {
         match key.kind {
@@ -92,7 +92,7 @@ impl<S: Shelf> Depot<S> {
     fn put_block(&mut self, key: &Key, bytes: Bytes) -> Reply
         requires ready { key.now.kind ≡ kinds.Block }
         ensures value { ServesAct S.contents S.may_give S.texts S.faults self.old (act.Put key.now bytes) result self.new }
-        ensures gives { GivesBy (IsObject key.now bytes) (S.may_give self.old.store.shelf) (S.may_give self.new.store.shelf) }
+        ensures gives { GivesBy (IsPut key.now bytes) (S.may_give self.old.store.shelf) (S.may_give self.new.store.shelf) }
         ensures held { HoldsPut key.now result self.old.store.index self.new.store.index }
     {
         let new = match freshen(self.parts.alloc, &mut self.running, &[*key]) {

@@ -251,7 +251,7 @@ impl<S: Shelf> Parts<S> {
         ensures text { (moment : ℕ) → TurnSlotSo moment result self.old.unsettled self.old.state (status_of S.contents self.old.store) self.new.unsettled
             (status_of S.contents self.new.store) (S.texts self.old.store.shelf) (S.texts self.new.store.shelf) }
         ensures stays { self.new.state ≡ self.old.state }
-        ensures gives { GivesBy (IsOfSweep self.old.state.lib) (S.may_give self.old.store.shelf) (S.may_give self.new.store.shelf) }
+        ensures gives { GivesBy (IsOfSweep self.old.state.lib (removed_in result)) (S.may_give self.old.store.shelf) (S.may_give self.new.store.shelf) }
         ensures settled { SettlesBefore self.old.unsettled self.old.state (status_of S.contents self.old.store) self.new.unsettled (status_of S.contents self.new.store) (removed_in result) }
         ensures known { (known.new ≡ known.old) × (removed_in result ≡ []) ⊎ KeepsMet running.old.marks known.old known.new }
     {

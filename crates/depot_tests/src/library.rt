@@ -4,6 +4,7 @@ use ids::{Items, LibId, Text};
 use library_state::Secret;
 use object_store::{MemoryShelf, Shelf, Store};
 use std::alloc::{AllocError, Global};
+use stop_laws::calls::make;
 
 /// A shelf that holds nothing, whose calls of these numbers fail.
 pub(crate) fn empty_shelf(alloc: Global, fails: &[u64]) -> Result<MemoryShelf, AllocError> {
@@ -33,7 +34,7 @@ pub(crate) fn made_in<S: Shelf>(alloc: Global, store: Store<S>) -> Result<Depot<
         Err(_) => return Err(store),
     };
     let secret = Secret::from_bytes([0xaa; 20]);
-    match Depot::make(alloc, store, lib, &name, &user, secret, 7) {
+    match make(alloc, store, lib, &name, &user, secret, 7) {
         Ok(depot) => Ok(depot),
         Err(refused) => Err(refused.0),
     }

@@ -8,6 +8,7 @@ use ids::{ObjId, Text};
 use library_state::{Act, Right, Secret};
 use object_store::{FuseShelf, MemoryShelf, Store};
 use std::alloc::{AllocError, Global};
+use stop_laws::calls::add_token;
 
 /// What is on a shelf.
 #[derive(Clone, Copy)]
@@ -112,9 +113,7 @@ fn is_added(alloc: Global, depot: &mut Depot<FuseShelf>) -> bool {
         Ok(user) => user,
         Err(_) => return false,
     };
-    depot
-        .add_token(&user, Secret::from_bytes([0xbb; 20]), Right::Read)
-        .is_ok()
+    add_token(depot, &user, Secret::from_bytes([0xbb; 20]), Right::Read).is_ok()
 }
 
 /// The shelf of a library to which a token was to be added over calls that stop, and whether it was.

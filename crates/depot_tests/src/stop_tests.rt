@@ -6,6 +6,7 @@ use depot::Depot;
 use ids::ObjId;
 use object_store::{FuseShelf, MemoryShelf, Store};
 use std::alloc::{AllocError, Global};
+use stop_laws::calls::start;
 
 /// A library over a shelf that passes so many calls, from the opening of the store on; the shelf where it doesn't open.
 pub(crate) fn opened(
@@ -18,7 +19,7 @@ pub(crate) fn opened(
         Ok(store) => store,
         Err(refused) => return Err(refused.0.into_inner()),
     };
-    match Depot::start(alloc, store) {
+    match start(alloc, store) {
         Ok(depot) => Ok(depot),
         Err(refused) => Err(refused.0.end().into_inner()),
     }

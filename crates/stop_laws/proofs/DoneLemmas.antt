@@ -46,7 +46,8 @@ use Rattle.depot.specs.declared.turn.Turn.{Turn}
 use Rattle.depot.specs.declared.turn.Turn.TheVariants as turn
 use Rattle.depot.proofs.StandingLemmas.{indexed_lies, on_shelf}
 use Rattle.depot.proofs.ToldLemmas.{MappedAt, mapped_at}
-use Rattle.stop_laws.specs.Stops.{AddsToken, Done, answered, turned, given_token, DoneSo, Leaves, present, open_before, would_be, StandsForState, WouldMake}
+use Rattle.depot.specs.Story.{AddsToken, Done, answered, turned, given_token, IsDoneSo}
+use Rattle.stop_laws.specs.Stops.{Leaves, present, open_before, would_be, StandsForState, WouldMake}
 use Rattle.stop_laws.proofs.SlotLemmas.{LeftText, text_present, text_same, text_next, left_text, same_slot, settled_text, written_text}
 
 pub some_same : {A : Type 0} {x y : A} → Some x ≡ Some y → x ≡ y
@@ -120,7 +121,7 @@ module _ {S : Type 0} (contents : S → Option Contents) (may_give : S → Slot 
       (lies.value, lies.is)
 
   -- so is what is left
-  pub told_left : (old : DepotView S) (done : Done) (new : DepotView S) (before : Contents) → DoneSo contents may_give texts faults old done new
+  pub told_left : (old : DepotView S) (done : Done) (new : DepotView S) (before : Contents) → IsDoneSo contents may_give texts faults old done new
       → contents old.store.shelf ≡ Some before → (held : Contents) × (contents new.store.shelf ≡ Some held)
   told_left old (answered call moment said) new before did there =
       let answers = did.serves.told (running_library old.state old.running (faults old.store.shelf) (indexed old.store.index before)) (told_as old before there) in
@@ -134,7 +135,7 @@ module _ {S : Type 0} (contents : S → Option Contents) (may_give : S → Slot 
       in
       (lies.value, lies.is)
 
-  pub good_left : (old : DepotView S) (done : Done) (new : DepotView S) → DoneSo contents may_give texts faults old done new → IsGood contents faults new
+  pub good_left : (old : DepotView S) (done : Done) (new : DepotView S) → IsDoneSo contents may_give texts faults old done new → IsGood contents faults new
   good_left old (answered call moment said) new did = did.good
   good_left old (turned goal moment at_most taken) new did = did.good
   good_left old (given_token user secret right result) new did = did.good
@@ -286,7 +287,7 @@ module _ {S : Type 0} (contents : S → Option Contents) (may_give : S → Slot 
 
     -- ---- each of these
 
-    pub text_left : (done : Done) → DoneSo contents may_give texts faults old done new → TextLeaves old done before.status new held.status
+    pub text_left : (done : Done) → IsDoneSo contents may_give texts faults old done new → TextLeaves old done before.status new held.status
     text_left (answered call moment r) did =
         call_text call moment r (texts old.store.shelf) (texts new.store.shelf)
         (subst (λ (o : Option (Option (List ℕ))). SlotSo (Would contents faults old call moment) call moment r old.unsettled old.state o new.unsettled new.state (Some held.status)
@@ -348,7 +349,7 @@ module _ {S : Type 0} (contents : S → Option Contents) (may_give : S → Slot 
     pub stands_open : new.unsettled ≡ true → StandsFor held.status held.objects t ⊎ StandsForNext held t
     stands_open still = subst (λ (b : Bool). IsOnShelf b held t) still (on_shelf contents faults new held t good left told)
 
-  pub leaves : (old : DepotView S) (done : Done) (new : DepotView S) (before held : Contents) (t : State) → IsGood contents faults old → DoneSo contents may_give texts faults old done new
+  pub leaves : (old : DepotView S) (done : Done) (new : DepotView S) (before held : Contents) (t : State) → IsGood contents faults old → IsDoneSo contents may_give texts faults old done new
       → contents old.store.shelf ≡ Some before → contents new.store.shelf ≡ Some held → state_of contents faults new ≡ Some t
       → Leaves (WouldMake contents may_give texts faults old done) before.status held old.unsettled new.unsettled t
   leaves old done new before held t good did there left told = by (text_left old before good there new held left done did)

@@ -2,3 +2,4 @@ pub mod SlotLemmas
 pub mod DoneLemmas
 pub mod RunLemmas
 pub mod ReopeningLemmas
+pub mod HistoryLemmas

@@ -20,10 +20,10 @@ use Rattle.object_store.specs.StoreView.{status_of}
 use Rattle.object_store.specs.declared.shelf.Slot.{Slot}
 use Rattle.depot.specs.Answering.{SlotSo, Would, next_state, refused, rewritten, state_after, unwritten}
 use Rattle.depot.specs.DepotView.{DepotView, IsGood, library, state_of}
-use Rattle.depot.specs.Story.{IsAnswered}
+use Rattle.depot.specs.Story.{Done, answered, turned, given_token, IsAnswered, IsDoneSo, Runs}
 use Rattle.depot.specs.declared.turn.Turn.{Turn}
 use Rattle.depot.specs.declared.turn.Turn.TheVariants as turn
-use Rattle.stop_laws.specs.Stops.{Done, answered, turned, given_token, DoneSo, IsOpen, KeepsCommit, Retains, Runs, StandsForState, Stood, stands, open_to, WouldMake}
+use Rattle.stop_laws.specs.Stops.{IsOpen, KeepsCommit, Retains, StandsForState, Stood, stands, open_to, WouldMake}
 use Rattle.stop_laws.proofs.DoneLemmas.{TextLeaves, is_present, is_same, is_next, good_left, own_text, slot_as, some_same, stands_by_other, stands_by_text, text_left, told_left}
 
 -- ---- kept commits
@@ -51,7 +51,7 @@ after_keeps state call moment said commit kept = by (is_refused said) refl
     by false plain = next_keeps state call moment said commit plain kept
 
 module _ {S : Type 0} (contents : S → Option Contents) (may_give : S → Slot → Option (List ℕ) → Type 0) (texts faults : S → ℕ) where
-  done_keeps : (old : DepotView S) (done : Done) (new : DepotView S) (commit : List ℕ) → DoneSo contents may_give texts faults old done new → is_kept old.state.kept commit ≡ true
+  pub done_keeps : (old : DepotView S) (done : Done) (new : DepotView S) (commit : List ℕ) → IsDoneSo contents may_give texts faults old done new → is_kept old.state.kept commit ≡ true
       → KeepsCommit contents may_give texts faults old done commit → is_kept new.state.kept commit ≡ true
   done_keeps old (answered call moment said) new commit did kept keeps =
       ap (λ (st : LibState). is_kept st.kept commit) did.serves.left ∙ after_keeps old.state call moment said commit kept
@@ -64,7 +64,7 @@ module _ {S : Type 0} (contents : S → Option Contents) (may_give : S → Slot 
   done_keeps old (given_token user secret right (Ok done)) new commit did kept keeps = ap (λ (st : LibState). is_kept st.kept commit) did.ok ∙ kept
   done_keeps old (given_token user secret right (Err fault)) new commit did kept keeps = ap (λ (st : LibState). is_kept st.kept commit) did.err ∙ kept
 
-  would_keeps : (old : DepotView S) (done : Done) (next : LibState) (commit : List ℕ) → WouldMake contents may_give texts faults old done next → is_kept old.state.kept commit ≡ true
+  pub would_keeps : (old : DepotView S) (done : Done) (next : LibState) (commit : List ℕ) → WouldMake contents may_give texts faults old done next → is_kept old.state.kept commit ≡ true
       → KeepsCommit contents may_give texts faults old done commit → is_kept next.kept commit ≡ true
   would_keeps old (answered call moment said) next commit would kept keeps =
       ap (λ (st : LibState). is_kept st.kept commit) (sym would.makes) ∙ next_keeps old.state call moment would.said commit would.plain kept

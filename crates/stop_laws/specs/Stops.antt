@@ -1,7 +1,8 @@
 -- What the shelf of a library stands for as each call returns, through failures of the shelf. A stop is a failure after which
--- no call of the shelf does anything. Our own. Read Done, DoneSo and Leaves first, then Runs, IsOpen and Stood.
-use Rattle.library_state.specs.declared.state.TheConstants.{MAX_STATE_NAME}
-use Rattle.std.specs.Prelude.{◌≡◌, ◌⊎◌, ◌≤◌, ℕ, Bool, true, false, List, [], ◌∷◌, length, Option, None, Result, Err, IfSome, OnOk, OnErr, ⊤}
+-- no call of the shelf does anything. Our own. Read WouldMake and Leaves first, then IsOpen and Stood, then WasRefused and AllKeep. Read
+-- before: Done, Runs and ComesBy of `depot`.
+use Rattle.std.specs.Prelude.{◌≡◌, ◌⊎◌, ℕ, Bool, true, false, List, [], ◌∷◌, ◌++◌, Option, None, Err, ⊤}
+use Rattle.std.specs.List.{AllByRecursion}
 use Rattle.library_rules.specs.Changes.{is_refused}
 use Rattle.library_rules.specs.LibraryState.{IsSound, State, is_kept}
 use Rattle.library_rules.specs.Recovery.{StandsFor}
@@ -10,44 +11,21 @@ use Rattle.library_state.specs.declared.call.Call.{Call}
 use Rattle.library_state.specs.declared.refusal.Refusal.TheVariants as refusal
 use Rattle.library_state.specs.declared.reply.Reply.{Reply}
 use Rattle.library_state.specs.declared.reply.Reply.TheVariants as reply
-use Rattle.library_state.specs.declared.right.Right.{Right}
 use Rattle.library_state.specs.declared.state.LibState.{LibState}
 use Rattle.object_store.specs.Shelf.{Contents}
-use Rattle.object_store.specs.StoreView.{objects_of, status_of}
+use Rattle.object_store.specs.StoreView.{status_of}
 use Rattle.object_store.specs.declared.error.StoreFault.TheVariants.{Shelf}
 use Rattle.object_store.specs.declared.shelf.Slot.{Slot}
 use Rattle.depot.specs.Answering.{Would}
-use Rattle.depot.specs.DepotView.{DepotView, IsGood, library}
+use Rattle.depot.specs.DepotView.{DepotView, library}
 use Rattle.depot.specs.NextState.{next_state, with_begin, with_new_token}
 use Rattle.depot.specs.Standing.{StandsForNext}
-use Rattle.depot.specs.Story.{IsAnswered, IsTurned}
-use Rattle.depot.specs.Tokens.{store_answer, token_refusal}
-use Rattle.depot.specs.Writing.{RewritesSo}
-use Rattle.depot.specs.declared.error.TokenFault.{TokenFault}
+use Rattle.depot.specs.Story.{Done, answered, turned, given_token, IsMadeAs, Runs}
 use Rattle.depot.specs.declared.error.TokenFault.TheVariants as token
-use Rattle.depot.specs.declared.turn.Turn.{Turn}
+use Rattle.depot.specs.declared.story.Change.{Change}
 use Rattle.depot.specs.declared.turn.Turn.TheVariants as turn
 
--- ---- what is done with a library
-
--- a call was answered, a turn of a collection was taken, or a token was to be added
-pub data Done : Type 0 where
-  answered : (call : Call) (moment : ℕ) (said : Reply) → Done
-  turned : (goal : Option ℕ) (moment at_most : ℕ) (taken : Turn) → Done
-  given_token : (user secret : List ℕ) (right : Right) (result : Result ⊤ TokenFault) → Done
-
--- what is said of a token that is to be added: what `Depot::add_token` says
-pub record AddsToken {S : Type 0} (contents : S → Option Contents) (faults : S → ℕ) (old : DepotView S) (user secret : List ℕ) (right : Right)
-    (result : Result ⊤ TokenFault) (new : DepotView S) : Type 0 where
-  pub fits : (1 ≤ length user) × (length user ≤ MAX_STATE_NAME)
-  pub ok : OnOk result (new.state ≡ with_new_token user secret right old.state)
-  pub err : OnErr result (new.state ≡ old.state)
-  pub stays : objects_of contents new.store ≡ objects_of contents old.store
-  pub good : IsGood contents faults new
-  pub text : IfSome (store_answer result) (RewritesSo old.unsettled old.state (with_new_token user secret right old.state)
-      (status_of contents old.store) new.unsettled (status_of contents new.store))
-  pub untouched : store_answer result ≡ None → new ≡ old
-  pub asked : IfSome (store_answer result) (λ answer. token_refusal old.state.tokens secret ≡ None)
+-- ---- what a refused call would have made
 
 -- what a call that the shelf refused would have made of the state, by an answer that it could have
 pub record WouldAnswer {S : Type 0} (contents : S → Option Contents) (faults : S → ℕ) (old : DepotView S) (call : Call) (moment : ℕ) (r : Reply) (next : LibState) : Type 0 where
@@ -58,12 +36,6 @@ pub record WouldAnswer {S : Type 0} (contents : S → Option Contents) (faults :
   pub makes : next_state old.state call moment said ≡ next
 
 module _ {S : Type 0} (contents : S → Option Contents) (may_give : S → Slot → Option (List ℕ) → Type 0) (texts faults : S → ℕ) where
-  -- this was done with a library, and left that one
-  abbrev pub DoneSo : DepotView S → Done → DepotView S → Type 0
-  DoneSo old (answered call moment said) new = IsAnswered contents may_give texts faults old call moment said new
-  DoneSo old (turned goal moment at_most taken) new = IsTurned contents may_give texts faults old goal moment at_most taken new
-  DoneSo old (given_token user secret right result) new = AddsToken contents faults old user secret right result new
-
   -- the state of which the text was to be written as the shelf failed
   abbrev pub WouldMake : DepotView S → Done → LibState → Type 0
   WouldMake old (answered call moment said) next = WouldAnswer contents faults old call moment said next
@@ -87,20 +59,15 @@ pub data Leaves (would : LibState → Type 0) (before : Option (List ℕ)) (held
 -- ---- one call after another
 
 module _ {S : Type 0} (contents : S → Option Contents) (may_give : S → Slot → Option (List ℕ) → Type 0) (texts faults : S → ℕ) where
-  -- these were done one after another, the last one first
-  abbrev pub Runs : DepotView S → List Done → DepotView S → Type 0
-  Runs start [] now = now ≡ start
-  Runs start (done ∷ earlier) now = (between : DepotView S) × Runs start earlier between × DoneSo contents may_give texts faults between done now
-
   -- the text is open to this state: the last of these would have made it, as the shelf failed; or it was open to it before, and
   -- no text was written since
-  abbrev pub IsOpen : (start : DepotView S) (dones : List Done) (now : DepotView S) → Runs start dones now → LibState → Type 0
+  abbrev pub IsOpen : (start : DepotView S) (dones : List Done) (now : DepotView S) → Runs contents may_give texts faults start dones now → LibState → Type 0
   IsOpen start [] now runs next = ⊥
   IsOpen start (done ∷ earlier) now runs next = WouldMake contents may_give texts faults runs.0 done next
       ⊎ ((runs.0.unsettled ≡ true) × (status_of contents now.store ≡ status_of contents runs.0.store) × IsOpen start earlier runs.0 runs.1 next)
 
   -- what the shelf stands for after all of these: the library, or a state to which its text is open
-  pub data Stood (start : DepotView S) (dones : List Done) (now : DepotView S) (runs : Runs start dones now) (held : Contents) (t : State) : Type 0 where
+  pub data Stood (start : DepotView S) (dones : List Done) (now : DepotView S) (runs : Runs contents may_give texts faults start dones now) (held : Contents) (t : State) : Type 0 where
     stands : StandsFor held.status held.objects t → Stood start dones now runs held t
     open_to : now.unsettled ≡ true → (next : LibState) → IsOpen start dones now runs next → StandsForState held t next → Stood start dones now runs held t
 
@@ -113,6 +80,23 @@ module _ {S : Type 0} (contents : S → Option Contents) (may_give : S → Slot 
   KeepsCommit old (turned goal moment at_most other) commit = ⊤
   KeepsCommit old (given_token user secret right result) commit = ⊤
 
-  abbrev pub Retains : (start : DepotView S) (dones : List Done) (now : DepotView S) → Runs start dones now → List ℕ → Type 0
+  abbrev pub Retains : (start : DepotView S) (dones : List Done) (now : DepotView S) → Runs contents may_give texts faults start dones now → List ℕ → Type 0
   Retains start [] now runs commit = ⊤
   Retains start (done ∷ earlier) now runs commit = Retains start earlier runs.0 runs.1 commit × KeepsCommit runs.0 done commit
+
+  -- ---- through a history
+
+  -- one of these changes is a call or turn that would have made this state, as the shelf failed
+  pub record WasRefused (changes : List (Change (DepotView S))) (next : LibState) : Type 0 where
+    pub before : List (Change (DepotView S))
+    pub change : Change (DepotView S)
+    pub later : List (Change (DepotView S))
+    pub cut : changes ≡ before ++ change ∷ later
+    pub done : Done
+    pub made : IsMadeAs change.made change.moment done
+    pub would : WouldMake contents may_give texts faults change.before.value done next
+
+  -- none of these changes is a begin of a collection, done or refused by the shelf, that cuts the commit away
+  abbrev pub AllKeep : List (Change (DepotView S)) → List ℕ → Type 0
+  AllKeep changes commit =
+      AllByRecursion (λ (change : Change (DepotView S)). (done : Done) → IsMadeAs change.made change.moment done → KeepsCommit change.before.value done commit) changes

@@ -2,7 +2,7 @@
 ghost use Rattle.library_state.specs.declared.state.TheConstants.{MAX_STATE_NAME};
 ghost use Rattle.std.specs.Prelude.{◌≤◌, length, IfErr};
 ghost use Rattle.stop_laws.specs.Reopening.{IsOpening, IsRefusedMaking};
-ghost use Rattle.stop_laws.specs.Stops.{AddsToken};
+ghost use Rattle.depot.specs.Story.{AddsToken};
 
 use depot::{Depot, MakeFault, StartFault, TokenFault};
 use ids::{LibId, Text};

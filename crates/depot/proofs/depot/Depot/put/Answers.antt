@@ -10,7 +10,7 @@ use Rattle.object_store.specs.StoreView.{objects_of}
 use Rattle.depot.specs.Answering.{ServesAct}
 use Rattle.depot.specs.DepotView.{DepotView, depot_of, library, marked_of, running_of}
 use Rattle.depot.specs.FreshKeys.{RunsOn, told_there}
-use Rattle.depot.specs.Giving.{GivesBy, IsObject}
+use Rattle.depot.specs.Giving.{GivesBy, IsPut}
 use Rattle.depot.specs.Held.{HoldsPut}
 use Rattle.depot.proofs.ActLemmas.{put_serves}
 use Rattle.depot.proofs.BesideLemmas.{FreshTold, good_beside, good_rest, serves_beside}
@@ -37,7 +37,7 @@ returns-in-Err g c =
           c.self.view_is
           (put_stopped g.S.Shelf.contents g.S.Shelf.faults g.S.Shelf.may_give g.S.Shelf.texts old new.running new.marked c.args.key.now c.args.bytes.now (ap running_of (still_running c.self.inside.running c.freshen.new.running c.in-Err.ensures.err))
           (ap marked_of (still_running c.self.inside.running c.freshen.new.running c.in-Err.ensures.err)));
-      gives = subst (λ (before : DepotView g.row.S.Denot). GivesBy (IsObject c.args.key.now c.args.bytes.now) (g.S.Shelf.may_give before.store.shelf) (g.S.Shelf.may_give old.store.shelf)) c.self.view_is (λ slot given is. inl is);
+      gives = subst (λ (before : DepotView g.row.S.Denot). GivesBy (IsPut c.args.key.now c.args.bytes.now) (g.S.Shelf.may_give before.store.shelf) (g.S.Shelf.may_give old.store.shelf)) c.self.view_is (λ slot given is. inl is);
       held = subst (λ (before : DepotView g.row.S.Denot). old.store.index ≡ before.store.index) c.self.view_is refl;
     }
 
@@ -88,6 +88,6 @@ returns g c =
           c.put_object-reply.new.store c.put_object-reply.result c.put_object-reply.ensures.stays c.put_object-reply.ensures.written
           (λ objects told. c.put_object-reply.ensures.value (library c.self.inside.parts.state (g.S.Shelf.faults c.self.inside.parts.store.shelf) objects) told refl)
           c.put_object-reply.ensures.cause c.put_object-reply.ensures.damaged c.put_object-reply.ensures.faults c.put_object-reply.ensures.lying));
-      gives = subst (λ (before : DepotView g.row.S.Denot). GivesBy (IsObject c.args.key.now c.args.bytes.now) (g.S.Shelf.may_give before.store.shelf) (g.S.Shelf.may_give c.put_object-reply.new.store.shelf)) c.self.view_is c.put_object-reply.ensures.gives;
+      gives = subst (λ (before : DepotView g.row.S.Denot). GivesBy (IsPut c.args.key.now c.args.bytes.now) (g.S.Shelf.may_give before.store.shelf) (g.S.Shelf.may_give c.put_object-reply.new.store.shelf)) c.self.view_is c.put_object-reply.ensures.gives;
       held = subst (λ (before : DepotView g.row.S.Denot). HoldsPut c.args.key.now c.put_object-reply.result before.store.index new.store.index) c.self.view_is c.put_object-reply.ensures.held;
     }

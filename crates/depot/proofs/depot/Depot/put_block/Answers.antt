@@ -11,13 +11,15 @@ use Rattle.object_store.specs.StoreView.{objects_of}
 use Rattle.depot.specs.Answering.{MayAnswer, ServesAct}
 use Rattle.depot.specs.DepotView.{DepotView, depot_of, library, marked_of, running_of}
 use Rattle.depot.specs.FreshKeys.{RunsOn, told_there}
-use Rattle.depot.specs.Giving.{GivesBy, IsObject}
+use Rattle.depot.specs.Giving.{GivesBy, IsPut}
+use Rattle.ids.specs.declared.key.Kind.TheVariants as kinds
 use Rattle.depot.specs.Held.{HoldsPut}
 use Rattle.depot.proofs.ActLemmas.{put_serves}
 use Rattle.depot.proofs.BesideLemmas.{FreshTold, good_beside, good_rest, serves_beside}
 use Rattle.depot.proofs.CallFreshLemmas.{PutTold, put_by_answer, put_fresh, put_runs, put_runs_as, put_told}
 use Rattle.depot.proofs.FitsLemmas.{fits_put}
 use Rattle.depot.proofs.FreshLemmas.{RunsAs}
+use Rattle.depot.proofs.GivingLemmas.{put_as}
 use Rattle.depot.proofs.GrownLemmas.{good_put}
 use Rattle.depot.proofs.ObjectCallLemmas.{block_decided, block_done}
 use Rattle.depot.proofs.MarkedLemmas.{marked_fresh, marked_put}
@@ -39,7 +41,7 @@ returns-in-Err g c =
           c.self.view_is
           (put_stopped g.S.Shelf.contents g.S.Shelf.faults g.S.Shelf.may_give g.S.Shelf.texts old new.running new.marked c.args.key.now c.args.bytes (ap running_of (still_running c.self.inside.running c.freshen.new.running c.in-Err.ensures.err))
           (ap marked_of (still_running c.self.inside.running c.freshen.new.running c.in-Err.ensures.err)));
-      gives = subst (λ (before : DepotView g.row.S.Denot). GivesBy (IsObject c.args.key.now c.args.bytes) (g.S.Shelf.may_give before.store.shelf) (g.S.Shelf.may_give old.store.shelf)) c.self.view_is (λ slot given is. inl is);
+      gives = subst (λ (before : DepotView g.row.S.Denot). GivesBy (IsPut c.args.key.now c.args.bytes) (g.S.Shelf.may_give before.store.shelf) (g.S.Shelf.may_give old.store.shelf)) c.self.view_is (λ slot given is. inl is);
       held = subst (λ (before : DepotView g.row.S.Denot). old.store.index ≡ before.store.index) c.self.view_is refl;
     }
 
@@ -94,6 +96,7 @@ returns g c =
           (c.store_block-reply.ensures.value (library c.self.inside.parts.state (g.S.Shelf.faults c.self.inside.parts.store.shelf) objects) told))
           (subst (λ (said : Option Reply). MayAnswer c.self.inside.parts.store.index (g.S.Shelf.may_give c.store_block-reply.new.store.shelf) (act.Put c.args.key.now c.args.bytes) said c.store_block-reply.result)
           (sym (block_decided c.self.inside.parts.state.lib c.args.key.now c.args.bytes c.requires.ready)) c.store_block-reply.ensures.cause) c.store_block-reply.ensures.damaged c.store_block-reply.ensures.faults c.store_block-reply.ensures.lying));
-      gives = subst (λ (before : DepotView g.row.S.Denot). GivesBy (IsObject c.args.key.now c.args.bytes) (g.S.Shelf.may_give before.store.shelf) (g.S.Shelf.may_give c.store_block-reply.new.store.shelf)) c.self.view_is c.store_block-reply.ensures.gives;
+      gives = subst (λ (before : DepotView g.row.S.Denot). GivesBy (IsPut c.args.key.now c.args.bytes) (g.S.Shelf.may_give before.store.shelf) (g.S.Shelf.may_give c.store_block-reply.new.store.shelf)) c.self.view_is
+          (put_as c.args.key.now c.args.bytes kinds.Block c.requires.ready tt c.store_block-reply.ensures.gives);
       held = subst (λ (before : DepotView g.row.S.Denot). HoldsPut c.args.key.now c.store_block-reply.result before.store.index new.store.index) c.self.view_is c.store_block-reply.ensures.held;
     }

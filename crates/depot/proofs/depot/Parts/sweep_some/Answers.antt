@@ -40,7 +40,7 @@ returns-in-Err-clause-settled g c =
 
 pub returns-in-Err-clause-gives : goal.returns-in-Err-clause-gives
 returns-in-Err-clause-gives g c =
-    text_gives c.args.self.now.state.lib (g.S.Shelf.may_give c.args.self.now.store.shelf) (g.S.Shelf.may_give c.settle.new.self.store.shelf) c.in-Err.ensures.gives
+    text_gives c.args.self.now.state.lib c.new.result (g.S.Shelf.may_give c.args.self.now.store.shelf) (g.S.Shelf.may_give c.settle.new.self.store.shelf) c.in-Err.ensures.gives
 
 pub returns-in-Err-clause-known : goal.returns-in-Err-clause-known
 returns-in-Err-clause-known g c = inl (refl, c.new.ensures.value)
@@ -67,7 +67,7 @@ returns-in-Some-clause-settled g c =
 
 pub returns-in-Some-clause-gives : goal.returns-in-Some-clause-gives
 returns-in-Some-clause-gives g c =
-    sweep_gives c.args.self.now.state.lib (g.S.Shelf.may_give c.args.self.now.store.shelf) (g.S.Shelf.may_give c.settle.new.self.store.shelf) (g.S.Shelf.may_give c.sweep-removed.new.store.shelf) c.in-Ok.ensures.gives
+    sweep_gives c.args.self.now.state.lib c.sweep-removed.result.removed (g.S.Shelf.may_give c.args.self.now.store.shelf) (g.S.Shelf.may_give c.settle.new.self.store.shelf) (g.S.Shelf.may_give c.sweep-removed.new.store.shelf) c.in-Ok.ensures.gives
     c.sweep-removed.ensures.gives
 
 pub returns-in-Some-clause-known : goal.returns-in-Some-clause-known
@@ -97,7 +97,7 @@ returns-in-None-clause-settled g c =
 
 pub returns-in-None-clause-gives : goal.returns-in-None-clause-gives
 returns-in-None-clause-gives g c =
-    sweep_gives c.args.self.now.state.lib (g.S.Shelf.may_give c.args.self.now.store.shelf) (g.S.Shelf.may_give c.settle.new.self.store.shelf) (g.S.Shelf.may_give c.sweep-removed.new.store.shelf) c.in-Ok.ensures.gives
+    sweep_gives c.args.self.now.state.lib c.sweep-removed.result.removed (g.S.Shelf.may_give c.args.self.now.store.shelf) (g.S.Shelf.may_give c.settle.new.self.store.shelf) (g.S.Shelf.may_give c.sweep-removed.new.store.shelf) c.in-Ok.ensures.gives
     c.sweep-removed.ensures.gives
 
 pub returns-in-None-clause-known : goal.returns-in-None-clause-known
