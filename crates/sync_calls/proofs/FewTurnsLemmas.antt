@@ -56,7 +56,7 @@ after_within start [] more (suc n) low = absurd (omega (arith, low))
 after_within start (c ∷ cs) more (suc n) low = after_within (Some c.after.value) cs more n (omega (arith, low))
 
 -- the library after a change
-after_change : {V : Type 0} (start : Option V) (cs : List (Change V)) (n : ℕ) (c : Change V) → slice_get cs n ≡ Some c → library_after start cs (suc n) ≡ Some c.after.value
+pub after_change : {V : Type 0} (start : Option V) (cs : List (Change V)) (n : ℕ) (c : Change V) → slice_get cs n ≡ Some c → library_after start cs (suc n) ≡ Some c.after.value
 after_change start [] n c at = absurd (cc)
 after_change {V} start (d ∷ cs) zero c at = ap (λ (o : Change V). Some o.after.value) (some_same at)
 after_change start (d ∷ cs) (suc n) c at = after_change (Some d.after.value) cs n c at

@@ -10,7 +10,7 @@ use Rattle.object_store.specs.Shelf.{Contents}
 use Rattle.object_store.specs.declared.shelf.Slot.{Slot}
 use Rattle.depot.specs.DepotView.{DepotView}
 use Rattle.depot.specs.Story.{ComesBy, comes_itself, same_itself}
-use Rattle.turnstile.specs.PassView.{IsNewPass, IsPassOf, first_of, parts_of, passes_of, start_of}
+use Rattle.turnstile.specs.PassView.{IsNewPass, IsPassOf, drawn_of, first_of, parts_of, passes_of, start_of}
 use Rattle.turnstile.specs.declared.view.View.{View}
 use Rattle.sync_calls.specs.Door.{IsDoorOf}
 use Rattle.sync_calls.specs.Hall.{ExitLock, ExitOf, HallOf, IsReadyAt, LibraryRoom, PassOf, made_with, passes_in, rooms_of, shares_of}
@@ -93,7 +93,7 @@ dealt_is P xs x each (k, below, is) = subst P is (each k x below)
 module _ {S : Type 0} (contents : S → Option Contents) (may_give : S → Slot → Option (List ℕ) → Type 0) (texts faults : S → ℕ) where
   -- a new pass to a room is ready
   ready_new : (passes : ℕ) (depot : DepotView S) (fresh : Fresh (LibraryRoom S) (LibraryPass S)) (one : LibraryPass S) → IsFresh passes depot fresh → Contains fresh.passes.items one
-      → IsReadyAt contents may_give texts faults 1 passes fresh.room one × (shown_of one ≡ new_shown depot) × (first_of one ≡ 0)
+      → IsReadyAt contents may_give texts faults 1 passes fresh.room one × (shown_of one ≡ new_shown depot) × ((first_of one ≡ 0) × (drawn_of one ≡ 0))
   ready_new passes depot fresh one new has =
       let is : IsNewPass fresh.room.lock (Some depot) passes 0 one = dealt_is (IsNewPass fresh.room.lock (Some depot) passes 0) fresh.passes.items one new.each has in
       let shows : shown_of one ≡ new_shown depot = ap (λ (v : LibraryView S). shown_in v) is.1 in (
@@ -107,7 +107,7 @@ module _ {S : Type 0} (contents : S → Option Contents) (may_give : S → Slot 
           among = ap (λ (v : LibraryView S). v.passes) is.1;
         },
         shows,
-        ap (λ (v : LibraryView S). v.first) is.1,
+        (ap (λ (v : LibraryView S). v.first) is.1, ap (λ (v : LibraryView S). v.drawn) is.1),
       )
 
   pub filling_first : (rooms passes : ℕ) (way : ExitOf S) (hall : HallOf S) (pass : PassOf S) → vec_len hall.rooms ≡ 0 → vec_len way.depots ≡ 0 → rooms ≤ vec_capacity way.depots
@@ -130,7 +130,7 @@ module _ {S : Type 0} (contents : S → Option Contents) (may_give : S → Slot 
           shows = ap all_shown seated.empty;
           share = ap (λ (v : View (ExitOf S) ℕ). v.parts) seated.exits.1;
           made = ap (λ (v : View (ExitOf S) ℕ). v.passes) seated.exits.1;
-          tickets = subst (λ l. All (λ to. first_of to ≡ 0) l) (sym seated.empty) (All-nil (λ (to : LibraryPass S). first_of to ≡ 0));
+          tickets = subst (λ l. All (λ to. (first_of to ≡ 0) × (drawn_of to ≡ 0)) l) (sym seated.empty) (All-nil (λ (to : LibraryPass S). (first_of to ≡ 0) × (drawn_of to ≡ 0)));
         };
         fits = seated.fits;
         starts = begins;
@@ -187,7 +187,7 @@ module _ {S : Type 0} (contents : S → Option Contents) (may_give : S → Slot 
               ∙ (ap (λ (u : Shown S). map_list new_shown depots ++ u ∷ []) one.1 ∙ sym (map-append new_shown depots (depot ∷ [])))));
           share = share;
           made = made;
-          tickets = subst (λ l. All (λ to. first_of to ≡ 0) l) (sym dealt.grows) (All-push (λ to. first_of to ≡ 0) (passes_in pass) dealt.one so.new.tickets one.2);
+          tickets = subst (λ l. All (λ to. (first_of to ≡ 0) × (drawn_of to ≡ 0)) l) (sym dealt.grows) (All-push (λ to. (first_of to ≡ 0) × (drawn_of to ≡ 0)) (passes_in pass) dealt.one so.new.tickets one.2);
         };
         fits = subst (λ (n : ℕ). rooms ≤ n) (sym dealt.room) so.fits;
         starts = starts;

@@ -1,25 +1,39 @@
 -- What one turn leaves of what a pass shows. The key lemmas are reads_so, changes_so, comes_same, comes_changed, knows_read and
 -- knows_changed.
-use Rattle.std.proofs.Common.{◌≡◌, ℕ, ⊎_elim, List, [], ◌∷◌, ◌++◌, length, length-append, refl, sym, ◌∙◌, ap, subst, arith, Option, Some}
+use Rattle.std.proofs.Common.{◌≡◌, ℕ, ⊎_elim, List, [], ◌∷◌, ◌++◌, length, length-append, take, refl, sym, ◌∙◌, ap, subst, subst₂, arith, true, Option, Some}
 use Rattle.std.specs.List.{slice_get}
+use Rattle.std.proofs.lemmas.List.{take-append-le, take_all}
+use Rattle.ids.specs.declared.key.Key.{Key}
 use Rattle.library_state.specs.declared.call.Call.{Call}
 use Rattle.library_state.specs.declared.reply.Reply.{Reply}
 use Rattle.object_store.specs.Shelf.{Contents}
 use Rattle.object_store.specs.declared.shelf.Slot.{Slot}
+use Rattle.object_graph.specs.Traversal.{is_in}
+use Rattle.depot.specs.CollectionTurns.{removed_in}
 use Rattle.depot.specs.DepotView.{DepotView}
 use Rattle.depot.specs.Giving.{GivesBy, IsLaid}
-use Rattle.depot.specs.Story.{ComesBy, IsAnswered, IsOther, IsSame, IsTurned, LeadsTo, Links, MadeBy}
+use Rattle.depot.specs.Story.{ComesBy, answered, turned, IsAnswered, IsMadeAs, IsOther, IsSame, IsTurned, LeadsTo, Links, MadeBy, RanBy, removed_of, removed_through}
 use Rattle.depot.specs.declared.story.Change.{Change}
 use Rattle.depot.specs.declared.story.Made.{Made}
 use Rattle.depot.specs.declared.story.Made.TheVariants as made
 use Rattle.depot.specs.declared.turn.Turn.{Turn}
-use Rattle.depot.proofs.StoryLemmas.{answered_lays, comes_on, turned_lays}
+use Rattle.depot.proofs.GivingLemmas.{wider_by}
+use Rattle.depot.proofs.StoryLemmas.{among_none, answered_lays, comes_on, laid_more, ran_on, ran_same, removed_last, removed_on, turned_lays, turned_same}
 use Rattle.turnstile.specs.Lists.{Has, IsOnce}
 use Rattle.turnstile.proofs.ListsLemmas.{Has-append, IsOnce-append, prefix_length, prefix_trans}
 use Rattle.sync_calls.specs.Operations.{Called, Deed, Does, IsChanging, IsMadeBy, IsNew, IsReading, Looked, TookTurn}
 use Rattle.sync_calls.specs.ServedTurn.{CatchesUp, IsEntryOf}
 use Rattle.sync_calls.specs.Shown.{Knows, Shown, library_after, library_at}
 use Rattle.sync_calls.proofs.ShownLemmas.{IsLast, after_front, at_end, last_at, leads_on, leads_same}
+
+-- what was seen before a place at which nothing more is
+seen_whole : {V : Type 0} (seen : List V) (place : ℕ) → place ≡ length seen → take place seen ≡ seen
+seen_whole seen place is = ap (λ (n : ℕ). take n seen) is ∙ take_all (length seen) seen (omega arith)
+
+-- and before the last change
+seen_before : {V : Type 0} (seen : List V) (change : V) (place : ℕ) → place ≡ length seen → take place (seen ++ change ∷ []) ≡ seen
+seen_before seen change place is =
+    ap (λ (n : ℕ). take n (seen ++ change ∷ [])) is ∙ take-append-le (length seen) seen (change ∷ []) (omega arith) ∙ take_all (length seen) seen (omega arith)
 
 -- what is shown once a change more is seen, with its place in the book
 abbrev pub with_change : {S : Type 0} → Shown S → Change (DepotView S) → ℕ → Shown S
@@ -88,7 +102,11 @@ module _ {S : Type 0} (contents : S → Option Contents) (may_give : S → Slot 
           stood = stood_at w start x place begins last is;
           before = x;
           same = last.same;
-          gives = record { start = start; began = begins; gives = comes.gives };
+          gives = record {
+            start = start;
+            began = begins;
+            gives = subst (λ (cs : List (Change (DepotView S))). GivesBy (IsLaid start.state.lib (removed_through cs)) (may_give start.store.shelf) (may_give x.store.shelf)) (sym (seen_whole w.seen place is)) comes.gives;
+          };
           after = y;
           does = does;
           stays = stays;
@@ -124,7 +142,8 @@ module _ {S : Type 0} (contents : S → Option Contents) (may_give : S → Slot 
         gives = record {
           start = start;
           began = begins;
-          gives = subst (λ (b : DepotView S). GivesBy (IsLaid start.state.lib) (may_give start.store.shelf) (may_give b.store.shelf)) (sym entry.from) comes.gives;
+          gives = subst₂ (λ (cs : List (Change (DepotView S))) (b : DepotView S). GivesBy (IsLaid start.state.lib (removed_through cs)) (may_give start.store.shelf) (may_give b.store.shelf))
+              (sym (seen_before w.seen change place is)) (sym entry.from) comes.gives;
         };
         links = linked change deed x y entry does other;
       }
@@ -141,22 +160,64 @@ module _ {S : Type 0} (contents : S → Option Contents) (may_give : S → Slot 
   leads_changed start x y seen deed change leads entry does other =
       leads_on contents may_give texts faults start seen x change y leads entry.from (linked change deed x y entry does other) entry.to
 
-  -- what a deed may lay
-  does_lay : (deed : Deed) (x y : DepotView S) → Does contents may_give texts faults x deed y → GivesBy (IsLaid x.state.lib) (may_give x.store.shelf) (may_give y.store.shelf)
-  does_lay (Called call moment r) x y does = answered_lays contents may_give texts faults x call moment r y does
-  does_lay (TookTurn goal moment most taken) x y does = turned_lays contents may_give texts faults x goal moment most taken y does
-  does_lay Looked x y does = absurd does
+  -- what a deed may lay that left the library as it was: by it no key leaves
+  lays_same : (deed : Deed) (x y : DepotView S) (keys : List Key) → Does contents may_give texts faults x deed y → IsSame contents faults x y
+      → GivesBy (IsLaid x.state.lib keys) (may_give x.store.shelf) (may_give y.store.shelf)
+  lays_same (Called call moment r) x y keys does same =
+      wider_by (laid_more x.state.lib [] keys (among_none keys)) (answered_lays contents may_give texts faults x call moment r y does)
+  lays_same (TookTurn goal moment most taken) x y keys does same =
+      let none = turned_same contents may_give texts faults x goal moment most taken y does same in
+      wider_by (laid_more x.state.lib (removed_in taken) keys (λ key there. among_none keys key (subst (λ (ks : List Key). is_in ks key ≡ true) none there)))
+      (turned_lays contents may_give texts faults x goal moment most taken y does)
+  lays_same Looked x y keys does same = absurd does
+
+  -- or that made a change, the last one
+  lays_changed : (m : Made) (at : ℕ) (deed : Deed) (x y : DepotView S) (seen : List (Change (DepotView S))) (change : Change (DepotView S)) → m ≡ change.made → IsMadeBy m at deed
+      → Does contents may_give texts faults x deed y → GivesBy (IsLaid x.state.lib (removed_through (seen ++ change ∷ []))) (may_give x.store.shelf) (may_give y.store.shelf)
+  lays_changed m at (Called call moment r) x y seen change same is does =
+      wider_by (laid_more x.state.lib [] (removed_through (seen ++ change ∷ [])) (among_none (removed_through (seen ++ change ∷ [])))) (answered_lays contents may_give texts faults x call moment r y does)
+  lays_changed (made.Turned goal most taken) at (TookTurn g moment n turn) x y seen change same is does =
+      wider_by (laid_more x.state.lib (removed_in turn) (removed_through (seen ++ change ∷ [])) (λ key there.
+      removed_last seen change key (subst (λ (k : Made). is_in (removed_of k) key ≡ true) same (subst (λ (t : Turn). is_in (removed_in t) key ≡ true) (sym is.2) there))))
+      (turned_lays contents may_give texts faults x g moment n turn y does)
+  lays_changed (made.Asked c s) at (TookTurn g moment n turn) x y seen change same is does = absurd is
+  lays_changed m at Looked x y seen change same is does = absurd does
+
+  -- it is done behind all that was done before, which it left as it was
+  does_run : (deed : Deed) (start x y : DepotView S) (seen : List (Change (DepotView S))) → RanBy contents may_give texts faults start seen x → Does contents may_give texts faults x deed y
+      → IsSame contents faults x y → RanBy contents may_give texts faults start seen y
+  does_run (Called call moment r) start x y seen ran does same = ran_same contents may_give texts faults start seen x (answered call moment r) y ran tt does same
+  does_run (TookTurn goal moment most taken) start x y seen ran does same = ran_same contents may_give texts faults start seen x (turned goal moment most taken) y ran tt does same
+  does_run Looked start x y seen ran does same = absurd does
+
+  -- or changed
+  made_run : (m : Made) (at : ℕ) (deed : Deed) (start x y : DepotView S) (seen : List (Change (DepotView S))) (change : Change (DepotView S)) → m ≡ change.made → at ≡ change.moment
+      → IsMadeBy m at deed → RanBy contents may_give texts faults start seen x → Does contents may_give texts faults x deed y → change.before.value ≡ x → change.after.value ≡ y
+      → RanBy contents may_give texts faults start (seen ++ change ∷ []) y
+  made_run (made.Asked c s) at (Called call moment r) start x y seen change same when is ran does from to =
+      ran_on contents may_give texts faults start seen x (answered call moment r) y change ran does from
+      (subst (λ (k : Made). IsMadeAs k change.moment (answered call moment r)) same (is.0, is.1, sym when ∙ is.2)) to
+  made_run (made.Turned goal most taken) at (TookTurn g moment n turn) start x y seen change same when is ran does from to =
+      ran_on contents may_give texts faults start seen x (turned g moment n turn) y change ran does from
+      (subst (λ (k : Made). IsMadeAs k change.moment (turned g moment n turn)) same (is.0, is.1, is.2, sym when ∙ is.3)) to
+  made_run (made.Asked c s) at (TookTurn g moment n turn) start x y seen change same when is ran does from to = absurd is
+  made_run (made.Asked c s) at Looked start x y seen change same when is ran does from to = absurd is
+  made_run (made.Turned goal most taken) at (Called call moment r) start x y seen change same when is ran does from to = absurd is
+  made_run (made.Turned goal most taken) at Looked start x y seen change same when is ran does from to = absurd is
 
   -- the library as a turn leaves it comes of the one that began
   pub comes_same : (start x y : DepotView S) (seen : List (Change (DepotView S))) (deed : Deed) → ComesBy contents may_give texts faults start seen x → IsSame contents faults x y
       → Does contents may_give texts faults x deed y → ComesBy contents may_give texts faults start seen y
   comes_same start x y seen deed comes same does =
-      comes_on contents may_give texts faults start seen x seen y comes (leads_same contents may_give texts faults start seen x y comes.leads same) (does_lay deed x y does)
+      comes_on contents may_give texts faults start seen x seen y comes (leads_same contents may_give texts faults start seen x y comes.leads same) (lays_same deed x y (removed_through seen) does same)
+      (does_run deed start x y seen comes.ran does same) (λ key there. there)
 
   pub comes_changed : (start x y : DepotView S) (seen : List (Change (DepotView S))) (deed : Deed) (change : Change (DepotView S)) → ComesBy contents may_give texts faults start seen x
       → IsEntryOf x deed y change → Does contents may_give texts faults x deed y → IsOther contents faults x y → ComesBy contents may_give texts faults start (seen ++ change ∷ []) y
   comes_changed start x y seen deed change comes entry does other =
-      comes_on contents may_give texts faults start seen x (seen ++ change ∷ []) y comes (leads_changed start x y seen deed change comes.leads entry does other) (does_lay deed x y does)
+      comes_on contents may_give texts faults start seen x (seen ++ change ∷ []) y comes (leads_changed start x y seen deed change comes.leads entry does other)
+      (lays_changed change.made change.moment deed x y seen change refl entry.made does)
+      (made_run change.made change.moment deed start x y seen change refl refl entry.made comes.ran does entry.from entry.to) (removed_on seen (change ∷ []))
 
   -- what the pass knows then
   pub knows_read : (u w : Shown S) (start y : DepotView S) → CatchesUp u w → w.start ≡ Some start → LeadsTo contents may_give texts faults start w.seen y

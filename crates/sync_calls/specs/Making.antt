@@ -5,7 +5,7 @@ use Rattle.object_store.specs.Shelf.{Contents}
 use Rattle.object_store.specs.declared.shelf.Slot.{Slot}
 use Rattle.depot.specs.DepotView.{DepotView}
 use Rattle.depot.specs.Story.{ComesBy}
-use Rattle.turnstile.specs.PassView.{IsNewPass, first_of, start_of}
+use Rattle.turnstile.specs.PassView.{IsNewPass, drawn_of, first_of, start_of}
 use Rattle.sync_calls.specs.Door.{IsDoorOf}
 use Rattle.sync_calls.specs.Hall.{AreReady, ExitLock, ExitOf, HallOf, LibraryRoom, PassOf, made_with, passes_in, shares_of, shown_by}
 use Rattle.sync_calls.specs.Shown.{LibraryPass, Shown}
@@ -16,13 +16,14 @@ abbrev pub new_shown : {S : Type 0} → DepotView S → Shown S
 new_shown depot = record { start = Some depot; seen = []; looked = 0; looks = 0; book = [] }
 
 module _ {S : Type 0} (contents : S → Option Contents) (may_give : S → Slot → Option (List ℕ) → Type 0) (texts faults : S → ℕ) where
-  -- a pass of a hall of these libraries, one of so many, which has seen and made nothing; the first ticket of each lock is 0
+  -- a pass of a hall of these libraries, one of so many, which has seen and made nothing; the first ticket of each lock is 0, and it has read
+  -- of no lock that one was drawn
   pub record IsNewOf (passes : ℕ) (depots : List (DepotView S)) (hall : HallOf S) (pass : PassOf S) : Type 0 where
     pub ready : AreReady contents may_give texts faults hall pass
     pub shows : shown_by pass ≡ map_list new_shown depots
     pub share : shares_of pass ≡ 1
     pub made : made_with pass ≡ passes
-    pub tickets : All (λ to. first_of to ≡ 0) (passes_in pass)
+    pub tickets : All (λ to. (first_of to ≡ 0) × (drawn_of to ≡ 0)) (passes_in pass)
 
   -- all passes are such
   abbrev pub AreNew : ℕ → List (DepotView S) → HallOf S → List (PassOf S) → Type 0

@@ -1,6 +1,6 @@
 -- Operation records: what was done at which place of which library's history. Our own. Read Deed and Line first, then
 -- IsReading, IsChanging and IsLooking with GivesSince, then Moves and Lines.
-use Rattle.std.specs.Prelude.{◌≡◌, ◌⊎◌, ℕ, ◌+◌, ◌≤◌, List, [], ◌∷◌, ◌++◌, length, slice_set, Option, Some}
+use Rattle.std.specs.Prelude.{◌≡◌, ◌⊎◌, ℕ, ◌+◌, ◌≤◌, List, [], ◌∷◌, ◌++◌, length, slice_set, take, Option, Some}
 use Rattle.std.specs.List.{slice_get}
 use mathlib.Core.List.{IsPrefix}
 use Rattle.library_state.specs.declared.call.Call.{Call}
@@ -9,7 +9,7 @@ use Rattle.object_store.specs.Shelf.{Contents}
 use Rattle.object_store.specs.declared.shelf.Slot.{Slot}
 use Rattle.depot.specs.DepotView.{DepotView}
 use Rattle.depot.specs.Giving.{GivesBy, IsLaid}
-use Rattle.depot.specs.Story.{IsAnswered, IsSame, IsTurned, Links}
+use Rattle.depot.specs.Story.{IsAnswered, IsSame, IsTurned, Links, removed_through}
 use Rattle.depot.specs.declared.story.Change.{Change}
 use Rattle.depot.specs.declared.story.Made.{Made}
 use Rattle.depot.specs.declared.story.Made.TheVariants as made
@@ -44,12 +44,12 @@ pub record IsLooking {S : Type 0} (u : Shown S) (place : ℕ) (v : Shown S) : Ty
   pub new : IsNew u place
   pub same : v ≡ record u { looked = place; looks = u.looks + 1 }
 
--- the shelf of a library of this history may give no more than that of the library as the history began, but what calls and turns
--- on it may lay
-pub record GivesSince {S : Type 0} (may_give : S → Slot → Option (List ℕ) → Type 0) (u : Shown S) (depot : DepotView S) : Type 0 where
+-- the shelf of a library at this place of a history may give no more than that of the library as the history began, but what calls
+-- and turns on it may lay, and nothing under a key that left through the changes before this place
+pub record GivesSince {S : Type 0} (may_give : S → Slot → Option (List ℕ) → Type 0) (u : Shown S) (place : ℕ) (depot : DepotView S) : Type 0 where
   pub start : DepotView S
   pub began : u.start ≡ Some start
-  pub gives : GivesBy (IsLaid start.state.lib) (may_give start.store.shelf) (may_give depot.store.shelf)
+  pub gives : GivesBy (IsLaid start.state.lib (removed_through (take place u.seen))) (may_give start.store.shelf) (may_give depot.store.shelf)
 
 module _ {S : Type 0} (contents : S → Option Contents) (may_give : S → Slot → Option (List ℕ) → Type 0) (texts faults : S → ℕ) where
   -- the deed leads from one library to another
@@ -64,7 +64,7 @@ module _ {S : Type 0} (contents : S → Option Contents) (may_give : S → Slot 
     pub stood : library_at u place ≡ Some there
     pub before : DepotView S
     pub same : IsSame contents faults there before
-    pub gives : GivesSince may_give u before
+    pub gives : GivesSince may_give u place before
     pub after : DepotView S
     pub does : Does before deed after
     pub stays : IsSame contents faults before after
@@ -89,7 +89,7 @@ module _ {S : Type 0} (contents : S → Option Contents) (may_give : S → Slot 
     pub there : DepotView S
     pub stood : library_at v place ≡ Some there
     pub follows : IsSame contents faults there change.before.value
-    pub gives : GivesSince may_give v change.before.value
+    pub gives : GivesSince may_give v place change.before.value
     pub links : Links contents may_give texts faults change
 
   abbrev pub IsDone : Shown S → ℕ → Deed → Shown S → Type 0
