@@ -2,11 +2,14 @@
 -- directories-only, made-durable, readied, unready, round-steps, named-more, among-more and adds-earlier.
 use Rattle.std.proofs.Common.{◌≡◌, ◌⊎◌, ℕ, suc, zero, ◌<◌, ◌+◌, Bool, List, [], ◌∷◌, ◌++◌, length, get_or, inl, inr, take, map, Option, None, Some, Result, Ok, Err, OnOk, OnErr, slice_index, subst, refl, sym, ◌∙◌, ap, arith}
 use Rattle.std.specs.Bool.{⊤}
+use Rattle.std.specs.IoError.{error_kind}
+use Rattle.std.specs.declared.io.Error.{Error}
+use Rattle.std.specs.declared.io.ErrorKind.{ErrorKind}
 use Rattle.std.proofs.lemmas.List.{append-nil, append_assoc, map-append, take_more}
 use Rattle.ids.specs.declared.key.Key.{Key}
 use Rattle.folder_storage.specs.declared.durability.Directory.{Directory}
 use Rattle.folder_storage.specs.declared.durability.Directory.TheVariants.{Objects, OfKind}
-use Rattle.folder_storage.specs.Durability.{AddsEarlier, AreAmong, AreNamedIn, AreSyncs, BeganSyncs, BeginsSyncs, EndedSyncs, Gathered, Gathers, In, MakesDurable, OnlySyncs, PutObject, PutText, Step, StopsBefore, SyncedObject, SyncedDirectory, SyncsEach, round_of, with_steps}
+use Rattle.folder_storage.specs.Durability.{AddsEarlier, AreAmong, AreNamedIn, AreSyncs, BeganSyncs, BeginsSyncs, EndedSyncs, FailsAsDisk, FailsSo, Gathered, Gathers, In, MakesDurable, OnlySyncs, PutObject, PutText, Step, StopsBefore, SyncedObject, SyncedDirectory, SyncsEach, fault_kind, round_of, with_steps}
 
 -- these steps, and then those
 pub steps-more : (told : Option (List Step)) (a b : List Step) → with_steps (with_steps told a) b ≡ with_steps told (a ++ b)
@@ -175,3 +178,21 @@ adds-earlier near near' whole whole' keys once once' (Err failure) same adds = _
 pub mark-stays : {E : Type 0} (old mid new : Bool) (result : Result ⊤ E) → mid ≡ old → OnErr result (new ≡ mid) → OnErr result (new ≡ old)
 mark-stays old mid new (Ok done) first failed = _
 mark-stays old mid new (Err failure) first failed = failed ∙ first
+
+-- a call of the disk that is handed on fails as the disk does
+pub fails-by : {D T : Type 0} (ends : Option ErrorKind → D → Type 0) (disk : D) (result : Result T Error) → ends (fault_kind result) disk → FailsAsDisk ends disk result
+fails-by ends disk (Ok done) told = _
+fails-by ends disk (Err failure) told = inr told
+
+-- what was known of the disk then is known of it since
+pub fails-on : {D : Type 0} (ends : Option ErrorKind → D → Type 0) (mid new : D) (failure : Error) → FailsSo ends mid failure
+    → ((kind : Option ErrorKind) → ends kind mid → ends kind new) → FailsSo ends new failure
+fails-on ends mid new failure (inl want) on = inl want
+fails-on ends mid new failure (inr told) on = inr (on (Some (error_kind failure)) told)
+
+-- one more of a list is done
+pub one-more : {A : Type 0} (f : A → Step) (old mid new : Option (List Step)) (xs all : List A) (x : A) → all ≡ xs ++ x ∷ [] → mid ≡ with_steps old (map f xs)
+    → new ≡ with_steps mid (f x ∷ []) → new ≡ with_steps old (map f all)
+one-more f old mid new xs all x more done one =
+    one ∙ ap (λ told. with_steps told (f x ∷ [])) done ∙ steps-more old (map f xs) (f x ∷ [])
+    ∙ ap (λ list. with_steps old list) (sym (map-append f xs (x ∷ []))) ∙ ap (λ list. with_steps old (map f list)) (sym more)

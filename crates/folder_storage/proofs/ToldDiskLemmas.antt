@@ -1,15 +1,19 @@
 -- What was done first comes first, and what a run over a disk that tells its calls has done. The key lemmas are noted-more,
--- puts-only, after-puts and ends-durably.
-use Rattle.std.proofs.Common.{◌≡◌, ◌⊎◌, ℕ, Bool, true, false, List, [], ◌∷◌, ◌++◌, map, inl, inr, Option, None, Some, Result, Ok, Err, slice_index, subst, refl, sym, ◌∙◌, ap}
+-- puts-only, after-puts and ends-durably; and total-more, failed-after and ends-after of how many calls it does.
+use Rattle.std.proofs.Common.{◌≡◌, ◌⊎◌, ◌+◌, ℕ, Bool, true, false, List, [], ◌∷◌, ◌++◌, map, inl, inr, Option, None, Some, Result, Ok, Err, slice_index, subst, refl, sym, ◌∙◌, ap, arith}
 use Rattle.std.specs.Bool.{⊤}
+use Rattle.std.specs.IoError.{error_kind}
+use Rattle.std.specs.declared.io.Error.{Error}
+use Rattle.std.specs.declared.io.ErrorKind.TheVariants.{OutOfMemory}
 use Rattle.std.proofs.lemmas.List.{map-append}
 use Rattle.ids.specs.declared.key.Key.{Key}
 use Rattle.folder_storage.specs.declared.durability.Directory.{Directory}
 use Rattle.folder_storage.specs.declared.durability.Directory.TheVariants.{Objects, OfKind}
 use Rattle.folder_storage.specs.declared.told_disk.Done.{Done}
-use Rattle.folder_storage.specs.Durability.{AreAmong, AreSyncs, BeganSyncs, EndedSyncs, Gathered, In, IsInOrder, PutObject, PutText, PutsDurably, Step, SyncedDirectory, SyncedObject, TextComesLast, round_of, with_steps}
-use Rattle.folder_storage.specs.ToldDisk.{EndsDurably, Follows, HasNoText, IsDurableBefore, IsMadeDurable, OnlyPuts, step_of, steps_of}
-use Rattle.folder_storage.proofs.DurabilityLemmas.{In-front, steps-more}
+use Rattle.folder_storage.specs.declared.told_disk.Done.TheVariants.{End}
+use Rattle.folder_storage.specs.Durability.{AreAmong, AreSyncs, BeganSyncs, EndedSyncs, FailsAsDisk, FailsSo, Gathered, In, IsInOrder, PutObject, PutText, PutsDurably, Step, SyncedDirectory, SyncedObject, TextComesLast, round_of, with_steps}
+use Rattle.folder_storage.specs.ToldDisk.{EndsAfter, EndsAt, EndsDurably, Follows, HasNoText, IsDurableBefore, IsMadeDurable, OnlyPuts, calls_of, count_of, step_of, steps_of, total_of}
+use Rattle.folder_storage.proofs.DurabilityLemmas.{In-front, one-more}
 
 -- one more is noted
 pub noted-more : (old new : List (Done × ℕ)) (done : Done) (left : ℕ) → new ≡ old ++ (done, left) ∷ []
@@ -84,8 +88,7 @@ order-none steps keys none = subst (λ list. IsInOrder (Some list) keys) (sym no
 pub put-more : (old mid new : Option (List Step)) (keys keys' : List Key) (key : Key) → keys' ≡ keys ++ key ∷ [] → mid ≡ with_steps old (map PutObject keys)
     → new ≡ with_steps mid (PutObject key ∷ []) → new ≡ with_steps old (map PutObject keys')
 put-more old mid new keys keys' key all done put =
-    put ∙ ap (λ told. with_steps told (PutObject key ∷ [])) done ∙ steps-more old (map PutObject keys) (PutObject key ∷ [])
-    ∙ ap (λ list. with_steps old list) (sym (map-append PutObject keys (key ∷ []))) ∙ ap (λ list. with_steps old (map PutObject list)) (sym all)
+    one-more PutObject old mid new keys keys' key all done put
 
 -- puts that were cut short
 pub puts-only : (old mid new : Option (List Step)) (keys : List Key) (key : Key) → mid ≡ with_steps old (map PutObject keys)
@@ -175,3 +178,46 @@ ends-durably start mid steps keys held left text (Err failure) empty put among (
     inl (no-text-after start mid steps (synced_round all.gathered all.synced all.directories) keys empty put all.steps
     (all-no-text all.gathered all.synced all.directories))
 ends-durably start mid steps keys held left text (Err failure) empty put among (inr (inr last)) = inr (text-last start mid steps keys held text empty put among last)
+
+-- one step more counts the calls that it is
+count-more : (steps : List Step) (step : Step) → count_of (steps ++ step ∷ []) ≡ count_of steps + calls_of step
+count-more [] step = omega arith
+count-more (first ∷ steps) step = omega (arith, count-more steps step)
+
+-- what was noted took from what is left the calls that it is
+pub total-more : (old new : List (Done × ℕ)) (done : Done) (left rest : ℕ) → Some (steps_of new) ≡ with_steps (Some (steps_of old)) (step_of done ∷ [])
+    → calls_of (step_of done) + rest ≡ left → total_of new rest ≡ total_of old left
+total-more old new done left rest more whole =
+    let steps : steps_of new ≡ steps_of old ++ step_of done ∷ [] = told-steps (steps_of new) (steps_of old ++ step_of done ∷ []) more in
+    let counted : count_of (steps_of old ++ step_of done ∷ []) + rest ≡ count_of (steps_of old) + left =
+    omega (arith, count-more (steps_of old) (step_of done), whole) in
+    ap (λ list. count_of list + rest) steps ∙ counted
+
+-- that the syncs ended takes none
+pub total-end : (old new : List (Done × ℕ)) (is_synced : Bool) (left rest : ℕ) → Some (steps_of new) ≡ with_steps (Some (steps_of old)) (EndedSyncs is_synced ∷ [])
+    → rest ≡ left → total_of new rest ≡ total_of old left
+total-end old new is_synced left rest more same =
+    let none : 0 + rest ≡ left = omega (arith, same) in
+    total-more old new (End is_synced) left rest more none
+
+-- nothing was noted
+pub total-same : (old new : List (Done × ℕ)) (left rest : ℕ) → new ≡ old → rest ≡ left → total_of new rest ≡ total_of old left
+total-same old new left rest same stays = ap (λ noted. total_of noted rest) same ∙ ap (λ n. total_of old n) stays
+
+-- of a disk that did nothing yet all are left
+pub total-new : (noted : List (Done × ℕ)) (left most : ℕ) → steps_of noted ≡ [] → left ≡ most → total_of noted left ≡ most
+total-new noted left most none same =
+    let nothing : count_of (steps_of noted) ≡ 0 = ap count_of none in
+    omega (arith, nothing, same)
+
+-- a run that isn't done wanted memory, or no call is left
+pub failed-after : {D : Type 0} (left_of : D → ℕ) (most : ℕ) (disk : D) (steps : List Step) (failure : Error) → count_of steps + left_of disk ≡ most
+    → FailsSo (λ kind d. EndsAt kind (left_of d)) disk failure → (error_kind failure ≡ OutOfMemory) ⊎ (count_of steps ≡ most)
+failed-after left_of most disk steps failure all (inl want) = inl want
+failed-after left_of most disk steps failure all (inr (inl want)) = inl want
+failed-after left_of most disk steps failure all (inr (inr spent)) = inr (omega (arith, all, spent))
+
+pub ends-after : {D T : Type 0} (left_of : D → ℕ) (most : ℕ) (disk : D) (steps : List Step) (result : Result T Error) → count_of steps + left_of disk ≡ most
+    → FailsAsDisk (λ kind d. EndsAt kind (left_of d)) disk result → EndsAfter most steps result
+ends-after left_of most disk steps (Ok done) all fails = _
+ends-after left_of most disk steps (Err failure) all fails = failed-after left_of most disk steps failure all fails

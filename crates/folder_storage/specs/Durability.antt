@@ -4,6 +4,10 @@ use Rattle.std.specs.Prelude.{◌≡◌, ◌⊎◌, ◌++◌, ℕ, Bool, false, 
 use Rattle.ids.specs.declared.key.Key.{Key}
 use Rattle.object_store.specs.declared.shelf.Slot.{Slot}
 use Rattle.object_store.specs.declared.shelf.Slot.TheVariants.{Object, Status}
+use Rattle.std.specs.IoError.{error_kind}
+use Rattle.std.specs.declared.io.Error.{Error}
+use Rattle.std.specs.declared.io.ErrorKind.{ErrorKind}
+use Rattle.std.specs.declared.io.ErrorKind.TheVariants.{OutOfMemory}
 use Rattle.folder_storage.specs.declared.durability.Directory.{Directory}
 use Rattle.folder_storage.specs.declared.durability.Directory.TheVariants.{Objects, OfKind}
 
@@ -46,6 +50,20 @@ StaysListed Status old new = ⊤
 abbrev pub PutsOrStays : {D : Type 0} → (Bool → D → D → Type 0) → Bool → (old new : D) → Type 0
 PutsOrStays puts true old new = puts true old new
 PutsOrStays puts false old new = (new ≡ old) ⊎ puts false old new
+
+-- of which kind the failure of a call is, where it failed
+abbrev pub fault_kind : {T : Type 0} → Result T Error → Option ErrorKind
+fault_kind (Ok done) = None
+fault_kind (Err failure) = Some (error_kind failure)
+
+-- memory was wanting, or a call of the disk failed so, and this is what is known of the disk since; `ends` tells it
+abbrev pub FailsSo : {D : Type 0} → (Option ErrorKind → D → Type 0) → D → Error → Type 0
+FailsSo ends disk failure = (error_kind failure ≡ OutOfMemory) ⊎ ends (Some (error_kind failure)) disk
+
+-- that is so where a call over the disk failed
+abbrev pub FailsAsDisk : {D T : Type 0} → (Option ErrorKind → D → Type 0) → D → Result T Error → Type 0
+FailsAsDisk ends disk (Ok done) = ⊤
+FailsAsDisk ends disk (Err failure) = FailsSo ends disk failure
 
 -- each object's folder is among the directories, and so is the folder of its kind
 abbrev pub AreNamedIn : List Key → List Directory → Type 0

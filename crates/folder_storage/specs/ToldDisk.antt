@@ -1,5 +1,9 @@
 -- What a disk that tells its calls tells, and what a run over it has to have done. Our own. Read IsDurableBefore first.
-use Rattle.std.specs.Prelude.{◌≡◌, ◌⊎◌, ◌++◌, ℕ, List, [], ◌∷◌, Option, Result, Ok, Err, ⊤, map, slice_index}
+use Rattle.std.specs.Prelude.{◌≡◌, ◌⊎◌, ◌+◌, ◌++◌, ℕ, List, [], ◌∷◌, Option, None, Some, Result, Ok, Err, ⊤, map, slice_index}
+use Rattle.std.specs.IoError.{error_kind}
+use Rattle.std.specs.declared.io.Error.{Error}
+use Rattle.std.specs.declared.io.ErrorKind.{ErrorKind}
+use Rattle.std.specs.declared.io.ErrorKind.TheVariants.{OutOfMemory}
 use Rattle.ids.specs.declared.key.Key.{Key}
 use Rattle.folder_storage.specs.Durability.{BeganSyncs, EndedSyncs, Gathered, In, PutObject, PutText, Step, SyncedDirectory, SyncedObject, with_steps}
 use Rattle.folder_storage.specs.declared.durability.Directory.TheVariants.{Objects, OfKind}
@@ -19,6 +23,35 @@ step_of (Text text) = PutText text.items
 -- what was noted, as steps: each was noted with a number that tells nothing here
 abbrev pub steps_of : List (Done × ℕ) → List Step
 steps_of noted = map (λ (one : Done × ℕ). step_of one.0) noted
+
+-- a call that may fail counts one; that the syncs ended is told by a call that can't, and counts none
+abbrev pub calls_of : Step → ℕ
+calls_of (PutObject key) = 1
+calls_of (Gathered keys) = 1
+calls_of (BeganSyncs keys) = 1
+calls_of (SyncedObject key) = 1
+calls_of (SyncedDirectory directory) = 1
+calls_of (EndedSyncs is_synced) = 0
+calls_of (PutText text) = 1
+
+-- how many calls that may fail were done
+abbrev pub count_of : List Step → ℕ
+count_of [] = 0
+count_of (step ∷ steps) = calls_of step + count_of steps
+
+-- how many such calls a disk does in all: those that were noted, and those that are left
+abbrev pub total_of : List (Done × ℕ) → (left : ℕ) → ℕ
+total_of noted left = count_of (steps_of noted) + left
+
+-- a call that failed wanted memory, or none is left
+abbrev pub EndsAt : Option ErrorKind → (left : ℕ) → Type 0
+EndsAt None left = ⊤
+EndsAt (Some kind) left = (kind ≡ OutOfMemory) ⊎ (left ≡ 0)
+
+-- where a run isn't done, memory was wanting, or all calls were done that the disk does
+abbrev pub EndsAfter : {T : Type 0} → (most : ℕ) → List Step → Result T Error → Type 0
+EndsAfter most steps (Ok done) = ⊤
+EndsAfter most steps (Err failure) = (error_kind failure ≡ OutOfMemory) ⊎ (count_of steps ≡ most)
 
 -- the second was done after the first
 abbrev pub Follows : (first second : Step) → List Step → Type 0

@@ -3,9 +3,9 @@ ghost use Rattle.std.specs.Prelude.{◌≡◌, List, Option, Some, map, slice_in
 ghost use Rattle.ids.specs.declared.key.Key.{Key};
 ghost use Rattle.object_store.specs.declared.shelf.Slot.{Slot};
 ghost use Rattle.object_store.specs.declared.shelf.Slot.TheVariants.{Object};
-ghost use Rattle.folder_storage.specs.Durability.{AreAmong, AreInOrder, IsInOrder, PutObject, with_steps};
+ghost use Rattle.folder_storage.specs.Durability.{AreAmong, AreInOrder, FailsAsDisk, IsInOrder, PutObject, with_steps};
 ghost use Rattle.folder_storage.specs.Paths.{HasId, IsId, IsNamed, listed_text, other_digits, slot_text, under};
-ghost use Rattle.folder_storage.specs.ToldDisk.{EndsDurably, OnlyPuts, steps_of};
+ghost use Rattle.folder_storage.specs.ToldDisk.{EndsAfter, EndsDurably, OnlyPuts, steps_of};
 
 use crate::durability::Disk;
 use crate::told_disk::ToldDisk;
@@ -29,7 +29,7 @@ pub fn a_path_reads_back_as_its_id()
 
 /// Puts these objects, one after another, and then a state text, over a disk of which so many calls are done before each
 /// fails. The text is put only after each object that was put, its folder, and that of its kind were synced; where one
-/// could not be, no text is put.
+/// could not be, no text is put. It is put, but where memory was wanting or so many calls were done.
 pub fn objects_are_durable_before_a_text(
     alloc: Global,
     keys: &[Key],
@@ -37,6 +37,7 @@ pub fn objects_are_durable_before_a_text(
     left: u64,
 ) -> (ToldDisk, io::Result<()>)
     ensures value { EndsDurably keys.now text.now (steps_of result.0.done.items) result.1 }
+    ensures cause { EndsAfter left (steps_of result.0.done.items) result.1 }
     ensures order { AreInOrder (λ due. ⊥) (steps_of result.0.done.items) }
 {
     let mut disk = ToldDisk::new(alloc, left);
@@ -58,6 +59,8 @@ fn put_all<D: Disk>(
     ensures ok { OnOk result (D.steps disk.new ≡ with_steps (D.steps disk.old) (map PutObject keys.now)) }
     ensures listed { OnOk result (AreAmong keys.now unsynced.new.keys.items) }
     ensures err { OnErr result (OnlyPuts (D.steps disk.old) (D.steps disk.new)) }
+    ensures cause { FailsAsDisk D.ends disk.new result }
+    ensures count { D.calls disk.new ≡ D.calls disk.old }
     ensures order { IsInOrder (D.steps disk.old) unsynced.old.keys.items → IsInOrder (D.steps disk.new) unsynced.new.keys.items }
 {
     for key in keys {

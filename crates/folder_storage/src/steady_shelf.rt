@@ -1,7 +1,7 @@
 //! A shelf in memory of which no call fails.
 ghost use Rattle.std.specs.Prelude.{◌≡◌, IfOk, None, Some};
 ghost use Rattle.std.specs.FinMap as map;
-ghost use Rattle.object_store.specs.Shelf.{Changes, Contents, CountsFaults, FindsNext, GivesAlso, GivesNoMore, Tells, lies_in, put_known, removed_known, texts_after};
+ghost use Rattle.object_store.specs.Shelf.{Changes, Contents, CountsFaults, FindsNext, GivesAlso, GivesNoMore, LaysBy, Tells, is_counted, lies_in, put_known, removed_known, texts_after};
 
 use ids::{Bytes, Items, Kind, ObjId};
 use object_store::{Found, MemoryShelf, Shelf, ShelfFailed, Slot};
@@ -80,6 +80,7 @@ impl Shelf for SteadyShelf {
         ensures ok { Changes (Some self.old.contents) (removed_known (Some self.old.contents) slot) (Some self.new.contents) result }
         ensures faults { CountsFaults 0 0 result }
         ensures gives { GivesAlso (Tells self.old.contents) (Tells self.new.contents) slot None }
+        ensures untouched { LaysBy is_counted (Tells self.old.contents) (Tells self.new.contents) result }
         ensures texts { self.new.texts ≡ self.old.texts }
     {
         self.inner.remove(slot)

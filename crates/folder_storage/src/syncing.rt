@@ -216,7 +216,7 @@ impl<F: FileSystem + Drop> LibraryFolder<F> {
 }
 
 impl<F: FileSystem + Drop> Disk for LibraryFolder<F> {
-    ghost use Rattle.std.specs.Prelude.{None};
+    ghost use Rattle.std.specs.Prelude.{None, ⊤};
     ghost use Rattle.folder_storage.specs.LibraryFolder.{PutsOne, doubts_of};
 
     type Way = Way;
@@ -228,6 +228,10 @@ impl<F: FileSystem + Drop> Disk for LibraryFolder<F> {
     ghost steps = { λ _. None };
 
     ghost puts = { λ key bytes is_done old new. PutsOne key bytes is_done (doubts_of old) (doubts_of new) };
+
+    ghost calls = { λ _. 0 };
+
+    ghost ends = { λ _ _. ⊤ };
 
     fn put_object(&mut self, key: &Key, bytes: &[u8], way: &Way) -> io::Result<()> {
         self.move_in(key, bytes, way)

@@ -1,7 +1,7 @@
 //! A disk without files, which tells what it is asked for. Definitions: specs/ToldDisk.antt.
-ghost use Rattle.std.specs.Prelude.{◌≡◌, ◌∷◌, [], OnErr, OnOk, Some};
-ghost use Rattle.folder_storage.specs.Durability.{with_steps};
-ghost use Rattle.folder_storage.specs.ToldDisk.{step_of, steps_of};
+ghost use Rattle.std.specs.Prelude.{◌≡◌, ◌+◌, ◌∷◌, [], OnErr, OnOk, Some};
+ghost use Rattle.folder_storage.specs.Durability.{fault_kind, with_steps};
+ghost use Rattle.folder_storage.specs.ToldDisk.{EndsAt, calls_of, step_of, steps_of, total_of};
 
 use crate::durability::{Directory, Disk};
 use http_server::Log;
@@ -37,6 +37,7 @@ impl ToldDisk {
     /// A disk that did nothing, of which so many calls will be done.
     pub(crate) fn new(alloc: Global, left: u64) -> ToldDisk
         ensures value { steps_of result.done.items ≡ [] }
+        ensures count { result.left ≡ left }
     {
         ToldDisk {
             alloc,
@@ -47,6 +48,8 @@ impl ToldDisk {
 
     /// One call less is left. Where none is, the call fails.
     fn pass(&mut self) -> io::Result<()>
+        ensures ok { OnOk result (self.old.left ≡ self.new.left + 1) }
+        ensures err { OnErr result ((self.new.left ≡ self.old.left) × (self.new.left ≡ 0)) }
         ensures stays { self.new.done.items ≡ self.old.done.items }
     {
         if self.left == 0 {
@@ -59,6 +62,7 @@ impl ToldDisk {
     /// Notes what was done.
     fn note(&mut self, done: &Done)
         ensures told { Some (steps_of self.new.done.items) ≡ with_steps (Some (steps_of self.old.done.items)) (step_of done.now ∷ []) }
+        ensures stays { self.new.left ≡ self.old.left }
     {
         self.done = self.done.and(done, &self.left);
     }
@@ -67,6 +71,8 @@ impl ToldDisk {
     fn pass_noted(&mut self, done: &Done) -> io::Result<()>
         ensures ok { OnOk result (Some (steps_of self.new.done.items) ≡ with_steps (Some (steps_of self.old.done.items)) (step_of done.now ∷ [])) }
         ensures err { OnErr result (Some (steps_of self.new.done.items) ≡ Some (steps_of self.old.done.items)) }
+        ensures cause { EndsAt (fault_kind result) self.new.left }
+        ensures count { calls_of (step_of done.now) ≡ 1 → total_of self.new.done.items self.new.left ≡ total_of self.old.done.items self.old.left }
     {
         if let Err(failure) = self.pass() {
             return Err(failure);
@@ -78,7 +84,7 @@ impl ToldDisk {
 
 impl Disk for ToldDisk {
     ghost use Rattle.std.specs.Prelude.{Some, ⊤};
-    ghost use Rattle.folder_storage.specs.ToldDisk.{steps_of};
+    ghost use Rattle.folder_storage.specs.ToldDisk.{EndsAt, steps_of, total_of};
 
     type Way = ();
 
@@ -90,6 +96,10 @@ impl Disk for ToldDisk {
 
     ghost puts = { λ _ _ _ _ _. ⊤ };
 
+    ghost calls = { λ disk. total_of disk.done.items disk.left };
+
+    ghost ends = { λ kind disk. EndsAt kind disk.left };
+
     fn put_object(&mut self, key: &Key, bytes: &[u8], way: &()) -> io::Result<()> {
         let _ = bytes;
         let _ = way;
@@ -97,12 +107,20 @@ impl Disk for ToldDisk {
     }
 
     fn gather(&mut self, keys: &mut Vec<Key>) -> io::Result<()> {
-        let done = Done::Gather(keys.clone()?);
+        let noted = match keys.clone() {
+            Ok(noted) => noted,
+            Err(failure) => return Err(io::Error::from(failure)),
+        };
+        let done = Done::Gather(noted);
         self.pass_noted(&done)
     }
 
     fn begin_syncs(&mut self, keys: &[Key]) -> io::Result<()> {
-        let done = Done::Begin(Vec::from_slice(self.alloc, keys)?);
+        let noted = match Vec::from_slice(self.alloc, keys) {
+            Ok(noted) => noted,
+            Err(failure) => return Err(io::Error::from(failure)),
+        };
+        let done = Done::Begin(noted);
         self.pass_noted(&done)
     }
 
@@ -131,7 +149,11 @@ impl Disk for ToldDisk {
     }
 
     fn put_text(&mut self, text: &[u8]) -> io::Result<()> {
-        let done = Done::Text(Vec::from_slice(self.alloc, text)?);
+        let noted = match Vec::from_slice(self.alloc, text) {
+            Ok(noted) => noted,
+            Err(failure) => return Err(io::Error::from(failure)),
+        };
+        let done = Done::Text(noted);
         self.pass_noted(&done)
     }
 }

@@ -3,7 +3,7 @@
 ghost use Rattle.std.specs.Prelude.{◌≡◌, ◌⊎◌, ◌+◌, ◌≤◌, [], ◌∷◌, OnErr, OnOk, is_ok, vec_capacity, vec_len};
 ghost use Rattle.std.specs.List.{Any, Contains};
 ghost use Rattle.std.specs.declared.cmp.Ordering.TheVariants.{Equal};
-ghost use Rattle.folder_storage.specs.Durability.{AreAmong, BeginsSyncs, In, IsInOrder, PutObject, PutsDurably, PutsOrStays, StopsBefore, with_steps};
+ghost use Rattle.folder_storage.specs.Durability.{AreAmong, BeginsSyncs, FailsAsDisk, In, IsInOrder, PutObject, PutsDurably, PutsOrStays, StopsBefore, with_steps};
 
 use crate::durability::{Disk, make_durable};
 use ids::Key;
@@ -48,6 +48,8 @@ impl Unsynced {
         ensures found { OnOk result (In key.now self.new.keys.items) }
         ensures listed { AreAmong self.old.keys.items self.new.keys.items }
         ensures after { PutsOrStays (D.puts key.now bytes.now) (is_ok result) disk.old disk.new }
+        ensures cause { FailsAsDisk D.ends disk.new result }
+        ensures count { D.calls disk.new ≡ D.calls disk.old }
         ensures order { IsInOrder (D.steps disk.old) self.old.keys.items → IsInOrder (D.steps disk.new) self.new.keys.items }
     {
         if let Err(failure) = note(&mut self.keys, key) {
@@ -67,6 +69,8 @@ impl Unsynced {
     ) -> io::Result<()>
         ensures value { PutsDurably (D.steps disk.old) (D.steps disk.new) self.old.keys.items self.new.keys.items text.now result }
         ensures items { OnOk result (self.new.keys.items ≡ []) }
+        ensures cause { FailsAsDisk D.ends disk.new result }
+        ensures count { D.calls disk.new ≡ D.calls disk.old }
         ensures order { IsInOrder (D.steps disk.old) self.old.keys.items → IsInOrder (D.steps disk.new) self.new.keys.items }
     {
         if let Err(failure) = self.gather(disk) {
@@ -86,6 +90,8 @@ impl Unsynced {
         ensures listed { AreAmong self.old.keys.items self.new.keys.items }
         ensures ok { OnOk result (BeginsSyncs (D.steps disk.old) (D.steps disk.new) self.old.keys.items self.new.keys.items) }
         ensures err { OnErr result (StopsBefore (D.steps disk.old) (D.steps disk.new) self.old.keys.items self.new.keys.items) }
+        ensures cause { FailsAsDisk D.ends disk.new result }
+        ensures count { D.calls disk.new ≡ D.calls disk.old }
     {
         if let Err(failure) = disk.gather(&mut self.keys) {
             return Err(failure);

@@ -1,4 +1,4 @@
-use Rattle.std.proofs.Common.{map}
+use Rattle.std.proofs.Common.{◌∙◌, inr, map}
 use Rattle.folder_storage.specs.Durability.{SyncedDirectory}
 use Rattle.folder_storage.proofs.DurabilityLemmas.{begun-err, begun-ok, none-synced}
 use Rattle.folder_storage.proofs.durability.sync_directories.Goals as goal
@@ -15,3 +15,12 @@ pub returns-clause-err : goal.returns-clause-err
 returns-clause-err g c =
     begun-err (g.D.Disk.steps c.args.disk.now) (g.D.Disk.steps c.begin_names.new.self) (g.D.Disk.steps c.sync_each_directory.new.disk)
     c.sync_each_directory.result c.begin_names.ensures.stays c.sync_each_directory.ensures.err
+
+pub returns-in-Err-clause-cause : goal.returns-in-Err-clause-cause
+returns-in-Err-clause-cause g c = inr c.in-Err.ensures.cause
+
+pub returns-clause-cause : goal.returns-clause-cause
+returns-clause-cause g c = c.sync_each_directory.ensures.cause
+
+pub returns-clause-count : goal.returns-clause-count
+returns-clause-count g c = c.sync_each_directory.ensures.count ∙ c.begin_names.ensures.count

@@ -1,5 +1,5 @@
-use Rattle.std.proofs.Common.{inl, inr, refl}
-use Rattle.folder_storage.proofs.DurabilityLemmas.{gathers-only, readied, unready}
+use Rattle.std.proofs.Common.{◌∙◌, inl, inr, refl}
+use Rattle.folder_storage.proofs.DurabilityLemmas.{fails-by, gathers-only, readied, unready}
 use Rattle.folder_storage.proofs.unsynced.Unsynced.gather.Goals as goal
 
 pub returns-in-Err-clause-err : goal.returns-in-Err-clause-err
@@ -28,3 +28,15 @@ returns-clause-err g c =
     unready (g.D.Disk.steps c.args.disk.now) (g.D.Disk.steps c.gather.new.self) (g.D.Disk.steps c.begin_syncs.new.self) c.args.self.now.keys.items
     c.gather.new.keys.items c.order.new.keys.items c.begin_syncs.result c.gather.ensures.listed c.order.ensures.listed
     c.in_default.ensures.ok c.begin_syncs.ensures.err
+
+pub returns-in-Err-clause-cause : goal.returns-in-Err-clause-cause
+returns-in-Err-clause-cause g c = inr c.in-Err.ensures.cause
+
+pub returns-in-Err-order-clause-cause : goal.returns-in-Err-order-clause-cause
+returns-in-Err-order-clause-cause g c = inl c.from.ensures
+
+pub returns-clause-cause : goal.returns-clause-cause
+returns-clause-cause g c = fails-by g.D.Disk.ends c.begin_syncs.new.self c.begin_syncs.result c.begin_syncs.ensures.cause
+
+pub returns-clause-count : goal.returns-clause-count
+returns-clause-count g c = c.begin_syncs.ensures.count ∙ c.gather.ensures.count

@@ -1,5 +1,6 @@
 use Rattle.std.proofs.Common.{inl, inr, is_ok, subst, ap, ◌∙◌}
-use Rattle.folder_storage.specs.Durability.{MakesDurable, SyncsEach}
+use Rattle.folder_storage.specs.Durability.{FailsAsDisk, MakesDurable, SyncsEach}
+use Rattle.folder_storage.proofs.DurabilityLemmas.{fails-by, fails-on}
 use Rattle.folder_storage.proofs.UnsyncedLemmas.{order-before, order-short, put-text, put-text-order, stops-short}
 use Rattle.folder_storage.proofs.unsynced.Unsynced.put_text.Goals as goal
 
@@ -48,3 +49,20 @@ returns-clause-order g c =
     (subst (SyncsEach readied synced) c.as_slice.ensures.value
     (subst (MakesDurable readied synced c.as_slice.result.now) c.in_default-synced.is c.make_durable-synced.ensures.value))
     (c.is_ok.ensures.value ∙ ap is_ok c.in_default-synced.is) c.end_syncs.ensures.told c.clear.ensures.items c.put_text.ensures.ok c.put_text.ensures.err
+
+pub returns-in-Err-clause-cause : goal.returns-in-Err-clause-cause
+returns-in-Err-clause-cause g c = c.in-Err.ensures.cause
+
+pub returns-in-Err-synced-clause-cause : goal.returns-in-Err-synced-clause-cause
+returns-in-Err-synced-clause-cause g c =
+    fails-on g.D.Disk.ends c.make_durable-synced.new.disk c.end_syncs.new.self c.in-Err-synced.failure
+    (subst (FailsAsDisk g.D.Disk.ends c.make_durable-synced.new.disk) c.in-Err-synced.is c.make_durable-synced.ensures.cause) c.end_syncs.ensures.cause
+
+pub returns-in-Err-synced-clause-count : goal.returns-in-Err-synced-clause-count
+returns-in-Err-synced-clause-count g c = c.end_syncs.ensures.count ∙ c.make_durable-synced.ensures.count ∙ c.gather.ensures.count
+
+pub returns-clause-cause : goal.returns-clause-cause
+returns-clause-cause g c = fails-by g.D.Disk.ends c.put_text.new.self c.put_text.result c.put_text.ensures.cause
+
+pub returns-clause-count : goal.returns-clause-count
+returns-clause-count g c = c.put_text.ensures.count ∙ c.end_syncs.ensures.count ∙ c.make_durable-synced.ensures.count ∙ c.gather.ensures.count
