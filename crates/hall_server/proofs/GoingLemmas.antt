@@ -1,12 +1,16 @@
 -- What a call and a look leave in a pass: one operation, or none; and how a history began, which no operation changes. The key lemmas are
--- asks_goes, glances_goes, goes_append and done_start.
+-- asks_goes, glances_goes, goes_append, done_start and done_grows.
 use Rattle.std.proofs.Common.{◌≡◌, ◌⊎◌, inl, inr, ℕ, zero, suc, Bool, List, [], ◌∷◌, ◌++◌, Option, Some, ap, ap₂, false, if◌then◌else◌, refl, subst, sym, true, ◌∙◌}
 use Rattle.std.specs.List.{slice_get}
+use mathlib.Core.List.{IsPrefix}
 use Rattle.std.specs.Prelude.{slice_set}
 use Rattle.library_state.specs.declared.call.Call.{Call}
 use Rattle.library_state.specs.declared.tag.Tag.{Tag}
 use Rattle.object_store.specs.Shelf.{Contents}
 use Rattle.object_store.specs.declared.shelf.Slot.{Slot}
+use Rattle.depot.specs.DepotView.{DepotView}
+use Rattle.depot.specs.declared.story.Change.{Change}
+use Rattle.turnstile.proofs.ListsLemmas.{prefix_refl}
 use Rattle.sync_calls.specs.Asking.{AsksSo}
 use Rattle.sync_calls.specs.Looking.{GlancesSo}
 use Rattle.sync_calls.specs.Operations.{Called, Deed, IsDone, Line, Lines, Looked, Moves, TookTurn}
@@ -29,6 +33,21 @@ set_back (x ∷ xs) (suc i) a (suc j) b is =
       | inl here ↦ inl (ap suc here.0, here.1)
       | inr there ↦ inr there
     ]
+
+-- what stood there stands there still, or was what the one was set for
+pub set_there : {A : Type 0} (xs : List A) (i : ℕ) (a b : A) (j : ℕ) (c : A) → slice_get xs i ≡ Some b → slice_get xs j ≡ Some c
+    → ((c ≡ b) × (slice_get (slice_set xs i a) j ≡ Some a)) ⊎ (slice_get (slice_set xs i a) j ≡ Some c)
+set_there [] i a b j c was is = inr is
+set_there (x ∷ xs) zero a b zero c was is = inl (from_some c b (sym is ∙ was), refl)
+set_there (x ∷ xs) zero a b (suc j) c was is = inr is
+set_there (x ∷ xs) (suc i) a b zero c was is = inr is
+set_there (x ∷ xs) (suc i) a b (suc j) c was is = set_there xs i a b j c was is
+
+-- at the place that was set stands what was set
+pub set_at : {A : Type 0} (xs : List A) (i : ℕ) (a b : A) → slice_get xs i ≡ Some b → slice_get (slice_set xs i a) i ≡ Some a
+set_at [] i a b was = cc
+set_at (x ∷ xs) zero a b was = refl
+set_at (x ∷ xs) (suc i) a b was = set_at xs i a b was
 
 -- one that was done, where it is an operation
 abbrev pub kept : Line → Bool → List Line
@@ -96,3 +115,11 @@ module _ {S : Type 0} (contents : S → Option Contents) (may_give : S → Slot 
   done_start u place (Called call moment r) v (inr changes) = ap (λ (w : Shown S). w.start) changes.same
   done_start u place (TookTurn goal moment most taken) v (inl reads) = ap (λ (w : Shown S). w.start) reads.same
   done_start u place (TookTurn goal moment most taken) v (inr changes) = ap (λ (w : Shown S). w.start) changes.same
+
+  -- and it only goes on
+  pub done_grows : (u : Shown S) (place : ℕ) (deed : Deed) (v : Shown S) → IsDone contents may_give texts faults u place deed v → IsPrefix u.seen v.seen
+  done_grows u place Looked v looks = subst (λ (l : List (Change (DepotView S))). IsPrefix u.seen l) (sym (ap (λ (w : Shown S). w.seen) looks.same)) (prefix_refl u.seen)
+  done_grows u place (Called call moment r) v (inl reads) = reads.grows
+  done_grows u place (Called call moment r) v (inr changes) = changes.grows
+  done_grows u place (TookTurn goal moment most taken) v (inl reads) = reads.grows
+  done_grows u place (TookTurn goal moment most taken) v (inr changes) = changes.grows

@@ -3,4 +3,7 @@ pub mod CollectingLemmas
 pub mod RanLemmas
 pub mod ShareLemmas
 pub mod SpentLemmas
+pub mod NewLemmas
+pub mod LaterLemmas
+pub mod TagLemmas
 pub mod CauseLemmas

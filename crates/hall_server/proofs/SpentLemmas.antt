@@ -29,7 +29,7 @@ no_denial : host_answer (without_turn refusal.Denied) ≡ host_answer (without_t
 no_denial e = let same : reply.Refused refusal.Denied ≡ reply.Refused refusal.Spent = ap (λ (a : Answer). a.reply) e in cc (same)
 
 -- what left an operation left some
-no_operation : (line : Line) (lines : List Line) → lines ≡ line ∷ [] → lines ≡ [] → ⊥
+pub no_operation : (line : Line) (lines : List Line) → lines ≡ line ∷ [] → lines ≡ [] → ⊥
 no_operation line lines one none = cc (one, none)
 
 -- ---- where a library stands

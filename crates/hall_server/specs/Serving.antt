@@ -16,7 +16,7 @@ use Rattle.sync_calls.specs.Collecting.{CollectsSo}
 use Rattle.sync_calls.specs.FirstAsking.{AsksTooMuch, SparesReading}
 use Rattle.sync_calls.specs.Hall.{PassOf, StaySpent, drawn_by, shown_by}
 use Rattle.sync_calls.specs.Looking.{GlancesSo}
-use Rattle.sync_calls.specs.Operations.{Deed, Line, Lines, TookTurn}
+use Rattle.sync_calls.specs.Operations.{Deed, IsNew, Line, Lines, TookTurn}
 use Rattle.sync_calls.specs.Shown.{Shown}
 use Rattle.turnstile.specs.Rule.{most_turns}
 use Rattle.sync_calls.specs.declared.asking.Answer.{Answer as HallAnswer}
@@ -91,6 +91,10 @@ TellsSpentOf v (call_asked lib call answer lines) = answer ≡ host_answer (with
 TellsSpentOf v _ = ⊤
 
 -- ---- operations
+
+-- its place isn't before what was seen and looked at of its library
+abbrev pub IsNewIn : {S : Type 0} → List (Shown S) → Line → Type 0
+IsNewIn {S} us line = (u : Shown S) → slice_get us line.library ≡ Some u → IsNew u line.place
 
 -- a turn of a collection told that it is over, which is no operation
 abbrev pub is_over_turn : Turn → Bool

@@ -1,12 +1,16 @@
 //! What holds of every connection with a hall: theorems on the definitions, with no code.
-ghost use Rattle.std.specs.Prelude.{List};
+ghost use Rattle.std.specs.Prelude.{◌≡◌, ℕ, List};
 ghost use Rattle.std.specs.List.{AllByRecursion};
+ghost use Rattle.library_state.specs.declared.call.Call.{Call};
 ghost use Rattle.sync_calls.specs.Hall.{StaySpent};
 ghost use Rattle.sync_calls.specs.Operations.{Line};
-ghost use Rattle.worker_server.specs.Calls.{Ran, Told};
+ghost use Rattle.sync_calls.specs.Shown.{Shown};
+ghost use Rattle.worker_server.specs.Calls.{Ran, Told, operations_of};
 ghost use Rattle.worker_server.specs.ServedConnection.{Answers, Exchange, Run, operations_in};
+ghost use Rattle.worker_server.specs.declared.host.Answer.{Answer};
 ghost use Rattle.hall_server.specs.Causes.{AreCausedAt};
-ghost use Rattle.hall_server.specs.Serving.{Goes, HallShown, TellsSpentOf, hall_rules};
+ghost use Rattle.hall_server.specs.Serving.{Goes, HallShown, IsNewIn, TellsSpentOf, hall_rules};
+ghost use Rattle.hall_server.specs.Tags.{IsLeftAt, TagsSo};
 
 use library_state::Clock;
 use object_store::Shelf;
@@ -23,6 +27,23 @@ pub fn a_request_leaves_its_operations<S: Shelf, C: Clock>()
         → Goes S.contents S.may_give S.texts S.faults old.libraries exchange.operations new.libraries }
 {}
 
+/// The place of each operation of a connection isn't before what the pass had seen and looked at of its library as the connection
+/// began: no reply tells of an older state.
+pub fn the_operations_of_a_connection_are_new<S: Shelf, C: Clock>()
+    ensures { (clock : C) (old new : HallShown S) (calls : List (Told Line)) → Ran (hall_rules S.contents S.may_give S.texts S.faults (C.shows clock)) old calls new
+        → AllByRecursion (IsNewIn old.libraries) (operations_of calls) }
+{}
+
+/// The tag of an answer that took a turn names the state that its call left: the library that stands at that place of the history,
+/// by all that the pass has seen at the end. So two answers of one library with one tag tell of one state. A look tells that a
+/// library is still in the state of a tag only where its history had just that length.
+pub fn a_tag_of_a_hall_tells_one_state<S: Shelf, C: Clock>()
+    ensures told { (clock : C) (old new : HallShown S) (calls : List (Told Line)) → Ran (hall_rules S.contents S.may_give S.texts S.faults (C.shows clock)) old calls new
+        → AllByRecursion (TagsSo S.contents S.may_give S.texts S.faults new.libraries) calls }
+    ensures same { (vs : List (Shown S)) (library : ℕ) (c d : Call) (m n : ℕ) (p q : Answer) → (a : IsLeftAt S.contents S.may_give S.texts S.faults vs library c m p)
+        → (b : IsLeftAt S.contents S.may_give S.texts S.faults vs library d n q) → p.place ≡ q.place → a.there ≡ b.there }
+{}
+
 /// A call is told that the lock of its library is spent, without a turn, only where that lock shows so at the end of the connection too.
 pub fn spent_is_told_only_of_a_lock_that_is_spent<S: Shelf, C: Clock>()
     ensures stays { (clock : C) (old new : HallShown S) (calls : List (Told Line)) → Ran (hall_rules S.contents S.may_give S.texts S.faults (C.shows clock)) old calls new
@@ -32,8 +53,9 @@ pub fn spent_is_told_only_of_a_lock_that_is_spent<S: Shelf, C: Clock>()
 {}
 
 /// Damage that is told on a connection has its cause in what the library that was asked might give as its history began, or in that
-/// nothing lies under a key: what calls lay since lies under names that its bytes don't contradict, whichever pass asked them.
+/// nothing lies under a key which a turn of a collection removed, among the changes that the pass has seen at the end: what calls lay
+/// since lies under names that its bytes don't contradict, whichever pass asked them.
 pub fn damage_on_a_connection_has_its_cause<S: Shelf, C: Clock>()
     ensures { (clock : C) (old new : HallShown S) (calls : List (Told Line)) → Ran (hall_rules S.contents S.may_give S.texts S.faults (C.shows clock)) old calls new
-        → AreCausedAt S.may_give old.libraries calls }
+        → AreCausedAt S.may_give new.libraries calls }
 {}
