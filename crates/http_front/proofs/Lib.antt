@@ -21,3 +21,4 @@ pub mod TargetLemmas
 pub mod TokenLemmas
 pub mod UnfinishedLemmas
 pub mod NamedIdLemmas
+mod WalkLemmas

@@ -1,5 +1,6 @@
--- What a dial tells of the links that it makes and takes back. Read first: Link.
-use Rattle.std.specs.Prelude.{ℕ, ◌≡◌, ◌+◌, ◌-◌, ◌^◌, min, List, [], Option, None, Some, ⊤}
+-- What a dial tells of the links that it makes and takes back, and of what it was asked for. Read first: Link.
+use Rattle.std.specs.Prelude.{ℕ, ◌≡◌, ◌+◌, ◌-◌, ◌^◌, min, List, [], ◌++◌, Option, None, Some, ⊤}
+use Rattle.std.specs.List.{AllByRecursion}
 use Rattle.http_front.specs.Link.{Asked}
 
 -- the sum of two counts, which stops at the greatest number of 64 bits
@@ -17,3 +18,7 @@ pub record IsFresh {L : Type 0} (taken given : L → Option (List ℕ)) (asked :
   pub given_none : IsNothing (given link)
   pub asked_none : IsNothing (asked link)
   pub no_faults : faults link ≡ 0
+
+-- whatever a dial was asked for since was this port of this host. Told are a host and a port for each call, also for one that failed
+abbrev pub DialsOnly : List ℕ → ℕ → (before now : List (List ℕ × ℕ)) → Type 0
+DialsOnly host port before now = (more : List (List ℕ × ℕ)) × (now ≡ before ++ more) × AllByRecursion (λ (asked : List ℕ × ℕ). asked ≡ (host, port)) more

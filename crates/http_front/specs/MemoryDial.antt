@@ -4,13 +4,14 @@ use Rattle.ids.specs.FaultCount.{counted}
 use Rattle.http_front.specs.MemoryLink.{MemoryLinkState}
 
 -- `rest` are the links that are not handed out, the next one first. `room` is how many of those that come back it keeps to be
--- looked at, the first ones. `calls` counts the calls for a link so far, up to 2 ^ 64 - 1
+-- looked at, the first ones. `calls` counts the calls for a link so far, up to 2 ^ 64 - 1, and `dialled` is what they asked for
 pub record MemoryDialState : Type 0 where
   pub rest : List MemoryLinkState
   pub room : ℕ
   pub fails : List ℕ
   pub calls : ℕ
   pub back : List MemoryLinkState
+  pub dialled : List (List ℕ × ℕ)
   pub faults : ℕ
 
 -- nothing was moved on it, it was asked for nothing, and no call of it failed

@@ -35,7 +35,7 @@ mod target_front;
 mod token;
 
 pub use buffer::{Buffer, FillFault};
-pub use dial::Dial;
+pub use dial::{Dial, DialLog};
 pub use entity_tag::{read_tag_text, write_tag_text};
 pub use expectation::wants_close;
 pub use fields::{Seen, look_for};

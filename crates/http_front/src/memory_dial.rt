@@ -6,7 +6,7 @@ ghost use Rattle.http_front.specs.MemoryDial.{IsUnused, faults_after};
 ghost use Rattle.http_front.specs.MemoryLink.{MemoryLinkState};
 ghost use Rattle.ids.specs.FaultCount.{counted, is_due};
 
-use crate::dial::Dial;
+use crate::dial::{Dial, DialLog};
 use crate::link::LinkFailed;
 use crate::memory_link::{MemoryLink, is_due_at};
 use http_server::Log;
@@ -24,8 +24,9 @@ pub struct MemoryDial {
     fails: Items<u64>,
     calls: u64,
     faults: u64,
-    // All links that came back, for proofs alone.
+    // All links that came back, and what was asked for, for proofs alone.
     back: Log<MemoryLink, u64>,
+    dialled: DialLog,
 }
 
 impl Model for MemoryDial {
@@ -40,6 +41,7 @@ impl Model for MemoryDial {
       fails = a.fails;
       calls = a.calls;
       back = map (λ entry. entry.0) a.back.items;
+      dialled = a.dialled.items;
       faults = a.faults;
     } };
 
@@ -66,6 +68,7 @@ impl MemoryDial {
           fails = fails;
           calls = 0;
           back = [];
+          dialled = [];
           faults = 0;
         }) }
     {
@@ -81,6 +84,7 @@ impl MemoryDial {
             calls: 0,
             faults: 0,
             back: Log::new(),
+            dialled: DialLog::new(),
         })
     }
 
@@ -120,10 +124,13 @@ impl Dial for MemoryDial {
 
     ghost back = { λ dial. dial.back };
 
+    ghost dialled = { λ dial. dial.dialled };
+
     ghost faults = { λ dial. dial.faults };
 
     fn link(&mut self, host: &str, port: u16) -> Result<MemoryLink, LinkFailed>
         ensures told { IfOk result (λ link. ⊤) }
+        ensures dialled { self.new.dialled ≡ self.old.dialled ++ (host.now, port) ∷ [] }
         ensures fresh { IfOk result (IsFresh (λ link. Some link.taken) (λ link. Some link.given) (λ link. Some link.asked) (λ link. link.faults)) }
         ensures stays { self.new.back ≡ self.old.back }
         ensures faults { CountsFaults self.old.faults self.new.faults result }
@@ -132,10 +139,9 @@ impl Dial for MemoryDial {
         ensures fails { IsErr result ↔ (IsTrue (is_due self.old.fails self.old.calls) ⊎ (self.old.rest ≡ [])) }
         ensures rest { IfOk result (λ link. self.old.rest ≡ link ∷ self.new.rest) }
         ensures err { OnErr result (self.new.rest ≡ self.old.rest) }
-        ensures after { self.new ≡ record self.old { rest = self.new.rest; calls = counted self.old.calls; faults = faults_after (is_err result) self.old.faults } }
+        ensures after { self.new ≡ record self.old { rest = self.new.rest; calls = counted self.old.calls; dialled = self.old.dialled ++ (host.now, port) ∷ []; faults = faults_after (is_err result) self.old.faults } }
     {
-        let _ = host;
-        let _ = port;
+        self.dialled = self.dialled.and(host, port);
         match self.next_link() {
             Ok(link) => Ok(link),
             Err(failed) => {
@@ -147,6 +153,7 @@ impl Dial for MemoryDial {
 
     fn hang_up(&mut self, link: MemoryLink)
         ensures back { self.new.back ≡ self.old.back ++ link ∷ [] }
+        ensures dialled { self.new.dialled ≡ self.old.dialled }
         ensures faults { self.new.faults ≡ count_sum self.old.faults link.faults }
         ensures after { self.new ≡ record self.old { back = self.old.back ++ link ∷ []; faults = count_sum self.old.faults link.faults } }
     {

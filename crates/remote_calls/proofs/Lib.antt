@@ -11,3 +11,4 @@ pub mod MadeThereLemmas
 pub mod SentCountLemmas
 pub mod LinksToldLemmas
 pub mod SpellingLemmas
+pub mod DialledLemmas

@@ -19,12 +19,13 @@ pub record LinksView : Type 0 where
   pub back : List LinkView
   pub faults : ℕ
 
--- whom a remote sends to: a server at a port of a host, over a dial to which these links had come back before, with that count of
--- faults
+-- whom a remote sends to: a server at a port of a host, over a dial to which these links had come back before, which had been asked for
+-- these ports, with that count of faults
 pub record HttpPeer : Type 0 where
   pub host : List ℕ
   pub port : ℕ
   pub start : List LinkView
+  pub dialled : List (List ℕ × ℕ)
   pub faults : ℕ
 
 -- the server, the links to it, and the list of sends
@@ -51,16 +52,21 @@ abbrev pub start_of : {D L : Type 0} → (view : L → LinkView) → (back : D �
 start_of view back [] = []
 start_of view back (entry ∷ more) = map view (back entry.0)
 
+-- what it had been asked for
+abbrev pub first_dialled : {D : Type 0} → (dialled : D → List (List ℕ × ℕ)) → List (D × ℕ) → List (List ℕ × ℕ)
+first_dialled dialled [] = []
+first_dialled dialled (entry ∷ more) = dialled entry.0
+
 -- and its count of faults
 abbrev pub first_count : {D : Type 0} → (faults : D → ℕ) → List (D × ℕ) → ℕ
 first_count faults [] = 0
 first_count faults (entry ∷ more) = count_sum (faults entry.0) 0
 
 -- a remote of these parts: `made` has the dial as it was handed in
-abbrev pub remote_of : {D L : Type 0} → (view : L → LinkView) → (back : D → List L) → (faults : D → ℕ) → (host : List ℕ) → (port : ℕ) → D
+abbrev pub remote_of : {D L : Type 0} → (view : L → LinkView) → (back : D → List L) → (dialled : D → List (List ℕ × ℕ)) → (faults : D → ℕ) → (host : List ℕ) → (port : ℕ) → D
     → Option (OpenLink L) → (made : List (D × ℕ)) → List Sent → HttpRemoteView
-remote_of view back faults host port dial kept made sends = record {
-  peer = record { host = host; port = port; start = start_of view back made; faults = first_count faults made };
+remote_of view back dialled faults host port dial kept made sends = record {
+  peer = record { host = host; port = port; start = start_of view back made; dialled = first_dialled dialled made; faults = first_count faults made };
   links = links_of view back faults dial kept;
   sends = sends;
 }

@@ -4,7 +4,7 @@ ghost use Rattle.ids.specs.Outcome.{ExactlyWith};
 ghost use Rattle.http_client.specs.OrderOutcome.{CanHave};
 ghost use Rattle.http_client.specs.RequestText.{HasRequest, IsHost};
 ghost use Rattle.remote_calls.specs.Exchange.{link_view};
-ghost use Rattle.http_front.specs.Dial.{count_sum};
+ghost use Rattle.http_front.specs.Dial.{DialsOnly, count_sum};
 ghost use Rattle.remote_calls.specs.HttpRemote.{AreMadeThere, Reaches, SendsOver, left_over, links_in, links_of, sum_with};
 ghost use Rattle.remote_calls.specs.Sends.{CountsSend, CountsSends, IsTooLarge, SendsOne, is_no_memory, size_told};
 ghost use Rattle.remote_calls.specs.Spelling.{SpellsAll};
@@ -37,19 +37,21 @@ pub struct HttpRemote<D: Dial> {
 
 impl<D: Dial> Model for HttpRemote<D> {
     ghost use Rattle.http_client.specs.RequestText.{IsHost};
+    ghost use Rattle.http_front.specs.Dial.{DialsOnly};
     ghost use Rattle.remote_calls.specs.Exchange.{link_view};
-    ghost use Rattle.remote_calls.specs.HttpRemote.{HttpRemoteView, Reaches, TellsLinks, remote_of};
+    ghost use Rattle.remote_calls.specs.HttpRemote.{HttpRemoteView, Reaches, TellsLinks, first_dialled, remote_of};
     ghost use Rattle.remote_calls.specs.Spelling.{IsSpelled};
 
     ghost Value = { HttpRemoteView };
 
-    ghost view = { λ a. remote_of (link_view D.L.left D.L.taken D.L.given D.L.asked D.L.faults) D.back D.faults a.host a.port a.dial a.kept a.made.items a.sends.items };
+    ghost view = { λ a. remote_of (link_view D.L.left D.L.taken D.L.given D.L.asked D.L.faults) D.back D.dialled D.faults a.host a.port a.dial a.kept a.made.items a.sends.items };
 
     ghost invariant = { λ a. record {
       name : IsHost a.host;
-      spelled : IsSpelled (remote_of (link_view D.L.left D.L.taken D.L.given D.L.asked D.L.faults) D.back D.faults a.host a.port a.dial a.kept a.made.items a.sends.items);
+      spelled : IsSpelled (remote_of (link_view D.L.left D.L.taken D.L.given D.L.asked D.L.faults) D.back D.dialled D.faults a.host a.port a.dial a.kept a.made.items a.sends.items);
       links : TellsLinks (Reaches (link_view D.L.left D.L.taken D.L.given D.L.asked D.L.faults) D.reaches)
-          (remote_of (link_view D.L.left D.L.taken D.L.given D.L.asked D.L.faults) D.back D.faults a.host a.port a.dial a.kept a.made.items a.sends.items);
+          (remote_of (link_view D.L.left D.L.taken D.L.given D.L.asked D.L.faults) D.back D.dialled D.faults a.host a.port a.dial a.kept a.made.items a.sends.items);
+      dials : DialsOnly a.host a.port (first_dialled D.dialled a.made.items) (D.dialled a.dial);
     } };
 }
 
@@ -63,6 +65,7 @@ impl<D: Dial + Drop> HttpRemote<D> {
             host = host;
             port = port;
             start = map (link_view D.L.left D.L.taken D.L.given D.L.asked D.L.faults) (D.back dial);
+            dialled = D.dialled dial;
             faults = count_sum (D.faults dial) 0;
           };
           links = links_of (link_view D.L.left D.L.taken D.L.given D.L.asked D.L.faults) D.back D.faults dial None;
@@ -81,13 +84,14 @@ impl<D: Dial + Drop> HttpRemote<D> {
     }
 
     /// The dial, to which every link went back: the bytes that were moved on those that came back since `new`, where they tell
-    /// them, are the requests and replies of the sends, and as many were made to this port of this host. Its count rose since where
-    /// the link failed in a send, and stayed where it failed in none. It takes no memory.
+    /// them, are the requests and replies of the sends, and as many were made to this port of this host; it was asked for no other port
+    /// since. Its count rose since where the link failed in a send, and stayed where it failed in none. It takes no memory.
     pub fn end(self) -> D
         ensures back { map (link_view D.L.left D.L.taken D.L.given D.L.asked D.L.faults) (D.back result) ≡ self.links.back ++ left_over self.links.kept }
         ensures told { SpellsAll self.peer.host self.peer.start (map (link_view D.L.left D.L.taken D.L.given D.L.asked D.L.faults) (D.back result)) self.sends }
         ensures reached { AreMadeThere (Reaches (link_view D.L.left D.L.taken D.L.given D.L.asked D.L.faults) D.reaches) self.peer
             (map (link_view D.L.left D.L.taken D.L.given D.L.asked D.L.faults) (D.back result)) }
+        ensures dialled { DialsOnly self.peer.host self.peer.port self.peer.dialled (D.dialled result) }
         ensures faults { count_sum (D.faults result) 0 ≡ self.links.faults }
         ensures cause { CountsSends self.peer.faults self.sends self.links.faults }
     {
@@ -157,6 +161,7 @@ fn send_over<D: Dial>(
     requires name { IsHost host.now }
     ensures told { IfOk result (CanHave order.now.what) }
     ensures too_large { ExactlyWith is_no_memory result RemoteFault.TooLarge (size_told order.now) (IsTooLarge order.now) }
+    ensures dialled { DialsOnly host.now port (D.dialled dial.old) (D.dialled dial.new) }
     ensures faults { CountsSend (links_of (link_view D.L.left D.L.taken D.L.given D.L.asked D.L.faults) D.back D.faults dial.old kept.old).faults
         (links_of (link_view D.L.left D.L.taken D.L.given D.L.asked D.L.faults) D.back D.faults dial.new kept.new).faults result }
     ensures value { SendsOver (Reaches (link_view D.L.left D.L.taken D.L.given D.L.asked D.L.faults) D.reaches) host.now port order.now
@@ -194,6 +199,7 @@ fn put_kept<D: Dial>(dial: &mut D, kept: &mut Option<OpenLink<D::L>>, chosen: Op
 /// Gives the link that is kept back, if there is one.
 fn hang_up<D: Dial>(dial: &mut D, kept: Option<OpenLink<D::L>>)
     ensures back { D.back dial.new ≡ D.back dial.old ++ links_in kept }
+    ensures dialled { D.dialled dial.new ≡ D.dialled dial.old }
     ensures faults { D.faults dial.new ≡ sum_with D.L.faults (D.faults dial.old) kept }
 {
     match kept {

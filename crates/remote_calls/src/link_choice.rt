@@ -1,5 +1,6 @@
 //! Which link an order goes over.
 ghost use Rattle.std.specs.Prelude.{◌≡◌, true, Some, None, Err, map, IfErr, IfOk};
+ghost use Rattle.http_front.specs.Dial.{DialsOnly};
 ghost use Rattle.remote_calls.specs.Exchange.{link_view, open_view};
 ghost use Rattle.remote_calls.specs.HttpRemote.{HasNoLink, Reaches, ReadiesBy, ReadiesCount, keeps, links_of};
 
@@ -20,6 +21,7 @@ pub(crate) fn ready_link<D: Dial>(
     ensures ok { IfOk result (λ made. ReadiesBy (λ link. Reaches (link_view D.L.left D.L.taken D.L.given D.L.asked D.L.faults) D.reaches link host.now port)
         (links_of (link_view D.L.left D.L.taken D.L.given D.L.asked D.L.faults) D.back D.faults dial.old kept.old)
         (open_view (link_view D.L.left D.L.taken D.L.given D.L.asked D.L.faults) made) (map (link_view D.L.left D.L.taken D.L.given D.L.asked D.L.faults) (D.back dial.new))) }
+    ensures dialled { DialsOnly host.now port (D.dialled dial.old) (D.dialled dial.new) }
     ensures within { IfOk result (λ made. keeps made.over made.count ≡ true) }
     ensures err { IfErr result (λ fault. HasNoLink
         (links_of (link_view D.L.left D.L.taken D.L.given D.L.asked D.L.faults) D.back D.faults dial.old kept.old)
@@ -44,6 +46,7 @@ fn keep_or_dial<D: Dial>(
     ensures ok { IfOk result (λ made. ReadiesBy (λ link. Reaches (link_view D.L.left D.L.taken D.L.given D.L.asked D.L.faults) D.reaches link host.now port)
         (links_of (link_view D.L.left D.L.taken D.L.given D.L.asked D.L.faults) D.back D.faults dial.old (Some last))
         (open_view (link_view D.L.left D.L.taken D.L.given D.L.asked D.L.faults) made) (map (link_view D.L.left D.L.taken D.L.given D.L.asked D.L.faults) (D.back dial.new))) }
+    ensures dialled { DialsOnly host.now port (D.dialled dial.old) (D.dialled dial.new) }
     ensures within { IfOk result (λ made. keeps made.over made.count ≡ true) }
     ensures err { IfErr result (λ fault. HasNoLink
         (links_of (link_view D.L.left D.L.taken D.L.given D.L.asked D.L.faults) D.back D.faults dial.old (Some last))
@@ -73,6 +76,7 @@ fn dial_anew<D: Dial>(
     ensures ok { IfOk result (λ made. ReadiesBy (λ link. Reaches (link_view D.L.left D.L.taken D.L.given D.L.asked D.L.faults) D.reaches link host.now port)
         (links_of (link_view D.L.left D.L.taken D.L.given D.L.asked D.L.faults) D.back D.faults dial.old None)
         (open_view (link_view D.L.left D.L.taken D.L.given D.L.asked D.L.faults) made) (map (link_view D.L.left D.L.taken D.L.given D.L.asked D.L.faults) (D.back dial.new))) }
+    ensures dialled { DialsOnly host.now port (D.dialled dial.old) (D.dialled dial.new) }
     ensures within { IfOk result (λ made. keeps made.over made.count ≡ true) }
     ensures err { IfErr result (λ fault. HasNoLink
         (links_of (link_view D.L.left D.L.taken D.L.given D.L.asked D.L.faults) D.back D.faults dial.old None)

@@ -3,7 +3,7 @@ ghost use Rattle.std.specs.Prelude.{◌≡◌, [], IfOk};
 
 use crate::counting::answer;
 use crate::tcp_link::{TcpLink, Waits};
-use http_front::{Dial, LinkFailed};
+use http_front::{Dial, DialLog, LinkFailed};
 use http_server::Log;
 use std::io;
 use std::io::ErrorKind;
@@ -28,20 +28,22 @@ const WAITS: Waits = Waits {
 pub struct TcpDial<R> {
     rt: R,
     faults: u64,
-    // The links that came back, for proofs alone.
+    // The links that came back, and what was asked for, for proofs alone.
     back: Log<TcpLink, u64>,
+    dialled: DialLog,
 }
 
 impl<R> TcpDial<R> {
-    /// A dial over the network of this runtime, with no fault, and to which no link came back yet.
+    /// A dial over the network of this runtime, with no fault, which was asked for nothing and to which no link came back yet.
     pub fn new(rt: R) -> TcpDial<R>
-        ensures none { result.back.items ≡ [] }
+        ensures none { (result.back.items ≡ []) × (result.dialled.items ≡ []) }
         ensures faults { result.faults ≡ 0 }
     {
         TcpDial {
             rt,
             faults: 0,
             back: Log::new(),
+            dialled: DialLog::new(),
         }
     }
 
@@ -62,9 +64,12 @@ impl<R: Net<Stream = TcpStream>> Dial for TcpDial<R> {
 
     ghost back = { λ dial. map (λ entry. entry.0) dial.back.items };
 
+    ghost dialled = { λ dial. dial.dialled.items };
+
     ghost faults = { λ dial. dial.faults };
 
     fn link(&mut self, host: &str, port: u16) -> Result<TcpLink, LinkFailed> {
+        self.dialled = self.dialled.and(host, port);
         let linked = connect(&self.rt, host, port);
         answer(&mut self.faults, linked)
     }

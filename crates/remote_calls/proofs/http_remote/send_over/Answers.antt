@@ -6,6 +6,8 @@ use Rattle.remote_calls.specs.Exchange.{link_view}
 use Rattle.remote_calls.specs.HttpRemote.{Reaches, SendsOver}
 use Rattle.remote_calls.specs.Sends.{IsTooLarge, is_no_memory, size_told}
 use Rattle.remote_calls.specs.declared.error.RemoteFault.TheVariants as fault
+use Rattle.http_front.specs.Dial.{DialsOnly}
+use Rattle.remote_calls.proofs.DialledLemmas.{dialled_none}
 use Rattle.remote_calls.proofs.LinkChoiceLemmas.{exchanged_over, no_link_cause}
 use Rattle.remote_calls.proofs.LinkCountLemmas.{kept_counts, no_link_counts, send_counts}
 use Rattle.remote_calls.proofs.SendsLemmas.{ended_for, fits_from, large_from, refused_for, too_large}
@@ -26,7 +28,13 @@ returns-then-not-is_within_limit-clause-value g c =
     let large = large_from order c.is_within_limit.result c.is_within_limit.ensures.value c.if-not-is_within_limit.true in
     SendsOver.too_large large (ap (λ (n : ℕ). Err (fault.TooLarge n)) c.body_size.ensures.value) refl
 
+pub returns-then-not-is_within_limit-clause-dialled : goal.returns-then-not-is_within_limit-clause-dialled
+returns-then-not-is_within_limit-clause-dialled g c = dialled_none c.args.host.now c.args.port (g.D.Dial.dialled c.args.dial.now) (g.D.Dial.dialled c.args.dial.now) refl
+
 -- ---- no memory for its text
+
+pub returns-in-Err-clause-dialled : goal.returns-in-Err-clause-dialled
+returns-in-Err-clause-dialled g c = dialled_none c.args.host.now c.args.port (g.D.Dial.dialled c.args.dial.now) (g.D.Dial.dialled c.args.dial.now) refl
 
 pub request_bytes-requires : goal.request_bytes-requires
 request_bytes-requires g c = record {
@@ -60,6 +68,10 @@ pub returns-in-Err-ready_link-clause-value : goal.returns-in-Err-ready_link-clau
 returns-in-Err-ready_link-clause-value g c = rw c.in-Err-ready_link.ensures.none (SendsOver.unlinked c.in-Err-ready_link.ensures.err)
 
 -- ---- over a link
+
+pub returns-clause-dialled : goal.returns-clause-dialled
+returns-clause-dialled g c =
+    subst (λ (d : g.row.D.Denot). DialsOnly c.args.host.now c.args.port (g.D.Dial.dialled c.args.dial.now) (g.D.Dial.dialled d)) (sym c.put_kept.ensures.stays) c.in-Ok-ready_link.ensures.dialled
 
 pub returns-clause-too_large : goal.returns-clause-too_large
 returns-clause-too_large g c =

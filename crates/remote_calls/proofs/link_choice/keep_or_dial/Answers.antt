@@ -4,6 +4,7 @@ use Rattle.std.proofs.lemmas.List.{map-append}
 use Rattle.std.proofs.lemmas.Result.{IfErr-weaker, IfOk-weaker}
 use Rattle.remote_calls.specs.Exchange.{link_view, open_view}
 use Rattle.remote_calls.specs.HttpRemote.{Reaches, ReadiesBy, links_of}
+use Rattle.remote_calls.proofs.DialledLemmas.{dialled_none, dialled_then}
 use Rattle.remote_calls.proofs.LinkChoiceLemmas.{WentBack, no_link_after, readies_after}
 use Rattle.remote_calls.proofs.LinkCountLemmas.{given_back, readies_count}
 use Rattle.remote_calls.proofs.link_choice.keep_or_dial.Goals as goal
@@ -20,7 +21,15 @@ returns-then-keeps-clause-ok g c = ReadiesBy.kept (record {
 pub returns-then-keeps-clause-within : goal.returns-then-keeps-clause-within
 returns-then-keeps-clause-within g c = sym c.keeps.ensures.value ∙ c.if-keeps.true
 
+pub returns-then-keeps-clause-dialled : goal.returns-then-keeps-clause-dialled
+returns-then-keeps-clause-dialled g c = dialled_none c.args.host.now c.args.port (g.D.Dial.dialled c.args.dial.now) (g.D.Dial.dialled c.args.dial.now) refl
+
 -- ---- it went back
+
+pub returns-clause-dialled : goal.returns-clause-dialled
+returns-clause-dialled g c =
+    dialled_then c.args.host.now c.args.port (g.D.Dial.dialled c.args.dial.now) (g.D.Dial.dialled c.hang_up.new.self) (g.D.Dial.dialled c.dial_anew.new.dial)
+    (dialled_none c.args.host.now c.args.port (g.D.Dial.dialled c.args.dial.now) (g.D.Dial.dialled c.hang_up.new.self) c.hang_up.ensures.dialled) c.dial_anew.ensures.dialled
 
 pub returns-clause-ok : goal.returns-clause-ok
 returns-clause-ok g c =
