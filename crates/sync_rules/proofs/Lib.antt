@@ -6,3 +6,4 @@ pub mod PlanLemmas
 pub mod ShortSyncLemmas
 pub mod StopLemmas
 pub mod WentLemmas
+pub mod ProperLemmas

@@ -11,12 +11,14 @@ ghost use Rattle.tree_model.specs.declared.node.Node.TheVariants as node;
 ghost use Rattle.sync_rules.specs.Offer.{Agrees, own_of};
 ghost use Rattle.folder_side.specs.WorkingTree.{HoldsLeft, PlainFile, held_list, plain_at};
 ghost use Rattle.tree_model.specs.DirectorySurvival.{is_under};
+ghost use Rattle.local_index.specs.IndexSpelling.{IsProper};
 ghost use Rattle.local_index.specs.declared.index.Index.{Index};
 ghost use Rattle.tree_model.specs.Path.{PathV};
 ghost use Rattle.tree_model.specs.Tree.{Tree};
 ghost use Rattle.sync_rules.specs.Checkout.{Front, IsPlan, MayHold, Step, is_doomed, run};
 ghost use Rattle.remote_calls.specs.Sends.{Sent};
 ghost use Rattle.sync_rules.specs.declared.fault.SyncFault.TheVariants as fault;
+ghost use Rattle.sync_rules.specs.declared.synced.Synced.{Synced};
 ghost use Rattle.folder_side.specs.ScanReport.{IsWithinLimits};
 ghost use Rattle.library_state.specs.declared.refusal.Refusal.TheVariants as refusal;
 ghost use Rattle.library_state.specs.declared.tag.Tag.{Tag};
@@ -116,4 +118,10 @@ pub fn files_with_one_own_id_have_the_same_bytes()
 pub fn a_folder_that_agrees_holds_the_tree()
     ensures { (objects : Objects) (cuts : Cuts) (c : Contents) (index : Index) (base : Tree) (had : List (Key × List ℕ)) → Over objects cuts c index base had
         → Agrees cuts c index → HoldsLeft base c c × ([] ≡ held_list base c) }
+{}
+
+/// An index that a sync left is read back as it is, where the one that it was given is: its base isn't forty zeros, each entry stands in a
+/// directory, and a file has the mode of one. Over any objects that have what was got.
+pub fn an_index_that_a_sync_left_is_proper()
+    ensures { (objects : Objects) → (i : Index) → (j : Index) → (more : List Sent) → (s : Synced) → HasGot objects more → LeavesIndex i j more (Ok s) → IsProper i → IsProper j }
 {}
