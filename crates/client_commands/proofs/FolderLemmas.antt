@@ -2,6 +2,7 @@
 -- was_full, was_wanted, own_command, with_own, all_same and works_out.
 use Rattle.std.proofs.Common.{◌≡◌, ◌≤◌, ℕ, Bool, true, false, List, Option, Some, Result, Err, refl, sym, ap, subst, ◌∙◌, true≢false}
 use Rattle.std.proofs.lemmas.Bool.{false≢true}
+use Rattle.std.specs.Prelude.{IfErr}
 use Rattle.std.specs.Bool.{MatchBool}
 use Rattle.std.specs.Str.{bytes_eq}
 use Rattle.std.proofs.lemmas.Slice.Eq.{bytes_eq-Decides}
@@ -10,7 +11,6 @@ use Rattle.folder_side.specs.Folder.{Contents, is_folder_fault}
 use Rattle.folder_side.specs.declared.error.FolderFault.{FolderFault}
 use Rattle.folder_side.specs.declared.error.FolderFault.TheVariants as folder
 use Rattle.local_index.specs.declared.index.Index.{Index}
-use Rattle.remote_calls.specs.Exchange.{LinkView}
 use Rattle.sync_rules.specs.declared.synced.Synced.{Synced}
 use Rattle.client_words.specs.declared.fault.Fault.{Fault}
 use Rattle.client_words.specs.declared.fault.Fault.TheVariants as fault
@@ -22,7 +22,7 @@ use Rattle.client_commands.specs.Folders.{GivesFolder, LacksFolder, TakesFolder,
 use Rattle.client_commands.specs.JobSyncs.{BeginsNone, SyncsOver, WorksBy, WorksSo, failed, full, has_entry, is_unwanted, synced}
 use Rattle.client_commands.specs.Keeping.{DeskKeeps}
 use Rattle.client_commands.specs.Runs.{InOwn}
-use Rattle.client_commands.specs.Views.{DeskView, OwnView}
+use Rattle.client_commands.specs.Views.{DeskView, DialView, OwnView}
 use Rattle.client_commands.specs.declared.wanted.Wanted.{Wanted}
 use Rattle.client_commands.specs.declared.wanted.Wanted.TheVariants.{Any, Empty}
 use Rattle.client_commands.proofs.CountLemmas.{not_fallen_same, not_fallen_told}
@@ -54,7 +54,7 @@ not_taken f e old new is told places holds dials faults = (
 pub begins_none : {N : Type 0} (i : Index) (told now : Option Contents) (dials : List N) → now ≡ told → BeginsNone i i told now dials dials
 begins_none i told now dials same = record { index = refl; folder = same; same_dials = refl }
 
-module _ {N : Type 0} (links : N → List LinkView) (shows : ℕ → Type 0) (wanted : Wanted) (job : Job) (i : Index) where
+module _ {N : Type 0} (links : N → DialView) (shows : ℕ → Type 0) (wanted : Wanted) (job : Job) (i : Index) where
   pub untaken : (old new : DeskView N) (e : Fault) → LacksFolder old new e → WorksSo links shows wanted job i i old new (Err e)
   untaken old new e lacks = record {
     works = failed e lacks.free refl (record { index = refl; folder = ap (λ (h : List ℕ → Option Contents). h job.dir) lacks.holds; same_dials = lacks.dials });
@@ -91,9 +91,9 @@ module _ {N : Type 0} (dir : List ℕ) (own kept : OwnView) (old begun ended new
   with_own does r done = opened (record { own = own; kept = kept; begun = begun; ended = ended; takes = takes; done = done; gives = gives })
 
   -- one that leaves the desk alone
-  pub own_command : {T : Type 0} (does : Contents → Option Contents → Result T Fault → Type 0) (r : Result T Fault) → ended ≡ begun
-      → ((c : Contents) → own.told ≡ Some c → does c kept.told r) → WithFolder dir (InOwn does) old new r
-  own_command does r same done = with_own (InOwn does) r (record { desk_stays = same; does_so = done })
+  pub own_command : {T : Type 0} (may : Fault → Type 0) (does : Contents → Option Contents → Result T Fault → Type 0) (r : Result T Fault) → ended ≡ begun → IfErr r may
+      → ((c : Contents) → own.told ≡ Some c → does c kept.told r) → WithFolder dir (InOwn may does) old new r
+  own_command may does r same only done = with_own (InOwn may does) r (record { desk_stays = same; only = only; does_so = done })
 
   -- each other folder is as it was, where nothing was done to them
   pub others_same : ended.holds ≡ begun.holds → SameElsewhere old.holds new.holds dir
@@ -110,7 +110,7 @@ module _ {N : Type 0} (dir : List ℕ) (own kept : OwnView) (old begun ended new
       by false is = others_same keeps d (λ here. true≢false (sym ((bytes_eq-Decides d dir).1 here) ∙ is))
 
   -- the sync of a job is done while its folder is out
-  pub works_out : (links : N → List LinkView) (shows : ℕ → Type 0) (wanted : Wanted) (job : Job) (i j : Index) (r : Result Synced Fault) → dir ≡ job.dir
+  pub works_out : (links : N → DialView) (shows : ℕ → Type 0) (wanted : Wanted) (job : Job) (i j : Index) (r : Result Synced Fault) → dir ≡ job.dir
       → ended.holds ≡ begun.holds → WorksBy links shows wanted job i j own.told kept.told begun.dials ended.dials r → WorksSo links shows wanted job i j old new r
   works_out links shows wanted job i j r here keeps works = record {
     works =

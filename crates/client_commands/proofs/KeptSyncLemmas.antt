@@ -7,7 +7,6 @@ use Rattle.std.proofs.lemmas.List.Elements.{recursion_from_All}
 use Rattle.folder_side.specs.Folder.{Changes, Contents}
 use Rattle.folder_texts.specs.FolderTexts.{text_at}
 use Rattle.http_client.specs.RequestText.{IsHost}
-use Rattle.remote_calls.specs.Exchange.{LinkView}
 use Rattle.local_index.specs.declared.index.Index.{Index}
 use Rattle.sync_rules.specs.declared.synced.Synced.{Synced}
 use Rattle.client_words.specs.declared.fault.Fault.{Fault}
@@ -18,8 +17,8 @@ use Rattle.client_desk.specs.Commands.{with_jobs}
 use Rattle.client_desk.specs.JobList.{is_same_job, job_due, job_unless, jobs_with, meets_job}
 use Rattle.client_desk.specs.KeptTexts.{is_free, jobs_found, jobs_name}
 use Rattle.client_commands.specs.JobSyncs.{WorksSo}
-use Rattle.client_commands.specs.KeptSyncs.{KeepsIndex, KeepsJob, SyncsAsked, SyncsDue, SyncsListed, SyncsNew, due, empty_index, with_index}
-use Rattle.client_commands.specs.Views.{DeskView}
+use Rattle.client_commands.specs.KeptSyncs.{KeepsIndex, KeepsJob, ReadsBack, SyncsAsked, SyncsDue, SyncsListed, SyncsNew, due, empty_index, with_index}
+use Rattle.client_commands.specs.Views.{DeskView, DialView}
 use Rattle.client_commands.specs.declared.wanted.Wanted.{Wanted}
 use Rattle.client_commands.proofs.WordLemmas.{found_job, job_host}
 
@@ -27,8 +26,8 @@ use Rattle.client_commands.proofs.WordLemmas.{found_job, job_host}
 
 module _ (j : Index) (s : Synced) (own mid kept : Option Contents) (same : mid ≡ own) where
   -- it was put
-  pub kept_index : ((c : Contents) → mid ≡ Some c → Changes {T = ⊤} {E = Fault} (with_index j) mid kept (Ok tt)) → KeepsIndex j (Ok s) own kept (Ok s)
-  kept_index put = (refl, λ c held. put c (same ∙ held) ∙ ap (option_map (with_index j)) (same ∙ held))
+  pub kept_index : ReadsBack j → ((c : Contents) → mid ≡ Some c → Changes {T = ⊤} {E = Fault} (with_index j) mid kept (Ok tt)) → KeepsIndex j (Ok s) own kept (Ok s)
+  kept_index reads put = (refl, reads, λ c held. put c (same ∙ held) ∙ ap (option_map (with_index j)) (same ∙ held))
 
   -- or perhaps not
   pub kept_index_free : (e : Fault) → ((c : Contents) → mid ≡ Some c → Changes {T = ⊤} (with_index j) mid kept (Err e)) → IsTrue (is_free e) → KeepsIndex j (Ok s) own kept (Err e)
@@ -71,7 +70,7 @@ due_host jobs listed asked job are same is =
 pub due_exists : (jobs : List Job) (asked : Job) (e : Fault) → job_due jobs asked ≡ Err e → e ≡ fault.JobExists
 due_exists jobs asked e is = exists_due (list_any (meets_job asked) jobs) (find (is_same_job asked) jobs) e is
 
-module _ {N : Type 0} (links : N → List LinkView) (shows : ℕ → Type 0) (wanted : Wanted) (asked : Job) (jobs listed : List Job) (own looked kept : Option Contents) (old new : DeskView N) (r : Result Synced Fault)
+module _ {N : Type 0} (links : N → DialView) (shows : ℕ → Type 0) (wanted : Wanted) (asked : Job) (jobs listed : List Job) (own looked kept : Option Contents) (old new : DeskView N) (r : Result Synced Fault)
     (found : (c : Contents) → own ≡ Some c → jobs_found (text_at c jobs_name) ≡ Ok jobs) (same : listed ≡ jobs) where
   due_as : (d : Result (Option Job) Fault) → job_due listed asked ≡ d → SyncsDue links shows wanted asked jobs d own kept old new r → SyncsAsked links shows wanted asked own kept old new r
   due_as d is goes =
@@ -88,7 +87,7 @@ module _ {N : Type 0} (links : N → List LinkView) (shows : ℕ → Type 0) (wa
   asked_new is stays goes = due_as (Ok None) is (subst (λ (o : Option Contents). SyncsNew links shows wanted asked jobs o kept old new r) stays goes)
 
 -- a job that was synced by an index of which nothing was synced yet
-pub worked_new : {N : Type 0} (links : N → List LinkView) (shows : ℕ → Type 0) (wanted : Wanted) (job : Job) (i j : Index) (old new : DeskView N) (r : Result Synced Fault) → i ≡ empty_index job.lib
+pub worked_new : {N : Type 0} (links : N → DialView) (shows : ℕ → Type 0) (wanted : Wanted) (job : Job) (i j : Index) (old new : DeskView N) (r : Result Synced Fault) → i ≡ empty_index job.lib
     → WorksSo links shows wanted job i j old new r → WorksSo links shows wanted job (empty_index job.lib) j old new r
 worked_new links shows wanted job i j old new r is works = subst (λ (x : Index). WorksSo links shows wanted job x j old new r) is works
 
@@ -113,9 +112,9 @@ module _ (job : Job) (jobs : List Job) (j : Index) (s : Synced) (own put : Optio
     indexed : (c : Contents) → own ≡ Some c → put ≡ Some (with_index j c)
     indexed c held = first c held ∙ ap (option_map (with_index j)) held
 
-    pub kept_job : ((c : Contents) → put ≡ Some c → Changes {T = ⊤} {E = Fault} (with_jobs (jobs_with job jobs)) put kept (Ok tt)) → KeepsJob job jobs j (Ok s) own kept (Ok s)
-    kept_job later =
-        (refl, λ c held. later (with_index j c) (indexed c held) ∙ ap (option_map (with_jobs (jobs_with job jobs))) (indexed c held))
+    pub kept_job : ReadsBack j → ((c : Contents) → put ≡ Some c → Changes {T = ⊤} {E = Fault} (with_jobs (jobs_with job jobs)) put kept (Ok tt)) → KeepsJob job jobs j (Ok s) own kept (Ok s)
+    kept_job reads later =
+        (refl, reads, λ c held. later (with_index j c) (indexed c held) ∙ ap (option_map (with_jobs (jobs_with job jobs))) (indexed c held))
 
     pub kept_job_free : (e : Fault) → ((c : Contents) → put ≡ Some c → Changes {T = ⊤} (with_jobs (jobs_with job jobs)) put kept (Err e)) → IsTrue (is_free e) → KeepsJob job jobs j (Ok s) own kept (Err e)
     kept_job_free e later free = (free, λ c held. by c (indexed c held) (later (with_index j c) (indexed c held)))

@@ -9,5 +9,6 @@ pub mod RunLemmas
 pub mod SentLemmas
 pub mod StartLemmas
 pub mod StatusLemmas
+pub mod ToldFaultLemmas
 pub mod WordLemmas
 pub mod WorktreeLemmas

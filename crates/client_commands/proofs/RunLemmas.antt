@@ -2,7 +2,6 @@
 use Rattle.std.proofs.Common.{◌≡◌, ◌==◌, inl, inr, ℕ, Bool, true, false, cond, List, Some, Result, Ok, Err, sym, subst, ◌∙◌}
 use Rattle.std.specs.Prelude.{⊤}
 use Rattle.std.specs.Io.KnownBytes.{append_known}
-use Rattle.remote_calls.specs.Exchange.{LinkView}
 use Rattle.sync_rules.specs.declared.synced.Synced.{Synced}
 use Rattle.client_words.specs.Help.{help_text, version_text}
 use Rattle.client_words.specs.Lines.{fault_status}
@@ -16,7 +15,7 @@ use Rattle.client_commands.specs.KeptSyncs.{job_line}
 use Rattle.client_commands.specs.Printing.{Printed, Prints, Puts, in_part, line_printed, no_memory_printed, whole}
 use Rattle.client_commands.specs.Runs.{RunsSo, begins, begun_line, desynced_line, desyncs, downloads, listed_printed, lists, printed_for, prints, starts, syncs, tells, unread}
 use Rattle.client_commands.specs.Starts.{JobRuns, RunView, RunsListed, StartsSo, TurnSo, TurnsSo, ended_early, first_of, more, next, none, opened, over, ran, stopped, unlisted, unopened}
-use Rattle.client_commands.specs.Views.{DeskView, SinkView}
+use Rattle.client_commands.specs.Views.{DeskView, DialView, SinkView}
 
 -- ---- what was put of a text that is lent
 
@@ -75,7 +74,7 @@ first_never status ended other later two = by (status == 0) two
     by true two = later two
     by false two = other two
 
-module _ {N : Type 0} (links : N → List LinkView) (shows : ℕ → Type 0) where
+module _ {N : Type 0} (links : N → DialView) (shows : ℕ → Type 0) where
   run_never : (job : Job) (before after : RunView N) (ended : ℕ) → JobRuns links shows job before after ended → ended ≡ 2 → ⊥
   run_never job before after ended runs two = never (line_printed (job_line job.lib runs.done)) before.out after.out ended (synced_never job.lib runs.done) runs.prints two
 

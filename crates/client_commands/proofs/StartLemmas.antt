@@ -6,7 +6,6 @@ use Rattle.std.proofs.lemmas.List.Elements.{All-get_or}
 use Rattle.ids.specs.FaultCount.{Rose}
 use Rattle.folder_side.specs.Folder.{Contents}
 use Rattle.http_front.specs.declared.link.LinkFailed.{LinkFailed}
-use Rattle.remote_calls.specs.Exchange.{LinkView}
 use Rattle.sync_rules.specs.declared.synced.Synced.{Synced}
 use Rattle.http_client.specs.RequestText.{IsHost}
 use Rattle.client_words.specs.JobWriting.{AreJobs, IsJob}
@@ -17,7 +16,7 @@ use Rattle.client_commands.specs.Keeping.{OwnKeeps}
 use Rattle.client_commands.specs.KeptSyncs.{SyncsListed, job_line}
 use Rattle.client_commands.specs.Printing.{PrintsBy, Prints, in_part, line_printed, whole}
 use Rattle.client_commands.specs.Starts.{JobRuns, RunView, RunsBy, TurnBy, TurnSo, TurnsSo, ended_early, first_of, more, next, none, over, stopped}
-use Rattle.client_commands.specs.Views.{DeskView, OwnView, SinkView}
+use Rattle.client_commands.specs.Views.{DeskView, DialView, OwnView, SinkView}
 use Rattle.client_commands.specs.declared.wanted.Wanted.TheVariants.{Any}
 use Rattle.client_commands.proofs.StatusLemmas.{next_left}
 use Rattle.client_commands.proofs.WordLemmas.{job_host}
@@ -28,7 +27,7 @@ job_at jobs i job are within is = job_host job (subst IsJob (sym is) (All-get_or
 
 -- ---- the line of a job
 
-module _ {N : Type 0} (links : N → List LinkView) (shows : ℕ → Type 0) (job : Job) (own kept : OwnView) (old new : DeskView N) (before after : SinkView) (done : Result Synced Fault)
+module _ {N : Type 0} (links : N → DialView) (shows : ℕ → Type 0) (job : Job) (own kept : OwnView) (old new : DeskView N) (before after : SinkView) (done : Result Synced Fault)
     (synced : SyncsListed links shows Any job own.told kept.told old new done) (keeps : OwnKeeps own kept old new done) (l : Line) (is : l ≡ job_line job.lib done) where
   abbrev started : RunView N
   started = record { own = own; desk = old; out = before }
@@ -49,7 +48,7 @@ module _ {N : Type 0} (links : N → List LinkView) (shows : ℕ → Type 0) (jo
 abbrev own_of : Option Contents → ℕ → OwnView
 own_of told faults = record { told = told; faults = faults }
 
-module _ {N : Type 0} (links : N → List LinkView) (shows : ℕ → Type 0) (jobs : List Job) where
+module _ {N : Type 0} (links : N → DialView) (shows : ℕ → Type 0) (jobs : List Job) where
   -- ---- one turn: what is left of it, from where it is, is left of all
 
   pub record TurnLeft (place status : ℕ) (start now : RunView N) : Type 0 where

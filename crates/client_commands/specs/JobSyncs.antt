@@ -6,8 +6,8 @@ use Rattle.folder_side.specs.Folder.{Contents, items_in}
 use Rattle.folder_side.specs.declared.folder.Item.{Item}
 use Rattle.folder_side.specs.declared.folder.ItemKind.{ItemKind}
 use Rattle.folder_side.specs.declared.folder.ItemKind.TheVariants as kind
+use Rattle.http_front.specs.Dial.{DialsOnly}
 use Rattle.local_index.specs.declared.index.Index.{Index}
-use Rattle.remote_calls.specs.Exchange.{LinkView}
 use Rattle.remote_calls.specs.Sends.{Sent}
 use Rattle.remote_calls.specs.Spelling.{SpellsAll}
 use Rattle.sync_daemon.specs.Syncing.{SyncedAs}
@@ -19,7 +19,7 @@ use Rattle.client_words.specs.declared.job.Job.{Job}
 use Rattle.client_desk.specs.Desk.{SameElsewhere}
 use Rattle.client_desk.specs.KeptTexts.{is_free}
 use Rattle.client_commands.specs.SyncFaults.{told_of}
-use Rattle.client_commands.specs.Views.{DeskView}
+use Rattle.client_commands.specs.Views.{DeskView, DialView}
 use Rattle.client_commands.specs.declared.wanted.Wanted.{Wanted}
 use Rattle.client_commands.specs.declared.wanted.Wanted.TheVariants.{Any, Empty}
 
@@ -47,14 +47,16 @@ pub record BeginsNone {N : Type 0} (i j : Index) (told now : Option Contents) (d
   pub folder : now ≡ told
   pub same_dials : back ≡ dials
 
-module _ {N : Type 0} (links : N → List LinkView) (shows : ℕ → Type 0) where
-  -- a folder was synced over one dial, which went back with links that spell what was sent, to the host of the job alone
+module _ {N : Type 0} (links : N → DialView) (shows : ℕ → Type 0) where
+  -- a folder was synced over one dial, which went back with links that spell what was sent, to the host of the job alone, and was asked for
+  -- no port but the job's
   pub record SyncsOver (job : Job) (i j : Index) (told now : Option Contents) (dials back : List N) (result : Result Synced Fault) : Type 0 where
     pub done : Result Synced SyncFault
     pub sends : List Sent
     pub dial : N
     pub synced : SyncedAs job.secret job.user shows told now i j [] sends done
-    pub spelled : SpellsAll job.host [] (links dial) sends
+    pub spelled : SpellsAll job.host [] (links dial).back sends
+    pub dialled : DialsOnly job.host job.port [] (links dial).dialled
     pub back_is : back ≡ dials ++ dial ∷ []
     pub is : result ≡ told_of done
 

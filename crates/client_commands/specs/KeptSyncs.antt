@@ -4,9 +4,9 @@ use Rattle.std.specs.Prelude.{◌≡◌, ◌⊎◌, ℕ, IsTrue, List, [], ◌�
 use Rattle.std.specs.FinMap as fin
 use Rattle.folder_side.specs.Folder.{Contents, with_file}
 use Rattle.folder_texts.specs.FolderTexts.{text_at}
-use Rattle.local_index.specs.IndexSpelling.{text_of as index_text_of}
+use Rattle.local_index.specs.IndexSpelling.{IsProper, text_of as index_text_of}
+use Rattle.local_index.specs.IndexText.{index_of}
 use Rattle.local_index.specs.declared.index.Index.{Index}
-use Rattle.remote_calls.specs.Exchange.{LinkView}
 use Rattle.sync_rules.specs.declared.synced.Synced.{Synced}
 use Rattle.client_words.specs.declared.fault.Fault.{Fault}
 use Rattle.client_words.specs.declared.job.Job.{Job}
@@ -16,7 +16,7 @@ use Rattle.client_desk.specs.Commands.{with_jobs}
 use Rattle.client_desk.specs.JobList.{job_due, jobs_with}
 use Rattle.client_desk.specs.KeptTexts.{Answers, index_found, index_name, is_free, jobs_found, jobs_name}
 use Rattle.client_commands.specs.JobSyncs.{WorksSo}
-use Rattle.client_commands.specs.Views.{DeskView, OwnView}
+use Rattle.client_commands.specs.Views.{DeskView, DialView, OwnView}
 use Rattle.client_commands.specs.declared.wanted.Wanted.{Wanted}
 
 -- the index of a job that the client's own folder has, or why it has none
@@ -34,10 +34,14 @@ job_line lib (Err f) = line.Fault f
 
 -- ---- a job of the list
 
+-- an index is read back from its text, where it is proper, as one that a sync left by a proper one is
+abbrev pub ReadsBack : Index → Type 0
+ReadsBack j = IsProper j → index_of (index_text_of j) ≡ Ok j
+
 -- what is kept of it: the index, where the sync ended well
 abbrev pub KeepsIndex : (j : Index) → (worked : Result Synced Fault) → Option Contents → Option Contents → Result Synced Fault → Type 0
 KeepsIndex j (Err e) own kept result = (result ≡ Err e) × (kept ≡ own)
-KeepsIndex j (Ok s) own kept (Ok t) = (t ≡ s) × ((c : Contents) → own ≡ Some c → kept ≡ Some (with_index j c))
+KeepsIndex j (Ok s) own kept (Ok t) = (t ≡ s) × ReadsBack j × ((c : Contents) → own ≡ Some c → kept ≡ Some (with_index j c))
 KeepsIndex j (Ok s) own kept (Err e) = IsTrue (is_free e) × ((c : Contents) → own ≡ Some c → (kept ≡ Some c) ⊎ (kept ≡ Some (with_index j c)))
 
 -- ---- one that is added
@@ -45,7 +49,7 @@ KeepsIndex j (Ok s) own kept (Err e) = IsTrue (is_free e) × ((c : Contents) →
 -- what is kept of it: the index first, and then the list with the job in its place
 abbrev pub KeepsJob : (job : Job) → (jobs : List Job) → (j : Index) → (worked : Result Synced Fault) → Option Contents → Option Contents → Result Synced Fault → Type 0
 KeepsJob job jobs j (Err e) own kept result = (result ≡ Err e) × (kept ≡ own)
-KeepsJob job jobs j (Ok s) own kept (Ok t) = (t ≡ s) × ((c : Contents) → own ≡ Some c → kept ≡ Some (with_jobs (jobs_with job jobs) (with_index j c)))
+KeepsJob job jobs j (Ok s) own kept (Ok t) = (t ≡ s) × ReadsBack j × ((c : Contents) → own ≡ Some c → kept ≡ Some (with_jobs (jobs_with job jobs) (with_index j c)))
 KeepsJob job jobs j (Ok s) own kept (Err e) = IsTrue (is_free e) × ((c : Contents) → own ≡ Some c
     → (kept ≡ Some c) ⊎ ((kept ≡ Some (with_index j c)) ⊎ (kept ≡ Some (with_jobs (jobs_with job jobs) (with_index j c)))))
 
@@ -59,12 +63,12 @@ pub record LeavesAll {N : Type 0} (e : Fault) (own kept : Option Contents) (old 
   pub own_stays : kept ≡ own
   pub desk_stays : new ≡ old
 
-module _ {N : Type 0} (links : N → List LinkView) (shows : ℕ → Type 0) where
+module _ {N : Type 0} (links : N → DialView) (shows : ℕ → Type 0) where
   -- no index of the job was found, and nothing was done; or there was one, by which its folder was synced, and what came of it was kept
   pub data SyncsListed (wanted : Wanted) (job : Job) (own kept : Option Contents) (old new : DeskView N) (result : Result Synced Fault) : Type 0 where
     unread_index : (e : Fault) → result ≡ Err e → ((c : Contents) → own ≡ Some c → Answers (index_at c job) (Err e))
         → kept ≡ own → new ≡ old → SyncsListed wanted job own kept old new result
-    worked : (i j : Index) (done : Result Synced Fault) → i.lib ≡ job.lib → ((c : Contents) → own ≡ Some c → index_at c job ≡ Ok i)
+    worked : (i j : Index) (done : Result Synced Fault) → i.lib ≡ job.lib → IsProper i → ((c : Contents) → own ≡ Some c → index_at c job ≡ Ok i)
         → WorksSo links shows wanted job i j old new done → KeepsIndex j done own kept result → SyncsListed wanted job own kept old new result
 
   -- a folder that no job has is synced with a library that none has

@@ -1,10 +1,9 @@
 -- What `start` does: each job of the list synced so many times, turn after turn. Our own. Read JobRuns, then TurnSo, TurnsSo and StartsSo.
-use Rattle.std.specs.Prelude.{◌≡◌, ℕ, suc, All, ◌==◌, if◌then◌else◌, List, [], ◌∷◌, Some, Result, Ok, Err, ⊤}
+use Rattle.std.specs.Prelude.{◌≡◌, ◌⊎◌, ℕ, suc, All, ◌==◌, if◌then◌else◌, List, [], ◌∷◌, Some, Result, Ok, Err, ⊤}
 use Rattle.ids.specs.FaultCount.{Rose}
 use Rattle.folder_side.specs.Folder.{Contents}
 use Rattle.folder_texts.specs.FolderTexts.{text_at}
 use Rattle.http_front.specs.declared.link.LinkFailed.{LinkFailed}
-use Rattle.remote_calls.specs.Exchange.{LinkView}
 use Rattle.sync_rules.specs.declared.synced.Synced.{Synced}
 use Rattle.client_words.specs.declared.fault.Fault.{Fault}
 use Rattle.client_words.specs.declared.job.Job.{Job}
@@ -15,7 +14,7 @@ use Rattle.client_commands.specs.Folders.{GivesFolder, LacksFolder, TakesFolder}
 use Rattle.client_commands.specs.KeptSyncs.{SyncsListed, job_line}
 use Rattle.client_commands.specs.Printing.{Prints, line_printed}
 use Rattle.client_commands.specs.Statuses.{HasIndex, Unlisted}
-use Rattle.client_commands.specs.Views.{DeskView, OwnView, SinkView}
+use Rattle.client_commands.specs.Views.{DeskView, DialView, OwnView, SinkView}
 use Rattle.client_commands.specs.declared.wanted.Wanted.TheVariants.{Any}
 
 -- the client's own folder, the desk, and what was printed
@@ -33,7 +32,7 @@ abbrev pub ListsSo : Contents → Result (List Job) Fault → Type 0
 ListsSo c (Ok jobs) = (jobs_found (text_at c jobs_name) ≡ Ok jobs) × All (HasIndex c) jobs
 ListsSo c (Err e) = Unlisted c e
 
-module _ {N : Type 0} (links : N → List LinkView) (shows : ℕ → Type 0) where
+module _ {N : Type 0} (links : N → DialView) (shows : ℕ → Type 0) where
   -- a job is synced once, and its line printed, or that memory was wanting for it; the status is 1 where the sink failed
   pub record JobRuns (job : Job) (before after : RunView N) (status : ℕ) : Type 0 where
     pub done : Result Synced Fault
@@ -81,3 +80,28 @@ module _ {N : Type 0} (links : N → List LinkView) (shows : ℕ → Type 0) whe
     opened : (own kept : OwnView) (begun ended : DeskView N) → TakesFolder conf own old begun
         → RunsListed turns (record { own = own; desk = begun; out = before }) (record { own = kept; desk = ended; out = after }) status
         → GivesFolder conf kept ended new → StartsSo conf turns old new before after status
+
+-- ---- which faults are told
+
+module _ {N : Type 0} {links : N → DialView} {shows : ℕ → Type 0} where
+  -- a line of the turn told this fault
+  abbrev pub TurnTells : (jobs : List Job) (status : ℕ) (before after : RunView N) (last : ℕ) → Fault → TurnSo links shows jobs status before after last → Type 0
+  TurnTells _ _ _ _ _ f (none v status) = ⊥
+  TurnTells _ _ _ _ _ f (next job jobs before mid after status ended last runs same rest) = (runs.done ≡ Err f) ⊎ TurnTells jobs (first_of status ended) mid after last f rest
+  TurnTells _ _ _ _ _ f (stopped job jobs before after status runs rose) = runs.done ≡ Err f
+
+  -- or one of some turns
+  abbrev pub TurnsTell : (jobs : List Job) (turns status : ℕ) (before after : RunView N) (last : ℕ) → Fault → TurnsSo links shows jobs turns status before after last → Type 0
+  TurnsTell jobs _ _ _ _ _ f (over v status) = ⊥
+  TurnsTell jobs _ _ _ _ _ f (more turns before mid after status ended last turn same rest) = TurnTells jobs 0 before mid ended f turn ⊎ TurnsTell jobs turns ended mid after last f rest
+  TurnsTell jobs _ _ _ _ _ f (ended_early turns before after status turn rose) = TurnTells jobs 0 before after 1 f turn
+
+  abbrev pub ListedTells : (turns : ℕ) (before after : RunView N) (status : ℕ) → Fault → RunsListed links shows turns before after status → Type 0
+  ListedTells turns before after status f (unlisted e lists own desk keeps prints) = e ≡ f
+  ListedTells turns before after status f (ran jobs lists goes) = TurnsTell jobs turns 0 before after status f goes
+
+  -- a line of `start` told it
+  abbrev pub StartTells : (conf : List ℕ) (turns : ℕ) (old new : DeskView N) (before after : SinkView) (status : ℕ) → Fault → StartsSo links shows conf turns old new before after status → Type 0
+  StartTells conf turns old new before after status f (unopened e lacks keeps prints) = e ≡ f
+  StartTells conf turns old new before after status f (opened own kept begun ended takes runs gives) =
+      ListedTells turns (record { own = own; desk = begun; out = before }) (record { own = kept; desk = ended; out = after }) status f runs

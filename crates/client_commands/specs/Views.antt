@@ -35,6 +35,10 @@ pub record SinkView : Type 0 where
 abbrev pub sink_view : {O : Type 0} → (given : O → Option (List ℕ)) → (faults : O → ℕ) → O → SinkView
 sink_view given faults out = record { given = given out; faults = faults out }
 
--- the links that came back to a dial, as they tell of themselves
-abbrev pub links_back : {N L : Type 0} → (view : L → LinkView) → (back : N → List L) → N → List LinkView
-links_back view back dial = map view (back dial)
+-- a dial: the links that came back to it, as they tell of themselves, and which ports of which hosts it was asked for
+pub record DialView : Type 0 where
+  pub back : List LinkView
+  pub dialled : List (List ℕ × ℕ)
+
+abbrev pub dial_view : {N L : Type 0} → (view : L → LinkView) → (back : N → List L) → (dialled : N → List (List ℕ × ℕ)) → N → DialView
+dial_view view back dialled dial = record { back = map view (back dial); dialled = dialled dial }

@@ -1,12 +1,14 @@
 //! The commands, with the client's own folder, which the desk hands out first and takes back in the end.
 ghost use Rattle.http_client.specs.RequestText.{IsHost};
 ghost use Rattle.remote_calls.specs.Exchange.{link_view};
+ghost use Rattle.client_desk.specs.Commands.{IsDesyncFault, IsInitFault};
+ghost use Rattle.client_desk.specs.KeptTexts.{IsListFault};
 ghost use Rattle.client_commands.specs.Folders.{WithFolder};
 ghost use Rattle.client_commands.specs.Keeping.{DeskKeeps};
 ghost use Rattle.client_commands.specs.KeptSyncs.{SyncsOwn};
 ghost use Rattle.client_commands.specs.Runs.{DesyncDoes, InOwn, InitDoes, ListDoes};
 ghost use Rattle.client_commands.specs.Statuses.{StatusDoes};
-ghost use Rattle.client_commands.specs.Views.{desk_view, links_back};
+ghost use Rattle.client_commands.specs.Views.{desk_view, dial_view};
 
 use crate::folders::{give_folder, take_folder};
 use crate::kept_syncs::sync_asked;
@@ -21,7 +23,7 @@ use sync_rules::Synced;
 
 /// `init` in the client's own folder.
 pub(crate) fn init_at<D: Desk>(alloc: Global, desk: &mut D, conf: &Text) -> Result<(), Fault>
-    ensures value { WithFolder conf.now (InOwn InitDoes) (desk_view D.has_place D.holds D.dials D.folder_faults D.dial_faults desk.old)
+    ensures value { WithFolder conf.now (InOwn IsInitFault InitDoes) (desk_view D.has_place D.holds D.dials D.folder_faults D.dial_faults desk.old)
         (desk_view D.has_place D.holds D.dials D.folder_faults D.dial_faults desk.new) result }
     ensures faults { DeskKeeps (desk_view D.has_place D.holds D.dials D.folder_faults D.dial_faults desk.old)
         (desk_view D.has_place D.holds D.dials D.folder_faults D.dial_faults desk.new) result }
@@ -41,7 +43,7 @@ pub(crate) fn list_at<D: Desk>(
     desk: &mut D,
     conf: &Text,
 ) -> Result<Items<Line>, Fault>
-    ensures value { WithFolder conf.now (InOwn ListDoes) (desk_view D.has_place D.holds D.dials D.folder_faults D.dial_faults desk.old)
+    ensures value { WithFolder conf.now (InOwn IsListFault ListDoes) (desk_view D.has_place D.holds D.dials D.folder_faults D.dial_faults desk.old)
         (desk_view D.has_place D.holds D.dials D.folder_faults D.dial_faults desk.new) result }
     ensures faults { DeskKeeps (desk_view D.has_place D.holds D.dials D.folder_faults D.dial_faults desk.old)
         (desk_view D.has_place D.holds D.dials D.folder_faults D.dial_faults desk.new) result }
@@ -62,7 +64,7 @@ pub(crate) fn desync_at<D: Desk>(
     conf: &Text,
     dir: &Text,
 ) -> Result<LibId, Fault>
-    ensures value { WithFolder conf.now (InOwn (DesyncDoes dir.now)) (desk_view D.has_place D.holds D.dials D.folder_faults D.dial_faults desk.old)
+    ensures value { WithFolder conf.now (InOwn IsDesyncFault (DesyncDoes dir.now)) (desk_view D.has_place D.holds D.dials D.folder_faults D.dial_faults desk.old)
         (desk_view D.has_place D.holds D.dials D.folder_faults D.dial_faults desk.new) result }
     ensures faults { DeskKeeps (desk_view D.has_place D.holds D.dials D.folder_faults D.dial_faults desk.old)
         (desk_view D.has_place D.holds D.dials D.folder_faults D.dial_faults desk.new) result }
@@ -106,7 +108,7 @@ pub(crate) fn sync_at<D: Desk, C: Clock>(
     clock: &C,
 ) -> Result<Synced, Fault>
     requires name { IsHost asked.host }
-    ensures value { WithFolder conf.now (SyncsOwn (links_back (link_view D.N.L.left D.N.L.taken D.N.L.given D.N.L.asked D.N.L.faults) D.N.back) (C.shows clock.now) wanted asked) (desk_view D.has_place D.holds D.dials D.folder_faults D.dial_faults desk.old)
+    ensures value { WithFolder conf.now (SyncsOwn (dial_view (link_view D.N.L.left D.N.L.taken D.N.L.given D.N.L.asked D.N.L.faults) D.N.back D.N.dialled) (C.shows clock.now) wanted asked) (desk_view D.has_place D.holds D.dials D.folder_faults D.dial_faults desk.old)
         (desk_view D.has_place D.holds D.dials D.folder_faults D.dial_faults desk.new) result }
     ensures faults { DeskKeeps (desk_view D.has_place D.holds D.dials D.folder_faults D.dial_faults desk.old)
         (desk_view D.has_place D.holds D.dials D.folder_faults D.dial_faults desk.new) result }

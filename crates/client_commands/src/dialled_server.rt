@@ -3,7 +3,7 @@ ghost use Rattle.std.specs.Prelude.{◌≡◌, ◌≤◌, [], None, true, map, I
 ghost use Rattle.ids.specs.Outcome.{ExactlyWith};
 ghost use Rattle.http_client.specs.OrderOutcome.{CanHave};
 ghost use Rattle.http_client.specs.RequestText.{HasRequest, IsHost};
-ghost use Rattle.http_front.specs.Dial.{count_sum};
+ghost use Rattle.http_front.specs.Dial.{DialsOnly, count_sum};
 ghost use Rattle.remote_calls.specs.Exchange.{link_view};
 ghost use Rattle.remote_calls.specs.HttpRemote.{links_of};
 ghost use Rattle.remote_calls.specs.Sends.{CountsSend, IsTooLarge, SendsOne, is_no_memory, size_told};
@@ -42,6 +42,7 @@ impl<D: Dial + Drop> DialledServer<D> {
             host = host;
             port = port;
             start = map (link_view D.L.left D.L.taken D.L.given D.L.asked D.L.faults) (D.back dial);
+            dialled = D.dialled dial;
             faults = count_sum (D.faults dial) 0;
           };
           links = links_of (link_view D.L.left D.L.taken D.L.given D.L.asked D.L.faults) D.back D.faults dial None;
@@ -53,9 +54,10 @@ impl<D: Dial + Drop> DialledServer<D> {
         }
     }
 
-    /// The dial, to which every link went back. Where a link failed its count is above 0.
+    /// The dial, to which every link went back, and which was asked for no other port. Where a link failed its count is above 0.
     pub(crate) fn end(self) -> D
         ensures told { SpellsAll self.peer.host self.peer.start (map (link_view D.L.left D.L.taken D.L.given D.L.asked D.L.faults) (D.back result)) self.sends }
+        ensures dialled { DialsOnly self.peer.host self.peer.port self.peer.dialled (D.dialled result) }
         ensures counted { has_link_fault self.sends ≡ true → 1 ≤ D.faults result }
     {
         let DialledServer { remote } = self;

@@ -6,7 +6,7 @@ ghost use Rattle.http_client.specs.RequestText.{IsHost};
 ghost use Rattle.remote_calls.specs.Exchange.{link_view};
 ghost use Rattle.client_commands.specs.JobSyncs.{SyncsOver, WorksBy, WorksSo, is_unwanted, is_visible};
 ghost use Rattle.client_commands.specs.Keeping.{DeskKeeps, OwnKeeps};
-ghost use Rattle.client_commands.specs.Views.{desk_view, links_back, own_view};
+ghost use Rattle.client_commands.specs.Views.{desk_view, dial_view, own_view};
 
 use crate::dialled_server::DialledServer;
 use crate::folders::{give_folder, take_folder};
@@ -33,7 +33,7 @@ pub(crate) fn sync_folder<D: Desk, C: Clock>(
     clock: &C,
 ) -> Result<Synced, Fault>
     requires name { IsHost job.now.host }
-    ensures value { WorksSo (links_back (link_view D.N.L.left D.N.L.taken D.N.L.given D.N.L.asked D.N.L.faults) D.N.back) (C.shows clock.now) wanted job.now index.old index.new
+    ensures value { WorksSo (dial_view (link_view D.N.L.left D.N.L.taken D.N.L.given D.N.L.asked D.N.L.faults) D.N.back D.N.dialled) (C.shows clock.now) wanted job.now index.old index.new
         (desk_view D.has_place D.holds D.dials D.folder_faults D.dial_faults desk.old)
         (desk_view D.has_place D.holds D.dials D.folder_faults D.dial_faults desk.new) result }
     ensures faults { DeskKeeps (desk_view D.has_place D.holds D.dials D.folder_faults D.dial_faults desk.old)
@@ -65,7 +65,7 @@ fn sync_open<D: Desk, C: Clock>(
 ) -> Result<Synced, Fault>
     requires name { IsHost host }
     requires same { host ≡ job.now.host }
-    ensures value { WorksBy (links_back (link_view D.N.L.left D.N.L.taken D.N.L.given D.N.L.asked D.N.L.faults) D.N.back) (C.shows clock.now) wanted job.now index.old index.new
+    ensures value { WorksBy (dial_view (link_view D.N.L.left D.N.L.taken D.N.L.given D.N.L.asked D.N.L.faults) D.N.back D.N.dialled) (C.shows clock.now) wanted job.now index.old index.new
         (D.F.told folder.old) (D.F.told folder.new) (D.dials desk.old) (D.dials desk.new) result }
     ensures faults { OwnKeeps (own_view D.F.told D.F.faults folder.old) (own_view D.F.told D.F.faults folder.new)
         (desk_view D.has_place D.holds D.dials D.folder_faults D.dial_faults desk.old)
@@ -94,7 +94,7 @@ fn sync_over<D: Desk, C: Clock>(
 ) -> Result<Synced, Fault>
     requires name { IsHost host }
     requires same { host ≡ job.now.host }
-    ensures value { SyncsOver (links_back (link_view D.N.L.left D.N.L.taken D.N.L.given D.N.L.asked D.N.L.faults) D.N.back) (C.shows clock.now) job.now index.old index.new
+    ensures value { SyncsOver (dial_view (link_view D.N.L.left D.N.L.taken D.N.L.given D.N.L.asked D.N.L.faults) D.N.back D.N.dialled) (C.shows clock.now) job.now index.old index.new
         (D.F.told folder.old) (D.F.told folder.new) (D.dials desk.old) (D.dials desk.new) result }
     ensures faults { OwnKeeps (own_view D.F.told D.F.faults folder.old) (own_view D.F.told D.F.faults folder.new)
         (desk_view D.has_place D.holds D.dials D.folder_faults D.dial_faults desk.old)

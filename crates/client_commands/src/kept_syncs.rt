@@ -9,7 +9,7 @@ ghost use Rattle.client_desk.specs.JobList.{jobs_with};
 ghost use Rattle.client_desk.specs.KeptTexts.{is_free, is_of_folder};
 ghost use Rattle.client_commands.specs.Keeping.{OwnKeeps};
 ghost use Rattle.client_commands.specs.KeptSyncs.{SyncsAsked, SyncsListed, SyncsNew, job_line};
-ghost use Rattle.client_commands.specs.Views.{desk_view, links_back, own_view};
+ghost use Rattle.client_commands.specs.Views.{desk_view, dial_view, own_view};
 
 use crate::job_syncs::sync_folder;
 use crate::wanted::Wanted;
@@ -33,7 +33,7 @@ pub(crate) fn sync_asked<D: Desk, C: Clock>(
     clock: &C,
 ) -> Result<Synced, Fault>
     requires name { IsHost asked.host }
-    ensures value { SyncsAsked (links_back (link_view D.N.L.left D.N.L.taken D.N.L.given D.N.L.asked D.N.L.faults) D.N.back) (C.shows clock.now) wanted asked (D.F.told conf.old) (D.F.told conf.new)
+    ensures value { SyncsAsked (dial_view (link_view D.N.L.left D.N.L.taken D.N.L.given D.N.L.asked D.N.L.faults) D.N.back D.N.dialled) (C.shows clock.now) wanted asked (D.F.told conf.old) (D.F.told conf.new)
         (desk_view D.has_place D.holds D.dials D.folder_faults D.dial_faults desk.old)
         (desk_view D.has_place D.holds D.dials D.folder_faults D.dial_faults desk.new) result }
     ensures faults { OwnKeeps (own_view D.F.told D.F.faults conf.old) (own_view D.F.told D.F.faults conf.new)
@@ -64,7 +64,7 @@ pub(crate) fn sync_listed<D: Desk, C: Clock>(
     clock: &C,
 ) -> Result<Synced, Fault>
     requires name { IsHost job.now.host }
-    ensures value { SyncsListed (links_back (link_view D.N.L.left D.N.L.taken D.N.L.given D.N.L.asked D.N.L.faults) D.N.back) (C.shows clock.now) wanted job.now (D.F.told conf.old) (D.F.told conf.new)
+    ensures value { SyncsListed (dial_view (link_view D.N.L.left D.N.L.taken D.N.L.given D.N.L.asked D.N.L.faults) D.N.back D.N.dialled) (C.shows clock.now) wanted job.now (D.F.told conf.old) (D.F.told conf.new)
         (desk_view D.has_place D.holds D.dials D.folder_faults D.dial_faults desk.old)
         (desk_view D.has_place D.holds D.dials D.folder_faults D.dial_faults desk.new) result }
     ensures faults { OwnKeeps (own_view D.F.told D.F.faults conf.old) (own_view D.F.told D.F.faults conf.new)
@@ -96,7 +96,7 @@ fn sync_new<D: Desk, C: Clock>(
     clock: &C,
 ) -> Result<Synced, Fault>
     requires name { IsHost asked.host }
-    ensures value { SyncsNew (links_back (link_view D.N.L.left D.N.L.taken D.N.L.given D.N.L.asked D.N.L.faults) D.N.back) (C.shows clock.now) wanted asked jobs (D.F.told conf.old) (D.F.told conf.new)
+    ensures value { SyncsNew (dial_view (link_view D.N.L.left D.N.L.taken D.N.L.given D.N.L.asked D.N.L.faults) D.N.back D.N.dialled) (C.shows clock.now) wanted asked jobs (D.F.told conf.old) (D.F.told conf.new)
         (desk_view D.has_place D.holds D.dials D.folder_faults D.dial_faults desk.old)
         (desk_view D.has_place D.holds D.dials D.folder_faults D.dial_faults desk.new) result }
     ensures faults { OwnKeeps (own_view D.F.told D.F.faults conf.old) (own_view D.F.told D.F.faults conf.new)

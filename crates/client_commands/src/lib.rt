@@ -1,6 +1,6 @@
 //! What the commands of `seaf-cli` do.
 //!
-//! Shown upward: `cli`, the client's top call, over any desk, clock and sink. Definitions: specs/.
+//! Shown upward: `cli`, the client's top call, over any desk, clock and sink; `laws`. Definitions: specs/.
 #![tactic(auto)]
 
 mod commands;
@@ -8,6 +8,7 @@ mod dialled_server;
 mod folders;
 mod job_syncs;
 mod kept_syncs;
+pub mod laws;
 mod printing;
 mod running;
 mod starting;

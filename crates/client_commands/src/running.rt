@@ -5,7 +5,7 @@ ghost use Rattle.client_words.specs.WordReading.{words_of};
 ghost use Rattle.remote_calls.specs.Exchange.{link_view};
 ghost use Rattle.client_commands.specs.Printing.{Printed, Prints};
 ghost use Rattle.client_commands.specs.Runs.{AreReady, RunsSo, begun_line, desynced_line, listed_printed, printed_for};
-ghost use Rattle.client_commands.specs.Views.{desk_view, links_back, sink_view};
+ghost use Rattle.client_commands.specs.Views.{desk_view, dial_view, sink_view};
 
 use crate::commands::{desync_at, init_at, list_at, status_at, sync_at};
 use crate::kept_syncs::job_line;
@@ -36,7 +36,7 @@ pub fn cli<D: Desk, C: Clock, O: Sink, R>(
     clock: &C,
     out: &mut O,
 ) -> u8
-    ensures runs { RunsSo (links_back (link_view D.N.L.left D.N.L.taken D.N.L.given D.N.L.asked D.N.L.faults) D.N.back) (C.shows clock.now) (words_of words.now)
+    ensures runs { RunsSo (dial_view (link_view D.N.L.left D.N.L.taken D.N.L.given D.N.L.asked D.N.L.faults) D.N.back D.N.dialled) (C.shows clock.now) (words_of words.now)
         (desk_view D.has_place D.holds D.dials D.folder_faults D.dial_faults desk.old)
         (desk_view D.has_place D.holds D.dials D.folder_faults D.dial_faults desk.new)
         (sink_view O.given O.faults out.old) (sink_view O.given O.faults out.new) result }
@@ -61,7 +61,7 @@ fn perform<D: Desk, C: Clock, O: Sink>(
     out: &mut O,
 ) -> u8
     requires ready { AreReady asked }
-    ensures runs { RunsSo (links_back (link_view D.N.L.left D.N.L.taken D.N.L.given D.N.L.asked D.N.L.faults) D.N.back) (C.shows clock.now) asked
+    ensures runs { RunsSo (dial_view (link_view D.N.L.left D.N.L.taken D.N.L.given D.N.L.asked D.N.L.faults) D.N.back D.N.dialled) (C.shows clock.now) asked
         (desk_view D.has_place D.holds D.dials D.folder_faults D.dial_faults desk.old)
         (desk_view D.has_place D.holds D.dials D.folder_faults D.dial_faults desk.new)
         (sink_view O.given O.faults out.old) (sink_view O.given O.faults out.new) result }

@@ -8,7 +8,7 @@ ghost use Rattle.remote_calls.specs.Exchange.{link_view};
 ghost use Rattle.client_desk.specs.KeptTexts.{is_of_folder};
 ghost use Rattle.client_commands.specs.Keeping.{is_of_link};
 ghost use Rattle.client_commands.specs.Starts.{ListsSo, RunsBy, RunsListed, StartsSo, TurnBy, TurnsSo, first_of};
-ghost use Rattle.client_commands.specs.Views.{desk_view, links_back, own_view, sink_view};
+ghost use Rattle.client_commands.specs.Views.{desk_view, dial_view, own_view, sink_view};
 
 use crate::folders::{give_folder, take_folder};
 use crate::kept_syncs::{job_line, sync_listed};
@@ -36,7 +36,7 @@ pub(crate) fn start_at<D: Desk, C: Clock, O: Sink>(
     clock: &C,
     out: &mut O,
 ) -> u8
-    ensures value { StartsSo (links_back (link_view D.N.L.left D.N.L.taken D.N.L.given D.N.L.asked D.N.L.faults) D.N.back) (C.shows clock.now) conf.now turns
+    ensures value { StartsSo (dial_view (link_view D.N.L.left D.N.L.taken D.N.L.given D.N.L.asked D.N.L.faults) D.N.back D.N.dialled) (C.shows clock.now) conf.now turns
         (desk_view D.has_place D.holds D.dials D.folder_faults D.dial_faults desk.old)
         (desk_view D.has_place D.holds D.dials D.folder_faults D.dial_faults desk.new)
         (sink_view O.given O.faults out.old) (sink_view O.given O.faults out.new) result }
@@ -59,7 +59,7 @@ fn run_listed<D: Desk, C: Clock, O: Sink>(
     clock: &C,
     out: &mut O,
 ) -> u8
-    ensures value { RunsListed (links_back (link_view D.N.L.left D.N.L.taken D.N.L.given D.N.L.asked D.N.L.faults) D.N.back) (C.shows clock.now) turns
+    ensures value { RunsListed (dial_view (link_view D.N.L.left D.N.L.taken D.N.L.given D.N.L.asked D.N.L.faults) D.N.back D.N.dialled) (C.shows clock.now) turns
         (record { own = own_view D.F.told D.F.faults conf.old; desk = desk_view D.has_place D.holds D.dials D.folder_faults D.dial_faults desk.old; out = sink_view O.given O.faults out.old })
         (record { own = own_view D.F.told D.F.faults conf.new; desk = desk_view D.has_place D.holds D.dials D.folder_faults D.dial_faults desk.new; out = sink_view O.given O.faults out.new }) result }
     ensures stays { D.has_place desk.new ≡ D.has_place desk.old }
@@ -99,7 +99,7 @@ fn run_turns<D: Desk, C: Clock, O: Sink>(
     out: &mut O,
 ) -> u8
     requires proper { AreJobs jobs.now }
-    ensures value { TurnsSo (links_back (link_view D.N.L.left D.N.L.taken D.N.L.given D.N.L.asked D.N.L.faults) D.N.back) (C.shows clock.now) jobs.now turns 0
+    ensures value { TurnsSo (dial_view (link_view D.N.L.left D.N.L.taken D.N.L.given D.N.L.asked D.N.L.faults) D.N.back D.N.dialled) (C.shows clock.now) jobs.now turns 0
         (record { own = own_view D.F.told D.F.faults conf.old; desk = desk_view D.has_place D.holds D.dials D.folder_faults D.dial_faults desk.old; out = sink_view O.given O.faults out.old })
         (record { own = own_view D.F.told D.F.faults conf.new; desk = desk_view D.has_place D.holds D.dials D.folder_faults D.dial_faults desk.new; out = sink_view O.given O.faults out.new }) result }
     ensures stays { D.has_place desk.new ≡ D.has_place desk.old }
@@ -127,7 +127,7 @@ fn run_turn<D: Desk, C: Clock, O: Sink>(
     out: &mut O,
 ) -> Result<u8, LinkFailed>
     requires proper { AreJobs jobs.now }
-    ensures value { TurnBy (links_back (link_view D.N.L.left D.N.L.taken D.N.L.given D.N.L.asked D.N.L.faults) D.N.back) (C.shows clock.now) jobs.now
+    ensures value { TurnBy (dial_view (link_view D.N.L.left D.N.L.taken D.N.L.given D.N.L.asked D.N.L.faults) D.N.back D.N.dialled) (C.shows clock.now) jobs.now
         (record { own = own_view D.F.told D.F.faults conf.old; desk = desk_view D.has_place D.holds D.dials D.folder_faults D.dial_faults desk.old; out = sink_view O.given O.faults out.old })
         (record { own = own_view D.F.told D.F.faults conf.new; desk = desk_view D.has_place D.holds D.dials D.folder_faults D.dial_faults desk.new; out = sink_view O.given O.faults out.new }) result }
     ensures stays { D.has_place desk.new ≡ D.has_place desk.old }
@@ -159,7 +159,7 @@ fn run_job<D: Desk, C: Clock, O: Sink>(
     out: &mut O,
 ) -> Result<u8, LinkFailed>
     requires name { IsHost job.now.host }
-    ensures value { RunsBy (links_back (link_view D.N.L.left D.N.L.taken D.N.L.given D.N.L.asked D.N.L.faults) D.N.back) (C.shows clock.now) job.now
+    ensures value { RunsBy (dial_view (link_view D.N.L.left D.N.L.taken D.N.L.given D.N.L.asked D.N.L.faults) D.N.back D.N.dialled) (C.shows clock.now) job.now
         (record { own = own_view D.F.told D.F.faults conf.old; desk = desk_view D.has_place D.holds D.dials D.folder_faults D.dial_faults desk.old; out = sink_view O.given O.faults out.old })
         (record { own = own_view D.F.told D.F.faults conf.new; desk = desk_view D.has_place D.holds D.dials D.folder_faults D.dial_faults desk.new; out = sink_view O.given O.faults out.new }) result }
     ensures stays { D.has_place desk.new ≡ D.has_place desk.old }

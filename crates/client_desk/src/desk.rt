@@ -52,7 +52,7 @@ pub trait Desk {
 
     /// A dial, to which no link came back yet.
     fn dial(&mut self) -> Self::N
-        ensures none { Self.N.back result ≡ [] }
+        ensures none { (Self.N.back result ≡ []) × (Self.N.dialled result ≡ []) }
         ensures fresh { Self.N.faults result ≡ 0 }
         ensures stays { (has_place self.new ≡ has_place self.old) × (holds self.new ≡ holds self.old) × (folder_faults self.new ≡ folder_faults self.old)
             × (dials self.new ≡ dials self.old) × (dial_faults self.new ≡ dial_faults self.old) };

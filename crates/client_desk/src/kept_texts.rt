@@ -1,5 +1,5 @@
 //! The texts that the client keeps in its own folder.
-ghost use Rattle.std.specs.Prelude.{◌≡◌, ◌∷◌, [], false, IfErr, IfOk, IsTrue, IsUtf8, None, Some};
+ghost use Rattle.std.specs.Prelude.{◌≡◌, ◌∷◌, [], false, IfErr, IfOk, IsTrue, IsUtf8, None, Ok, OnOk, Some};
 ghost use Rattle.std.specs.Str.{bytes_eq};
 ghost use Rattle.ids.specs.FaultCount.{FailsBy};
 ghost use Rattle.folder_side.specs.Folder.{Changes, Contents, with_file};
@@ -168,11 +168,12 @@ pub fn put_jobs<F: Folder>(alloc: Global, conf: &mut F, jobs: &[Job]) -> Result<
     }
 }
 
-/// Puts an index into the client's folder, in place of one of its library that is there. After a fault the old or the new is
-/// there, and all else is as it was.
+/// Puts an index into the client's folder, in place of one of its library that is there. A proper index is read back. After a fault
+/// the old or the new is there, and all else is as it was.
 pub fn put_index<F: Folder>(alloc: Global, conf: &mut F, index: &Index) -> Result<(), Fault>
     ensures value { (c : Contents) → F.told conf.old ≡ Some c →
         Changes (with_file (index_name index.now.lib ∷ []) (index_text_of index.now)) (F.told conf.old) (F.told conf.new) result }
+    ensures reads_back { OnOk result (IsProper index.now → index_of (index_text_of index.now) ≡ Ok index.now) }
     ensures free { IfErr result (λ e. IsTrue (is_free e)) }
     ensures faults { FailsBy is_of_folder (F.faults conf.old) (F.faults conf.new) result }
 {

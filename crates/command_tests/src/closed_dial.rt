@@ -1,7 +1,7 @@
 //! A dial that makes no link.
 ghost use Rattle.std.specs.Prelude.{◌≡◌, []};
 
-use http_front::{Dial, Link, LinkFailed};
+use http_front::{Dial, DialLog, Link, LinkFailed};
 use http_server::Log;
 
 /// The host and the port of the server that isn't there.
@@ -46,19 +46,21 @@ impl Link for ClosedLink {
 pub(crate) struct ClosedDial {
     faults: u64,
     asked: u64,
-    // The links that came back, for proofs alone.
+    // The links that came back, and what was asked for, for proofs alone.
     back: Log<ClosedLink, u64>,
+    dialled: DialLog,
 }
 
 impl ClosedDial {
     pub(crate) fn new() -> ClosedDial
-        ensures none { result.back.items ≡ [] }
+        ensures none { (result.back.items ≡ []) × (result.dialled.items ≡ []) }
         ensures faults { result.faults ≡ 0 }
     {
         ClosedDial {
             faults: 0,
             asked: 0,
             back: Log::new(),
+            dialled: DialLog::new(),
         }
     }
 
@@ -83,9 +85,12 @@ impl Dial for ClosedDial {
 
     ghost back = { λ dial. map (λ entry. entry.0) dial.back.items };
 
+    ghost dialled = { λ dial. dial.dialled.items };
+
     ghost faults = { λ dial. dial.faults };
 
     fn link(&mut self, host: &str, port: u16) -> Result<ClosedLink, LinkFailed> {
+        self.dialled = self.dialled.and(host, port);
         if host == HOST && port == PORT {
             self.asked = self.asked.saturating_add(1);
         }

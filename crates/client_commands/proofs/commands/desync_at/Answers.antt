@@ -1,5 +1,6 @@
 -- The job is taken while the folder is out.
 use Rattle.std.proofs.Common.{refl}
+use Rattle.client_desk.specs.Commands.{IsDesyncFault}
 use Rattle.client_commands.specs.Folders.{unopened}
 use Rattle.client_commands.specs.Runs.{DesyncDoes}
 use Rattle.client_commands.specs.Views.{desk_view, own_view}
@@ -23,7 +24,7 @@ returns-clause-value g c =
     let view = desk_view g.D.Desk.has_place g.D.Desk.holds g.D.Desk.dials g.D.Desk.folder_faults g.D.Desk.dial_faults in
     let own = own_view g.D.F.Folder.told g.D.F.Folder.faults in
     own_command c.args.conf.now (own c.in-Ok.folder) (own c.desync-done.new.conf) (view c.args.desk.now) (view c.take_folder.new.desk) (view c.take_folder.new.desk) (view c.give_folder.new.desk)
-    c.in-Ok.ensures.told c.give_folder.ensures.after (DesyncDoes c.args.dir.now) c.desync-done.result refl (λ held told. c.desync-done.ensures.value held told)
+    c.in-Ok.ensures.told c.give_folder.ensures.after IsDesyncFault (DesyncDoes c.args.dir.now) c.desync-done.result refl c.desync-done.ensures.may (λ held told. c.desync-done.ensures.value held told)
 
 pub returns-clause-faults : goal.returns-clause-faults
 returns-clause-faults g c =

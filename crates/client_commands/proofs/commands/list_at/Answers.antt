@@ -1,5 +1,6 @@
 -- The jobs are told while the folder is out.
 use Rattle.std.proofs.Common.{◌∙◌, refl}
+use Rattle.client_desk.specs.KeptTexts.{IsListFault}
 use Rattle.client_commands.specs.Folders.{unopened}
 use Rattle.client_commands.specs.Runs.{ListDoes}
 use Rattle.client_commands.specs.Views.{desk_view, own_view}
@@ -23,7 +24,7 @@ returns-clause-value g c =
     let view = desk_view g.D.Desk.has_place g.D.Desk.holds g.D.Desk.dials g.D.Desk.folder_faults g.D.Desk.dial_faults in
     let own = own_view g.D.F.Folder.told g.D.F.Folder.faults in
     own_command c.args.conf.now (own c.in-Ok.folder) (own c.list-lines.new.conf) (view c.args.desk.now) (view c.take_folder.new.desk) (view c.take_folder.new.desk) (view c.give_folder.new.desk)
-    c.in-Ok.ensures.told c.give_folder.ensures.after ListDoes c.list-lines.result refl (λ held told. (c.list-lines.ensures.value held told, c.list-lines.ensures.stays ∙ told))
+    c.in-Ok.ensures.told c.give_folder.ensures.after IsListFault ListDoes c.list-lines.result refl c.list-lines.ensures.may (λ held told. (c.list-lines.ensures.value held told, c.list-lines.ensures.stays ∙ told))
 
 pub returns-clause-faults : goal.returns-clause-faults
 returns-clause-faults g c =

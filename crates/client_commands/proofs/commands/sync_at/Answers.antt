@@ -3,7 +3,7 @@ use Rattle.std.proofs.Common.{refl}
 use Rattle.client_commands.specs.Folders.{unopened}
 use Rattle.remote_calls.specs.Exchange.{link_view}
 use Rattle.client_commands.specs.KeptSyncs.{SyncsOwn}
-use Rattle.client_commands.specs.Views.{desk_view, links_back, own_view}
+use Rattle.client_commands.specs.Views.{desk_view, dial_view, own_view}
 use Rattle.client_commands.proofs.FolderLemmas.{with_own}
 use Rattle.client_commands.proofs.KeepLemmas.{kept_err, kept_out, still_found}
 use Rattle.client_commands.proofs.commands.sync_at.Goals as goal
@@ -23,7 +23,7 @@ pub returns-clause-value : goal.returns-clause-value
 returns-clause-value g c =
     let view = desk_view g.D.Desk.has_place g.D.Desk.holds g.D.Desk.dials g.D.Desk.folder_faults g.D.Desk.dial_faults in
     let own = own_view g.D.F.Folder.told g.D.F.Folder.faults in
-    let links = links_back (link_view g.D.N.L.Link.left g.D.N.L.Link.taken g.D.N.L.Link.given g.D.N.L.Link.asked g.D.N.L.Link.faults) g.D.N.Dial.back in
+    let links = dial_view (link_view g.D.N.L.Link.left g.D.N.L.Link.taken g.D.N.L.Link.given g.D.N.L.Link.asked g.D.N.L.Link.faults) g.D.N.Dial.back g.D.N.Dial.dialled in
     let shows = g.C.Clock.shows c.args.clock.now in
     with_own c.args.conf.now (own c.in-Ok.folder) (own c.sync_asked-synced.new.conf) (view c.args.desk.now) (view c.take_folder.new.desk) (view c.sync_asked-synced.new.desk) (view c.give_folder.new.desk)
     c.in-Ok.ensures.told c.give_folder.ensures.after (SyncsOwn links shows c.args.wanted c.args.asked) c.sync_asked-synced.result c.sync_asked-synced.ensures.value

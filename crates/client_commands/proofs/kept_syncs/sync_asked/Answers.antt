@@ -3,7 +3,7 @@ use Rattle.std.proofs.Common.{Err, refl, sym}
 use Rattle.remote_calls.specs.Exchange.{link_view}
 use Rattle.client_words.specs.declared.fault.Fault.TheVariants.{JobExists}
 use Rattle.client_commands.specs.KeptSyncs.{unread_list}
-use Rattle.client_commands.specs.Views.{desk_view, links_back, own_view}
+use Rattle.client_commands.specs.Views.{desk_view, dial_view, own_view}
 use Rattle.client_commands.proofs.KeepLemmas.{kept_looked, list_local, other_kept, own_kept}
 use Rattle.client_commands.proofs.KeptSyncLemmas.{asked_fault, asked_listed, asked_new, due_exists, due_host, due_none, due_some}
 use Rattle.client_commands.proofs.kept_syncs.sync_asked.Goals as goal
@@ -22,7 +22,7 @@ pub returns-in-Err-job_due : goal.returns-in-Err-job_due
 returns-in-Err-job_due g c =
     let view = desk_view g.D.Desk.has_place g.D.Desk.holds g.D.Desk.dials g.D.Desk.folder_faults g.D.Desk.dial_faults in
     let own = own_view g.D.F.Folder.told g.D.F.Folder.faults in
-    let links = links_back (link_view g.D.N.L.Link.left g.D.N.L.Link.taken g.D.N.L.Link.given g.D.N.L.Link.asked g.D.N.L.Link.faults) g.D.N.Dial.back in
+    let links = dial_view (link_view g.D.N.L.Link.left g.D.N.L.Link.taken g.D.N.L.Link.given g.D.N.L.Link.asked g.D.N.L.Link.faults) g.D.N.Dial.back g.D.N.Dial.dialled in
     let shows = g.C.Clock.shows c.args.clock.now in
     record {
       value = asked_fault links shows c.args.wanted c.args.asked c.in-Ok.jobs c.slice.result.now (g.D.F.Folder.told c.args.conf.now) (g.D.F.Folder.told c.jobs_in.new.conf)
@@ -42,7 +42,7 @@ pub returns-in-Some : goal.returns-in-Some
 returns-in-Some g c =
     let view = desk_view g.D.Desk.has_place g.D.Desk.holds g.D.Desk.dials g.D.Desk.folder_faults g.D.Desk.dial_faults in
     let own = own_view g.D.F.Folder.told g.D.F.Folder.faults in
-    let links = links_back (link_view g.D.N.L.Link.left g.D.N.L.Link.taken g.D.N.L.Link.given g.D.N.L.Link.asked g.D.N.L.Link.faults) g.D.N.Dial.back in
+    let links = dial_view (link_view g.D.N.L.Link.left g.D.N.L.Link.taken g.D.N.L.Link.given g.D.N.L.Link.asked g.D.N.L.Link.faults) g.D.N.Dial.back g.D.N.Dial.dialled in
     let shows = g.C.Clock.shows c.args.clock.now in
     record {
       value = asked_listed links shows c.args.wanted c.args.asked c.in-Ok.jobs c.slice.result.now (g.D.F.Folder.told c.args.conf.now) (g.D.F.Folder.told c.jobs_in.new.conf)
@@ -56,7 +56,7 @@ pub returns : goal.returns
 returns g c =
     let view = desk_view g.D.Desk.has_place g.D.Desk.holds g.D.Desk.dials g.D.Desk.folder_faults g.D.Desk.dial_faults in
     let own = own_view g.D.F.Folder.told g.D.F.Folder.faults in
-    let links = links_back (link_view g.D.N.L.Link.left g.D.N.L.Link.taken g.D.N.L.Link.given g.D.N.L.Link.asked g.D.N.L.Link.faults) g.D.N.Dial.back in
+    let links = dial_view (link_view g.D.N.L.Link.left g.D.N.L.Link.taken g.D.N.L.Link.given g.D.N.L.Link.asked g.D.N.L.Link.faults) g.D.N.Dial.back g.D.N.Dial.dialled in
     let shows = g.C.Clock.shows c.args.clock.now in
     record {
       value = asked_new links shows c.args.wanted c.args.asked c.in-Ok.jobs c.slice.result.now (g.D.F.Folder.told c.args.conf.now) (g.D.F.Folder.told c.jobs_in.new.conf)

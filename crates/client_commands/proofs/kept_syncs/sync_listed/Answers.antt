@@ -21,7 +21,7 @@ returns-in-Err-sync_folder g c =
     let view = desk_view g.D.Desk.has_place g.D.Desk.holds g.D.Desk.dials g.D.Desk.folder_faults g.D.Desk.dial_faults in
     let own = own_view g.D.F.Folder.told g.D.F.Folder.faults in
     record {
-      value = worked c.in-Ok.index c.sync_folder.new.index (Err c.in-Err-sync_folder.fault) c.in-Ok.ensures.library (λ held told. c.in-Ok.ensures.value held told) c.in-Err-sync_folder.ensures.value
+      value = worked c.in-Ok.index c.sync_folder.new.index (Err c.in-Err-sync_folder.fault) c.in-Ok.ensures.library c.in-Ok.ensures.proper (λ held told. c.in-Ok.ensures.value held told) c.in-Err-sync_folder.ensures.value
           (refl, c.index_in.ensures.stays);
       faults = desk_kept (own c.args.conf.now) (own c.index_in.new.conf) (view c.args.desk.now) (view c.sync_folder.new.desk) (Err c.in-Err-sync_folder.fault) c.in-Ok.ensures.faults
           c.in-Err-sync_folder.ensures.faults;
@@ -32,9 +32,9 @@ returns-in-Ok-put_index g c =
     let view = desk_view g.D.Desk.has_place g.D.Desk.holds g.D.Desk.dials g.D.Desk.folder_faults g.D.Desk.dial_faults in
     let own = own_view g.D.F.Folder.told g.D.F.Folder.faults in
     record {
-      value = worked c.in-Ok.index c.sync_folder.new.index (Ok c.in-Ok-sync_folder.synced) c.in-Ok.ensures.library (λ held told. c.in-Ok.ensures.value held told) c.in-Ok-sync_folder.ensures.value
+      value = worked c.in-Ok.index c.sync_folder.new.index (Ok c.in-Ok-sync_folder.synced) c.in-Ok.ensures.library c.in-Ok.ensures.proper (λ held told. c.in-Ok.ensures.value held told) c.in-Ok-sync_folder.ensures.value
           (kept_index c.sync_folder.new.index c.in-Ok-sync_folder.synced (g.D.F.Folder.told c.args.conf.now) (g.D.F.Folder.told c.index_in.new.conf) (g.D.F.Folder.told c.put_index.new.conf)
-          c.index_in.ensures.stays c.in-Ok-put_index.ensures.value);
+          c.index_in.ensures.stays c.in-Ok-put_index.ensures.reads_back c.in-Ok-put_index.ensures.value);
       faults = put_kept (own c.args.conf.now) (own c.index_in.new.conf) (own c.put_index.new.conf) (view c.args.desk.now) (view c.sync_folder.new.desk) c.in-Ok-sync_folder.synced c.in-Ok.ensures.faults
           c.in-Ok-sync_folder.ensures.faults c.in-Ok-put_index.ensures.faults;
     }
@@ -44,7 +44,7 @@ returns g c =
     let view = desk_view g.D.Desk.has_place g.D.Desk.holds g.D.Desk.dials g.D.Desk.folder_faults g.D.Desk.dial_faults in
     let own = own_view g.D.F.Folder.told g.D.F.Folder.faults in
     record {
-      value = worked c.in-Ok.index c.sync_folder.new.index (Ok c.in-Ok-sync_folder.synced) c.in-Ok.ensures.library (λ held told. c.in-Ok.ensures.value held told) c.in-Ok-sync_folder.ensures.value
+      value = worked c.in-Ok.index c.sync_folder.new.index (Ok c.in-Ok-sync_folder.synced) c.in-Ok.ensures.library c.in-Ok.ensures.proper (λ held told. c.in-Ok.ensures.value held told) c.in-Ok-sync_folder.ensures.value
           (kept_index_free c.sync_folder.new.index c.in-Ok-sync_folder.synced (g.D.F.Folder.told c.args.conf.now) (g.D.F.Folder.told c.index_in.new.conf) (g.D.F.Folder.told c.put_index.new.conf)
           c.index_in.ensures.stays c.in-Err-put_index.fault c.in-Err-put_index.ensures.value c.in-Err-put_index.ensures.free);
       faults = put_fault (own c.args.conf.now) (own c.index_in.new.conf) (own c.put_index.new.conf) (view c.args.desk.now) (view c.sync_folder.new.desk) c.in-Ok-sync_folder.synced c.in-Err-put_index.fault

@@ -45,7 +45,7 @@ returns-in-Ok-add_job g c =
         done = Ok c.in-Ok.synced;
         works = worked_new _ _ _ _ _ _ _ _ _ c.empty-index.ensures.value c.in-Ok.ensures.value;
         keeps = kept_job c.args.asked c.args.jobs c.sync_folder.new.index c.in-Ok.synced (g.D.F.Folder.told c.args.conf.now) (g.D.F.Folder.told c.put_index.new.conf) (g.D.F.Folder.told c.add_job.new.conf)
-            c.in_default.ensures.value c.in-Ok-add_job.ensures.value;
+            c.in_default.ensures.value c.in_default.ensures.reads_back c.in-Ok-add_job.ensures.value;
       };
       faults = put_kept (own c.args.conf.now) (own c.put_index.new.conf) (own c.add_job.new.conf) (view c.args.desk.now) (view c.sync_folder.new.desk) c.in-Ok.synced
           c.in_default.ensures.faults c.in-Ok.ensures.faults c.in-Ok-add_job.ensures.faults;

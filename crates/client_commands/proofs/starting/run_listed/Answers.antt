@@ -3,7 +3,7 @@ use Rattle.std.proofs.Common.{Err, List, refl}
 use Rattle.remote_calls.specs.Exchange.{link_view}
 use Rattle.client_words.specs.declared.job.Job.{Job}
 use Rattle.client_commands.specs.Starts.{ran, unlisted}
-use Rattle.client_commands.specs.Views.{desk_view, links_back, own_view, sink_view}
+use Rattle.client_commands.specs.Views.{desk_view, dial_view, own_view, sink_view}
 use Rattle.client_commands.proofs.KeepLemmas.{own_kept}
 use Rattle.client_commands.proofs.StartLemmas.{same_start}
 use Rattle.client_commands.proofs.starting.run_listed.Goals as goal
@@ -15,7 +15,7 @@ pub returns-in-Ok : goal.returns-in-Ok
 returns-in-Ok g c =
     let view = desk_view g.D.Desk.has_place g.D.Desk.holds g.D.Desk.dials g.D.Desk.folder_faults g.D.Desk.dial_faults in
     let own = own_view g.D.F.Folder.told g.D.F.Folder.faults in
-    let links = links_back (link_view g.D.N.L.Link.left g.D.N.L.Link.taken g.D.N.L.Link.given g.D.N.L.Link.asked g.D.N.L.Link.faults) g.D.N.Dial.back in
+    let links = dial_view (link_view g.D.N.L.Link.left g.D.N.L.Link.taken g.D.N.L.Link.given g.D.N.L.Link.asked g.D.N.L.Link.faults) g.D.N.Dial.back g.D.N.Dial.dialled in
     let shows = g.C.Clock.shows c.args.clock.now in
     let seen = sink_view g.O.Sink.given g.O.Sink.faults in
     record {

@@ -1,7 +1,7 @@
 -- One turn more.
 use Rattle.std.proofs.Common.{◌∙◌, refl, arith}
 use Rattle.remote_calls.specs.Exchange.{link_view}
-use Rattle.client_commands.specs.Views.{desk_view, links_back, own_view, sink_view}
+use Rattle.client_commands.specs.Views.{desk_view, dial_view, own_view, sink_view}
 use Rattle.client_commands.proofs.StartLemmas.{turns_all, turns_begin, turns_more, turns_stop}
 use Rattle.client_commands.proofs.starting.run_turns.Goals as goal
 
@@ -9,7 +9,7 @@ pub loop-left-init : goal.loop-left-init
 loop-left-init g c =
     let view = desk_view g.D.Desk.has_place g.D.Desk.holds g.D.Desk.dials g.D.Desk.folder_faults g.D.Desk.dial_faults in
     let own = own_view g.D.F.Folder.told g.D.F.Folder.faults in
-    let links = links_back (link_view g.D.N.L.Link.left g.D.N.L.Link.taken g.D.N.L.Link.given g.D.N.L.Link.asked g.D.N.L.Link.faults) g.D.N.Dial.back in
+    let links = dial_view (link_view g.D.N.L.Link.left g.D.N.L.Link.taken g.D.N.L.Link.given g.D.N.L.Link.asked g.D.N.L.Link.faults) g.D.N.Dial.back g.D.N.Dial.dialled in
     let shows = g.C.Clock.shows c.args.clock.now in
     let seen = sink_view g.O.Sink.given g.O.Sink.faults in
     record { goes = turns_begin links shows c.args.jobs.now c.args.turns (record { own = own c.args.conf.now; desk = view c.args.desk.now; out = seen c.args.out.now }); places = refl }
@@ -18,7 +18,7 @@ pub loop-left-preserved : goal.loop-left-preserved
 loop-left-preserved g c =
     let view = desk_view g.D.Desk.has_place g.D.Desk.holds g.D.Desk.dials g.D.Desk.folder_faults g.D.Desk.dial_faults in
     let own = own_view g.D.F.Folder.told g.D.F.Folder.faults in
-    let links = links_back (link_view g.D.N.L.Link.left g.D.N.L.Link.taken g.D.N.L.Link.given g.D.N.L.Link.asked g.D.N.L.Link.faults) g.D.N.Dial.back in
+    let links = dial_view (link_view g.D.N.L.Link.left g.D.N.L.Link.taken g.D.N.L.Link.given g.D.N.L.Link.asked g.D.N.L.Link.faults) g.D.N.Dial.back g.D.N.Dial.dialled in
     let shows = g.C.Clock.shows c.args.clock.now in
     let seen = sink_view g.O.Sink.given g.O.Sink.faults in
     record {
@@ -32,7 +32,7 @@ pub returns-in-Err : goal.returns-in-Err
 returns-in-Err g c =
     let view = desk_view g.D.Desk.has_place g.D.Desk.holds g.D.Desk.dials g.D.Desk.folder_faults g.D.Desk.dial_faults in
     let own = own_view g.D.F.Folder.told g.D.F.Folder.faults in
-    let links = links_back (link_view g.D.N.L.Link.left g.D.N.L.Link.taken g.D.N.L.Link.given g.D.N.L.Link.asked g.D.N.L.Link.faults) g.D.N.Dial.back in
+    let links = dial_view (link_view g.D.N.L.Link.left g.D.N.L.Link.taken g.D.N.L.Link.given g.D.N.L.Link.asked g.D.N.L.Link.faults) g.D.N.Dial.back g.D.N.Dial.dialled in
     let shows = g.C.Clock.shows c.args.clock.now in
     let seen = sink_view g.O.Sink.given g.O.Sink.faults in
     record {
@@ -46,7 +46,7 @@ pub returns : goal.returns
 returns g c =
     let view = desk_view g.D.Desk.has_place g.D.Desk.holds g.D.Desk.dials g.D.Desk.folder_faults g.D.Desk.dial_faults in
     let own = own_view g.D.F.Folder.told g.D.F.Folder.faults in
-    let links = links_back (link_view g.D.N.L.Link.left g.D.N.L.Link.taken g.D.N.L.Link.given g.D.N.L.Link.asked g.D.N.L.Link.faults) g.D.N.Dial.back in
+    let links = dial_view (link_view g.D.N.L.Link.left g.D.N.L.Link.taken g.D.N.L.Link.given g.D.N.L.Link.asked g.D.N.L.Link.faults) g.D.N.Dial.back g.D.N.Dial.dialled in
     let shows = g.C.Clock.shows c.args.clock.now in
     let seen = sink_view g.O.Sink.given g.O.Sink.faults in
     let past = c.loop-left-test.false in
