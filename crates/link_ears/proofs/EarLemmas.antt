@@ -1,8 +1,10 @@
 -- Ears that came back, one after another. The key lemmas are back_more, counted_more and new_more.
-use Rattle.std.proofs.Common.{◌≡◌, ◌+◌, ◌<◌, ℕ, List, [], ◌∷◌, ◌++◌, length, get_or, map, take, refl, sym, ap, ◌∙◌, append_assoc}
+use Rattle.std.proofs.Common.{◌≡◌, ◌+◌, ◌<◌, ℕ, All, Vec, Global, vec_len, List, [], ◌∷◌, ◌++◌, length, get_or, map, take, refl, sym, subst, ap, ◌∙◌, append_assoc, Some}
 use Rattle.std.proofs.lemmas.List.{map-append, take_more}
+use Rattle.std.proofs.lemmas.List.Elements.{All-pop, All-push}
 use Rattle.http_front.specs.Dial.{count_sum}
-use Rattle.link_ears.specs.Ear.{counts_sum}
+use Rattle.link_ears.specs.Ear.{IsNewEar, counts_sum}
+use Rattle.link_ears.specs.declared.list_ear.ListEar.{ListEar}
 
 -- the count with one ear's more
 pub counts_push : (count : ℕ) (xs : List ℕ) (x : ℕ) → counts_sum count (xs ++ x ∷ []) ≡ count_sum (counts_sum count xs) x
@@ -26,3 +28,19 @@ module _ {X : Type 0} (xs : List X) (i : ℕ) (x : X) (within : i < length xs) (
   counted_more value start now later so grown =
       grown ∙ ap (λ (n : ℕ). count_sum n (value x)) so ∙ sym (counts_push start (map value (take i xs)) (value x))
       ∙ ap (counts_sum start) (sym (map-append value (take i xs) (x ∷ [])) ∙ ap (map value) (sym next_taken))
+
+-- ---- ears over lists
+
+-- an ear over a list of so many links, as it is made
+abbrev pub IsNewList : {L : Type 0} → ℕ → ListEar L → Type 0
+IsNewList connections ear = IsNewEar (record { gave = map (λ entry. entry.0) ear.gave.items; left = vec_len ear.rest; over = ear.over }) ear.back.items ear.faults connections
+
+-- one list more is made an ear
+pub new_more : {L : Type 0} (connections : ℕ) (old front : List (Vec L Global)) (links : Vec L Global) (ears later : List (ListEar L)) (ear : ListEar L) → old ≡ front ++ links ∷ []
+    → All (λ list. vec_len list ≡ connections) old × All (IsNewList connections) ears → IsNewList (vec_len links) ear → later ≡ ears ++ ear ∷ []
+    → All (λ list. vec_len list ≡ connections) front × All (IsNewList connections) later
+new_more {L} connections old front links ears later ear pop so fresh push =
+    let cut = All-pop (λ (list : Vec L Global). vec_len list ≡ connections) old front (Some links) pop so.0 in (
+      cut.0,
+      subst (All (IsNewList connections)) (sym push) (All-push (IsNewList connections) ears ear so.1 (subst (λ (n : ℕ). IsNewList n ear) cut.1 fresh)),
+    )

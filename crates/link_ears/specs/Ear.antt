@@ -1,11 +1,21 @@
--- What an ear tells of the links that it gives, and what the ears of a net are. Our own. Read EarTells, then Accepts, IsNewEar.
-use Rattle.std.specs.Prelude.{ℕ, ◌≡◌, ◌-◌, ◌<◌, Bool, true, false, List, [], ◌∷◌, ◌++◌, Option, Some, None, Result, Ok, Err}
+-- What an ear tells of the links that it gives, and what the ears of a net are. Our own. Read LinkView and EarTells, then Accepts, IsNewEar.
+use Rattle.std.specs.Prelude.{ℕ, ◌≡◌, ◌-◌, ◌<◌, Bool, true, false, All, List, [], ◌∷◌, ◌++◌, length, map, Option, Some, None, Result, Ok, Err}
 use Rattle.ids.specs.FaultCount.{FailsBy}
 use Rattle.http_front.specs.Dial.{count_sum}
+use Rattle.http_front.specs.Link.{Asked, LinkTells, told_by}
 use Rattle.http_front.specs.declared.link.LinkFailed.{LinkFailed}
 use Rattle.worker_server.specs.declared.served.Served.{Served}
 use Rattle.link_ears.specs.declared.net.NetFault.{NetFault}
 use Rattle.link_ears.specs.declared.net.NetFault.TheVariants as fault
+
+-- what is seen of a link: the bytes that it has left, what it tells of those that it moved, and its count of faults
+pub record LinkView : Type 0 where
+  pub left : Option (List ℕ)
+  pub tells : LinkTells
+  pub faults : ℕ
+
+abbrev pub link_seen : {L : Type 0} → (left taken given : L → Option (List ℕ)) → (L → Option (List Asked)) → (L → ℕ) → L → LinkView
+link_seen left taken given asked faults link = record { left = left link; tells = told_by taken given asked link; faults = faults link }
 
 -- `gave` are the links that it gave so far, each as it was then, in order. `left` is how many more it gives, and `over`
 -- whether it said that no more come
@@ -40,3 +50,29 @@ NetFails before now result = FailsBy is_link_fault before now result
 abbrev pub counts_sum : ℕ → List ℕ → ℕ
 counts_sum count [] = count
 counts_sum count (n ∷ more) = counts_sum (count_sum count n) more
+
+-- ---- for who runs a server
+
+-- what the ears of a net tell: where they hear, their links, which came back, their counts of faults, and what is seen of a link
+pub record EarRules (E L : Type 0) : Type 1 where
+  pub hears : E → ℕ → Type 0
+  pub tells : E → EarTells L
+  pub back : E → List (L × Served)
+  pub faults : E → ℕ
+  pub seen : L → LinkView
+
+-- what is seen of a net: the ports that it was asked for, each with how many workers and connections of each, and what came back
+pub record NetView (E : Type 0) : Type 0 where
+  pub asked : List (ℕ × (ℕ × ℕ))
+  pub back : List E
+  pub faults : ℕ
+
+-- as many ears of a port as there are workers, each of which gave nothing yet and has so many connections left
+pub record AreEars {E L : Type 0} (rules : EarRules E L) (port workers connections : ℕ) (ears : List E) : Type 0 where
+  pub count : length ears ≡ workers
+  pub told : All (λ ear. rules.hears ear port) ears
+  pub fresh : All (λ ear. IsNewEar (rules.tells ear) (rules.back ear) (rules.faults ear) connections) ears
+
+-- these ears came back, with their faults
+abbrev pub TakesEars : {E L : Type 0} → EarRules E L → NetView E → List E → NetView E → Type 0
+TakesEars rules before ears now = (now.back ≡ before.back ++ ears) × (now.faults ≡ counts_sum before.faults (map rules.faults ears))

@@ -1,1 +1,2 @@
 pub mod Ear
+pub mod ListEar

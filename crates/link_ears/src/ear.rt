@@ -15,7 +15,8 @@ pub trait Ear {
     ghost use Rattle.link_ears.specs.Ear.{EarTells};
     ghost use Rattle.worker_server.specs.declared.served.Served.{Served};
 
-    type L: Link;
+    // It goes to the thread of a worker, and its links are served there.
+    type L: Link + Send;
 
     // Which links it gave, how many are left, and whether it said that no more come.
     ghost tells: { Self → EarTells Self.L };

@@ -3,10 +3,16 @@ use std::alloc::Global;
 use std::io::{Stderr, Write};
 use worker_server::Served;
 
-/// Tells that a port is open, with so many ears. A line that can't be made or written is left out.
-pub(crate) fn note_port(err: &mut Stderr, alloc: Global, port: u16, workers: u32) {
+/// Tells that a port is open for so many libraries, with so many ears. A line that can't be made or written is left out.
+pub(crate) fn note_port(
+    err: &mut Stderr,
+    alloc: Global,
+    port: u16,
+    libraries: usize,
+    workers: u32,
+) {
     if let Ok(line) = format!(in alloc;
-        "seaf-server: listening on 127.0.0.1:{port}, workers: {workers}\n"
+        "seaf-server: listening on 127.0.0.1:{port}, libraries: {libraries}, workers: {workers}\n"
     ) {
         write(err, line.as_bytes());
     }

@@ -17,21 +17,26 @@ use std::net::{Ipv4Addr, Net as Network, TcpListener, TcpStream};
 pub struct TcpNet<R> {
     rt: R,
     err: Stderr,
+    libraries: usize,
     faults: u64,
-    // The ears that came back, for proofs alone.
+    // The ports that it was asked for and the ears that came back, for proofs alone.
+    asked: Log<u16, (u32, u32)>,
     back: Log<TcpEar, u64>,
 }
 
 impl<R> TcpNet<R> {
-    /// A net over the network of this runtime, which tells on this standard error what it opens and what broke, with no fault, and to which no ear came back yet.
-    pub fn new(rt: R, err: Stderr) -> TcpNet<R>
-        ensures none { result.back.items ≡ [] }
+    /// A net over the network of this runtime, with no fault, which was asked for no port and to which no ear came back yet. It tells on this standard error what
+    /// it opens, with how many libraries are served there, and what broke.
+    pub fn new(rt: R, err: Stderr, libraries: usize) -> TcpNet<R>
+        ensures none { (result.asked.items ≡ []) × (result.back.items ≡ []) }
         ensures faults { result.faults ≡ 0 }
     {
         TcpNet {
             rt,
             err,
+            libraries,
             faults: 0,
+            asked: Log::new(),
             back: Log::new(),
         }
     }
@@ -47,6 +52,7 @@ impl<R> TcpNet<R> {
     fn note_back(&mut self, ears: &[TcpEar])
         ensures back { map (λ entry. entry.0) self.new.back.items ≡ map (λ entry. entry.0) self.old.back.items ++ ears.now }
         ensures faults { self.new.faults ≡ counts_sum self.old.faults (map (λ ear. ear.faults) ears.now) }
+        ensures stays { self.new.asked ≡ self.old.asked }
     {
         for ear in ears {
             self.faults = self.faults.saturating_add(ear.faults());
@@ -62,6 +68,8 @@ impl<R: Network<Listener = TcpListener, Stream = TcpStream>> Net for TcpNet<R> {
 
     ghost hears = { λ ear port. ⊤ };
 
+    ghost asked = { λ net. net.asked.items };
+
     ghost back = { λ net. map (λ entry. entry.0) net.back.items };
 
     ghost faults = { λ net. net.faults };
@@ -73,9 +81,10 @@ impl<R: Network<Listener = TcpListener, Stream = TcpStream>> Net for TcpNet<R> {
         workers: u32,
         connections: u32,
     ) -> Result<Items<TcpEar>, NetFault> {
+        self.asked = self.asked.and(&port, &(workers, connections));
         match open(&self.rt, self.err, alloc, port, workers, connections) {
             Ok(ears) => {
-                note_port(&mut self.err, alloc, port, workers);
+                note_port(&mut self.err, alloc, port, self.libraries, workers);
                 Ok(ears)
             }
             Err(NetFault::Link) => {
@@ -87,6 +96,7 @@ impl<R: Network<Listener = TcpListener, Stream = TcpStream>> Net for TcpNet<R> {
     }
 
     fn give_back(&mut self, ears: Items<TcpEar>)
+        ensures asked { self.new.asked.items ≡ self.old.asked.items }
         ensures back { map (λ entry. entry.0) self.new.back.items ≡ map (λ entry. entry.0) self.old.back.items ++ ears }
         ensures faults { self.new.faults ≡ counts_sum self.old.faults (map (λ ear. ear.faults) ears) }
     {

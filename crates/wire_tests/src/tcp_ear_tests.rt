@@ -67,7 +67,7 @@ fn each_gives_one(rt: &HostRuntime, port: u16, ears: &mut Vec<TcpEar>) -> io::Re
 
 /// Whether a port that is open can't be opened, which is counted.
 fn refuses(rt: &HostRuntime, port: u16) -> Result<bool, Fail> {
-    let mut net = TcpNet::new(rt.clone()?, rt.stderr());
+    let mut net = TcpNet::new(rt.clone()?, rt.stderr(), 0);
     let is_refused = match net.ears(rt.alloc(), port, 1, 1) {
         Ok(ears) => {
             net.give_back(ears);
@@ -81,7 +81,7 @@ fn refuses(rt: &HostRuntime, port: u16) -> Result<bool, Fail> {
 /// Whether two ears at a port serve as they are to, while it can't be opened again.
 fn listens(rt: &HostRuntime) -> Result<bool, Fail> {
     let port = free_port(rt)?;
-    let mut net = TcpNet::new(rt.clone()?, rt.stderr());
+    let mut net = TcpNet::new(rt.clone()?, rt.stderr(), 0);
     let mut ears = match net.ears(rt.alloc(), port, 2, 1) {
         Ok(ears) => ears.into_vec(),
         Err(_) => return Ok(false),

@@ -14,4 +14,5 @@ loop-ear-preserved g c =
           (c.ear-item.result, 0) refl c.loop-ear.invariant.back c.and-self.ensures;
       faults = counted_more c.args.ears.now c.loop-ear.ear-index c.ear-item.result c.loop-ear-test.true c.ear-item.is faults_of c.args.self.now.faults c.loop-ear.self.faults c.saturating_add-self.result
           c.loop-ear.invariant.faults (c.saturating_add-self.ensures ∙ ap (count_sum c.loop-ear.self.faults) c.faults.ensures.value);
+      asked = c.loop-ear.invariant.asked;
     }

@@ -7,4 +7,5 @@ abbrev pub invariant-loop-ear : goal.invariant-loop-ear
 invariant-loop-ear g l = record {
   back : map (λ entry. entry.0) l.self.back.items ≡ map (λ entry. entry.0) l.initial.self.back.items ++ take l.ear-index l.ears;
   faults : l.self.faults ≡ counts_sum l.initial.self.faults (map (λ ear. ear.faults) (take l.ear-index l.ears));
+  asked : l.self.asked ≡ l.initial.self.asked;
 }

@@ -1,0 +1,19 @@
+-- One ear more.
+use Rattle.std.proofs.Common.{ℕ, ap, refl, ◌∙◌}
+use Rattle.http_front.specs.Dial.{count_sum}
+use Rattle.link_ears.specs.declared.list_ear.ListEar.{ListEar}
+use Rattle.link_ears.proofs.EarLemmas.{back_more, counted_more}
+use Rattle.link_ears.proofs.memory_net.MemoryNet.note_back.Goals as goal
+
+pub loop-ear-preserved : goal.loop-ear-preserved
+loop-ear-preserved g c =
+    let ear_of : ListEar g.row.L.Denot × ℕ → ListEar g.row.L.Denot = λ entry. entry.0 in
+    let faults_of : ListEar g.row.L.Denot → ℕ = λ ear. ear.faults in
+    record {
+      back = back_more c.args.ears.now c.loop-ear.ear-index c.ear-item.result c.loop-ear-test.true c.ear-item.is ear_of c.args.self.now.back.items c.loop-ear.self.back.items c.and-self.result.items
+          (c.ear-item.result, 0) refl c.loop-ear.invariant.back c.and-self.ensures;
+      faults = counted_more c.args.ears.now c.loop-ear.ear-index c.ear-item.result c.loop-ear-test.true c.ear-item.is faults_of c.args.self.now.faults c.loop-ear.self.faults c.saturating_add-self.result
+          c.loop-ear.invariant.faults (c.saturating_add-self.ensures ∙ ap (count_sum c.loop-ear.self.faults) c.faults.ensures.value);
+      returned = c.loop-ear.invariant.returned;
+      asked = c.loop-ear.invariant.asked;
+    }
