@@ -10,6 +10,7 @@ tab=$(printf '\t')
 . "$1/requests.sh"
 . "$1/runs.sh"
 . "$1/client.sh"
+. "$1/port.sh"
 ROW=$2
 mkdir kept openings sent kept/block kept/fs kept/commit kept/size
 . "$ROW/row"

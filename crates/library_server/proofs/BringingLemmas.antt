@@ -185,6 +185,7 @@ module _ {S : Type 0} (contents : S → Option Contents) (may_give : S → Slot 
     told = λ standing there. is.told standing (same ∙ there);
     laid = absent_gives location lib shows may_give (Ok depot) reads is.laid;
     none = is.none;
+    settled = is.settled;
     good = is.good;
   }
 

@@ -78,19 +78,19 @@ turn_names s goal moment at_most (Refused why keys) t es (few, takes) names = by
 
 -- ---- turns
 
-abbrev is_storage_turn : Turn → Bool
+abbrev pub is_storage_turn : Turn → Bool
 is_storage_turn (Refused why keys) = is_of_storage why
 is_storage_turn other = false
 
 module _ {S : Type 0} (contents : S → Option Contents) (may_give : S → Slot → Option (List ℕ) → Type 0) (texts faults : S → ℕ) (shows : ℕ → Type 0) (steady : NeverFails faults) where
-  turn_whole : (u : DepotView S) (goal : Option ℕ) (moment : ℕ) (turn : Turn) (v : DepotView S) → TakesTurn contents may_give texts faults u goal moment most_in_turn turn v → NamesIn contents u
+  pub turn_whole : (u : DepotView S) (goal : Option ℕ) (moment at_most : ℕ) (turn : Turn) (v : DepotView S) → TakesTurn contents may_give texts faults u goal moment at_most turn v → NamesIn contents u
       → (is_storage_turn turn ≡ false) × NamesIn contents v
-  turn_whole u goal moment turn v takes names =
+  turn_whole u goal moment at_most turn v takes names =
       let s : State = running_library u.state u.running (faults u.store.shelf) names.0 in
       let tells = takes.told s (ap (option_map (running_library u.state u.running (faults u.store.shelf))) names.1) in
-      (by turn takes, names_of contents faults v tells.state tells.left (turn_names s goal moment most_in_turn turn tells.state tells.entries tells.turns names.2))
+      (by turn takes, names_of contents faults v tells.state tells.left (turn_names s goal moment at_most turn tells.state tells.entries tells.turns names.2))
     where
-      by : (t : Turn) → TakesTurn contents may_give texts faults u goal moment most_in_turn t v → is_storage_turn t ≡ false
+      by : (t : Turn) → TakesTurn contents may_give texts faults u goal moment at_most t v → is_storage_turn t ≡ false
       by (Refused why keys) taken =
           refusal_whole names.0 why names.2
           (subst (λ n. Counts 0 n (reply.Refused why)) (steady v.store.shelf) (subst (λ n. Counts n (faults v.store.shelf) (reply.Refused why)) (steady u.store.shelf) taken.count)) (taken.damage names.0 names.1)
@@ -100,7 +100,7 @@ module _ {S : Type 0} (contents : S → Option Contents) (may_give : S → Slot 
       → AllByRecursion (λ turn. is_storage_turn turn ≡ false) turns × NamesIn contents v.depot
   turns_whole u goal [] v same names = (tt, subst (λ (w : OpenedView S). NamesIn contents w.depot) (sym same) names)
   turns_whole u goal (turn ∷ turns) v (moment, mid, shown, takes, good, counts, more) names =
-      let first = turn_whole u.depot goal moment turn mid.depot takes names in
+      let first = turn_whole u.depot goal moment most_in_turn turn mid.depot takes names in
       let rest = turns_whole mid (number_running mid.depot) turns v more first.1 in
       ((first.0, rest.0), rest.1)
 

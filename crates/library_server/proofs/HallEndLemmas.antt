@@ -1,27 +1,21 @@
--- The libraries that come out of a hall after a connection, and back to where they are kept. The key lemmas are led and served_named.
-use Rattle.std.proofs.Common.{◌≡◌, ℕ, zero, suc, ◌<◌, ◌≤◌, List, [], ◌∷◌, length, Option, Some, refl, sym, ap, subst, ◌∙◌, arith}
+-- The libraries that come out of a hall after a connection, and back to where they are kept. The key lemmas are pass_at, led and held_size.
+use Rattle.std.proofs.Common.{◌≡◌, ℕ, zero, suc, ◌<◌, List, [], ◌∷◌, length, Option, Some, refl, sym, ap, subst, ◌∙◌, arith}
 use Rattle.std.specs.Prelude.{map as map_list, slice_index_or, slice_set}
 use Rattle.std.specs.List.{slice_get}
 use Rattle.std.proofs.lemmas.List.{get_or_default, length-map, length-set}
-use Rattle.depot.specs.DepotView.{DepotView, IsGood}
+use Rattle.depot.specs.DepotView.{DepotView}
 use Rattle.depot.specs.Story.{ComesBy}
-use Rattle.folder_storage.specs.Ground.{MayGive, Standings}
 use Rattle.object_store.specs.Shelf.{Contents}
 use Rattle.object_store.specs.declared.shelf.Slot.{Slot}
-use Rattle.server_words.specs.Spelling.{location_text}
-use Rattle.server_words.specs.declared.command.Location.{Location}
 use Rattle.sync_calls.specs.Closing.{AreClosed, IsClosed}
-use Rattle.sync_calls.specs.Making.{AreSame, new_shown}
+use Rattle.sync_calls.specs.Making.{new_shown}
 use Rattle.sync_calls.specs.Operations.{Line, Lines, Moves}
 use Rattle.sync_calls.specs.Shown.{LibraryPass, Shown, all_shown, shown_of}
 use Rattle.turnstile.specs.Lists.{Has}
 use Rattle.hall_server.proofs.GoingLemmas.{done_start, from_some}
 use Rattle.hall_server.specs.Serving.{Goes}
-use Rattle.library_server.specs.Bringing.{AreBrought, AreOut, AreTaken}
-use Rattle.library_server.specs.Connections.{LinkView}
-use Rattle.library_server.specs.HallConnections.{AreGood, AreLedTo, HoldsHall, ServesLibraries, held, no_room, not_held, served}
-use Rattle.library_server.specs.Standing.{GroundView}
-use Rattle.library_server.proofs.BringingLemmas.{came_back_all}
+use Rattle.link_ears.specs.Ear.{LinkView}
+use Rattle.library_server.specs.HallConnections.{AreLedTo, HoldsHall, held, not_held}
 
 -- ---- how each history began
 
@@ -36,7 +30,7 @@ module _ {S : Type 0} where
   set_start (x ∷ xs) (suc k) before after was same (suc i) v u below = set_start xs k before after was same i v u (omega (arith, below))
 
   -- the pass in a place, and what it shows
-  pass_at : (passes : List (LibraryPass S)) (i : ℕ) (v : Shown S) → i < length passes
+  pub pass_at : (passes : List (LibraryPass S)) (i : ℕ) (v : Shown S) → i < length passes
       → (p : LibraryPass S) × (slice_index_or passes i p ≡ p) × (slice_index_or (all_shown passes) i v ≡ shown_of p)
   pass_at [] i v below = absurd (omega (arith, below))
   pass_at (p ∷ passes) zero v below = (p, refl, refl)
@@ -50,7 +44,7 @@ module _ {S : Type 0} where
 
 module _ {S : Type 0} (contents : S → Option Contents) (may_give : S → Slot → Option (List ℕ) → Type 0) (texts faults : S → ℕ) where
   -- so many stay, each with its start
-  abbrev StayStarted : List (Shown S) → List (Shown S) → Type 0
+  abbrev pub StayStarted : List (Shown S) → List (Shown S) → Type 0
   StayStarted us vs = (length vs ≡ length us) × ((i : ℕ) (v u : Shown S) → i < length us → (slice_index_or vs i v).start ≡ (slice_index_or us i u).start)
 
   moved_start : (us : List (Shown S)) (line : Line) (vs : List (Shown S)) → Moves contents may_give texts faults us line vs → StayStarted us vs
@@ -72,10 +66,9 @@ module _ {S : Type 0} (contents : S → Option Contents) (may_give : S → Slot 
 
   -- ---- the libraries that come out
 
-  pub led : (depots afters : List (DepotView S)) (us : List (Shown S)) (lines : List Line) (passes : List (LibraryPass S)) → us ≡ map_list new_shown depots → Goes contents may_give texts faults us lines (all_shown passes)
+  pub led_by : (depots afters : List (DepotView S)) (us : List (Shown S)) (passes : List (LibraryPass S)) → us ≡ map_list new_shown depots → StayStarted us (all_shown passes)
       → AreClosed contents may_give texts faults passes afters → AreLedTo contents may_give texts faults depots (all_shown passes) afters
-  led depots afters us lines passes begins goes closed =
-      let stays : StayStarted us (all_shown passes) = stay_started us goes.all (all_shown passes) goes.leads in
+  led_by depots afters us passes begins stays closed =
       let first : length us ≡ length depots = ap length begins ∙ length-map depots new_shown in
       let shown : length (all_shown passes) ≡ length passes = length-map passes shown_of in
       let size : length passes ≡ length depots = sym shown ∙ (stays.0 ∙ first) in (
@@ -97,6 +90,10 @@ module _ {S : Type 0} (contents : S → Option Contents) (may_give : S → Slot 
           subst (λ (w : Shown S). ComesBy contents may_give texts faults (slice_index_or depots i d) w.seen (slice_index_or afters i e) × ((p : ℕ) → p < length w.seen → Has p w.book)) (sym shows)
           (subst (λ (x : DepotView S). ComesBy contents may_give texts faults x (shown_of p).seen (slice_index_or afters i e)) same out.comes, out.each)
 
+  pub led : (depots afters : List (DepotView S)) (us : List (Shown S)) (lines : List Line) (passes : List (LibraryPass S)) → us ≡ map_list new_shown depots → Goes contents may_give texts faults us lines (all_shown passes)
+      → AreClosed contents may_give texts faults passes afters → AreLedTo contents may_give texts faults depots (all_shown passes) afters
+  led depots afters us lines passes begins goes closed = led_by depots afters us passes begins (stay_started us goes.all (all_shown passes) goes.leads) closed
+
   -- ---- all of it
 
   -- so many come out as went in
@@ -104,14 +101,3 @@ module _ {S : Type 0} (contents : S → Option Contents) (may_give : S → Slot 
       → length afters ≡ length depots
   held_size shows depots afters before now status (held serves) = serves.each.0
   held_size shows depots afters before now status (not_held same is left) = same.0
-
-  -- the libraries are back
-  pub served_named : (gives : MayGive) (location : Location) (libs : List (List ℕ)) (shows : ℕ → Type 0) (old new : GroundView) (mid : Standings) (depots afters : List (DepotView S))
-      (before now : LinkView) (status : ℕ) → AreBrought contents may_give faults gives location shows old.stands libs (length libs) depots
-      → AreOut old.stands mid (location_text location) libs (length libs) → HoldsHall contents may_give texts faults shows depots afters before now status
-      → AreTaken contents mid new.stands (location_text location) libs afters 0 (length libs) → AreGood contents faults afters (length libs)
-      → ServesLibraries contents may_give texts faults gives location libs shows old new before now status
-  served_named gives location libs shows old new mid depots afters before now status brought out (held serves) taken good =
-      served depots afters brought serves (came_back_all contents (location_text location) libs afters old.stands mid new.stands (length libs) out taken) good
-  served_named gives location libs shows old new mid depots afters before now status brought out (not_held same is left) taken good =
-      no_room depots afters brought same (came_back_all contents (location_text location) libs afters old.stands mid new.stands (length libs) out taken) good is left

@@ -16,3 +16,8 @@ pub mod FewTurnsLemmas
 pub mod SparedLemmas
 pub mod BringingLemmas
 pub mod HallEndLemmas
+pub mod JoinLemmas
+pub mod PortLemmas
+pub mod WorkersLemmas
+pub mod HallWholeLemmas
+pub mod HallKeysLemmas

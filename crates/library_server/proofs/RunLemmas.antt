@@ -1,6 +1,6 @@
 -- What the top call printed, and its status. The key lemmas are runs_usage, printed_as, kept_alone,
 -- one_named and alone_is.
-use Rattle.std.proofs.Common.{◌≡◌, ◌≤◌, ℕ, zero, suc, List, [], ◌∷◌, length, Option, Some, Result, Ok, Err, refl, sym, ap, subst, ◌∙◌, arith}
+use Rattle.std.proofs.Common.{◌≡◌, ◌≤◌, ℕ, zero, suc, Bool, true, false, List, [], ◌∷◌, length, Option, Some, Result, Ok, Err, refl, sym, ap, subst, ◌∙◌, arith}
 use Rattle.std.specs.Prelude.{IfErr, IfOk, slice_index_or, ⊤}
 use Rattle.std.specs.Io.KnownBytes.{append_known}
 use Rattle.folder_storage.specs.Ground.{MayGive}
@@ -9,13 +9,16 @@ use Rattle.object_store.specs.declared.shelf.Slot.{Slot}
 use Rattle.object_store.specs.Shelf.{Contents}
 use Rattle.server_words.specs.Lines.{fault_status, line_text, status_of as line_status}
 use Rattle.server_words.specs.declared.command.Command.{Command}
-use Rattle.server_words.specs.declared.command.Command.TheVariants.{Create, Token, Inetd, Help, Version, Usage}
+use Rattle.server_words.specs.declared.command.Command.TheVariants.{Create, Token, Inetd, Serve, Help, Version, Usage}
 use Rattle.server_words.specs.declared.fault.Fault.{Fault}
 use Rattle.server_words.specs.declared.fault.Fault.TheVariants as fault
+use Rattle.server_words.specs.declared.line.Line.{Line}
 use Rattle.server_words.specs.declared.line.Line.TheVariants as line
 use Rattle.worker_server.specs.declared.served.Served.{Served}
 use Rattle.worker_server.specs.declared.served.Served.TheVariants as end_of
-use Rattle.library_server.specs.Connections.{LinkView, ServesOpened, opened, status_of, unbrought}
+use Rattle.hall_workers.specs.declared.worker.Worker.{Worker}
+use Rattle.link_ears.specs.Ear.{EarRules, LinkView, NetView}
+use Rattle.library_server.specs.Connections.{ServesOpened, opened, status_of, unbrought}
 use Rattle.library_server.specs.HallConnections.{no_room, one as only, served, several, stopped}
 use Rattle.library_server.specs.Counting.{OpenedView, opened_now}
 use Rattle.library_server.specs.Lines.{fault_of_not_added, fault_of_not_made, fault_of_not_brought}
@@ -24,11 +27,14 @@ use Rattle.library_server.specs.Adding.{IsAddedTo, IsNotAdded, is_unadded_counte
 use Rattle.library_server.specs.Making.{IsNotMade, RoseWhere, is_unmade_counted}
 use Rattle.library_server.specs.declared.adding.NewToken.{NewToken}
 use Rattle.library_server.specs.declared.making.NewLibrary.{NewLibrary}
-use Rattle.library_server.specs.Runs.{IsAdded, IsCreated, OnlyNamedGivesMore, Printed, PrintsSo, RunsSo, SinkView, added_line, adds, created_line, creates, help_printed, in_part, line_printed, printed_of, prints, serves, unread, version_printed, whole}
+use Rattle.library_server.specs.Runs.{IsAdded, IsCreated, OnlyNamedGivesMore, Printed, PrintsSo, RunsSo, SinkView, added_line, adds, created_line, creates, help_printed, in_part, line_printed, printed_of, prints, serves, serves_port, unread, version_printed, whole}
 use Rattle.library_server.specs.Bringing.{UnnamedGiveNoMore}
+use Rattle.library_server.specs.Port.{ServesPort, fault_of_net, fault_of_unserved, line_by, started, tally_of, unopened}
+use Rattle.library_server.specs.Port.{opened as opened_port, stopped as stopped_so, held as held_so, not_held as not_held_so}
 use Rattle.library_server.specs.Standing.{GroundView, OthersGiveNoMore}
 use Rattle.library_server.specs.declared.not_done.NotAdded.{NotAdded}
 use Rattle.library_server.specs.declared.not_done.NotMade.{NotMade}
+use Rattle.library_server.specs.declared.port.Port.{Port}
 
 -- ---- no line but the usage line has the status 2
 
@@ -61,6 +67,7 @@ usage_alone : (command : Command) (printed : Printed) → printed_of command ≡
 usage_alone (Create location lib name user secret) printed e two = absurd (cc)
 usage_alone (Token location lib user secret right) printed e two = absurd (cc)
 usage_alone (Inetd location libs) printed e two = absurd (cc)
+usage_alone (Serve location port workers connections libs) printed e two = absurd (cc)
 usage_alone Help printed e two = absurd (zero_two (sym (ap (λ z. z.status) (unwrapped help_printed printed e)) ∙ two))
   where
     zero_two : ◌≡◌ {A = ℕ} 0 2 → ⊥
@@ -71,33 +78,52 @@ usage_alone Version printed e two = absurd (zero_two (sym (ap (λ z. z.status) (
     zero_two e = omega arith
 usage_alone Usage printed e two = (refl, ap (λ z. z.text) (unwrapped (line_printed line.Usage) printed e))
 
-module _ {S : Type 0} (contents : S → Option Contents) (may_give : S → Slot → Option (List ℕ) → Type 0) (texts faults : S → ℕ) (gives : MayGive) (shows : ℕ → Type 0) where
+module _ {S E L : Type 0} (contents : S → Option Contents) (may_give : S → Slot → Option (List ℕ) → Type 0) (texts faults : S → ℕ) (rules : EarRules E L) (gives : MayGive) (shows : ℕ → Type 0) where
   no_service : (library after : OpenedView S) (before now : LinkView) (status : ℕ)
       → ServesOpened contents may_give texts faults shows library after before now status → status ≡ 2 → ⊥
   no_service library after before now status service two = no_end service.how (sym service.status_is ∙ two)
 
+  no_tally : {P X : Type 0} (workers : List (Worker P X)) → line_status (line_by (tally_of workers)) ≡ 2 → ⊥
+  no_tally workers = by (tally_of workers).failed (tally_of workers).wanting (tally_of workers).served
+    where
+      by : (failed wanting : Bool) (count : ℕ) → line_status (line_by (record { failed = failed; wanting = wanting; served = count })) ≡ 2 → ⊥
+      by true wanting count e = cc
+      by false true count e = cc
+      by false false count e = cc
+
+  no_port : (location : Location) (port : Port) (libs : List (List ℕ)) (old new : GroundView) (net net_now : NetView E) (told : Line)
+      → ServesPort contents may_give texts faults rules gives location port libs shows old new net net_now told → line_status told ≡ 2 → ⊥
+  no_port location port libs old new net net_now told (opened_port ears ends are (started depots afters brought (held_so service) back good) asked taken) two =
+      no_tally service.workers (ap line_status (sym service.line_is) ∙ two)
+  no_port location port libs old new net net_now told (opened_port ears ends are (started depots afters brought (not_held_so same still is) back good) asked taken) two =
+      no_fault fault.NoMemory (ap line_status (sym is) ∙ two)
+  no_port location port libs old new net net_now told (opened_port ears ends are (stopped_so why at still is) asked taken) two = no_fault (fault_of_unserved why) (ap line_status (sym is) ∙ two)
+  no_port location port libs old new net net_now told (unopened why asked kept count same is) two = no_fault (fault_of_net why) (ap line_status (sym is) ∙ two)
+
   -- the status 2 comes with the usage line alone
-  pub runs_usage : (command : Command) (old new : GroundView) (before now : LinkView) (out_before out_now : SinkView) (status : ℕ)
-      → RunsSo contents may_give texts faults gives shows command old new before now out_before out_now status → status ≡ 2
+  pub runs_usage : (command : Command) (old new : GroundView) (before now : LinkView) (net net_now : NetView E) (out_before out_now : SinkView) (status : ℕ)
+      → RunsSo contents may_give texts faults rules gives shows command old new before now net net_now out_before out_now status → status ≡ 2
       → (command ≡ Usage) × (out_now.given ≡ append_known out_before.given (line_text line.Usage))
-  runs_usage command old new before now out_before out_now status (creates location lib name user secret is made left) two =
+  runs_usage command old new before now net net_now out_before out_now status (creates location lib name user secret is made left same) two =
       absurd (no_print (line_printed (created_line lib made.created)) out_before out_now status made.prints (no_creation lib made.created) two)
-  runs_usage command old new before now out_before out_now status (adds location lib token is added left) two =
+  runs_usage command old new before now net net_now out_before out_now status (adds location lib token is added left same) two =
       absurd (no_print (line_printed (added_line added.added)) out_before out_now status added.prints (no_addition added.added) two)
-  runs_usage command old new before now out_before out_now status (serves location libs is (only lib same (opened depot after state opens given none service caused good back)) out) two =
+  runs_usage command old new before now net net_now out_before out_now status (serves location libs is (only lib same (opened depot after state opens given none settled service caused good back)) kept out) two =
       absurd (no_service (opened_now depot) after before now status service two)
-  runs_usage command old new before now out_before out_now status (serves location libs is (only lib same (unbrought why refused code left)) out) two =
+  runs_usage command old new before now net net_now out_before out_now status (serves location libs is (only lib same (unbrought why refused code left)) kept out) two =
       absurd (no_fault (fault_of_not_brought why) (sym code ∙ two))
-  runs_usage command old new before now out_before out_now status (serves location libs is (several some (served depots afters brought held back good)) out) two =
+  runs_usage command old new before now net net_now out_before out_now status (serves location libs is (several some (served depots afters brought held back good)) kept out) two =
       absurd (no_end held.how (sym held.status_is ∙ two))
-  runs_usage command old new before now out_before out_now status (serves location libs is (several some (stopped why at code left)) out) two =
+  runs_usage command old new before now net net_now out_before out_now status (serves location libs is (several some (stopped why at code left)) kept out) two =
       absurd (no_fault (fault_of_not_brought why) (sym code ∙ two))
-  runs_usage command old new before now out_before out_now status (serves location libs is (several some (no_room depots afters brought same back good code left)) out) two = absurd (cc (code, two))
-  runs_usage command old new before now out_before out_now status (prints printed is (whole put kept code) same left) two =
-      let alone = usage_alone command printed is (sym code ∙ two) in
-      (alone.0, put ∙ ap (append_known out_before.given) alone.1)
-  runs_usage command old new before now out_before out_now status (prints printed is (in_part front rose one) same left) two = absurd (cc)
-  runs_usage command old new before now out_before out_now status (unread three same left out) two = absurd (cc)
+  runs_usage command old new before now net net_now out_before out_now status (serves location libs is (several some (no_room depots afters brought same back good code left)) kept out) two = absurd (cc (code, two))
+  runs_usage command old new before now net net_now out_before out_now status (serves_port location port libs is told service put left) two =
+      absurd (no_print (line_printed told) out_before out_now status put (no_port location port libs old new net net_now told service) two)
+  runs_usage command old new before now net net_now out_before out_now status (prints printed is (whole put kept code) same left alone) two =
+      let usage = usage_alone command printed is (sym code ∙ two) in
+      (usage.0, put ∙ ap (append_known out_before.given) usage.1)
+  runs_usage command old new before now net net_now out_before out_now status (prints printed is (in_part front rose one) same left alone) two = absurd (cc)
+  runs_usage command old new before now net net_now out_before out_now status (unread three same left kept out) two = absurd (cc)
 
 -- ---- what was printed tells what was done
 
@@ -131,6 +157,7 @@ pub kept_alone : (old : MayGive) (command : Command) → OnlyNamedGivesMore comm
 kept_alone old (Create location lib name user secret) = λ f l apart slot given is. is
 kept_alone old (Token location lib user secret right) = λ f l apart slot given is. is
 kept_alone old (Inetd location libs) = λ f l apart slot given is. is
+kept_alone old (Serve location port workers connections libs) = λ f l apart slot given is. is
 kept_alone old Help = λ f l slot given is. is
 kept_alone old Version = λ f l slot given is. is
 kept_alone old Usage = λ f l slot given is. is

@@ -1,6 +1,6 @@
 -- Several libraries that a command names: started one after another, and given back. Our own. Read IsBrought first, then
 -- AreOut, and AreTaken, then AreBack and IsStoppedAt. Read before: AreApart of server_words, Standing, IsOpenedState and OpensTo of Starting.
-use Rattle.std.specs.Prelude.{◌≡◌, ◌≢◌, ℕ, ◌+◌, ◌<◌, ◌≤◌, List, length, slice_index_or, Option, Some, option_map}
+use Rattle.std.specs.Prelude.{◌≡◌, ◌≢◌, false, ℕ, ◌+◌, ◌<◌, ◌≤◌, List, length, slice_index_or, Option, Some, option_map}
 use Rattle.ids.specs.FaultCount.{Rose}
 use Rattle.depot.specs.DepotView.{DepotView, IsGood, state_of}
 use Rattle.depot.specs.Giving.{GivesBy}
@@ -37,13 +37,14 @@ IsRaised old new = (before : ℕ) → Rose before old → Rose before new
 
 module _ {S : Type 0} (contents : S → Option Contents) (may_give : S → Slot → Option (List ℕ) → Type 0) (faults : S → ℕ) (gives : MayGive)
     (location : Location) (shows : ℕ → Type 0) (stands : Standings) where
-  -- the library of this id was started. Its shelf may give what the named library might, and what the opening laid
+  -- the library of this id was started. Its shelf may give what the named library might, and what the opening laid, and its slot has the text of its state
   pub record IsBrought (lib : List ℕ) (depot : DepotView S) : Type 0 where
     pub state : IsOpenedState (gives (location_text location) lib) location lib shows depot.state
     pub told : (standing : Standing) → stands (location_text location) lib ≡ Some standing
         → (s : State) × (state_of contents faults depot ≡ Some s) × OpensTo location lib shows standing s
     pub laid : GivesBy (IsOfOpening location lib shows depot.state) (gives (location_text location) lib) (may_give depot.store.shelf)
     pub none : HasNoStray contents depot.store
+    pub settled : depot.unsettled ≡ false
     pub good : IsGood contents faults depot
 
   -- each of the first so many

@@ -1,9 +1,9 @@
 -- The command that serves one connection, and its status. Our own. Read ServesLocation first, at the end.
-use Rattle.std.specs.Prelude.{◌≡◌, ℕ, List, Option, Some, ⊤}
+use Rattle.std.specs.Prelude.{◌≡◌, ℕ, false, List, Option, Some, ⊤}
 use Rattle.depot.specs.DepotView.{DepotView, IsGood, state_of}
 use Rattle.depot.specs.Giving.{GivesBy}
 use Rattle.folder_storage.specs.Ground.{MayGive, Standing}
-use Rattle.http_front.specs.Link.{LinkTells}
+use Rattle.link_ears.specs.Ear.{LinkView}
 use Rattle.library_rules.specs.LibraryState.{State}
 use Rattle.object_store.specs.Shelf.{Contents}
 use Rattle.object_store.specs.StoreView.{HasNoStray}
@@ -23,12 +23,6 @@ use Rattle.library_server.specs.Lines.{fault_of_not_brought}
 use Rattle.library_server.specs.Making.{RoseWhere}
 use Rattle.library_server.specs.Standing.{ComesBack, GroundView, Returned}
 use Rattle.library_server.specs.declared.not_done.NotBrought.{NotBrought}
-
--- what is seen of a link: the bytes that it has left, what it tells of those that it moved, and its count of faults
-pub record LinkView : Type 0 where
-  pub left : Option (List ℕ)
-  pub tells : LinkTells
-  pub faults : ℕ
 
 -- 0 where all that was asked was replied, 1 after a fault, 3 for want of memory
 abbrev pub status_of : Served → ℕ
@@ -62,7 +56,7 @@ pub record IsUnbrought {S : Type 0} (contents : S → Option Contents) (gives : 
 
 -- one connection with the library that a command names, and with no other: it was opened, served and is back, with what its
 -- shelf then holds; or it was not opened, which gives the status, and the link is left alone. The shelf that was opened may
--- give what the named library might, and what the opening laid; and damage that a reply tells has its cause in what that
+-- give what the named library might, and what the opening laid, and its slot has the text of its state; and damage that a reply tells has its cause in what that
 -- library might give as it was handed out
 pub data ServesLocation {S : Type 0} (contents : S → Option Contents) (may_give : S → Slot → Option (List ℕ) → Type 0) (texts faults : S → ℕ) (gives : MayGive)
     (location : Location) (lib : List ℕ) (shows : ℕ → Type 0) (old new : GroundView) (before now : LinkView) (status : ℕ) : Type 0 where
@@ -70,6 +64,7 @@ pub data ServesLocation {S : Type 0} (contents : S → Option Contents) (may_giv
       → ((standing : Standing) → old.stands (location_text location) lib ≡ Some standing → (s : State) × (state_of contents faults depot ≡ Some s) × OpensTo location lib shows standing s)
       → GivesBy (IsOfOpening location lib shows depot.state) (gives (location_text location) lib) (may_give depot.store.shelf)
       → HasNoStray contents depot.store
+      → depot.unsettled ≡ false
       → (service : ServesOpened contents may_give texts faults shows (opened_now depot) after before now status)
       → AreCaused (gives (location_text location) lib) service.ran.0
       → IsGood contents faults after.depot → ComesBack old.stands new.stands (location_text location) lib (contents after.depot.store.shelf)

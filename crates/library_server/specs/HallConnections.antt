@@ -1,6 +1,6 @@
 -- Several libraries that a command names, served on one connection by a hall, and the status. Our own. Read ServesLibraries first, and
--- ServesNamed at the end. Read before: Bringing; hall_rules and Goes of `hall_server`; LinkView of Connections.
-use Rattle.std.specs.Prelude.{◌≡◌, ℕ, ◌<◌, ◌≤◌, List, [], ◌∷◌, length, slice_index_or, map as map_list, Option, Some}
+-- ServesNamed at the end. Read before: Bringing; IsNewOf of `sync_calls`; hall_rules and Goes of `hall_server`; LinkView of `link_ears`.
+use Rattle.std.specs.Prelude.{◌≡◌, ℕ, ◌<◌, ◌≤◌, List, [], ◌∷◌, length, slice_index_or, Option, Some, ⊤}
 use Rattle.depot.specs.DepotView.{DepotView, IsGood}
 use Rattle.depot.specs.Story.{ComesBy}
 use Rattle.folder_storage.specs.Ground.{MayGive}
@@ -9,19 +9,28 @@ use Rattle.object_store.specs.declared.shelf.Slot.{Slot}
 use Rattle.server_words.specs.Lines.{fault_status}
 use Rattle.server_words.specs.Spelling.{location_text}
 use Rattle.server_words.specs.declared.command.Location.{Location}
-use Rattle.sync_calls.specs.Making.{AreSame, new_shown}
+use Rattle.sync_calls.specs.Hall.{HallOf, PassOf, shown_by}
+use Rattle.sync_calls.specs.Making.{AreSame, IsNewOf}
 use Rattle.sync_calls.specs.Operations.{Line}
 use Rattle.sync_calls.specs.Shown.{Shown}
 use Rattle.turnstile.specs.Lists.{Has}
-use Rattle.worker_server.specs.Calls.{Ran, Told, operations_of}
+use Rattle.worker_server.specs.Calls.{Ran, Told, call_asked, collection_asked, look_asked, operations_of}
 use Rattle.worker_server.specs.ServedConnection.{CountsEnd, EndsAsked, SessionInTime}
 use Rattle.worker_server.specs.declared.served.Served.{Served}
-use Rattle.hall_server.specs.Serving.{Goes, HallShown, hall_rules}
+use Rattle.hall_server.specs.Serving.{Goes, HallShown, hall_rules, hall_shown}
 use Rattle.library_server.specs.Bringing.{AreBack, AreBrought, IsStoppedAt}
-use Rattle.library_server.specs.Connections.{LinkView, ServesLocation, status_of}
+use Rattle.link_ears.specs.Ear.{LinkView}
+use Rattle.library_server.specs.Connections.{ServesLocation, status_of}
 use Rattle.library_server.specs.Lines.{fault_of_not_brought}
 use Rattle.library_server.specs.Standing.{GroundView}
 use Rattle.library_server.specs.declared.not_done.NotBrought.{NotBrought}
+
+-- no collection is among what was asked
+abbrev pub HasNoCollection : {Operation : Type 0} → List (Told Operation) → Type 0
+HasNoCollection [] = ⊤
+HasNoCollection (call_asked lib call answer lines ∷ calls) = HasNoCollection calls
+HasNoCollection (collection_asked lib secret ends lines ∷ calls) = ⊥
+HasNoCollection (look_asked lib secret tag same lines ∷ calls) = HasNoCollection calls
 
 module _ {S : Type 0} (contents : S → Option Contents) (may_give : S → Slot → Option (List ℕ) → Type 0) (texts faults : S → ℕ) where
   -- each library that comes out comes by what was seen of it, of which each change was made through this pass
@@ -31,15 +40,17 @@ module _ {S : Type 0} (contents : S → Option Contents) (may_give : S → Slot 
       → ComesBy contents may_give texts faults (slice_index_or depots i d) (slice_index_or vs i v).seen (slice_index_or afters i e)
       × ((p : ℕ) → p < length (slice_index_or vs i v).seen → Has p (slice_index_or vs i v).book))
 
-  -- one connection with libraries that were started, through a pass that had seen and made nothing; they come out of the hall at its end
+  -- one connection with libraries that were started, through the one pass of a hall of them, which was new; they come out of the hall at its
+  -- end
   pub record ServesHall (shows : ℕ → Type 0) (depots afters : List (DepotView S)) (before now : LinkView) (status : ℕ) : Type 0 where
     pub how : Served
-    pub first : HallShown S
+    pub hall : HallOf S
+    pub pass : PassOf S
     pub last : HallShown S
-    pub begins : first.libraries ≡ map_list new_shown depots
+    pub begins : IsNewOf contents may_give texts faults 1 depots hall pass
     pub session : (input : List ℕ) → before.left ≡ Some input
-        → SessionInTime (hall_rules contents may_give texts faults shows) input before.tells now.tells first last how
-    pub ran : (calls : List (Told Line)) × Ran (hall_rules contents may_give texts faults shows) first calls last × Goes contents may_give texts faults first.libraries (operations_of calls) last.libraries
+        → SessionInTime (hall_rules contents may_give texts faults shows) input before.tells now.tells (hall_shown pass) last how
+    pub ran : (calls : List (Told Line)) × Ran (hall_rules contents may_give texts faults shows) (hall_shown pass) calls last × Goes contents may_give texts faults (shown_by pass) (operations_of calls) last.libraries
     pub each : AreLedTo depots last.libraries afters
     pub count : CountsEnd before.faults now.faults how
     pub ends : EndsAsked how before.tells now.tells now.left

@@ -11,5 +11,6 @@ pub mod Creating
 pub mod Adding
 pub mod Connections
 pub mod HallConnections
+pub mod Port
 pub mod Runs
 pub mod WholeRuns

@@ -10,22 +10,24 @@ use Rattle.object_store.specs.declared.shelf.Slot.{Slot}
 use Rattle.server_words.specs.Lines.{help_text, line_text, status_of, version_text}
 use Rattle.server_words.specs.Spelling.{location_text}
 use Rattle.server_words.specs.declared.command.Command.{Command}
-use Rattle.server_words.specs.declared.command.Command.TheVariants.{Create, Token, Inetd, Help, Version, Usage}
+use Rattle.server_words.specs.declared.command.Command.TheVariants.{Create, Token, Inetd, Serve, Help, Version, Usage}
 use Rattle.server_words.specs.declared.command.Location.{Location}
 use Rattle.server_words.specs.declared.line.Line.{Line}
 use Rattle.server_words.specs.declared.line.Line.TheVariants as line
 use Rattle.library_server.specs.Adding.{AddsSo, IsAddedTo, IsNotAdded, is_unadded_counted}
 use Rattle.library_server.specs.Bringing.{UnnamedGiveNoMore}
-use Rattle.library_server.specs.Connections.{LinkView}
+use Rattle.link_ears.specs.Ear.{EarRules, LinkView, NetView}
 use Rattle.library_server.specs.Creating.{CreatesSo}
 use Rattle.library_server.specs.HallConnections.{ServesNamed}
 use Rattle.library_server.specs.Lines.{fault_of_not_added, fault_of_not_made}
+use Rattle.library_server.specs.Port.{ServesPort}
 use Rattle.library_server.specs.Making.{IsNotMade, RoseWhere, is_unmade_counted}
 use Rattle.library_server.specs.Standing.{GroundView, OthersGiveNoMore, Returned}
 use Rattle.library_server.specs.declared.adding.NewToken.{NewToken}
 use Rattle.library_server.specs.declared.making.NewLibrary.{NewLibrary}
 use Rattle.library_server.specs.declared.not_done.NotAdded.{NotAdded}
 use Rattle.library_server.specs.declared.not_done.NotMade.{NotMade}
+use Rattle.library_server.specs.declared.port.Port.{Port}
 
 -- what is seen of a sink
 pub record SinkView : Type 0 where
@@ -63,6 +65,7 @@ printed_of Usage = Some (line_printed line.Usage)
 printed_of (Create location lib name user secret) = None
 printed_of (Token location lib user secret right) = None
 printed_of (Inetd location libs) = None
+printed_of (Serve location port workers connections libs) = None
 
 -- ---- the commands that change a library
 
@@ -109,31 +112,36 @@ pub record AddsToken {S : Type 0} (contents : S → Option Contents) (gives : Ma
 
 -- ---- all of it
 
--- a command makes a library, adds a token, or serves a connection and prints nothing; or it prints its text and leaves the
--- libraries and the link alone; or there was no memory for the words, and nothing was done. What the libraries may give is
+-- a command makes a library, adds a token, serves a connection and prints nothing, or serves a port and prints the line of that; or it
+-- prints its text and leaves the libraries, the link and the net alone; or there was no memory for the words, and nothing was done. What the libraries may give is
 -- that before the command
-pub data RunsSo {S : Type 0} (contents : S → Option Contents) (may_give : S → Slot → Option (List ℕ) → Type 0) (texts faults : S → ℕ) (gives : MayGive)
-    (shows : ℕ → Type 0) (command : Command) (old new : GroundView) (before now : LinkView) (out_before out_now : SinkView) (status : ℕ)
+pub data RunsSo {S E L : Type 0} (contents : S → Option Contents) (may_give : S → Slot → Option (List ℕ) → Type 0) (texts faults : S → ℕ) (rules : EarRules E L) (gives : MayGive)
+    (shows : ℕ → Type 0) (command : Command) (old new : GroundView) (before now : LinkView) (net net_now : NetView E) (out_before out_now : SinkView) (status : ℕ)
     : Type 0 where
   creates : (location : Location) (lib name user secret : List ℕ) → command ≡ Create location lib name user secret
       → CreatesLibrary contents gives shows location (record { lib = lib; name = name; user = user; secret = secret }) old new out_before out_now status
-      → now ≡ before → RunsSo contents may_give texts faults gives shows command old new before now out_before out_now status
+      → now ≡ before → net_now ≡ net → RunsSo contents may_give texts faults rules gives shows command old new before now net net_now out_before out_now status
   adds : (location : Location) (lib : List ℕ) (token : NewToken) → command ≡ Token location lib token.user token.secret token.right
       → AddsToken contents gives shows location lib token old new out_before out_now status
-      → now ≡ before → RunsSo contents may_give texts faults gives shows command old new before now out_before out_now status
+      → now ≡ before → net_now ≡ net → RunsSo contents may_give texts faults rules gives shows command old new before now net net_now out_before out_now status
   serves : (location : Location) (libs : List (List ℕ)) → command ≡ Inetd location libs
       → ServesNamed contents may_give texts faults gives location libs shows old new before now status
-      → out_now ≡ out_before → RunsSo contents may_give texts faults gives shows command old new before now out_before out_now status
+      → net_now ≡ net → out_now ≡ out_before → RunsSo contents may_give texts faults rules gives shows command old new before now net net_now out_before out_now status
+  serves_port : (location : Location) (port : Port) (libs : List (List ℕ)) → command ≡ Serve location port.number port.workers port.connections libs
+      → (told : Line) → ServesPort contents may_give texts faults rules gives location port libs shows old new net net_now told
+      → PrintsSo (line_printed told) out_before out_now status
+      → now ≡ before → RunsSo contents may_give texts faults rules gives shows command old new before now net net_now out_before out_now status
   prints : (printed : Printed) → printed_of command ≡ Some printed → PrintsSo printed out_before out_now status
-      → new ≡ old → now ≡ before → RunsSo contents may_give texts faults gives shows command old new before now out_before out_now status
-  unread : status ≡ 3 → new ≡ old → now ≡ before → out_now ≡ out_before
-      → RunsSo contents may_give texts faults gives shows command old new before now out_before out_now status
+      → new ≡ old → now ≡ before → net_now ≡ net → RunsSo contents may_give texts faults rules gives shows command old new before now net net_now out_before out_now status
+  unread : status ≡ 3 → new ≡ old → now ≡ before → net_now ≡ net → out_now ≡ out_before
+      → RunsSo contents may_give texts faults rules gives shows command old new before now net net_now out_before out_now status
 
 -- no library may give more than it might before the command, but those that the command names
 abbrev pub OnlyNamedGivesMore : Command → MayGive → MayGive → Type 0
 OnlyNamedGivesMore (Create location lib name user secret) old new = OthersGiveNoMore old new (location_text location) lib
 OnlyNamedGivesMore (Token location lib user secret right) old new = OthersGiveNoMore old new (location_text location) lib
 OnlyNamedGivesMore (Inetd location libs) old new = UnnamedGiveNoMore old new (location_text location) libs 0 (length libs)
+OnlyNamedGivesMore (Serve location port workers connections libs) old new = UnnamedGiveNoMore old new (location_text location) libs 0 (length libs)
 OnlyNamedGivesMore Help old new = AllGiveNoMore old new
 OnlyNamedGivesMore Version old new = AllGiveNoMore old new
 OnlyNamedGivesMore Usage old new = AllGiveNoMore old new

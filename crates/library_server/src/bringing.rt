@@ -1,11 +1,14 @@
 //! Several libraries that a command names: started one after another, and given back.
-ghost use Rattle.std.specs.Prelude.{◌≡◌, ◌≤◌, ◌<◌, ℕ, IfErr, IfOk, OnOk, length, slice_index_or, vec_capacity, vec_len};
+ghost use Rattle.std.specs.Prelude.{◌≡◌, ◌≤◌, ◌<◌, ℕ, false, IfErr, IfOk, OnOk, length, slice_index_or, vec_capacity, vec_len};
 ghost use Rattle.depot.specs.DepotView.{DepotView, IsGood};
 ghost use Rattle.folder_storage.specs.Ground.{Standing};
 ghost use Rattle.server_words.specs.CommandLine.{AreApart};
 ghost use Rattle.server_words.specs.Spelling.{location_text};
+ghost use Rattle.library_server.specs.Answering.{NeverFails};
 ghost use Rattle.library_server.specs.Bringing.{AreBrought, AreOut, AreTaken, IsRaised, IsStoppedAt, IsStopping, UnnamedGiveNoMore};
+ghost use Rattle.library_server.specs.Lines.{fault_of_not_brought, is_storage_fault};
 ghost use Rattle.library_server.specs.Standing.{GroundView};
+ghost use Rattle.library_server.specs.Whole.{AreWhole};
 
 use crate::not_done::NotBrought;
 use crate::starting::{bring_back, folder_word, start_library};
@@ -34,6 +37,7 @@ pub(crate) fn bring_all<G: Ground, C: Clock>(
     ensures stopped { IfErr result (IsStoppedAt G.S.contents G.S.may_give G.S.faults (G.may_give libraries.old) location.now (C.shows clock.now) libs.now
         (record { stands = G.stands libraries.old; faults = G.faults libraries.old })
         (record { stands = G.stands libraries.new; faults = G.faults libraries.new })) }
+    ensures steady { IfErr result (λ why. NeverFails G.S.faults → AreWhole (G.stands libraries.old) → is_storage_fault (fault_of_not_brought why) ≡ false) }
     ensures others { UnnamedGiveNoMore (G.may_give libraries.old) (G.may_give libraries.new) (location_text location.now) libs.now 0 (length libs.now) }
 {
     let mut depots = match Vec::with_capacity(alloc, libs.len()) {
@@ -68,6 +72,7 @@ fn bring_each<G: Ground, C: Clock>(
     ensures stopped { IfErr result (IsStopping G.S.contents (G.may_give libraries.old) location.now (C.shows clock.now) libs.now (vec_len depots.new)
         (record { stands = G.stands libraries.old; faults = G.faults libraries.old })
         (record { stands = G.stands libraries.new; faults = G.faults libraries.new })) }
+    ensures steady { IfErr result (λ why. NeverFails G.S.faults → AreWhole (G.stands libraries.old) → is_storage_fault (fault_of_not_brought why) ≡ false) }
     ensures others { UnnamedGiveNoMore (G.may_give libraries.old) (G.may_give libraries.new) (location_text location.now) libs.now 0 (length libs.now) }
 {
     for lib in libs {

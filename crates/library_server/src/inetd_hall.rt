@@ -6,10 +6,13 @@ ghost use Rattle.server_words.specs.Spelling.{location_text};
 ghost use Rattle.sync_calls.specs.Closing.{AreClosed};
 ghost use Rattle.sync_calls.specs.Hall.{AreReady, made_with, passes_in, shares_of};
 ghost use Rattle.sync_calls.specs.Making.{AreSame};
+ghost use Rattle.library_server.specs.Answering.{NeverFails};
 ghost use Rattle.library_server.specs.Bringing.{UnnamedGiveNoMore};
-ghost use Rattle.library_server.specs.Connections.{LinkView};
+ghost use Rattle.link_ears.specs.Ear.{LinkView};
 ghost use Rattle.library_server.specs.HallConnections.{HoldsHall, ServesHall, ServesLibraries};
 ghost use Rattle.library_server.specs.Standing.{GroundView};
+ghost use Rattle.library_server.specs.Whole.{AreWhole};
+ghost use Rattle.library_server.specs.WholeRuns.{LibrariesWhole};
 
 use crate::bringing::{bring_all, bring_all_back};
 use crate::inetd::status_of;
@@ -38,11 +41,12 @@ pub(crate) fn inetd_hall<G: Ground, L: Link, C: Clock, R: Wait>(
 ) -> u8
     requires apart { AreApart libs.now }
     requires some { 1 ≤ length libs.now }
-    ensures serves { ServesLibraries G.S.contents G.S.may_give G.S.texts G.S.faults (G.may_give libraries.old) location.now libs.now (C.shows clock.now)
+    ensures serves { (service : ServesLibraries G.S.contents G.S.may_give G.S.texts G.S.faults (G.may_give libraries.old) location.now libs.now (C.shows clock.now)
         (record { stands = G.stands libraries.old; faults = G.faults libraries.old })
         (record { stands = G.stands libraries.new; faults = G.faults libraries.new })
         (record { left = L.left link.old; tells = told_by L.taken L.given L.asked link.old; faults = L.faults link.old })
-        (record { left = L.left link.new; tells = told_by L.taken L.given L.asked link.new; faults = L.faults link.new }) result }
+        (record { left = L.left link.new; tells = told_by L.taken L.given L.asked link.new; faults = L.faults link.new }) result)
+        × (NeverFails G.S.faults → AreWhole (G.stands libraries.old) → LibrariesWhole service) }
     ensures others { UnnamedGiveNoMore (G.may_give libraries.old) (G.may_give libraries.new) (location_text location.now) libs.now 0 (length libs.now) }
 {
     let depots = match bring_all(alloc, libraries, location, libs, clock) {
@@ -80,7 +84,7 @@ fn serve_opened<S: Shelf, L: Link, C: Clock, R: Wait>(
 }
 
 /// The libraries of a hall whose pass stands for all.
-fn close<S: Shelf>(hall: Hall<S>, pass: HallPass<S>) -> Vec<Depot<S>>
+pub(crate) fn close<S: Shelf>(hall: Hall<S>, pass: HallPass<S>) -> Vec<Depot<S>>
     requires ready { AreReady S.contents S.may_give S.texts S.faults hall pass }
     requires all { shares_of pass ≡ made_with pass }
     ensures { AreClosed S.contents S.may_give S.texts S.faults (passes_in pass) result.items }

@@ -1,8 +1,9 @@
-//! What holds of a library that is served alone: theorems on the definitions, with no code.
-ghost use Rattle.std.specs.Prelude.{◌≡◌, ◌+◌, ◌*◌, ◌≤◌, ◌<◌, ◌^◌, ◌||◌, ℕ, List, length, Option, None, Some, true, ⊤};
+//! What holds of a library that is served alone, and of several on one connection: theorems on the definitions, with no code.
+ghost use Rattle.std.specs.Prelude.{◌≡◌, ◌+◌, ◌*◌, ◌≤◌, ◌<◌, ◌^◌, ◌||◌, ℕ, List, [], length, Option, None, Some, true, ⊤};
+ghost use Rattle.std.specs.List.{slice_get};
 ghost use Rattle.ids.specs.declared.key.Key.{Key};
-ghost use Rattle.depot.specs.DepotView.{state_of};
-ghost use Rattle.depot.specs.Story.{IsSame};
+ghost use Rattle.depot.specs.DepotView.{DepotView, state_of};
+ghost use Rattle.depot.specs.Story.{IsSame, removed_through};
 ghost use Rattle.library_rules.specs.LibraryState.{State, is_fresh, is_needed, is_stored};
 ghost use Rattle.worker_server.specs.declared.host.Collected.{Collected};
 ghost use Rattle.worker_server.specs.declared.host.Collected.TheVariants.{Done};
@@ -11,7 +12,12 @@ ghost use Rattle.http_front.specs.declared.order.What.TheVariants.{GetFs};
 ghost use Rattle.worker_server.specs.Calls.{Ran, ServedBy, Told, most_packed, rules_at};
 ghost use Rattle.library_server.specs.Answering.{AnswersOn, AsksTooMuch, IsWant, LooksOn, SparesOn};
 ghost use Rattle.library_server.specs.Collecting.{CollectsOn, IsLastOf, TakesTurns, begun_over};
+ghost use Rattle.link_ears.specs.Ear.{LinkView};
 ghost use Rattle.library_server.specs.Counting.{OpenedView, is_current, last_count, tag_at};
+ghost use Rattle.hall_server.specs.Serving.{hall_rules, hall_shown};
+ghost use Rattle.library_server.specs.HallConnections.{HasNoCollection, ServesHall};
+ghost use Rattle.sync_calls.specs.Operations.{Line};
+ghost use Rattle.sync_calls.specs.Shown.{Shown};
 
 use library_state::Clock;
 use object_store::Shelf;
@@ -59,4 +65,13 @@ pub fn what_is_too_much_for_one_reply_is_not_read<S: Shelf, C: Clock>()
     ensures { (clock : C) (old new : OpenedView S) (lib : List ℕ) (secret : Option (List ℕ)) (ids : List (List ℕ)) (outcome : Outcome) (operations : List ⊤)
         → ServedBy (rules_at (C.shows clock) (AnswersOn S.contents S.may_give S.texts S.faults) SparesOn (CollectsOn S.contents S.may_give S.texts S.faults) LooksOn) lib secret (GetFs ids) old outcome operations new
         → AsksTooMuch old lib secret ids most_packed → IsWant outcome × (new ≡ old) }
+{}
+
+/// Through a connection with several libraries on which no collection is asked for no key of any of them leaves. So damage that is told then
+/// has its cause in what the library might give as it was started, or in what was laid since.
+pub fn a_connection_without_a_collection_lets_no_key_go<S: Shelf, C: Clock>()
+    ensures { (clock : C) (depots afters : List (DepotView S)) (before now : LinkView) (status : ℕ)
+        → (serves : ServesHall S.contents S.may_give S.texts S.faults (C.shows clock) depots afters before now status)
+        → (calls : List (Told Line)) → Ran (hall_rules S.contents S.may_give S.texts S.faults (C.shows clock)) (hall_shown serves.pass) calls serves.last → HasNoCollection calls
+        → (library : ℕ) (shown : Shown S) → slice_get serves.last.libraries library ≡ Some shown → removed_through shown.seen ≡ [] }
 {}

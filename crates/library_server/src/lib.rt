@@ -1,4 +1,4 @@
-//! What the server program does: it makes libraries, adds tokens to them, and serves one connection.
+//! What the server program does: it makes libraries, adds tokens to them, and serves one connection or a port.
 //!
 //! Shown upward: `run`, the server's top call, with `run_in_memory`, and `serve_link`, the promise of one connection with an `OpenedLibrary`, over any shelf, link, clock
 //! and place of libraries. Definitions: specs/, read Answering, then Runs and what it cites.
@@ -16,9 +16,11 @@ pub mod laws;
 mod looking;
 mod making;
 mod not_done;
+mod port;
 mod running;
 mod serving;
 mod starting;
+mod workers;
 
 pub use crate::counting::{Counted, OpenedLibrary};
 pub use crate::running::{run, run_in_memory};

@@ -11,7 +11,7 @@ ghost use Rattle.http_front.specs.Link.{told_by};
 ghost use Rattle.server_words.specs.Spelling.{location_text};
 ghost use Rattle.library_server.specs.Answering.{NeverFails};
 ghost use Rattle.library_server.specs.Bringing.{UnnamedGiveNoMore};
-ghost use Rattle.library_server.specs.Connections.{LinkView};
+ghost use Rattle.link_ears.specs.Ear.{EarRules, LinkView, NetView, link_seen};
 ghost use Rattle.library_server.specs.HallConnections.{ServesNamed};
 ghost use Rattle.library_server.specs.Runs.{AddsToken, CreatesLibrary, OnlyNamedGivesMore, PrintsSo, RunsSo, SinkView, added_line, created_line, help_printed, line_printed, version_printed};
 ghost use Rattle.library_server.specs.Standing.{GroundView, OthersGiveNoMore};
@@ -24,49 +24,66 @@ use crate::inetd::inetd;
 use crate::inetd_hall::inetd_hall;
 use crate::making::NewLibrary;
 use crate::not_done::{NotAdded, NotMade};
+use crate::port::{Port, serve_port};
 use crate::starting::folder_word;
 use folder_storage::{Ground, MemoryGround};
 use http_front::{Link, Sink};
 use ids::{LibId, ObjId, Text};
 use library_state::Clock;
+use link_ears::Net;
 use server_words::{Command, Line, Location, help_text, read_command, version_text};
 use std::alloc::Global;
 use std::sync::Wait;
+use std::thread::Threads;
 
 /// Runs the command that the words are, and gives its status.
 ///
 /// `create FOLDER LIB NAME USER TOKEN` makes a library in `libraries`, `token FOLDER LIB USER TOKEN RIGHT` adds a token to
 /// one, and each puts its line or a fault line to `out`. `inetd FOLDER LIB [LIB..]` serves one connection over the link, with one
-/// library alone or with several through a hall, where it may wait, and puts nothing. `--help` and `--version`, alone, put their
-/// texts. Other words put the usage line. Where FOLDER is `:memory:`, `token` and `inetd` first make a library that is not there, of
-/// the name `memory`, the user `me` and a secret of forty `a`. What `libraries` handed out is back.
+/// library alone or with several through a hall, where it may wait, and puts nothing.
+/// `serve FOLDER PORT WORKERS CONNECTIONS LIB [LIB..]` opens a port of `net` and lets so many workers serve its connections beside
+/// each other, each so many, where it may wait, and puts how many were served.
+/// `--help` and `--version`, alone, put their texts. Other words put the usage line. Where FOLDER is `:memory:`, `token`, `inetd` and
+/// `serve` first make a library that is not there, of the name `memory`, the user `me` and a secret of forty `a`. What `libraries` and
+/// `net` handed out is back.
 ///
 /// The status is 0 where the command was done, for `inetd` where the connection ended well or met its limit; 1 after a
 /// fault, and where the sink failed; 2 for words that are no command; 3 for want of memory and nothing else, without a
 /// line where there was none for the words.
-pub fn run<G: Ground, L: Link, C: Clock, O: Sink, R: Wait>(
+pub fn run<G: Ground, L: Link, N: Net, C: Clock + Sync, O: Sink, R: Threads + Wait + Sync>(
     rt: &R,
     alloc: Global,
     words: &[Text],
     libraries: &mut G,
     link: &mut L,
+    net: &mut N,
     clock: &C,
     out: &mut O,
 ) -> u8
-    ensures runs { RunsSo G.S.contents G.S.may_give G.S.texts G.S.faults (G.may_give libraries.old) (C.shows clock.now) (command_of words.now)
+where
+    G::S: Send,
+    ensures runs { RunsSo G.S.contents G.S.may_give G.S.texts G.S.faults
+        (record { hears = N.hears; tells = N.E.tells; back = N.E.back; faults = N.E.faults; seen = link_seen N.E.L.left N.E.L.taken N.E.L.given N.E.L.asked N.E.L.faults })
+        (G.may_give libraries.old) (C.shows clock.now) (command_of words.now)
         (record { stands = G.stands libraries.old; faults = G.faults libraries.old })
         (record { stands = G.stands libraries.new; faults = G.faults libraries.new })
         (record { left = L.left link.old; tells = told_by L.taken L.given L.asked link.old; faults = L.faults link.old })
         (record { left = L.left link.new; tells = told_by L.taken L.given L.asked link.new; faults = L.faults link.new })
+        (record { asked = N.asked net.old; back = N.back net.old; faults = N.faults net.old })
+        (record { asked = N.asked net.new; back = N.back net.new; faults = N.faults net.new })
         (record { given = O.given out.old; faults = O.faults out.old })
         (record { given = O.given out.new; faults = O.faults out.new }) result }
 
     // Over storage that never fails, in which each object lies under its own name, no line and no reply is a fault of it.
-    ensures steady { NeverFails G.S.faults → AreWhole (G.stands libraries.old) → (done : RunsSo G.S.contents G.S.may_give G.S.texts G.S.faults (G.may_give libraries.old) (C.shows clock.now) (command_of words.now)
+    ensures steady { NeverFails G.S.faults → AreWhole (G.stands libraries.old) → (done : RunsSo G.S.contents G.S.may_give G.S.texts G.S.faults
+        (record { hears = N.hears; tells = N.E.tells; back = N.E.back; faults = N.E.faults; seen = link_seen N.E.L.left N.E.L.taken N.E.L.given N.E.L.asked N.E.L.faults })
+        (G.may_give libraries.old) (C.shows clock.now) (command_of words.now)
         (record { stands = G.stands libraries.old; faults = G.faults libraries.old })
         (record { stands = G.stands libraries.new; faults = G.faults libraries.new })
         (record { left = L.left link.old; tells = told_by L.taken L.given L.asked link.old; faults = L.faults link.old })
         (record { left = L.left link.new; tells = told_by L.taken L.given L.asked link.new; faults = L.faults link.new })
+        (record { asked = N.asked net.old; back = N.back net.old; faults = N.faults net.old })
+        (record { asked = N.asked net.new; back = N.back net.new; faults = N.faults net.new })
         (record { given = O.given out.old; faults = O.faults out.old })
         (record { given = O.given out.new; faults = O.faults out.new }) result) × RunsWhole done }
 
@@ -78,59 +95,79 @@ pub fn run<G: Ground, L: Link, C: Clock, O: Sink, R: Wait>(
         → (command_of words.now ≡ Command.Usage) × (O.given out.new ≡ append_known (O.given out.old) (line_text lines.Usage)) }
 {
     match read_command(alloc, words) {
-        Ok(command) => perform(rt, alloc, command, libraries, link, clock, out),
+        Ok(command) => perform(rt, alloc, command, libraries, link, net, clock, out),
         Err(_) => 3,
     }
 }
 
 /// Runs the command that the words are over libraries in memory, of which none is there at first and none is left, and
 /// gives its status. Their storage never fails: no line tells a fault of it, and no reply of a connection is one.
-pub fn run_in_memory<L: Link, C: Clock, O: Sink, R: Wait>(
+pub fn run_in_memory<L: Link, N: Net, C: Clock + Sync, O: Sink, R: Threads + Wait + Sync>(
     rt: &R,
     alloc: Global,
     words: &[Text],
     link: &mut L,
+    net: &mut N,
     clock: &C,
     out: &mut O,
 ) -> u8
-    ensures runs { (after : GroundView) × RunsSo {S = SteadyShelfState} (λ shelf. Some shelf.contents) (λ shelf. holds_in shelf.contents) (λ shelf. shelf.texts) (λ shelf. 0) empty_gives (C.shows clock.now) (command_of words.now) empty_ground after
+    ensures runs { (after : GroundView) × RunsSo {S = SteadyShelfState} (λ shelf. Some shelf.contents) (λ shelf. holds_in shelf.contents) (λ shelf. shelf.texts) (λ shelf. 0)
+        (record { hears = N.hears; tells = N.E.tells; back = N.E.back; faults = N.E.faults; seen = link_seen N.E.L.left N.E.L.taken N.E.L.given N.E.L.asked N.E.L.faults })
+        empty_gives (C.shows clock.now) (command_of words.now) empty_ground after
         (record { left = L.left link.old; tells = told_by L.taken L.given L.asked link.old; faults = L.faults link.old })
         (record { left = L.left link.new; tells = told_by L.taken L.given L.asked link.new; faults = L.faults link.new })
+        (record { asked = N.asked net.old; back = N.back net.old; faults = N.faults net.old })
+        (record { asked = N.asked net.new; back = N.back net.new; faults = N.faults net.new })
         (record { given = O.given out.old; faults = O.faults out.old })
         (record { given = O.given out.new; faults = O.faults out.new }) result }
-    ensures steady { (after : GroundView) × (done : RunsSo {S = SteadyShelfState} (λ shelf. Some shelf.contents) (λ shelf. holds_in shelf.contents) (λ shelf. shelf.texts) (λ shelf. 0) empty_gives (C.shows clock.now) (command_of words.now) empty_ground after
+    ensures steady { (after : GroundView) × (done : RunsSo {S = SteadyShelfState} (λ shelf. Some shelf.contents) (λ shelf. holds_in shelf.contents) (λ shelf. shelf.texts) (λ shelf. 0)
+        (record { hears = N.hears; tells = N.E.tells; back = N.E.back; faults = N.E.faults; seen = link_seen N.E.L.left N.E.L.taken N.E.L.given N.E.L.asked N.E.L.faults })
+        empty_gives (C.shows clock.now) (command_of words.now) empty_ground after
         (record { left = L.left link.old; tells = told_by L.taken L.given L.asked link.old; faults = L.faults link.old })
         (record { left = L.left link.new; tells = told_by L.taken L.given L.asked link.new; faults = L.faults link.new })
+        (record { asked = N.asked net.old; back = N.back net.old; faults = N.faults net.old })
+        (record { asked = N.asked net.new; back = N.back net.new; faults = N.faults net.new })
         (record { given = O.given out.old; faults = O.faults out.old })
         (record { given = O.given out.new; faults = O.faults out.new }) result) × RunsWhole done }
 {
     let mut libraries = MemoryGround::new(alloc);
-    run(rt, alloc, words, &mut libraries, link, clock, out)
+    run(rt, alloc, words, &mut libraries, link, net, clock, out)
 }
 
 /// Does what a command asks for.
-fn perform<G: Ground, L: Link, C: Clock, O: Sink, R: Wait>(
+fn perform<G: Ground, L: Link, N: Net, C: Clock + Sync, O: Sink, R: Threads + Wait + Sync>(
     rt: &R,
     alloc: Global,
     command: Command,
     libraries: &mut G,
     link: &mut L,
+    net: &mut N,
     clock: &C,
     out: &mut O,
 ) -> u8
+where
+    G::S: Send,
     requires fits { NamesFit command }
-    ensures runs { RunsSo G.S.contents G.S.may_give G.S.texts G.S.faults (G.may_give libraries.old) (C.shows clock.now) command
+    ensures runs { RunsSo G.S.contents G.S.may_give G.S.texts G.S.faults
+        (record { hears = N.hears; tells = N.E.tells; back = N.E.back; faults = N.E.faults; seen = link_seen N.E.L.left N.E.L.taken N.E.L.given N.E.L.asked N.E.L.faults })
+        (G.may_give libraries.old) (C.shows clock.now) command
         (record { stands = G.stands libraries.old; faults = G.faults libraries.old })
         (record { stands = G.stands libraries.new; faults = G.faults libraries.new })
         (record { left = L.left link.old; tells = told_by L.taken L.given L.asked link.old; faults = L.faults link.old })
         (record { left = L.left link.new; tells = told_by L.taken L.given L.asked link.new; faults = L.faults link.new })
+        (record { asked = N.asked net.old; back = N.back net.old; faults = N.faults net.old })
+        (record { asked = N.asked net.new; back = N.back net.new; faults = N.faults net.new })
         (record { given = O.given out.old; faults = O.faults out.old })
         (record { given = O.given out.new; faults = O.faults out.new }) result }
-    ensures steady { NeverFails G.S.faults → AreWhole (G.stands libraries.old) → (done : RunsSo G.S.contents G.S.may_give G.S.texts G.S.faults (G.may_give libraries.old) (C.shows clock.now) command
+    ensures steady { NeverFails G.S.faults → AreWhole (G.stands libraries.old) → (done : RunsSo G.S.contents G.S.may_give G.S.texts G.S.faults
+        (record { hears = N.hears; tells = N.E.tells; back = N.E.back; faults = N.E.faults; seen = link_seen N.E.L.left N.E.L.taken N.E.L.given N.E.L.asked N.E.L.faults })
+        (G.may_give libraries.old) (C.shows clock.now) command
         (record { stands = G.stands libraries.old; faults = G.faults libraries.old })
         (record { stands = G.stands libraries.new; faults = G.faults libraries.new })
         (record { left = L.left link.old; tells = told_by L.taken L.given L.asked link.old; faults = L.faults link.old })
         (record { left = L.left link.new; tells = told_by L.taken L.given L.asked link.new; faults = L.faults link.new })
+        (record { asked = N.asked net.old; back = N.back net.old; faults = N.faults net.old })
+        (record { asked = N.asked net.new; back = N.back net.new; faults = N.faults net.new })
         (record { given = O.given out.old; faults = O.faults out.old })
         (record { given = O.given out.new; faults = O.faults out.new }) result) × RunsWhole done }
     ensures others { OnlyNamedGivesMore command (G.may_give libraries.old) (G.may_give libraries.new) }
@@ -167,6 +204,22 @@ fn perform<G: Ground, L: Link, C: Clock, O: Sink, R: Wait>(
         }
         Command::Inetd { location, libs } => {
             serve_named(rt, alloc, libraries, &location, libs.slice(), link, clock)
+        }
+        Command::Serve {
+            location,
+            port,
+            workers,
+            connections,
+            libs,
+        } => {
+            let port = Port {
+                number: port,
+                workers,
+                connections,
+            };
+            let libs = libs.slice();
+            let line = serve_port(rt, alloc, libraries, &location, port, libs, net, clock);
+            print_line(out, line)
         }
         Command::Help => print(out, help_text(), 0),
         Command::Version => print(out, version_text(), 0),

@@ -1,3 +1,4 @@
 pub mod SpellingLemmas
 pub mod LocationLemmas
 pub mod LibraryWordsLemmas
+pub mod NumberLemmas

@@ -5,9 +5,10 @@ use Rattle.std.specs.Str.{bytes_eq}
 use Rattle.json_words.specs.IdText.{library_id_of}
 use Rattle.library_state.specs.Rights.{right_of}
 use Rattle.library_state.specs.declared.right.Right.{Right}
-use Rattle.server_words.specs.CommandLine.{command_of, create_by, create_command, inetd_by, inetd_command, is_memory, is_name, libraries_of, other_command, names_memory, location_in, location_word, secret_of, token_by, token_command}
+use Rattle.server_words.specs.CommandLine.{command_of, create_by, create_command, inetd_by, inetd_command, is_memory, is_name, libraries_of, most_connections, most_workers, other_command, serve_by, serve_command, names_memory, location_in, location_word, secret_of, token_by, token_command}
+use Rattle.server_words.specs.Number.{number_within}
 use Rattle.server_words.specs.declared.command.Command.{Command}
-use Rattle.server_words.specs.declared.command.Command.TheVariants.{Create, Token, Help, Version, Usage}
+use Rattle.server_words.specs.declared.command.Command.TheVariants.{Create, Token, Serve, Help, Version, Usage}
 use Rattle.server_words.specs.declared.command.Location.{Location}
 use Rattle.server_words.specs.declared.command.Location.TheVariants.{Memory, Folder}
 
@@ -64,6 +65,23 @@ inetd_in memory (Some p) (Some libs) is = λ q e. same_place memory p q is e
 inetd_in memory None l is = λ q e. absurd (none_some q e)
 inetd_in memory (Some p) None is = λ q e. absurd (none_some q e)
 
+serve_in : (memory : Bool) (p : Option Location) (port workers connections : Option ℕ) (l : Option (List (List ℕ))) → IfSome p (λ location. memory ≡ is_memory location)
+    → IsIn memory (serve_by p port workers connections l)
+unfolding IsIn
+serve_in memory (Some p) (Some port) (Some workers) (Some connections) (Some libs) is = λ q e. same_place memory p q is e
+serve_in memory None port workers connections l is = λ q e. absurd (none_some q e)
+serve_in memory (Some p) None workers connections l is = λ q e. absurd (none_some q e)
+serve_in memory (Some p) (Some port) None connections l is = λ q e. absurd (none_some q e)
+serve_in memory (Some p) (Some port) (Some workers) None l is = λ q e. absurd (none_some q e)
+serve_in memory (Some p) (Some port) (Some workers) (Some connections) None is = λ q e. absurd (none_some q e)
+
+served_in : (memory : Bool) (folder : List ℕ) (more : List (List ℕ)) → IfSome (location_word folder) (λ location. memory ≡ is_memory location) → IsIn memory (serve_command folder more)
+served_in memory folder (port ∷ workers ∷ connections ∷ libs) is =
+    serve_in memory (location_word folder) (number_within 1 65535 port) (number_within 1 most_workers workers) (number_within 1 most_connections connections) (libraries_of libs) is
+served_in memory folder [] is = usage_in memory
+served_in memory folder (a ∷ []) is = usage_in memory
+served_in memory folder (a ∷ b ∷ []) is = usage_in memory
+
 long_in : (memory b d : Bool) (folder lib third fourth fifth : List ℕ) → IfSome (location_word folder) (λ location. memory ≡ is_memory location)
     → IsIn memory (cond b (create_command folder lib third fourth fifth) (cond d (token_command folder lib third fourth fifth) Usage))
 long_in memory true d folder lib third fourth fifth is = create_in memory third fourth (location_word folder) (library_id_of lib) (secret_of fifth) is
@@ -85,13 +103,14 @@ other_in memory word folder (lib ∷ a ∷ []) is = usage_in memory
 other_in memory word folder (lib ∷ a ∷ b ∷ []) is = usage_in memory
 other_in memory word folder (lib ∷ a ∷ b ∷ c ∷ d ∷ more) is = usage_in memory
 
-placed_in : (memory b : Bool) (word folder : List ℕ) (more : List (List ℕ)) → IfSome (location_word folder) (λ location. memory ≡ is_memory location)
-    → IsIn memory (cond b (inetd_command folder more) (other_command word folder more))
-placed_in memory true word folder more is = inetd_in memory (location_word folder) (libraries_of more) is
-placed_in memory false word folder more is = other_in memory word folder more is
+placed_in : (memory b d : Bool) (word folder : List ℕ) (more : List (List ℕ)) → IfSome (location_word folder) (λ location. memory ≡ is_memory location)
+    → IsIn memory (cond b (inetd_command folder more) (cond d (serve_command folder more) (other_command word folder more)))
+placed_in memory true d word folder more is = inetd_in memory (location_word folder) (libraries_of more) is
+placed_in memory false true word folder more is = served_in memory folder more is
+placed_in memory false false word folder more is = other_in memory word folder more is
 
 pub location_of_words : (words : List (List ℕ)) (location : Location) → location_in (command_of words) ≡ Some location → names_memory words ≡ is_memory location
 unfolding IsIn
 location_of_words [] = λ q e. absurd (none_some q e)
 location_of_words (word ∷ []) = lone_in (bytes_eq word (codes "--help")) (bytes_eq word (codes "--version"))
-location_of_words (word ∷ folder ∷ more) = placed_in (bytes_eq folder (codes ":memory:")) (bytes_eq word (codes "inetd")) word folder more (folder_location folder)
+location_of_words (word ∷ folder ∷ more) = placed_in (bytes_eq folder (codes ":memory:")) (bytes_eq word (codes "inetd")) (bytes_eq word (codes "serve")) word folder more (folder_location folder)

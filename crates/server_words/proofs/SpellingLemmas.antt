@@ -1,6 +1,6 @@
 -- What is read as a command is its spelling, and the spelling of a command is read as it.
 -- The key lemmas are command_of-words_of and words_of-command_of, at the end.
-use Rattle.std.proofs.Common.{◌≡◌, ◌≢◌, ℕ, Bool, true, false, ◌&&◌, List, [], ◌∷◌, All, Option, Some, None, ap, ap₂, inl, map, refl, sym, cond, codes}
+use Rattle.std.proofs.Common.{◌≡◌, ◌≢◌, ℕ, arith, decimal, Bool, true, false, ◌&&◌, List, [], ◌∷◌, All, Option, Some, None, ap, ap₂, inl, map, refl, sym, cond, codes}
 use Rattle.std.proofs.lemmas.List.Elements.{All-head, All-tail}
 use Rattle.std.specs.Option.{IfSome}
 use Rattle.std.specs.Result.{result_ok}
@@ -18,12 +18,14 @@ use Rattle.json_words.proofs.IdLemmas.{IsOf-has_form, library_id_of-good, object
 use Rattle.library_state.specs.Rights.{right_of, right_text}
 use Rattle.library_state.specs.declared.right.Right.{Right}
 use Rattle.library_state.specs.declared.right.Right.TheVariants.{Read, Write, Owner}
-use Rattle.server_words.specs.CommandLine.{command_of, create_by, create_command, ids_of, inetd_by, inetd_command, is_line_of_libraries, is_name, joined, libraries_of, location_word, other_command, secret_of, token_by, token_command}
+use Rattle.server_words.specs.CommandLine.{command_of, create_by, create_command, ids_of, inetd_by, inetd_command, is_line_of_libraries, is_name, joined, libraries_of, location_word, most_connections, most_workers, other_command, secret_of, serve_by, serve_command, token_by, token_command}
+use Rattle.server_words.specs.Number.{number_within}
 use Rattle.server_words.specs.Spelling.{IsBytesOf, IsCommand, IsLocation, location_text, words_of}
 use Rattle.server_words.specs.declared.command.Command.{Command}
-use Rattle.server_words.specs.declared.command.Command.TheVariants.{Create, Token, Inetd, Help, Version, Usage}
+use Rattle.server_words.specs.declared.command.Command.TheVariants.{Create, Token, Inetd, Serve, Help, Version, Usage}
 use Rattle.server_words.specs.declared.command.Location.{Location}
 use Rattle.server_words.specs.declared.command.Location.TheVariants.{Memory, Folder}
+use Rattle.server_words.proofs.NumberLemmas.{number_within-decimal, within_is_text}
 use Rattle.ids.proofs.BasicLemmas.{same_from_bytes_eq, apart_from_bytes_eq}
 use Rattle.library_state.proofs.StateReadBackLemmas.{right_of-text}
 
@@ -122,6 +124,27 @@ inetd_spelling folder words (Some location) (Some ids) same-p same-l = λ other.
 inetd_spelling folder words None l same-p same-l = λ other. absurd (other refl)
 inetd_spelling folder words (Some location) None same-p same-l = λ other. absurd (other refl)
 
+serve_spelling : (folder a b d : List ℕ) (words : List (List ℕ)) (p : Option Location) (port workers connections : Option ℕ) (l : Option (List (List ℕ)))
+    → IfSome p (λ location. folder ≡ location_text location) → IfSome port (λ n. a ≡ decimal n) → IfSome workers (λ n. b ≡ decimal n) → IfSome connections (λ n. d ≡ decimal n)
+    → IfSome l (λ ids. words ≡ map (hyphenated_text lower) ids) → IsSpelling (codes "serve" ∷ folder ∷ a ∷ b ∷ d ∷ words) (serve_by p port workers connections l)
+unfolding IsSpelling
+serve_spelling folder a b d words (Some location) (Some port) (Some workers) (Some connections) (Some ids) same-p same-a same-b same-d same-l =
+    λ other. rw (same-p, same-a, same-b, same-d, same-l) refl
+serve_spelling folder a b d words None port workers connections l same-p same-a same-b same-d same-l = λ other. absurd (other refl)
+serve_spelling folder a b d words (Some location) None workers connections l same-p same-a same-b same-d same-l = λ other. absurd (other refl)
+serve_spelling folder a b d words (Some location) (Some port) None connections l same-p same-a same-b same-d same-l = λ other. absurd (other refl)
+serve_spelling folder a b d words (Some location) (Some port) (Some workers) None l same-p same-a same-b same-d same-l = λ other. absurd (other refl)
+serve_spelling folder a b d words (Some location) (Some port) (Some workers) (Some connections) None same-p same-a same-b same-d same-l = λ other. absurd (other refl)
+
+served_spelling : (folder : List ℕ) (more : List (List ℕ)) → IsSpelling (codes "serve" ∷ folder ∷ more) (serve_command folder more)
+unfolding IsSpelling
+served_spelling folder (port ∷ workers ∷ connections ∷ libs) =
+    serve_spelling folder port workers connections libs (location_word folder) (number_within 1 65535 port) (number_within 1 most_workers workers) (number_within 1 most_connections connections) (libraries_of libs)
+    (location_word_text folder) (within_is_text 1 65535 port) (within_is_text 1 most_workers workers) (within_is_text 1 most_connections connections) (libraries_text libs)
+served_spelling folder [] = λ other. absurd (other refl)
+served_spelling folder (a ∷ []) = λ other. absurd (other refl)
+served_spelling folder (a ∷ b ∷ []) = λ other. absurd (other refl)
+
 lone_spelling_at : (word : List ℕ) (b d : Bool) → (b ≡ true → word ≡ codes "--help") → (d ≡ true → word ≡ codes "--version")
     → IsSpelling (word ∷ []) (cond b Help (cond d Version Usage))
 unfolding IsSpelling
@@ -152,12 +175,13 @@ other_spelling word folder (lib ∷ a ∷ []) = λ other. absurd (other refl)
 other_spelling word folder (lib ∷ a ∷ b ∷ []) = λ other. absurd (other refl)
 other_spelling word folder (lib ∷ a ∷ b ∷ c ∷ d ∷ more) = λ other. absurd (other refl)
 
-placed_spelling_at : (word folder : List ℕ) (more : List (List ℕ)) (b : Bool) → (b ≡ true → word ≡ codes "inetd")
-    → IsSpelling (word ∷ folder ∷ more) (cond b (inetd_command folder more) (other_command word folder more))
+placed_spelling_at : (word folder : List ℕ) (more : List (List ℕ)) (b d : Bool) → (b ≡ true → word ≡ codes "inetd") → (d ≡ true → word ≡ codes "serve")
+    → IsSpelling (word ∷ folder ∷ more) (cond b (inetd_command folder more) (cond d (serve_command folder more) (other_command word folder more)))
 unfolding IsSpelling
-placed_spelling_at word folder more true inetd = λ other.
+placed_spelling_at word folder more true d inetd serve = λ other.
     rw (inetd refl) (inetd_spelling folder more (location_word folder) (libraries_of more) (location_word_text folder) (libraries_text more) other)
-placed_spelling_at word folder more false inetd = other_spelling word folder more
+placed_spelling_at word folder more false true inetd serve = λ other. rw (serve refl) (served_spelling folder more other)
+placed_spelling_at word folder more false false inetd serve = other_spelling word folder more
 
 pub words_of-command_of : (words : List (List ℕ)) → command_of words ≢ Usage → words ≡ words_of (command_of words)
 unfolding IsSpelling
@@ -165,7 +189,7 @@ words_of-command_of [] other = absurd (other refl)
 words_of-command_of (word ∷ []) other =
     lone_spelling_at word (bytes_eq word (codes "--help")) (bytes_eq word (codes "--version")) (same_from_bytes_eq word (codes "--help")) (same_from_bytes_eq word (codes "--version")) other
 words_of-command_of (word ∷ folder ∷ more) other =
-    placed_spelling_at word folder more (bytes_eq word (codes "inetd")) (same_from_bytes_eq word (codes "inetd")) other
+    placed_spelling_at word folder more (bytes_eq word (codes "inetd")) (bytes_eq word (codes "serve")) (same_from_bytes_eq word (codes "inetd")) (same_from_bytes_eq word (codes "serve")) other
 
 -- what spells a part of a command is read as it
 location_word-location_text : (location : Location) → IsLocation location → location_word (location_text location) ≡ Some location
@@ -191,6 +215,18 @@ command_of-words_of (Create location lib name user secret) other is =
 command_of-words_of (Token location lib user secret right) other is =
     rw (location_word-location_text location is.0, library_id_of-text lib is.1, secret_of-digits secret is.3, right_of-text right, is.2)
 command_of-words_of (Inetd location libs) other is = rw (location_word-location_text location is.0, is.2, ids_of-texts libs is.1)
+command_of-words_of (Serve location port workers connections libs) other is =
+    let a = is.1 in
+    let b = is.2 in
+    let d = is.3 in
+    rw (
+      location_word-location_text location is.0,
+      number_within-decimal 1 65535 port a.0 a.1 (omega (arith, a.1)),
+      number_within-decimal 1 most_workers workers b.0 b.1 (omega (arith, b.1)),
+      number_within-decimal 1 most_connections connections d.0 d.1 (omega (arith, d.1)),
+      is.5,
+      ids_of-texts libs is.4,
+    )
 command_of-words_of Help other is = refl
 command_of-words_of Version other is = refl
 command_of-words_of Usage other is = absurd (other refl)

@@ -6,8 +6,9 @@ use Rattle.std.specs.Str.{bytes_eq}
 use Rattle.json_words.specs.IdText.{library_id_of, object_id_of}
 use Rattle.library_state.specs.Rights.{right_of}
 use Rattle.library_state.specs.declared.right.Right.{Right}
+use Rattle.server_words.specs.Number.{number_within}
 use Rattle.server_words.specs.declared.command.Command.{Command}
-use Rattle.server_words.specs.declared.command.Command.TheVariants.{Create, Token, Inetd, Help, Version, Usage}
+use Rattle.server_words.specs.declared.command.Command.TheVariants.{Create, Token, Inetd, Serve, Help, Version, Usage}
 use Rattle.server_words.specs.declared.command.Location.{Location}
 use Rattle.server_words.specs.declared.command.Location.TheVariants.{Memory, Folder}
 
@@ -84,6 +85,26 @@ lone_command word =
 abbrev pub inetd_command : List ℕ → List (List ℕ) → Command
 inetd_command folder libs = inetd_by (location_word folder) (libraries_of libs)
 
+-- how many workers serve a port, and how many connections each serves
+abbrev pub most_workers : ℕ
+most_workers = 64
+
+abbrev pub most_connections : ℕ
+most_connections = 4294967295
+
+abbrev pub serve_by : Option Location → (port workers connections : Option ℕ) → Option (List (List ℕ)) → Command
+serve_by (Some location) (Some port) (Some workers) (Some connections) (Some libs) = Serve location port workers connections libs
+serve_by _ _ _ _ _ = Usage
+
+abbrev pub served_command : List ℕ → (port workers connections : Option ℕ) → List (List ℕ) → Command
+served_command folder port workers connections libs = serve_by (location_word folder) port workers connections (libraries_of libs)
+
+-- `serve FOLDER PORT WORKERS CONNECTIONS LIB [LIB..]`
+abbrev pub serve_command : List ℕ → List (List ℕ) → Command
+serve_command folder (port ∷ workers ∷ connections ∷ libs) =
+    served_command folder (number_within 1 65535 port) (number_within 1 most_workers workers) (number_within 1 most_connections connections) libs
+serve_command folder _ = Usage
+
 -- `create FOLDER LIB NAME USER TOKEN`
 abbrev pub create_command : List ℕ → List ℕ → List ℕ → List ℕ → List ℕ → Command
 create_command folder lib name user token =
@@ -107,7 +128,10 @@ other_command word folder (lib ∷ third ∷ fourth ∷ fifth ∷ []) = long_com
 other_command word folder _ = Usage
 
 abbrev pub placed_command : List ℕ → List ℕ → List (List ℕ) → Command
-placed_command word folder more = if bytes_eq word (codes "inetd") then inetd_command folder more else other_command word folder more
+placed_command word folder more =
+    if bytes_eq word (codes "inetd") then inetd_command folder more
+    else if bytes_eq word (codes "serve") then serve_command folder more
+    else other_command word folder more
 
 -- the command that the words are
 abbrev pub command_of : List (List ℕ) → Command
@@ -120,6 +144,7 @@ abbrev pub location_in : Command → Option Location
 location_in (Create location lib name user secret) = Some location
 location_in (Token location lib user secret right) = Some location
 location_in (Inetd location libs) = Some location
+location_in (Serve location port workers connections libs) = Some location
 location_in _ = None
 
 abbrev pub is_memory : Location → Bool
@@ -141,12 +166,16 @@ pub record AreLibraries (libs : List (List ℕ)) : Type 0 where
   pub few : length libs ≤ most_libraries
   pub apart : AreApart libs
 
--- the names of a command have 1 to MAX_STATE_NAME bytes
+-- the names of a command have 1 to MAX_STATE_NAME bytes, and its numbers lie in their ranges
 abbrev pub IsNameSize : List ℕ → Type 0
 IsNameSize text = (1 ≤ length text) × (length text ≤ MAX_STATE_NAME)
+
+abbrev pub Between : (least most : ℕ) → ℕ → Type 0
+Between least most number = (least ≤ number) × (number ≤ most)
 
 abbrev pub NamesFit : Command → Type 0
 NamesFit (Create location lib name user secret) = IsNameSize name × IsNameSize user
 NamesFit (Token location lib user secret right) = IsNameSize user
 NamesFit (Inetd location libs) = AreLibraries libs
+NamesFit (Serve location port workers connections libs) = AreLibraries libs × Between 1 65535 port × Between 1 most_workers workers × Between 1 most_connections connections
 NamesFit _ = ⊤

@@ -1,3 +1,4 @@
 pub mod CommandLine
 pub mod Lines
+pub mod Number
 pub mod Spelling

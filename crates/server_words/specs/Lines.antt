@@ -1,6 +1,6 @@
 -- The lines that the server's commands print, and the status that goes with each. Our own; docs/FORMATS.md.
 -- Read line_text and status_of, at the end. No line holds a secret.
-use Rattle.std.specs.Prelude.{ℕ, List, [], ◌∷◌, ◌++◌, codes}
+use Rattle.std.specs.Prelude.{ℕ, List, [], ◌∷◌, ◌++◌, codes, decimal}
 use Rattle.hex.specs.Hex.{encode_lower}
 use Rattle.uuid.specs.Text.{hyphenated_text, lower}
 use Rattle.ids.specs.declared.key.Key.{Key}
@@ -46,6 +46,7 @@ fault_words fault.NoLibrary = codes "no library"
 fault_words fault.NoState = codes "no state"
 fault_words (fault.BadState key) = bad_state_words key
 fault_words fault.Worn = codes "worn"
+fault_words fault.OtherLibrary = codes "other library"
 fault_words (fault.Incomplete key) = with_key (codes "incomplete ") key
 fault_words (fault.Unreadable key) = with_key (codes "unreadable ") key
 fault_words (fault.WrongKind id) = with_id (codes "wrong kind ") id
@@ -57,14 +58,19 @@ fault_words (fault.Taken id) = with_id (codes "taken ") id
 fault_words fault.SecretTaken = codes "secret taken"
 fault_words fault.TokensFull = codes "tokens full"
 fault_words fault.Store = codes "store fault"
+fault_words fault.Link = codes "link fault"
 fault_words fault.NoMemory = codes "no memory"
 
 abbrev pub created_words : List ℕ → List ℕ → List ℕ
 created_words lib head = codes "created " ++ hyphenated_text lower lib ++ codes " " ++ encode_lower head
 
+abbrev pub served_words : ℕ → List ℕ
+served_words count = codes "served " ++ decimal count
+
 abbrev pub line_words : Line → List ℕ
 line_words (line.Created lib head) = created_words lib head
 line_words line.TokenAdded = codes "token added"
+line_words (line.Served count) = served_words count
 line_words (line.Fault fault) = codes "seaf-server: " ++ fault_words fault
 line_words line.Usage = codes "seaf-server: usage"
 
@@ -81,6 +87,7 @@ fault_status _ = 1
 abbrev pub status_of : Line → ℕ
 status_of (line.Created lib head) = 0
 status_of line.TokenAdded = 0
+status_of (line.Served count) = 0
 status_of (line.Fault fault) = fault_status fault
 status_of line.Usage = 2
 
@@ -94,6 +101,8 @@ help_text =
     printed (codes "usage: seaf-server create FOLDER LIB NAME USER TOKEN")
     ++ printed (codes "       seaf-server token FOLDER LIB USER TOKEN RIGHT")
     ++ printed (codes "       seaf-server inetd FOLDER LIB [LIB..]")
+    ++ printed (codes "       seaf-server serve FOLDER PORT WORKERS CONNECTIONS LIB [LIB..]")
     ++ printed (codes "FOLDER keeps the libraries, or is :memory:. LIB is a UUID.")
     ++ printed (codes "TOKEN has 40 lower-case hexadecimal digits. RIGHT is r, rw or own.")
-    ++ printed (codes "inetd serves one connection over standard input and output.")
+    ++ printed (codes "inetd serves one connection over standard input and output,")
+    ++ printed (codes "serve as many as WORKERS times CONNECTIONS at a port of 127.0.0.1.")

@@ -35,6 +35,15 @@ pub enum Command {
         location: Location,
         libs: Items<LibId>,
     },
+    /// Serve the connections to a port of this machine, with 1 to 1,000 libraries, none of which is named twice: so many workers beside
+    /// each other, 1 to 64, of which each serves so many connections, one at least.
+    Serve {
+        location: Location,
+        port: u16,
+        workers: u32,
+        connections: u32,
+        libs: Items<LibId>,
+    },
     /// Print the words that there are.
     Help,
     /// Print the program's name and version.

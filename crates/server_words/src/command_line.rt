@@ -6,6 +6,7 @@ ghost use Rattle.std.specs.Str.{bytes_eq};
 ghost use Rattle.server_words.specs.CommandLine.{AreLibraries, IsNameSize, NamesFit, command_of, create_command, ids_of, inetd_command, is_control, is_distinct, is_line_of_libraries, is_name, libraries_of, lone_command, long_command, names_memory, location_word, placed_command, secret_of, token_command};
 
 use crate::command::{Command, Location};
+use crate::numbered::serve_command;
 use ids::{Items, LibId, Text};
 use json_words::library_id;
 use library_state::{MAX_STATE_NAME, Right, Secret};
@@ -18,10 +19,12 @@ use std::alloc::{AllocError, Global};
 /// | `create FOLDER LIB NAME USER TOKEN` | make a library |
 /// | `token FOLDER LIB USER TOKEN RIGHT` | add a token |
 /// | `inetd FOLDER LIB [LIB..]` | serve one connection with 1 to 1,000 libraries |
+/// | `serve FOLDER PORT WORKERS CONNECTIONS LIB [LIB..]` | serve a port with 1 to 1,000 libraries |
 /// | `--help`, `--version` | alone |
 ///
 /// FOLDER is not empty, and `:memory:` is no folder but the place in memory. LIB is a library id of 36 characters, none of which stands there twice,
-/// TOKEN 40 lower-case hexadecimal digits, RIGHT `r`, `rw` or `own`. A NAME or USER without a byte, with more than
+/// TOKEN 40 lower-case hexadecimal digits, RIGHT `r`, `rw` or `own`. PORT is 1 to 65,535, WORKERS 1 to 64 and CONNECTIONS 1 to
+/// 4,294,967,295, in decimal without leading zeros. A NAME or USER without a byte, with more than
 /// 255, or with a control character in it (0 to 31, or 127) is refused. Other words are `Usage`. Our own.
 pub fn read_command(alloc: Global, words: &[Text]) -> Result<Command, AllocError>
     ensures value { IfOk result (λ command. command ≡ command_of words.now) }
@@ -73,6 +76,9 @@ fn placed_command(
     if word == "inetd" {
         return inetd_command(alloc, folder, more);
     }
+    if word == "serve" {
+        return serve_command(alloc, folder, more);
+    }
     match more {
         [lib, third, fourth, fifth] => long_command(
             alloc,
@@ -106,7 +112,10 @@ fn inetd_command(alloc: Global, folder: &str, words: &[Text]) -> Result<Command,
 const MOST_LIBRARIES: usize = 1_000;
 
 /// The libraries whose ids these words are: 1 to 1,000, none twice.
-fn read_libraries(alloc: Global, words: &[Text]) -> Result<Option<Items<LibId>>, AllocError>
+pub(crate) fn read_libraries(
+    alloc: Global,
+    words: &[Text],
+) -> Result<Option<Items<LibId>>, AllocError>
     ensures value { IfOk result (λ libs. libs ≡ libraries_of words.now) }
     ensures fits { IfOk result (λ libs. IfSome libs AreLibraries) }
 {
@@ -157,7 +166,7 @@ fn stands_in(word: &str, words: &[Text]) -> bool
 }
 
 /// The place that a folder word names, and none where it is empty.
-fn location_word(alloc: Global, folder: &str) -> Result<Option<Location>, AllocError>
+pub(crate) fn location_word(alloc: Global, folder: &str) -> Result<Option<Location>, AllocError>
     ensures value { IfOk result (λ location. location ≡ location_word folder.now) }
 {
     if folder.is_empty() {

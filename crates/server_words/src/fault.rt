@@ -15,6 +15,8 @@ pub enum Fault {
     BadState(StateKey),
     /// It was opened as often as it can be counted.
     Worn,
+    /// What lies in the library's place is another library.
+    OtherLibrary,
     /// An object that a kept commit needs is not stored.
     Incomplete(Key),
     /// What is stored under the key is not of its kind's form.
@@ -37,6 +39,8 @@ pub enum Fault {
     TokensFull,
     /// What libraries are kept in failed.
     Store,
+    /// The port couldn't be opened, or it gave no more connections.
+    Link,
     /// There was no memory. It may come in any other fault's place.
     NoMemory,
 }

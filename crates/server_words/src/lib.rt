@@ -12,6 +12,8 @@ mod fault;
 pub mod laws;
 mod line;
 mod line_text;
+mod number;
+mod numbered;
 
 pub use crate::command::{Command, Location};
 pub use crate::command_line::{is_name, names_memory, read_command, secret_of};

@@ -1,10 +1,11 @@
 //! The lines that are printed, and the status of a command that prints one.
-ghost use Rattle.std.specs.Prelude.{◌≡◌, ◌+◌, ◌≤◌, ◌++◌, length};
+ghost use Rattle.std.specs.Prelude.{◌≡◌, ◌+◌, ◌≤◌, ◌++◌, decimal, length};
 ghost use Rattle.server_words.specs.Lines.{bad_state_words, created_words, fault_status, fault_words, help_text, line_text, line_words, state_key_word, status_of, version_text, with_id, with_key};
 
 use crate::fault::Fault;
 use crate::line_text::LineText;
 use ids::{Key, LibId, ObjId};
+use itoa::Buffer;
 use library_state::StateKey;
 
 /// A line that is printed.
@@ -14,6 +15,8 @@ pub enum Line {
     Created { lib: LibId, head: ObjId },
     /// `token` added a token.
     TokenAdded,
+    /// `serve` served so many connections.
+    Served(u64),
     /// The command was not done.
     Fault(Fault),
     /// The words were no command.
@@ -37,7 +40,7 @@ impl Line {
         ensures value { result ≡ status_of self.now }
     {
         match self {
-            Line::Created { .. } | Line::TokenAdded => 0,
+            Line::Created { .. } | Line::TokenAdded | Line::Served(_) => 0,
             Line::Fault(fault) => fault_status(fault),
             Line::Usage => 2,
         }
@@ -62,6 +65,7 @@ fn push_words(text: &mut LineText, line: &Line)
     match line {
         Line::Created { lib, head } => push_created(text, lib, head),
         Line::TokenAdded => text.push(b"token added"),
+        Line::Served(count) => push_number(text, b"served ", *count),
         Line::Fault(fault) => {
             text.push(b"seaf-server: ");
             push_fault(text, fault);
@@ -81,6 +85,17 @@ fn push_created(text: &mut LineText, lib: &LibId, head: &ObjId)
     push_id(text, b" ", head);
 }
 
+/// Appends words and a number, which has at most 20 digits.
+fn push_number(text: &mut LineText, words: &[u8], number: u64)
+    requires fits { length text.old + length words.now ≤ 90 }
+    ensures ok { text.new ≡ text.old ++ words.now ++ decimal number }
+    ensures bound { length text.new ≤ length text.old + length words.now + 20 }
+{
+    let mut digits = Buffer::new();
+    text.push(words);
+    text.push(digits.format(number).as_bytes());
+}
+
 /// Appends the words of a fault.
 fn push_fault(text: &mut LineText, fault: &Fault)
     requires fits { length text.old ≤ 13 }
@@ -93,6 +108,7 @@ fn push_fault(text: &mut LineText, fault: &Fault)
         Fault::NoState => text.push(b"no state"),
         Fault::BadState(key) => push_state_key(text, key),
         Fault::Worn => text.push(b"worn"),
+        Fault::OtherLibrary => text.push(b"other library"),
         Fault::Incomplete(key) => push_key(text, b"incomplete ", key),
         Fault::Unreadable(key) => push_key(text, b"unreadable ", key),
         Fault::WrongKind(id) => push_id(text, b"wrong kind ", id),
@@ -104,6 +120,7 @@ fn push_fault(text: &mut LineText, fault: &Fault)
         Fault::SecretTaken => text.push(b"secret taken"),
         Fault::TokensFull => text.push(b"tokens full"),
         Fault::Store => text.push(b"store fault"),
+        Fault::Link => text.push(b"link fault"),
         Fault::NoMemory => text.push(b"no memory"),
     }
 }
@@ -169,5 +186,5 @@ pub fn version_text() -> &'static [u8]
 pub fn help_text() -> &'static [u8]
     ensures value { result.now ≡ help_text }
 {
-    b"usage: seaf-server create FOLDER LIB NAME USER TOKEN\n       seaf-server token FOLDER LIB USER TOKEN RIGHT\n       seaf-server inetd FOLDER LIB [LIB..]\nFOLDER keeps the libraries, or is :memory:. LIB is a UUID.\nTOKEN has 40 lower-case hexadecimal digits. RIGHT is r, rw or own.\ninetd serves one connection over standard input and output.\n"
+    b"usage: seaf-server create FOLDER LIB NAME USER TOKEN\n       seaf-server token FOLDER LIB USER TOKEN RIGHT\n       seaf-server inetd FOLDER LIB [LIB..]\n       seaf-server serve FOLDER PORT WORKERS CONNECTIONS LIB [LIB..]\nFOLDER keeps the libraries, or is :memory:. LIB is a UUID.\nTOKEN has 40 lower-case hexadecimal digits. RIGHT is r, rw or own.\ninetd serves one connection over standard input and output,\nserve as many as WORKERS times CONNECTIONS at a port of 127.0.0.1.\n"
 }

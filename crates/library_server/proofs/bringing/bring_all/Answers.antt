@@ -1,5 +1,5 @@
 -- All are out; or those before the first that wasn't started came back.
-use Rattle.std.proofs.Common.{◌≡◌, ◌≤◌, ℕ, arith, subst}
+use Rattle.std.proofs.Common.{◌≡◌, ◌≤◌, ℕ, arith, refl, subst}
 use Rattle.server_words.specs.Spelling.{location_text}
 use Rattle.library_server.specs.Bringing.{AreBrought, AreOut}
 use Rattle.library_server.proofs.BringingLemmas.{stopped_at, stopped_first, unnamed_among, unnamed_then}
@@ -9,6 +9,9 @@ pub returns-in-Err-clause-stopped : goal.returns-in-Err-clause-stopped
 returns-in-Err-clause-stopped g c =
     stopped_first g.G.S.Shelf.contents g.G.S.Shelf.may_give g.G.S.Shelf.faults (g.G.Ground.may_give c.args.libraries.now) c.args.location.now (g.C.Clock.shows c.args.clock.now) c.args.libs.now
     (record { stands = g.G.Ground.stands c.args.libraries.now; faults = g.G.Ground.faults c.args.libraries.now }) c.requires.some
+
+pub returns-in-Err-clause-steady : goal.returns-in-Err-clause-steady
+returns-in-Err-clause-steady g c = λ steady all. refl
 
 pub returns-in-Err-clause-others : goal.returns-in-Err-clause-others
 returns-in-Err-clause-others g c = λ f l none slot given is. is
@@ -38,6 +41,9 @@ returns-in-Err-bring_each-clause-stopped g c =
     (record { stands = g.G.Ground.stands c.bring_all_back.new.libraries; faults = g.G.Ground.faults c.bring_all_back.new.libraries })
     c.bring_each.new.depots.items c.in-Err-bring_each.why c.in-Err-bring_each.ensures.brought c.in-Err-bring_each.ensures.stopped
     (rw c.folder_word.ensures.value at c.bring_all_back.ensures.ok) c.bring_all_back.ensures.faults
+
+pub returns-in-Err-bring_each-clause-steady : goal.returns-in-Err-bring_each-clause-steady
+returns-in-Err-bring_each-clause-steady g c = c.in-Err-bring_each.ensures.steady
 
 pub returns-in-Err-bring_each-clause-others : goal.returns-in-Err-bring_each-clause-others
 returns-in-Err-bring_each-clause-others g c =

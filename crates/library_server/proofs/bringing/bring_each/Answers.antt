@@ -2,7 +2,7 @@
 use Rattle.std.proofs.Common.{◌≡◌, ◌+◌, ℕ, arith, refl, subst, sym, ◌∙◌}
 use Rattle.server_words.specs.Spelling.{location_text}
 use Rattle.library_server.specs.Bringing.{AreBrought, AreOut}
-use Rattle.library_server.proofs.BringingLemmas.{brought_none, next_brought, next_out, next_unnamed, out_none, stopping, unnamed_among, unnamed_none}
+use Rattle.library_server.proofs.BringingLemmas.{brought_none, next_brought, next_out, next_stands, next_unnamed, out_none, stopping, unnamed_among, unnamed_none}
 use Rattle.library_server.proofs.bringing.bring_each.Goals as goal
 
 pub loop-lib-init : goal.loop-lib-init
@@ -43,6 +43,7 @@ loop-lib-preserved g c =
             told = c.in-Ok.ensures.shown;
             laid = c.in-Ok.ensures.gives;
             none = c.in-Ok.ensures.lying;
+            settled = c.in-Ok.ensures.settled;
             good = c.in-Ok.ensures.good;
           }));
       out = next_out (location_text c.args.location.now) c.args.libs.now c.requires.apart c.loop-lib.lib-index c.lib-item.result (omega arith) c.lib-item.is
@@ -68,6 +69,15 @@ returns-in-Err-clause-stopped g c =
     (record { stands = g.G.Ground.stands c.loop-lib.libraries; faults = g.G.Ground.faults c.loop-lib.libraries })
     (record { stands = g.G.Ground.stands c.start_library.new.libraries; faults = g.G.Ground.faults c.start_library.new.libraries })
     (g.G.Ground.may_give c.loop-lib.libraries) c.in-Err.why inv.size inv.out inv.count inv.others c.in-Err.ensures.back c.in-Err.ensures.shown c.in-Err.ensures.cause c.in-Err.ensures.faults
+
+pub returns-in-Err-clause-steady : goal.returns-in-Err-clause-steady
+returns-in-Err-clause-steady g c = λ steady all.
+    let within = c.loop-lib-test.true in
+    let whole = all (location_text c.args.location.now) c.lib-item.result in
+    c.in-Err.ensures.steady steady whole.0
+    (next_stands (location_text c.args.location.now) c.args.libs.now c.requires.apart c.loop-lib.lib-index c.lib-item.result (omega arith) c.lib-item.is
+    (g.G.Ground.stands c.args.libraries.now) (g.G.Ground.stands c.loop-lib.libraries) c.loop-lib.invariant.out ∙ whole.1)
+    whole.2
 
 pub returns-in-Err-clause-others : goal.returns-in-Err-clause-others
 returns-in-Err-clause-others g c =

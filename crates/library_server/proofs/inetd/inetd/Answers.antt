@@ -27,7 +27,7 @@ returns-in-Err g c = record {
 pub returns : goal.returns
 returns g c = record {
   serves = (
-    opened c.in-Ok.depot c.serve_opened-status.new.library c.in-Ok.ensures.any c.in-Ok.ensures.shown c.in-Ok.ensures.gives c.in-Ok.ensures.lying c.serve_opened-status.ensures.serves
+    opened c.in-Ok.depot c.serve_opened-status.new.library c.in-Ok.ensures.any c.in-Ok.ensures.shown c.in-Ok.ensures.gives c.in-Ok.ensures.lying c.in-Ok.ensures.settled c.serve_opened-status.ensures.serves
         (calls_caused g.G.S.Shelf.contents g.G.S.Shelf.may_give g.G.S.Shelf.texts g.G.S.Shelf.faults (g.C.Clock.shows c.args.clock.now)
         (g.G.Ground.may_give c.args.libraries.now (location_text c.args.location.now) c.args.lib) (opened_now c.in-Ok.depot) c.serve_opened-status.ensures.serves.ran.0 c.serve_opened-status.new.library
         (opening_harmless c.args.location.now c.args.lib (g.C.Clock.shows c.args.clock.now) c.in-Ok.depot.state c.in-Ok.ensures.gives) c.serve_opened-status.ensures.serves.ran.1)

@@ -5,12 +5,13 @@ use Rattle.server_words.specs.Spelling.{location_text}
 use Rattle.library_server.specs.Bringing.{AreTaken, UnnamedGiveNoMore}
 use Rattle.library_server.specs.HallConnections.{AreGood, stopped}
 use Rattle.library_server.proofs.BringingLemmas.{unnamed_then}
-use Rattle.library_server.proofs.HallEndLemmas.{held_size, served_named}
+use Rattle.library_server.proofs.HallEndLemmas.{held_size}
+use Rattle.library_server.proofs.HallWholeLemmas.{served_whole}
 use Rattle.library_server.proofs.inetd_hall.inetd_hall.Goals as goal
 
 pub returns-in-Err : goal.returns-in-Err
 returns-in-Err g c = record {
-  serves = stopped c.in-Err.fault c.in-Err.ensures.stopped (c.status.ensures.value ∙ ap fault_status c.fault.ensures.value) refl;
+  serves = (stopped c.in-Err.fault c.in-Err.ensures.stopped (c.status.ensures.value ∙ ap fault_status c.fault.ensures.value) refl, c.in-Err.ensures.steady);
   others = c.in-Err.ensures.others;
 }
 
@@ -28,7 +29,7 @@ returns g c =
     let ok = c.serve_opened-status.result.1.ok.0 in
     let all : vec_len c.serve_opened-status.result.1 ≡ length c.args.libs.now = omega arith in
     record {
-      serves = served_named g.G.S.Shelf.contents g.G.S.Shelf.may_give g.G.S.Shelf.texts g.G.S.Shelf.faults (g.G.Ground.may_give c.args.libraries.now) c.args.location.now c.args.libs.now (g.C.Clock.shows c.args.clock.now)
+      serves = served_whole g.G.S.Shelf.contents g.G.S.Shelf.may_give g.G.S.Shelf.texts g.G.S.Shelf.faults (g.G.Ground.may_give c.args.libraries.now) c.args.location.now c.args.libs.now (g.C.Clock.shows c.args.clock.now)
           (record { stands = g.G.Ground.stands c.args.libraries.now; faults = g.G.Ground.faults c.args.libraries.now })
           (record { stands = g.G.Ground.stands c.bring_all_back.new.libraries; faults = g.G.Ground.faults c.bring_all_back.new.libraries })
           (g.G.Ground.stands c.bring_all.new.libraries) c.in-Ok.depots.items c.serve_opened-status.result.1.items _ _ _

@@ -26,9 +26,10 @@ returns g c =
     let ran = c.serve_link-how.ensures.ran in
     held (record {
       how = c.serve_link-how.result;
-      first = hall_shown c.in-Some.pass;
+      hall = c.in-Ok.made.0;
+      pass = c.in-Some.pass;
       last = hall_shown c.serve_link-how.new.pass;
-      begins = new.shows;
+      begins = new;
       session = c.serve_link-how.ensures.session;
       ran = ran;
       each = led g.S.Shelf.contents g.S.Shelf.may_give g.S.Shelf.texts g.S.Shelf.faults c.args.depots.items c.close.result.items _ _ _ new.shows ran.2 c.close.ensures;

@@ -21,6 +21,6 @@ returns-then-count-eq1-clause-others g c =
 
 pub returns-clause-serves : goal.returns-clause-serves
 returns-clause-serves g c = (
-  several (two_or_more (length c.args.libs.now) _ refl c.requires.named.some c.if-count-eq1.false) c.inetd_hall.ensures.serves,
-  λ steady all. tt,
+  several (two_or_more (length c.args.libs.now) _ refl c.requires.named.some c.if-count-eq1.false) c.inetd_hall.ensures.serves.0,
+  c.inetd_hall.ensures.serves.1,
 )
