@@ -275,6 +275,8 @@ def main():
         except (Lost, ValueError, KeyError, IndexError, BrokenPipeError) as lost:
             failed += 1
             print('seed %d: %r' % (seed, lost), flush=True)
+        if (seed - first) % 100 == 99:
+            print('%d histories, %d pushes, %d merges, %d failed' % (seed - first + 1, pushes, merges, failed), flush=True)
     print('%d histories from seed %d, %d pushes, %d merges, %d failed' % (seeds, first, pushes, merges, failed))
     return failed > 0
 

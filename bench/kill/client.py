@@ -5,7 +5,6 @@ it takes it in. After a kill a push has changed nothing in its folder, and a che
 path, and each that is in both; nothing else is there but the spare. The next sync of each ends well, and then both folders are as
 the first one was changed, without a conflict and without a spare.
 """
-import collections
 import os
 import random
 import shutil
@@ -107,7 +106,7 @@ class Person:
         return time.monotonic() - began
 
     def sync_and_kill(self, delay):
-        """Syncs, and kills that after so many seconds. Whether it was still running."""
+        """Syncs, and kills that after so many seconds. Whether it was still at work."""
         process = subprocess.Popen(self.words, stdin=subprocess.DEVNULL, stdout=subprocess.DEVNULL)
         try:
             process.wait(delay)
@@ -115,6 +114,20 @@ class Person:
         except subprocess.TimeoutExpired:
             process.kill()
             return process.wait() < 0
+
+
+class Moments:
+    """Random moments at which to kill: within so many seconds that two in three come before the end, whatever else is running."""
+
+    def __init__(self, chance, seconds):
+        self.chance, self.within, self.killed = chance, seconds, 0
+
+    def next(self):
+        return self.chance.uniform(0, self.within)
+
+    def note(self, was_killed):
+        self.killed += was_killed
+        self.within *= 1.1 if was_killed else 0.8
 
 
 def kill_push(person, delay):
@@ -152,17 +165,20 @@ def main():
     port = Service(server, store).port
     first, second = Person(client, room, "first", port), Person(client, room, "second", port)
     change(chance, first.top)
-    push, checkout = first.sync(), second.sync()
-    killed = collections.Counter()
-    while sum(killed.values()) < count and time.monotonic() < until:
+    push, checkout = Moments(chance, first.sync()), Moments(chance, second.sync())
+    rounds, kills = 0, 0
+    while kills < count and time.monotonic() < until:
         change(chance, first.top)
-        killed["push"] += kill_push(first, chance.uniform(0, push))
+        push.note(kill_push(first, push.next()))
         new = held(first.top)
-        killed["checkout"] += kill_checkout(second, new, chance.uniform(0, checkout))
+        checkout.note(kill_checkout(second, new, checkout.next()))
         if held(second.top) != new or held(first.top) != new:
             raise Odd("the folders differ after their next syncs")
-    print(f"seed {seed}: {sum(killed.values())} kills, {killed['push']} at a push and {killed['checkout']} at a checkout, nothing lost")
-    return sum(killed.values()) < count
+        rounds, kills = rounds + 1, push.killed + checkout.killed
+        if rounds % 20 == 0:
+            print(f"{rounds} rounds, {kills} kills", flush=True)
+    print(f"seed {seed}: {kills} kills, {push.killed} at a push and {checkout.killed} at a checkout, in {rounds} rounds, nothing lost")
+    return kills < count
 
 
 try:
