@@ -21,3 +21,25 @@ one_job() {
         "$LIB" "$SECRET" > conf/seaf.json
     printf '{"base":null,"entries":[],"lib":"%s","version":1}' "$LIB" > "conf/index-$LIB.json"
 }
+
+# download CONF FOLDER [SECRET]: the client of this folder of its own downloads the library that the port serves into an empty folder.
+download() {
+    client download -c "$1" -l "$LIB" -s "http://127.0.0.1:$port" -w "$2" -u me -k "${3-$SECRET}"
+}
+
+# begins CONF FOLDER: a client begins its own folder, and makes the folder that it is to sync.
+begins() {
+    client init -c "$1"
+    client_ended 0 ready
+    mkdir "$2"
+}
+
+# synced LIB HEAD WRITTEN REMOVED CONFLICT: how the last run of the client ended, which synced one job.
+synced() {
+    client_ended 0 "$1 $2 written $3 removed $4 conflict $5"
+}
+
+# head: the commit at which the library of `folder` stands by its state text.
+head_of_folder() {
+    sed 's/.*"head":"\([0-9a-f]*\)".*/\1/' "folder/$LIB/status"
+}

@@ -6,21 +6,23 @@ some_port() {
 }
 
 # listen WORKERS CONNECTIONS LIB..: from here on the program serves the folder `folder` at a port of this machine, which is found free.
-# The row fails where none was opened.
+# It is in $port. The row fails where none was opened.
 listen() {
     tries=0
-    until try_port "$@"; do
+    until port=$(some_port) && listens "$@"; do
         tries=$((tries + 1))
         [ "$tries" -lt 20 ] || fail "no port was opened: $(cat -v port_got port_complaint)"
     done
 }
 
-# try_port WORKERS CONNECTIONS LIB..: the same at one port, which may be another's. It is in $port.
-try_port() {
-    port=$(some_port) workers=$1 connections=$2
+# listens WORKERS CONNECTIONS LIB..: the same at the port $port, which may be another's.
+listens() {
+    workers=$1 connections=$2
     shift 2
     : > port_got
-    timeout -k 5 "$SECONDS_EACH" "$PROGRAM" serve folder "$port" "$workers" "$connections" "$@" < /dev/null > port_got 2> port_complaint &
+    # (the program itself has the number that is written down, and not the `timeout` around it)
+    timeout -k 5 "$SECONDS_EACH" sh -c 'echo "$$" > port_number && exec "$@"' _ \
+        "$PROGRAM" serve folder "$port" "$workers" "$connections" "$@" < /dev/null > port_got 2> port_complaint &
     port_process=$!
     waited=0
     until grep -q '^seaf-server: listening' port_complaint; do
@@ -56,17 +58,28 @@ served() {
     ! grep -qF "$SECRET" port_complaint || fail 'serve: it told the secret'
 }
 
-# not_served FOLDER LINE: the library of this folder isn't served at a port, which is told by this line.
+# killed SIGNAL: the program that serves a port is ended by this signal, TERM or KILL, and printed nothing.
+killed() {
+    kill -s "$1" "$(cat port_number)"
+    case $1 in
+    KILL) served 137 ;;
+    TERM) served 143 ;;
+    esac
+}
+
+# not_served FOLDER LINE [LIB..]: these libraries of this folder, $LIB if left out, aren't served at a port, which is told by this line.
 not_served() {
+    of_folder=$1 why=$2
+    shift 2
     tries=0
     while :; do
-        server serve "$1" "$(some_port)" 1 1 "$LIB" < /dev/null
+        server serve "$of_folder" "$(some_port)" 1 1 "${@:-$LIB}" < /dev/null
         [ "$(cat got)" = 'seaf-server: link fault' ] || break
         tries=$((tries + 1))
         [ "$tries" -lt 20 ] || fail 'no port was opened'
     done
     [ "$status" = 1 ] || fail "serve: status $status"
-    printf '%s\n' "$2" > wanted
+    printf '%s\n' "$why" > wanted
     same serve wanted got
 }
 
@@ -94,4 +107,12 @@ goes() {
 turns_away() {
     timeout -k 5 "$SECONDS_EACH" bash -c 'exec 3<> "/dev/tcp/127.0.0.1/$1" && cat "$2" >&3 && dd bs=1 count=1 <&3' _ "$port" "$1" > first_byte 2> /dev/null || fail 'no client came to the port'
     [ "$(cat first_byte)" = H ] || fail "the port gave no reply: $(cat -v first_byte)"
+}
+
+# over_port: what was asked goes over one connection to that port, which must give the replies in this order, and nothing else. The last
+# request closes.
+over_port() {
+    timeout -k 5 "$SECONDS_EACH" bash -c 'exec 3<> "/dev/tcp/127.0.0.1/$1" && cat "$2" >&3 && cat <&3' _ "$port" asked > got || fail 'no client came to the port'
+    spell
+    same 'the connection to the port' wanted got
 }
