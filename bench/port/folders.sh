@@ -56,10 +56,10 @@ if command -v rsync > /dev/null; then
         rm -rf peer_target && mkdir peer_target
         for what in push 'no change' 'no change' 'no change' 'one changed'; do
             [ "$what" != 'one changed' ] || printf '!' >> peer_source/d10/f00010
-            before=$(children)
+            began=$(children)
             cost "rsyncd $kind: $what" '' rsync -a $kind peer_source/ "rsync://127.0.0.1:$port/m/"
             sleep 0.5
-            echo "$before $(children)" | awk '{ printf "    the daemon %.2f s\n", ($2 - $1) / 100 }'
+            echo "$began $(children)" | awk '{ printf "    the daemon %.2f s\n", ($2 - $1) / 100 }'
         done
     done
 fi
