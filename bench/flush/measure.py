@@ -1,6 +1,6 @@
 """Times the first update after a large upload, and the opening after a kill: measure.py SERVER FOLDER NEW STORED LATER.
 
-Each flush of the stand-in takes FLUSH_MS milliseconds (5). First NEW objects are put into a new library and an update names
+Each flush of the stand-in takes FLUSH_MS milliseconds (5). What has the processor is told of the server alone. First NEW objects are put into a new library and an update names
 them all: how long the puts took, and the update. Then a second library gets STORED objects by one update, and LATER more
 that no update names, and the server is killed: how long the next one takes until it replies.
 """
@@ -52,6 +52,13 @@ def put_all(server, folder, library, tree):
     return connection, name
 
 
+def processor(connection):
+    """For how many seconds a connection's server had the processor so far."""
+    with open(f"/proc/{connection.process.pid}/stat", encoding="ascii") as stat:
+        words = stat.read().rsplit(")", 1)[1].split()
+    return (int(words[11]) + int(words[12])) / os.sysconf("SC_CLK_TCK")
+
+
 def upload(server, folder, library, count):
     """A new library with so many objects, and its connection after the update."""
     status, line = command(server, "create", folder, library, "docs", "me", TOKEN)
@@ -59,9 +66,11 @@ def upload(server, folder, library, count):
         raise Odd(f"create: {status} {line!r}")
     tree = Tree(count)
     (connection, name), put = seconds_of(lambda: put_all(server, folder, library, tree))
+    before = processor(connection)
     _, updated = seconds_of(lambda: connection.update(name))
     held = len(tree.blocks) + len(tree.objects) + 1
-    print(f"{held} new objects: put in {put:.2f} s, the update in {updated:.2f} s, both {put + updated:.2f} s", flush=True)
+    print(f"{held} new objects: put in {put:.2f} s, the update in {updated:.2f} s, both {put + updated:.2f} s; "
+          f"the update had the processor for {processor(connection) - before:.2f} s", flush=True)
     return connection
 
 
@@ -80,10 +89,11 @@ def main(server, folder, new, stored, later):
     connection.kill()
     connection.end()
     connection, took = seconds_of(lambda: opened(server, folder, library))
-    print(f"an opening after a kill, {later} objects after the last text: {took:.2f} s until the first reply")
+    print(f"an opening after a kill, {later} objects after the last text: {took:.2f} s until the first reply, "
+          f"{processor(connection):.2f} s of the processor", flush=True)
     connection.end()
     connection, took = seconds_of(lambda: opened(server, folder, library))
-    print(f"the next opening: {took:.2f} s")
+    print(f"the next opening: {took:.2f} s, {processor(connection):.2f} s of the processor")
     connection.end()
 
 
