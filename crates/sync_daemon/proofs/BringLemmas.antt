@@ -1,7 +1,8 @@
--- What the calls of the second half come to, put together. The key lemmas are stops_by, out_by, knows_by, brings_by, finishes_by and
--- halts_by.
-use Rattle.std.proofs.Common.{◌≡◌, ℕ, Bool, false, IsTrue, ◌↔◌, List, Option, Result, Ok, Err, refl, sym, ap, subst, ◌∙◌, inl, inr, true≢false}
+-- What the calls of the second half come to, put together. The key lemmas are stops_by, out_by, knows_by, brings_by, reaches_by,
+-- halts_by, never_both, both_when, knows_finishes, knows_fails and reaches_finishes.
+use Rattle.std.proofs.Common.{◌≡◌, ℕ, Bool, true, false, IsTrue, ◌↔◌, List, Option, Result, Ok, Err, refl, sym, ap, subst, ◌∙◌, inl, inr, true≢false}
 use Rattle.std.specs.FinMap as fin
+use Rattle.ids.specs.FaultCount.{FailsBy}
 use Rattle.tree_model.specs.Path.{PathV, path_cmp}
 use Rattle.block_chunker.specs.declared.cuts.Cuts.{Cuts}
 use Rattle.commit_objects.specs.declared.commit.Commit.{Commit}
@@ -11,6 +12,7 @@ use Rattle.local_index.specs.declared.index.Index.{Index}
 use Rattle.local_index.specs.declared.index.Known.{Known}
 use Rattle.object_graph.specs.declared.entry.Entry.{Entry}
 use Rattle.remote_calls.specs.Sends.{Sent}
+use Rattle.sync_rules.specs.Causes.{is_folder_fault}
 use Rattle.sync_rules.specs.declared.fault.SyncFault.{SyncFault}
 use Rattle.sync_rules.specs.declared.synced.Synced.{Synced}
 use Rattle.tree_checkout.specs.CheckingOut.{ChecksOut, StopsOut}
@@ -19,7 +21,7 @@ use Rattle.tree_checkout.specs.declared.steps.Write.{Write}
 use Rattle.tree_fetch.specs.Fetching.{FetchesCommit}
 use Rattle.tree_fetch.specs.declared.asker.Asker.{Asker}
 use Rattle.tree_fetch.specs.declared.tree.FetchedTree.{FetchedTree}
-use Rattle.sync_daemon.specs.Bringing.{BringsSo, ChangesNot, ChangesSo, FinishesAs, IsDone, IsReady, KnowsAs, StopsChange, index_of, is_pushed, source_of, tells_conflict, with_owns}
+use Rattle.sync_daemon.specs.Bringing.{BringsSo, ChangesNot, ChangesSo, FinishesAs, IsDone, IsOwnHead, IsReady, KnowsAs, KnowsSo, ReachesAs, StopsChange, index_of, is_pushed, source_of, tells_conflict, with_owns}
 use Rattle.sync_daemon.specs.declared.bringing.Done.{Done}
 use Rattle.sync_daemon.specs.declared.round.Settled.{Settled}
 
@@ -67,13 +69,19 @@ told_of settled conflict done = record {
 pub not_so : {P : Type 0} (b : Bool) → IsTrue b ↔ P → b ≡ false → P → ⊥
 not_so b test none is = true≢false (sym (test.1 is) ∙ none)
 
+-- two things are so, where each has its test
+pub never_both : {P Q : Type 0} (b : Bool) → IsTrue b ↔ P → b ≡ false → IsTrue false ↔ (P × Q)
+never_both b test none = ((λ is. absurd (true≢false (sym is))), (λ both. absurd (not_so b test none both.0)))
+
+pub both_when : {P Q : Type 0} (b : Bool) → IsTrue b ↔ P → b ≡ true → (told : Bool) → IsTrue told ↔ Q → IsTrue told ↔ (P × Q)
+both_when b test holds told right = ((λ is. (test.0 holds, right.0 is)), (λ both. right.1 both.1))
+
 module _ (asker : Asker) (cuts : Cuts) (settled : Settled) (old mid new : List Sent) (told now : Option Contents) (index : Index) (commit : Commit)
     (fetched : FetchesCommit asker old mid settled.head (Ok commit)) (pushed : Bool) (pushed_is : pushed ≡ is_pushed settled.pushed) where
-  pub finishes_by : (done : Done) (conflict : Bool) → conflict ≡ tells_conflict settled.pushed settled.head commit.conflict → (IsDone settled index → ⊥)
+  pub reaches_by : (done : Done) (conflict : Bool) → conflict ≡ tells_conflict settled.pushed settled.head commit.conflict
       → BringsSo asker cuts settled.scan index pushed commit.root mid new told now (Ok done)
-      → FinishesAs asker cuts settled old new told now index (index_of index settled done) (Ok (told_of settled conflict done))
-  finishes_by done conflict conflict_is apart brings = inr (
-    apart,
+      → ReachesAs asker cuts settled old new told now index (index_of index settled done) (Ok (told_of settled conflict done))
+  reaches_by done conflict conflict_is brings = (
     mid,
     commit,
     done,
@@ -84,5 +92,24 @@ module _ (asker : Asker) (cuts : Cuts) (settled : Settled) (old mid new : List S
   )
 
   pub halts_by : (f : SyncFault) → BringsSo asker cuts settled.scan index pushed commit.root mid new told now (Err f)
-      → FinishesAs asker cuts settled old new told now index index (Err f)
+      → ReachesAs asker cuts settled old new told now index index (Err f)
   halts_by f brings = (refl, inr (mid, commit, fetched, subst (λ (b : Bool). BringsSo asker cuts settled.scan index b commit.root mid new told now (Err f)) pushed_is brings))
+
+-- ---- all of the second half
+
+module _ (asker : Asker) (user : List ℕ) (cuts : Cuts) (settled : Settled) (old : List Sent) (told : Option Contents) (index later : Index) where
+  -- the head is the commit that was pushed
+  pub knows_finishes : (result : Result Synced SyncFault) → IsOwnHead settled index → KnowsSo user settled index later result
+      → FinishesAs asker user cuts settled old old told told index later result
+  knows_finishes (Ok s) own knows = inr (inl (own, refl, refl, knows))
+  knows_finishes (Err f) own knows = inl (refl, refl, knows.0, knows.1)
+
+  pub knows_fails : (result : Result Synced SyncFault) (faults : ℕ) → KnowsSo user settled index later result → FailsBy is_folder_fault faults faults result
+  knows_fails (Ok s) faults knows = refl
+  knows_fails (Err f) faults knows = subst (λ (g : SyncFault). FailsBy {T = Synced} is_folder_fault faults faults (Err g)) (sym knows.1) refl
+
+  -- it is another
+  pub reaches_finishes : (new : List Sent) (now : Option Contents) (result : Result Synced SyncFault) → (IsDone settled index → ⊥) → (IsOwnHead settled index → ⊥)
+      → ReachesAs asker cuts settled old new told now index later result → FinishesAs asker user cuts settled old new told now index later result
+  reaches_finishes new now (Ok s) apart other reaches = inr (inr (apart, other, reaches))
+  reaches_finishes new now (Err f) apart other reaches = inr reaches

@@ -1,5 +1,5 @@
 -- A sync whose checkout was done. The key lemma is brought_finishes.
-use Rattle.std.proofs.Common.{◌≡◌, ◌≤◌, ◌+◌, ℕ, Bool, All, List, [], ◌++◌, length, Option, None, Some, is_some, Ok, refl, sym, ap, subst, ◌∙◌, append-nil, inr, arith}
+use Rattle.std.proofs.Common.{◌≡◌, ◌≤◌, ◌+◌, ℕ, Bool, All, List, [], ◌++◌, length, Option, None, Some, is_some, Ok, refl, sym, ap, subst, ◌∙◌, append-nil, inl, inr, arith}
 use Rattle.std.specs.FinMap as fin
 use Rattle.std.proofs.lemmas.List.Elements.{All-append, All-nil}
 use Rattle.ids.specs.Key.{Objects}
@@ -35,7 +35,8 @@ use Rattle.tree_checkout.proofs.CauseLemmas.{all_went, got_fresh}
 use Rattle.tree_checkout.proofs.HadLemmas.{got_had}
 use Rattle.tree_fetch.specs.declared.asker.Asker.{Asker}
 use Rattle.tree_fetch.specs.declared.tree.FetchedTree.{FetchedTree}
-use Rattle.sync_daemon.specs.Bringing.{AreMade, Changes, IsDone, IsPlanned, KnowsAs, index_of, is_pushed, source_of, synced_of, with_owns}
+use Rattle.tree_push.proofs.OfferedContentLemmas.{seen_folder}
+use Rattle.sync_daemon.specs.Bringing.{AreMade, Changes, IsDone, IsOwnHead, IsPlanned, KnowsAs, index_of, is_pushed, source_of, synced_of, with_owns}
 use Rattle.sync_daemon.specs.Finishing.{Finishes}
 use Rattle.sync_daemon.specs.Going.{GoingOver, Sync}
 use Rattle.sync_daemon.specs.Rounds.{sync_of}
@@ -55,7 +56,7 @@ use Rattle.sync_daemon.proofs.SkippedLemmas.{all_skipped}
 use Rattle.sync_daemon.proofs.WrittenLemmas.{AreIn, all_planned}
 
 module _ (asker : Asker) (user : List ℕ) (shows : ℕ → Type 0) (cuts : Cuts) (told : Option Contents) (index : Index) (before : List Sent) (settled : Settled) (commit : Commit)
-    (tree : FetchedTree) (got : HasTree (sync_of asker user shows cuts told index) before settled commit tree) (apart : IsDone settled index → ⊥)
+    (tree : FetchedTree) (got : HasTree (sync_of asker user shows cuts told index) before settled commit tree) (apart : IsDone settled index → ⊥) (other : IsOwnHead settled index → ⊥)
     (plan : Plan) (writes : List Write) (planned : IsPlanned settled.scan index tree.entries (is_pushed settled.pushed) plan) (made : AreMade tree.objects plan.writes writes)
     (old new : List Sent) (now : Option Contents) (done : Done) (changes : Changes asker cuts settled.scan tree.entries plan writes old new told now done) where
   abbrev this : Sync
@@ -187,13 +188,14 @@ module _ (asker : Asker) (user : List ℕ) (shows : ℕ → Type 0) (cuts : Cuts
         is_plan = the_plan;
         done = holds;
         spared = λ none based. absurd (apart (none, based));
+        unfetched = λ same. absurd (other (same, seen_folder objects cuts c index base had_before over_before settled.scan (got.reading.seen c is).formed (got.reading.seen c is).scanned));
         asked = asked_then_written objects commit.root steps before more got.reading.going.unbegun
             (asked_all objects commit.root (source_of asker) plan.doomed writes more root_writes changes.out.got);
-        whole = inr (
+        whole = inr (inl (
           got.whole objects has_before,
           none_blocked objects cuts c settled.scan (got.reading.seen c is).scanned index settled.pushed tree.objects tree.entries (got.kept objects has_before) commit.root are plan writes planned made
               alike,
-        );
+        ));
         sized = sizes_right objects cuts c settled.scan (got.reading.seen c is).scanned index settled.pushed tree.objects tree.entries (got.kept objects has_before) commit.root are plan writes planned
             made alike (changes.out.sized objects has_more);
         removed = changes.removed ∙ sym (removed_count objects plan.doomed writes);
@@ -216,7 +218,7 @@ module _ (asker : Asker) (user : List ℕ) (shows : ℕ → Type 0) (cuts : Cuts
           omega (arith, sum, lates, none, few)),
       ends_named,
     );
-    leaves = (refl, refl, inr knows_head);
+    leaves = (refl, refl, inr (inl knows_head));
     skipped = λ c d first later path is.
         all_skipped tree.objects cuts c settled.scan plan (planned.looks cuts c (got.reading.seen c first).scanned (got.reading.seen c first).within) writes made told now first changes.out.others d
         later path is;

@@ -22,7 +22,7 @@ use Rattle.tree_checkout.specs.declared.steps.Write.{Write}
 use Rattle.tree_checkout.proofs.AskLemmas.{planned_looks, planned_paths}
 use Rattle.tree_fetch.specs.declared.asker.Asker.{Asker}
 use Rattle.tree_fetch.specs.declared.tree.FetchedTree.{FetchedTree}
-use Rattle.sync_daemon.specs.Bringing.{AreMade, BringsSo, ChangesNot, FinishesAs, IsDone, IsPlanned, StopsChange, index_of, is_pushed, synced_of}
+use Rattle.sync_daemon.specs.Bringing.{AreMade, BringsSo, ChangesNot, FinishesAs, IsDone, IsOwnHead, IsPlanned, ReachesAs, StopsChange, index_of, is_pushed, synced_of}
 use Rattle.sync_daemon.specs.Finishing.{Finishes, FinishesSo, SyncsIndex}
 use Rattle.sync_daemon.specs.Going.{Stops, Sync}
 use Rattle.sync_daemon.specs.Rounds.{IsSettled, RoundsSo, sync_of}
@@ -32,6 +32,7 @@ use Rattle.sync_daemon.specs.declared.round.Settled.{Settled}
 use Rattle.sync_daemon.proofs.BroughtLemmas.{brought_finishes}
 use Rattle.sync_daemon.proofs.FinishLemmas.{refused_finishes, spared_finishes}
 use Rattle.sync_daemon.proofs.GotTreeLemmas.{HasCommit, HasTree, commit_got, commit_halts, tree_got, tree_halts}
+use Rattle.sync_daemon.proofs.OwnHeadLemmas.{none_here, own_finishes}
 use Rattle.sync_daemon.proofs.ReadingLemmas.{reading_begins}
 use Rattle.sync_daemon.proofs.CheckoutFaultLemmas.{stops_all}
 use Rattle.sync_daemon.proofs.SkippedLemmas.{keeps_itself}
@@ -100,19 +101,40 @@ module _ (asker : Asker) (user : List ℕ) (shows : ℕ → Type 0) (cuts : Cuts
       let got = tree_got asker user shows cuts told index start first settled commit has old mid tree begun ready.fetched in
       change_stopped got.0 commit tree got.2 plan writes ready.planned ready.made mid new now f got.1 stops
 
-  bring_done : (first : List Sent) (commit : Commit) → HasCommit this first settled commit → (IsDone settled index → ⊥) → (old new : List Sent) (now : Option Contents) (done : Done)
+  bring_done : (first : List Sent) (commit : Commit) → HasCommit this first settled commit → (IsDone settled index → ⊥) → (IsOwnHead settled index → ⊥) → (old new : List Sent) (now : Option Contents) (done : Done)
       → old ≡ start ++ first → BringsSo asker cuts settled.scan index (is_pushed settled.pushed) commit.root old new told now (Ok done)
       → FinishesSo this now (index_of index settled done) start new (Ok (synced_of settled commit done))
-  bring_done first commit has apart old new now done begun (mid, tree, plan, writes, ready, changes) =
+  bring_done first commit has apart other old new now done begun (mid, tree, plan, writes, ready, changes) =
       let got = tree_got asker user shows cuts told index start first settled commit has old mid tree begun ready.fetched in (
         got.0 ++ changes.out.more,
         stop_grown mid new changes.out.more got.0 got.1 changes.out.grown,
-        brought_finishes asker user shows cuts told index got.0 settled commit tree got.2 apart plan writes ready.planned ready.made mid new now done changes,
+        brought_finishes asker user shows cuts told index got.0 settled commit tree got.2 apart other plan writes ready.planned ready.made mid new now done changes,
       )
 
-  -- all of it
+  -- ---- all of it
+
+  -- an order for the head's commit failed, or what came of it did
+  reach_halts : (first old new : List Sent) (now : Option Contents) (later : Index) (f : SyncFault) → IsSettled this first settled → old ≡ start ++ first
+      → ReachesAs asker cuts settled old new told now index later (Err f) → FinishesSo this now later start new (Err f)
+  reach_halts first old new now later f is begun (kept, inl (halts, same)) =
+      subst (λ (x : Index). FinishesSo this now x start new (Err f)) (sym kept)
+      (all_stopped new now f same (commit_halts asker user shows cuts told index start first settled (reading_begins this first settled is) old new f begun halts))
+  reach_halts first old new now later f is begun (kept, inr (mid, commit, fetched, brings)) =
+      let got = commit_got asker user shows cuts told index start first settled (reading_begins this first settled is) old mid commit begun fetched in
+      subst (λ (x : Index). FinishesSo this now x start new (Err f)) (sym kept) (bring_stopped got.0 commit got.2 mid new now f got.1 brings)
+
+  -- the head's commit was got, or an order for it failed
+  reach_all : (first old new : List Sent) (now : Option Contents) (later : Index) (result : Result Synced SyncFault) → IsSettled this first settled → old ≡ start ++ first
+      → (IsDone settled index → ⊥) → (IsOwnHead settled index → ⊥) → ReachesAs asker cuts settled old new told now index later result → FinishesSo this now later start new result
+  reach_all first old new now later (Ok s) is begun apart other (mid, commit, done, fetched, brings, later_is, tells) =
+      let got = commit_got asker user shows cuts told index start first settled (reading_begins this first settled is) old mid commit begun fetched in
+      subst (λ (x : Index). FinishesSo this now x start new (Ok s)) (sym later_is)
+      (subst (λ (x : Synced). FinishesSo this now (index_of index settled done) start new (Ok x)) (sym tells)
+      (bring_done got.0 commit got.2 apart other mid new now done got.1 brings))
+  reach_all first old new now later (Err f) is begun apart other reaches = reach_halts first old new now later f is begun reaches
+
   pub finish_all : (first old new : List Sent) (now : Option Contents) (later : Index) (result : Result Synced SyncFault) → IsSettled this first settled → old ≡ start ++ first
-      → FinishesAs asker cuts settled old new told now index later result → FinishesSo this now later start new result
+      → FinishesAs asker user cuts settled old new told now index later result → FinishesSo this now later start new result
   finish_all first old new now later (Ok s) is begun (inl (done, same, held, kept, tells)) = (
     first,
     same ∙ begun,
@@ -120,17 +142,20 @@ module _ (asker : Asker) (user : List ℕ) (shows : ℕ → Type 0) (cuts : Cuts
         (subst (λ (x : Index). Finishes this told x first (Ok s)) (sym kept)
         (subst (λ (x : Synced). Finishes this told index first (Ok x)) (sym tells) (spared_finishes this first settled is done.0 done.1))),
   )
-  finish_all first old new now later (Ok s) is begun (inr (apart, mid, commit, done, fetched, brings, later_is, tells)) =
-      let got = commit_got asker user shows cuts told index start first settled (reading_begins this first settled is) old mid commit begun fetched in
-      subst (λ (x : Index). FinishesSo this now x start new (Ok s)) (sym later_is)
-      (subst (λ (x : Synced). FinishesSo this now (index_of index settled done) start new (Ok x)) (sym tells)
-      (bring_done got.0 commit got.2 apart mid new now done got.1 brings))
-  finish_all first old new now later (Err f) is begun (kept, inl (halts, same)) =
+  finish_all first old new now later (Ok s) is begun (inr (inl (own, same, held, knows))) = (
+    first,
+    same ∙ begun,
+    subst (λ (x : Option Contents). Finishes this x later first (Ok s)) (sym held)
+        (subst (λ (x : Index). Finishes this told x first (Ok s)) (sym knows.0.2)
+        (subst (λ (x : Synced). Finishes this told (record { lib = index.lib; base = Some settled.head; entries = knows.0.0 }) first (Ok x)) (sym knows.1)
+        (own_finishes this first settled is own.0 own.1 knows.0.0 knows.0.1))),
+  )
+  finish_all first old new now later (Ok s) is begun (inr (inr (apart, other, reaches))) = reach_all first old new now later (Ok s) is begun apart other reaches
+  finish_all first old new now later (Err f) is begun (inl (same, held, kept, none)) =
       subst (λ (x : Index). FinishesSo this now x start new (Err f)) (sym kept)
-      (all_stopped new now f same (commit_halts asker user shows cuts told index start first settled (reading_begins this first settled is) old new f begun halts))
-  finish_all first old new now later (Err f) is begun (kept, inr (mid, commit, fetched, brings)) =
-      let got = commit_got asker user shows cuts told index start first settled (reading_begins this first settled is) old mid commit begun fetched in
-      subst (λ (x : Index). FinishesSo this now x start new (Err f)) (sym kept) (bring_stopped got.0 commit got.2 mid new now f got.1 brings)
+      (subst (λ (g : SyncFault). FinishesSo this now index start new (Err g)) (sym none)
+      (all_stopped new now fault.NoMemory held (first, same ∙ begun, none_here this first settled is)))
+  finish_all first old new now later (Err f) is begun (inr reaches) = reach_halts first old new now later f is begun reaches
 
 -- a sync that its rounds refused
 pub refused_as : (asker : Asker) (user : List ℕ) (shows : ℕ → Type 0) (cuts : Cuts) (told now : Option Contents) (index : Index) (start new : List Sent) (f : SyncFault) → now ≡ told
@@ -145,10 +170,10 @@ refused_as asker user shows cuts told now index start new f same (more, grown, r
 -- one that went on from its rounds
 pub finished_as : (asker : Asker) (user : List ℕ) (shows : ℕ → Type 0) (cuts : Cuts) (told mid now : Option Contents) (index later : Index) (start old new : List Sent) (settled : Settled)
     (result : Result Synced SyncFault) → mid ≡ told → RoundsSo (sync_of asker user shows cuts told index) start old (Ok settled)
-    → FinishesAs asker cuts settled old new mid now index later result → FinishesSo (sync_of asker user shows cuts told index) now later start new result
+    → FinishesAs asker user cuts settled old new mid now index later result → FinishesSo (sync_of asker user shows cuts told index) now later start new result
 finished_as asker user shows cuts told mid now index later start old new settled result same (more, grown, is) brings =
     finish_all asker user shows cuts told index start settled more old new now later result is grown
-    (subst (λ (held : Option Contents). FinishesAs asker cuts settled old new held now index later result) same brings)
+    (subst (λ (held : Option Contents). FinishesAs asker user cuts settled old new held now index later result) same brings)
 
 -- ---- an index without a base
 
@@ -198,7 +223,8 @@ synced_as secret user shows told now i other later j start new result counts lef
     leaves_all more (Err f) same leaves = same
     leaves_all more (Ok s) same (base, lib, inl spared) =
         subst (λ (x : Index). LeavesIndex i x more (Ok s)) (sym same) (base, lib, inl (spared_all i later more s spared))
-    leaves_all more (Ok s) same (base, lib, inr knows) = subst (λ (x : Index). LeavesIndex i x more (Ok s)) (sym same) (base, lib, inr knows)
+    leaves_all more (Ok s) same (base, lib, inr (inl knows)) = subst (λ (x : Index). LeavesIndex i x more (Ok s)) (sym same) (base, lib, inr (inl knows))
+    leaves_all more (Ok s) same (base, lib, inr (inr pushed)) = subst (λ (x : Index). LeavesIndex i x more (Ok s)) (sym same) (base, lib, inr (inr pushed))
 
     over_all : (cuts : Cuts) (c : Contents) (more : List Sent) (r : Result Synced SyncFault) → IsLeftFor i later j r → SyncsSo cuts c now (counted i) later user more shows r
         → SyncsSo cuts c now (counted i) j user more shows r

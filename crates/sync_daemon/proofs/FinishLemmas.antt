@@ -1,21 +1,23 @@
 -- A sync that is refused before the folder is touched, one that comes too late three times, and one that has nothing to do. The key
--- lemmas are refused_finishes, stale_ends and spared_finishes.
-use Rattle.std.proofs.Common.{◌≡◌, ◌≤◌, ◌⊎◌, ℕ, All, List, [], Option, None, Some, is_some, Ok, Err, refl, sym, ap, subst, ◌∙◌, inl, inr, true≢false}
+-- lemmas are refused_finishes, stale_ends, none_contained and spared_finishes.
+use Rattle.std.proofs.Common.{◌≡◌, ◌≤◌, ◌⊎◌, ℕ, Bool, false, All, List, [], Option, None, Some, is_some, Ok, Err, refl, sym, ap, subst, ◌∙◌, inl, inr, true≢false}
+use Rattle.std.specs.FinMap as fin
 use Rattle.std.specs.List.{Contains}
 use Rattle.std.proofs.lemmas.List.Elements.{All-contains, All-nil}
 use Rattle.ids.specs.Key.{Objects}
 use Rattle.ids.specs.declared.key.Key.{Key}
 use Rattle.tree_model.specs.Tree.{Tree}
-use Rattle.folder_side.specs.Folder.{Contents}
+use Rattle.folder_side.specs.Folder.{Contents, at}
+use Rattle.object_graph.specs.Objects.{entry_below}
 use Rattle.remote_calls.specs.Sends.{Sent}
 use Rattle.sync_rules.specs.Causes.{CausedOver}
 use Rattle.sync_rules.specs.OneSync.{HasNotBegun, NeedsNoTree}
-use Rattle.sync_rules.specs.Checkout.{Step}
-use Rattle.sync_rules.specs.Named.{IsHad, keys_asked}
-use Rattle.sync_rules.specs.Offer.{Agrees}
+use Rattle.sync_rules.specs.Checkout.{IsPlan, Step, is_alone}
+use Rattle.sync_rules.specs.Named.{IsHad, asked_head, keys_asked}
+use Rattle.sync_rules.specs.Offer.{Agrees, IsOfferOf}
 use Rattle.sync_rules.specs.Orders.Stage.{Begins}
 use Rattle.sync_rules.specs.Premises.{IsBase, KnowsBase, KnowsRoot, Over}
-use Rattle.sync_rules.specs.Synced.{IsOfWritten, IsStopped, IsSynced}
+use Rattle.sync_rules.specs.Synced.{IsConflict, IsOfWritten, IsStopped, IsSynced}
 use Rattle.sync_rules.specs.declared.fault.SyncFault.{SyncFault}
 use Rattle.sync_rules.specs.declared.fault.SyncFault.TheVariants as fault
 use Rattle.sync_rules.proofs.AgreedLemmas.{agreed_held, agreed_left, agreed_plan}
@@ -71,7 +73,7 @@ stale_ends s more count going (before, sent, last, is, refused) = record {
 
 -- ---- nothing to do
 
-none_contained : {X : Type 0} (x : X) → Contains [] x → ⊥
+pub none_contained : {X : Type 0} (x : X) → Contains [] x → ⊥
 none_contained x there = All-contains (λ y. ⊥) [] x (All-nil (λ y. ⊥)) there
 
 module _ (s : Sync) (more : List Sent) (settled : Settled) (is_settled : IsSettled s more settled) (unpushed : settled.pushed ≡ None) (based : s.index.base ≡ Some settled.head) where
@@ -83,14 +85,14 @@ module _ (s : Sync) (more : List Sent) (settled : Settled) (is_settled : IsSettl
     agrees = is_settled.agrees c told unpushed
 
     synced : (objects : Objects) (base : Tree) → Over objects s.cuts c s.index base (is_settled.going.over c told).had
-        → IsSynced objects s.cuts c c s.index s.index base is_settled.moment s.user more (spared_of settled)
+        → IsSynced objects s.cuts c c s.index s.index base settled.moment s.user more (spared_of settled)
     synced objects base over =
         let had = (is_settled.going.over c told).had in
         let of_base : IsBase objects (Some settled.head) base = subst (λ (o : Option (List ℕ)). IsBase objects o base) based over.base_is in
         let knows : KnowsRoot objects of_base.0.root s.index = subst (λ (o : Option (List ℕ)). KnowsBase objects o s.index) based over.knows of_base.0 of_base.1 in
         record {
-          named = is_settled.named ∙ ap (λ (o : Option (List ℕ)). Some (settled.head, o)) unpushed;
-          pushed = agrees;
+          named = is_settled.named;
+          pushed = subst (λ (o : Option (List ℕ)). IsOfferOf objects s.cuts c s.index settled.moment s.user (asked_head more None) o) (sym unpushed) agrees;
           commit = of_base.0;
           stored = of_base.1;
           is_tree = of_base.2;
@@ -101,13 +103,15 @@ module _ (s : Sync) (more : List Sent) (settled : Settled) (is_settled : IsSettl
           sizes = inl (λ path. refl);
           base = based;
           lib = refl;
-          conflict = refl;
+          conflict = subst (λ (o : Option (List ℕ)). IsConflict o settled.head of_base.0 false) (sym unpushed) refl;
           steps = [];
-          is_plan = agreed_plan objects s.cuts c s.index base had over agrees of_base.0.root knows;
+          is_plan = subst (λ (b : Bool). IsPlan base c (λ path. is_alone s.cuts (at c path) (fin.get s.index.entries path) (entry_below objects path of_base.0.root) b) []) (sym (ap is_some unpushed))
+              (agreed_plan objects s.cuts c s.index base had over agrees of_base.0.root knows);
           done = refl;
           spared = λ none head. asks_none;
+          unfetched = λ same. absurd (true≢false (sym (ap is_some (sym unpushed ∙ same))));
           asked = subst (All (IsOfWritten objects of_base.0.root [])) (sym asks_none) (All-nil (IsOfWritten objects of_base.0.root []));
-          whole = inl (refl, based);
+          whole = inl (unpushed, based);
           sized = λ path bytes there. absurd (none_contained (Step.Wrote path bytes) there);
           removed = refl;
           written = refl;
@@ -121,9 +125,9 @@ module _ (s : Sync) (more : List Sent) (settled : Settled) (is_settled : IsSettl
     ends = (
       is_settled.going.went,
       subst (λ (n : ℕ). n ≤ 2) (sym is_settled.going.lates) is_settled.few,
-      is_settled.named ∙ ap (λ (o : Option (List ℕ)). Some (settled.head, o)) unpushed,
+      is_settled.named,
     );
-    leaves = (based, refl, inl (record { pushed = refl; head = based; none = asks_none; conflict = refl; same = λ path. refl }));
+    leaves = (based, refl, inl (record { pushed = unpushed; head = based; none = asks_none; conflict = refl; same = λ path. refl }));
     skipped = same_skipped s.told;
     over = λ c told.
         let over : GoingOver s c more = is_settled.going.over c told in (
@@ -133,6 +137,6 @@ module _ (s : Sync) (more : List Sent) (settled : Settled) (is_settled : IsSettl
           over.order,
           over.had,
           over.is_had,
-          λ objects base all. (base, is_settled.moment, is_settled.shown, synced c told objects base all),
+          λ objects base all. (base, settled.moment, is_settled.shown, synced c told objects base all),
         );
   }

@@ -1,4 +1,4 @@
--- The tree of a root whose entries were got, and which files of a folder are alike there. The key lemmas are tree_for, is_tree_of and
+-- The tree of a root whose entries were got, and which files of a folder are alike there. The key lemmas are tree_for, is_tree_of, other_way and
 -- alone_alike.
 use Rattle.std.proofs.Common.{◌≡◌, ◌≢◌, ◌&&◌, ℕ, ℤ, Bool, true, false, cond, if◌then◌else◌, List, [], ◌∷◌, map, Option, None, Some, is_some, option_map, option_and_then, refl, sym, ap, subst, ◌∙◌, true≢false}
 use Rattle.std.specs.Prelude.{⊤}
@@ -96,7 +96,7 @@ module _ (objects : Objects) (cuts : Cuts) (c : Contents) (index : Index) (momen
       by false is_not same = same
 
 -- whether ids are one is the same both ways
-other_way : (x y : List ℕ) → bytes_eq x y ≡ false → bytes_eq y x ≡ false
+pub other_way : (x y : List ℕ) → bytes_eq x y ≡ false → bytes_eq y x ≡ false
 other_way x y is = by (bytes_eq y x) refl
   where
     by : (b : Bool) → bytes_eq y x ≡ b → bytes_eq y x ≡ false

@@ -21,6 +21,8 @@ pub mod StepFileLemmas
 pub mod SkippedLemmas
 pub mod StoppedLemmas
 pub mod BroughtLemmas
+pub mod SeenFolderLemmas
+pub mod OwnHeadLemmas
 pub mod FinishAllLemmas
 pub mod TurnsLemmas
 pub mod RoundEndLemmas

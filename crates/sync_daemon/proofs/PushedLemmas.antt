@@ -34,12 +34,13 @@ use Rattle.sync_rules.proofs.OverLemmas.{over_later}
 use Rattle.sync_rules.proofs.WentLemmas.{went_then}
 use Rattle.tree_walk.specs.declared.fault.WalkFault.TheVariants as walk
 use Rattle.tree_fetch.specs.declared.asker.Asker.{Asker}
-use Rattle.tree_push.specs.Pushing.{EndsPush, IsPushFault, OffersOnce, PushesSo, is_change}
+use Rattle.tree_push.specs.Pushing.{EndsPush, HoldsOffer, IsPushFault, OffersOnce, PushesSo, is_change}
 use Rattle.tree_push.specs.declared.standing.Pushed.{Pushed}
 use Rattle.tree_push.specs.declared.standing.Pushed.TheVariants.{Installed, Late}
+use Rattle.tree_push.proofs.HeldOfferLemmas.{held_then}
 use Rattle.sync_daemon.specs.RoundOrder.{AsksSo, IsSoInRound, stage_from}
 use Rattle.sync_daemon.specs.Going.{Going, GoingOver, Refuses, Spares, Sync}
-use Rattle.sync_daemon.specs.Rounds.{EndsLate, IsAskedFor, IsJoined, IsSeen, IsSettled, TellsChange, sync_of}
+use Rattle.sync_daemon.specs.Rounds.{EndsLate, IsAskedFor, IsJoined, IsPushed, IsSeen, IsSettled, TellsChange, sync_of}
 use Rattle.sync_daemon.specs.declared.round.Settled.{Settled}
 use Rattle.sync_daemon.proofs.GoingLemmas.{had_then, late_then}
 use Rattle.sync_daemon.proofs.JoinLemmas.{asked_then, empty_then, head_then, offers_then, orders_then, pushes_then, round_then, some_then, stage_then}
@@ -218,11 +219,12 @@ module _ (asker : Asker) (user : List ℕ) (shows : ℕ → Type 0) (cuts : Cuts
   -- ---- what a round comes to
 
   abbrev pushed_to : List ℕ → List ℕ → Settled
-  pushed_to commit head = record { scan = report; head = head; pushed = Some commit }
+  pushed_to commit head = record { scan = report; head = head; pushed = Some commit; moment = moment }
 
-  pub push_goes : (commit head : List ℕ) → EndsPush more (Ok (Installed commit head)) → IsSettled this (first ++ more) (pushed_to commit head)
+  pub push_goes : (commit head : List ℕ) → EndsPush more (Ok (Installed commit head)) → HoldsOffer (record { lib = asker.lib; secret = asker.secret }) user moment parent index report more commit
+      → IsSettled this (first ++ more) (pushed_to commit head)
   unfolding was had_of
-  push_goes commit head (went, done, order, tag, split, asks, none) =
+  push_goes commit head (went, done, order, tag, split, asks, none) held =
       let sent : Sent = (order, Ok (Plain (reply.Updated head) tag)) in
       let whole : first ++ more ≡ (first ++ done) ++ sent ∷ [] = all_split done sent commit split asks went in
       let ups : All IsUploading done = all_first IsUploading done (sent ∷ []) (subst (All IsUploading) split pushes.uploads) in
@@ -235,8 +237,15 @@ module _ (asker : Asker) (user : List ℕ) (shows : ℕ → Type 0) (cuts : Cuts
         named = ap (λ (sends : List Sent). last_head sends None) whole ∙ head_then None (first ++ done) (sent ∷ [])
             ∙ ap (λ (w : What). head_after w (Ok (Plain (reply.Updated head) tag)) (last_head (first ++ done) None)) asks;
         spares = spares;
-        moment = moment;
         shown = shown;
+        pushed_as = λ id is.
+            let both : Some commit ≡ Some id = is in
+            let one : commit ≡ id = cc in
+            subst (λ (other : List ℕ). IsPushed this (first ++ more) (pushed_to commit head) other) one (record {
+              ends = (first ++ done, sent, whole, asks);
+              parent = parent;
+              offer = held_then (record { lib = asker.lib; secret = asker.secret }) user moment parent index report first more commit held;
+            });
         seen = seen;
         agrees = λ c is none_pushed. absurd (true≢false (ap is_some none_pushed));
         offered = λ c is.

@@ -83,7 +83,7 @@ reading_begins s more settled is = record {
     agrees = λ head named. is.agrees c told (ap pushed_in (sym is.named ∙ named));
     behind = is.behind c told;
   };
-  moment = is.moment;
+  moment = settled.moment;
   shown = is.shown;
   seen = is.seen;
   offered = is.offered;

@@ -57,11 +57,12 @@ module _ (asker : Asker) (user : List ℕ) (shows : ℕ → Type 0) (cuts : Cuts
   grown_to : (more : List Sent) → new ≡ old ++ more → new ≡ start ++ (first ++ more)
   grown_to more grown = grown ∙ ap (λ (sends : List Sent). sends ++ more) begun ∙ append_assoc start first more
 
-  pub round_pushed : (pushed : Pushed) → Pushes (Ok pushed) → RoundSo here start new late (Ok (pushed_round report pushed))
+  pub round_pushed : (pushed : Pushed) → Pushes (Ok pushed) → RoundSo here start new late (Ok (pushed_round report moment pushed))
   round_pushed (Installed commit head) (more, grown, pushes) = (
     first ++ more,
     grown_to more grown,
-    push_goes asker user shows cuts told index start first late report asked joined seen changed parent parent_is moment shown more (Ok (Installed commit head)) pushes commit head pushes.ends,
+    push_goes asker user shows cuts told index start first late report asked joined seen changed parent parent_is moment shown more (Ok (Installed commit head)) pushes commit head pushes.ends
+        pushes.holds,
   )
   round_pushed (Late count) (more, grown, pushes) =
       let went = push_late asker user shows cuts told index start first late report asked joined seen changed parent parent_is moment shown more (Ok (Late count)) pushes count pushes.ends in

@@ -45,13 +45,13 @@ module _ (asker : Asker) (user : List ℕ) (shows : ℕ → Type 0) (cuts : Cuts
 
   -- ---- nothing changed
 
-  abbrev unpushed : List ℕ → Settled
-  unpushed head = record { scan = report; head = head; pushed = None }
+  abbrev unpushed : List ℕ → (moment : ℕ) → Settled
+  unpushed head moment = record { scan = report; head = head; pushed = None; moment = moment }
 
   -- whatever was sent so far, where the head was named last and nothing was pushed
   settled : (more : List Sent) (id : List ℕ) (now : ℕ) → Going this more joined.stage late → shows now → TellsChange report index false → Spares this more → last_head more None ≡ Some (id, None)
       → ((c : Contents) → told ≡ Some c → index.base ≡ None → HasPath c → (before : List Sent) (sent : Sent) → more ≡ before ++ sent ∷ [] → sent.0.what ≡ what.Head None → ⊥)
-      → IsSettled this more (unpushed id)
+      → IsSettled this more (unpushed id now)
   settled more id now going shown same spares named behind = record {
     stage = joined.stage;
     late = late;
@@ -60,8 +60,8 @@ module _ (asker : Asker) (user : List ℕ) (shows : ℕ → Type 0) (cuts : Cuts
     may_get = λ w get. can_ask may joined.stage first joined.may_upload w (no_check w get) (no_upload w get);
     named = named;
     spares = spares;
-    moment = now;
     shown = shown;
+    pushed_as = λ other is. absurd (true≢false (sym (ap is_some is)));
     seen = seen;
     agrees = λ c is none. agrees_of cuts c report (seen c is) index same;
     offered = λ c is.
@@ -80,10 +80,10 @@ module _ (asker : Asker) (user : List ℕ) (shows : ℕ → Type 0) (cuts : Cuts
       no_upload _ get = absurd (true≢false (sym get))
 
   pub same_goes : (old new : List Sent) (head : List ℕ) (now : ℕ) → old ≡ start ++ first → shows now → TellsChange report index false → HeadOf asker asked old new (Ok head)
-      → (more : List Sent) × (new ≡ start ++ more) × IsSettled this more (unpushed head)
+      → (more : List Sent) × (new ≡ start ++ more) × IsSettled this more (unpushed head now)
   same_goes old new head now begun shown same of = by asked joined.asked_for of
     where
-      by : (o : Option (List ℕ)) → IsAskedFor index.base o first → HeadOf asker o old new (Ok head) → (more : List Sent) × (new ≡ start ++ more) × IsSettled this more (unpushed head)
+      by : (o : Option (List ℕ)) → IsAskedFor index.base o first → HeadOf asker o old new (Ok head) → (more : List Sent) × (new ≡ start ++ more) × IsSettled this more (unpushed head now)
       by None (based, unasked) (tag, grown) =
           let last : Sent = head_sent head tag in (
             first ++ last ∷ [],

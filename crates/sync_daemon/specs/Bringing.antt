@@ -1,5 +1,5 @@
--- What the second half of a sync leaves: the head's tree is got, the folder is brought to it, and the index is made anew. Our own. Read
--- FinishesAs, at the end, then Brings and Changes.
+-- What the second half of a sync leaves: the index is made of what was seen, where the head is the commit that was pushed; else the
+-- head's tree is got, and the folder is brought to it. Our own. Read FinishesAs, at the end, then KnowsOffered, BringsSo and Changes.
 use Rattle.std.specs.Prelude.{ℕ, ◌≡◌, ◌⊎◌, ◌&&◌, not, Bool, true, false, List, [], ◌∷◌, length, map, Option, None, Some, option_map, Result, Ok, Err, ⊤}
 use Rattle.std.specs.FinMap as fin
 use Rattle.std.specs.List.{AllByRecursion, IsDistinct, flat_map}
@@ -40,6 +40,7 @@ use Rattle.tree_checkout.specs.declared.planning.Plan.{Plan}
 use Rattle.tree_checkout.specs.declared.steps.Write.{Write}
 use Rattle.tree_checkout.specs.declared.steps.WriteNode.{WriteNode}
 use Rattle.tree_checkout.specs.declared.steps.WriteNode.TheVariants as write
+use Rattle.tree_push.specs.OfferedEntries.{IsSeenFolder, KnownPaths, SeenPaths, offered_entry}
 use Rattle.tree_fetch.specs.Fetching.{FetchesCommit, FetchesTree, IsFetchedCommit, IsFetchedTree}
 use Rattle.tree_fetch.specs.declared.asker.Asker.{Asker}
 use Rattle.tree_fetch.specs.declared.tree.FetchedTree.{FetchedTree}
@@ -163,6 +164,29 @@ BringsSo asker cuts scan index pushed root old new told now (Err f) =
     ⊎ ((mid : List Sent) × (tree : FetchedTree) × (plan : Plan) × (writes : List Write)
     × IsReady asker scan index pushed old mid root tree plan writes × StopsChange asker cuts scan plan writes mid new told now f))
 
+-- ---- the head is the commit that was pushed
+
+-- it is, and what was seen is what stands in a folder, as it is of each folder that tells what it holds
+abbrev pub IsOwnHead : Settled → Index → Type 0
+IsOwnHead settled index = (settled.pushed ≡ Some settled.head) × IsSeenFolder index.entries settled.scan.paths
+
+-- what is known of what was seen and offered: its entry, and the own id with which it was seen
+abbrev pub offered_known : (moment : ℕ) → (user : List ℕ) → Option Known → Seen → Known
+offered_known moment user was s = known_of (seen_own (Some s)) (offered_entry moment user was s)
+
+abbrev pub KnowsOffered : (moment : ℕ) → (user : List ℕ) → KnownPaths → SeenPaths → KnownPaths → Type 0
+KnowsOffered moment user knowns seens entries =
+    (path : PathV) → fin.get entries path ≡ option_map (offered_known moment user (fin.get knowns path)) (fin.get seens path)
+
+-- so an index knows what was offered, with the head as its base
+abbrev pub IsOfferedIndex : (user : List ℕ) → Settled → (index later : Index) → Type 0
+IsOfferedIndex user settled index later = (entries : KnownPaths) × KnowsOffered settled.moment user index.entries settled.scan.paths entries
+    × (later ≡ record { lib = index.lib; base = Some settled.head; entries = entries })
+
+abbrev pub KnowsSo : (user : List ℕ) → Settled → (index later : Index) → Result Synced SyncFault → Type 0
+KnowsSo user settled index later (Ok s) = IsOfferedIndex user settled index later × (s ≡ spared_of settled)
+KnowsSo user settled index later (Err f) = (later ≡ index) × (f ≡ fault.NoMemory)
+
 -- ---- all of the second half
 
 -- nothing is to be done: nothing was pushed, and the head is the base
@@ -192,12 +216,20 @@ synced_of settled commit done = record {
 abbrev pub index_of : Index → Settled → Done → Index
 index_of index settled done = record { lib = index.lib; base = Some settled.head; entries = done.entries }
 
-abbrev pub FinishesAs : Asker → Cuts → Settled → (old new : List Sent) → (told now : Option Contents) → (index later : Index) → Result Synced SyncFault → Type 0
-FinishesAs asker cuts settled old new told now index later (Ok s) =
-    (IsDone settled index × (new ≡ old) × (now ≡ told) × (later ≡ index) × (s ≡ spared_of settled))
-    ⊎ ((IsDone settled index → ⊥) × (mid : List Sent) × (commit : Commit) × (done : Done) × IsFetchedCommit asker old mid settled.head commit
+-- the head's commit and its tree were got, and the folder was brought to it
+abbrev pub ReachesAs : Asker → Cuts → Settled → (old new : List Sent) → (told now : Option Contents) → (index later : Index) → Result Synced SyncFault → Type 0
+ReachesAs asker cuts settled old new told now index later (Ok s) = (mid : List Sent) × (commit : Commit) × (done : Done) × IsFetchedCommit asker old mid settled.head commit
     × BringsSo asker cuts settled.scan index (is_pushed settled.pushed) commit.root mid new told now (Ok done)
-    × (later ≡ index_of index settled done) × (s ≡ synced_of settled commit done))
-FinishesAs asker cuts settled old new told now index later (Err f) = (later ≡ index) × ((FetchesCommit asker old new settled.head (Err f) × (now ≡ told))
+    × (later ≡ index_of index settled done) × (s ≡ synced_of settled commit done)
+ReachesAs asker cuts settled old new told now index later (Err f) = (later ≡ index) × ((FetchesCommit asker old new settled.head (Err f) × (now ≡ told))
     ⊎ ((mid : List Sent) × (commit : Commit) × IsFetchedCommit asker old mid settled.head commit
     × BringsSo asker cuts settled.scan index (is_pushed settled.pushed) commit.root mid new told now (Err f)))
+
+-- nothing is got where nothing is to be done, nor where the head is the commit that was pushed
+abbrev pub FinishesAs : Asker → (user : List ℕ) → Cuts → Settled → (old new : List Sent) → (told now : Option Contents) → (index later : Index) → Result Synced SyncFault → Type 0
+FinishesAs asker user cuts settled old new told now index later (Ok s) =
+    (IsDone settled index × (new ≡ old) × (now ≡ told) × (later ≡ index) × (s ≡ spared_of settled))
+    ⊎ ((IsOwnHead settled index × (new ≡ old) × (now ≡ told) × KnowsSo user settled index later (Ok s))
+    ⊎ ((IsDone settled index → ⊥) × (IsOwnHead settled index → ⊥) × ReachesAs asker cuts settled old new told now index later (Ok s)))
+FinishesAs asker user cuts settled old new told now index later (Err f) =
+    ((new ≡ old) × (now ≡ told) × (later ≡ index) × (f ≡ fault.NoMemory)) ⊎ ReachesAs asker cuts settled old new told now index later (Err f)

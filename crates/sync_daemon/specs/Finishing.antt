@@ -1,5 +1,5 @@
 -- What the whole of a sync comes to, from where its rounds left it. Our own. Read FinishesSo, then SyncsIndex.
-use Rattle.std.specs.Prelude.{ℕ, ◌≡◌, List, ◌++◌, Option, None, Some, Result, [], false}
+use Rattle.std.specs.Prelude.{ℕ, ◌≡◌, List, ◌++◌, Option, Some, Result, [], false}
 use Rattle.block_chunker.specs.declared.cuts.Cuts.{Cuts}
 use Rattle.folder_side.specs.Folder.{Contents}
 use Rattle.local_index.specs.declared.index.Index.{Index}
@@ -31,11 +31,11 @@ abbrev pub SyncsIndex : (secret user : List ℕ) → (shows : ℕ → Type 0) �
 SyncsIndex secret user shows told now i j old new result =
     (cuts : Cuts) × IsUsual cuts × FinishesSo (sync_of (record { lib = i.lib; secret = secret }) user shows cuts told i) now j old new result
 
--- nothing was done, since nothing was pushed and the head is the base
+-- nothing was done to the folder, since nothing was pushed and the head is the base, or since the head is the commit that was pushed
 abbrev pub spared_of : Settled → Synced
 spared_of settled = record {
   head = settled.head;
-  pushed = None;
+  pushed = settled.pushed;
   conflict = false;
   written = 0;
   removed = 0;

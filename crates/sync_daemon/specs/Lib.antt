@@ -6,4 +6,5 @@ pub mod Rounds
 pub mod Syncing
 pub mod Finishing
 pub mod Bringing
+pub mod SeenFolder
 pub mod Turns

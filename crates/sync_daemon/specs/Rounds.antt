@@ -17,7 +17,7 @@ use Rattle.http_front.specs.declared.order.What.{What}
 use Rattle.library_state.specs.declared.refusal.Refusal.TheVariants as refusal
 use Rattle.remote_calls.specs.Sends.{Sent}
 use Rattle.sync_rules.specs.Causes.{DeniesUpload, HasPath, IsRefusedBy}
-use Rattle.sync_rules.specs.Named.{IsHad, asked_head, is_get, keys_lacked, keys_named, keys_put, last_head, last_round}
+use Rattle.sync_rules.specs.Named.{EndsAtUpdate, IsHad, asked_head, is_get, keys_lacked, keys_named, keys_put, last_head, last_round}
 use Rattle.sync_rules.specs.Offer.{Agrees, IsOfferOf}
 use Rattle.sync_rules.specs.Orders.{Stage, may_send}
 use Rattle.sync_rules.specs.Orders.Stage.{Begins, Reads, Uploads}
@@ -26,6 +26,7 @@ use Rattle.sync_rules.specs.Uploads.{IsEmptyHead}
 use Rattle.sync_rules.specs.declared.fault.SyncFault.{SyncFault}
 use Rattle.sync_rules.specs.declared.fault.SyncFault.TheVariants as fault
 use Rattle.tree_fetch.specs.declared.asker.Asker.{Asker}
+use Rattle.tree_push.specs.Pushing.{HoldsOffer}
 use Rattle.tree_push.specs.declared.standing.Pushed.{Pushed}
 use Rattle.tree_push.specs.declared.standing.Pushed.TheVariants as pushed
 use Rattle.sync_daemon.specs.RoundOrder.{IsBehindChecks}
@@ -114,6 +115,12 @@ pub record IsJoined (s : Sync) (more : List Sent) (late : ℕ) (may : Bool) (ask
 
 -- ---- what it comes to
 
+-- what was pushed: the update is the last order, and of which texts the commit is, over every folder
+pub record IsPushed (s : Sync) (more : List Sent) (settled : Settled) (id : List ℕ) : Type 0 where
+  pub ends : EndsAtUpdate more id
+  pub parent : List ℕ
+  pub offer : HoldsOffer (record { lib = s.lib; secret = s.secret }) s.user settled.moment parent s.index settled.scan more id
+
 -- the folder agrees with the index and the head was asked for, or what changed was pushed; what is sent next may ask for objects
 pub record IsSettled (s : Sync) (more : List Sent) (settled : Settled) : Type 0 where
   pub stage : Stage
@@ -123,12 +130,12 @@ pub record IsSettled (s : Sync) (more : List Sent) (settled : Settled) : Type 0 
   pub may_get : (asked : What) → is_get asked ≡ true → may_send stage asked ≡ true
   pub named : last_head more None ≡ Some (settled.head, settled.pushed)
   pub spares : Spares s more
-  pub moment : ℕ
-  pub shown : s.shows moment
+  pub shown : s.shows settled.moment
+  pub pushed_as : (id : List ℕ) → settled.pushed ≡ Some id → IsPushed s more settled id
   pub seen : (c : Contents) → s.told ≡ Some c → IsSeen s.cuts c settled.scan
   pub agrees : (c : Contents) → s.told ≡ Some c → settled.pushed ≡ None → Agrees s.cuts c s.index
   pub offered : (c : Contents) → s.told ≡ Some c → (had : List (Key × List ℕ)) × IsHad more had × ((objects : Objects) (base : Tree) → Over objects s.cuts c s.index base had
-      → IsOfferOf objects s.cuts c s.index moment s.user (asked_head more None) settled.pushed)
+      → IsOfferOf objects s.cuts c s.index settled.moment s.user (asked_head more None) settled.pushed)
   pub behind : (c : Contents) → s.told ≡ Some c → s.index.base ≡ None → HasPath c → (before : List Sent) (sent : Sent) → more ≡ before ++ sent ∷ [] → sent.0.what ≡ what.Head None → ⊥
 
 -- the last order was an update that came too late
@@ -150,6 +157,6 @@ RoundsSo s start now (Ok settled) = (more : List Sent) × (now ≡ start ++ more
 RoundsSo s start now (Err f) = Stops s start now f
 
 -- what a push comes to
-abbrev pub pushed_round : Scan → Pushed → Round
-pushed_round report (pushed.Installed commit head) = round.Settled (record { scan = report; head = head; pushed = Some commit })
-pushed_round report (pushed.Late count) = round.Late count
+abbrev pub pushed_round : Scan → (moment : ℕ) → Pushed → Round
+pushed_round report moment (pushed.Installed commit head) = round.Settled (record { scan = report; head = head; pushed = Some commit; moment = moment })
+pushed_round report moment (pushed.Late count) = round.Late count

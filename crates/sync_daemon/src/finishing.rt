@@ -1,24 +1,79 @@
-//! The second half of a sync: the folder is brought to the head, and the index is made anew.
+//! The second half of a sync: the index is made anew, and before that the folder is brought to a head that isn't the pushed commit.
 ghost use Rattle.std.specs.Prelude.{◌≡◌, ◌↔◌, IsTrue};
 ghost use Rattle.std.specs.Str.{bytes_eq};
 ghost use Rattle.ids.specs.FaultCount.{FailsBy};
 ghost use Rattle.sync_rules.specs.Causes.{is_folder_fault};
-ghost use Rattle.sync_daemon.specs.Bringing.{FinishesAs, IsDone, is_pushed, tells_conflict};
+ghost use Rattle.sync_daemon.specs.Bringing.{FinishesAs, IsDone, KnowsSo, ReachesAs, is_pushed, tells_conflict};
 ghost use Rattle.sync_daemon.specs.Finishing.{spared_of};
 
 use crate::bringing::bring;
+use crate::own_head::{is_own_head, known_offer};
 use crate::round::Settled;
 use block_chunker::Cuts;
 use folder_side::Folder;
-use ids::{Items, ObjId};
+use ids::{Items, ObjId, Text};
 use local_index::Index;
 use remote_calls::Remote;
-use std::alloc::Global;
+use std::alloc::{AllocError, Global};
 use sync_rules::{SyncFault, Synced};
 use tree_fetch::{Asker, fetch_commit};
 
 /// Brings a folder to the head, and makes its index anew. After an error the index is as it was.
+///
+/// Nothing is got of a head that is the commit which was pushed: its tree is what was offered.
 pub(crate) fn finish<F: Folder, R: Remote>(
+    alloc: Global,
+    folder: &mut F,
+    index: &mut Index,
+    remote: &mut R,
+    asker: &Asker,
+    user: &Text,
+    cuts: Cuts,
+    settled: Settled,
+) -> Result<Synced, SyncFault>
+    ensures value { FinishesAs asker.now user.now cuts settled (R.sends remote.old) (R.sends remote.new) (F.told folder.old) (F.told folder.new) index.old index.new result }
+    ensures stays { R.peer remote.new ≡ R.peer remote.old }
+    ensures faults { FailsBy is_folder_fault (F.faults folder.old) (F.faults folder.new) result }
+{
+    if is_done(index, &settled) {
+        return Ok(spared(alloc, settled));
+    }
+    let own = match is_own_head(alloc, index, &settled) {
+        Ok(own) => own,
+        Err(AllocError) => return Err(SyncFault::NoMemory),
+    };
+    if own {
+        return know_offer(alloc, index, user, settled);
+    }
+    reach(alloc, folder, index, remote, asker, cuts, settled)
+}
+
+/// Makes an index of what was seen and offered, with the head as its base.
+fn know_offer(
+    alloc: Global,
+    index: &mut Index,
+    user: &Text,
+    settled: Settled,
+) -> Result<Synced, SyncFault>
+    ensures value { KnowsSo user.now settled index.old index.new result }
+{
+    let entries = match known_offer(
+        alloc,
+        &settled.scan.paths,
+        &index.entries,
+        settled.moment,
+        user,
+    ) {
+        Ok(entries) => entries,
+        Err(AllocError) => return Err(SyncFault::NoMemory),
+    };
+    index.base = Some(settled.head);
+    index.entries = entries;
+    Ok(spared(alloc, settled))
+}
+
+/// Gets the head's commit and its tree, and brings a folder to it.
+fn reach<F: Folder, R: Remote>(
     alloc: Global,
     folder: &mut F,
     index: &mut Index,
@@ -27,13 +82,10 @@ pub(crate) fn finish<F: Folder, R: Remote>(
     cuts: Cuts,
     settled: Settled,
 ) -> Result<Synced, SyncFault>
-    ensures value { FinishesAs asker.now cuts settled (R.sends remote.old) (R.sends remote.new) (F.told folder.old) (F.told folder.new) index.old index.new result }
+    ensures value { ReachesAs asker.now cuts settled (R.sends remote.old) (R.sends remote.new) (F.told folder.old) (F.told folder.new) index.old index.new result }
     ensures stays { R.peer remote.new ≡ R.peer remote.old }
     ensures faults { FailsBy is_folder_fault (F.faults folder.old) (F.faults folder.new) result }
 {
-    if is_done(index, &settled) {
-        return Ok(spared(alloc, settled));
-    }
     let commit = match fetch_commit(alloc, remote, asker, settled.head) {
         Ok(commit) => commit,
         Err(fault) => return Err(fault),
@@ -80,13 +132,13 @@ fn is_done(index: &Index, settled: &Settled) -> bool
     }
 }
 
-/// Nothing was done.
+/// Nothing was done to the folder.
 fn spared(alloc: Global, settled: Settled) -> Synced
     ensures value { result ≡ spared_of settled }
 {
     Synced {
         head: settled.head,
-        pushed: None,
+        pushed: settled.pushed,
         conflict: false,
         written: 0,
         removed: 0,

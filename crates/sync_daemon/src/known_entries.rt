@@ -31,7 +31,8 @@ pub(crate) fn known_entries(
     Ok(known)
 }
 
-fn put(known: &mut PathTable<Known>, path: Path, here: Known) -> Result<(), AllocError>
+/// Puts what is known of an entry.
+pub(crate) fn put(known: &mut PathTable<Known>, path: Path, here: Known) -> Result<(), AllocError>
     ensures ok { OnOk result (known.new ≡ map.insert known.old path here) }
 {
     known.insert(path, here)?;

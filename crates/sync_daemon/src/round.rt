@@ -34,12 +34,13 @@ pub(crate) enum Round {
     Late(u64),
 }
 
-/// What the folder held, and where the library stands now.
+/// What the folder held, and where the library stands now; the moment of the round, at which it was offered where something was pushed.
 #[derive(Drop)]
 pub(crate) struct Settled {
     pub(crate) scan: Scan,
     pub(crate) head: ObjId,
     pub(crate) pushed: Option<ObjId>,
+    pub(crate) moment: u64,
 }
 
 /// How often an update may come too late.
@@ -214,6 +215,7 @@ fn same_round<F: Folder, R: Remote, C: Clock>(
             scan: report,
             head,
             pushed: None,
+            moment,
         })),
         Err(fault) => Err(fault),
     }
@@ -248,20 +250,21 @@ fn changed_round<F: Folder, R: Remote, C: Clock>(
     match push(
         alloc, folder, remote, &library, &report, index, parent, cuts, user, moment,
     ) {
-        Ok(pushed) => Ok(pushed_round(report, pushed)),
+        Ok(pushed) => Ok(pushed_round(report, moment, pushed)),
         Err(fault) => Err(fault),
     }
 }
 
 /// What a round came to in which something was pushed.
-fn pushed_round(report: Scan, pushed: Pushed) -> Round
-    ensures value { result ≡ pushed_round report pushed }
+fn pushed_round(report: Scan, moment: u64, pushed: Pushed) -> Round
+    ensures value { result ≡ pushed_round report moment pushed }
 {
     match pushed {
         Pushed::Installed { commit, head } => Round::Settled(Settled {
             scan: report,
             head,
             pushed: Some(commit),
+            moment,
         }),
         Pushed::Late { now } => Round::Late(now),
     }

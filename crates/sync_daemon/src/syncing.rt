@@ -23,8 +23,9 @@ use tree_fetch::Asker;
 /// What entries such an index has don't count: nothing was synced by them, so nothing is taken for removed.
 /// What changed since the index is pushed as one commit on the base, by this user; all begins anew, from the first check, where a
 /// collection began meanwhile, in three rounds at most. Where nothing changed the head is asked for, unless it was in the round. The
-/// head's tree is got, unless nothing was pushed and it is the index's base. Then the folder is changed, by the steps of a plan:
-/// removals, deepest first, and then directories and files in byte order of path.
+/// head's tree is got, unless nothing was pushed and it is the index's base, or it is the commit that was pushed: of that what was
+/// offered is known. Then the folder is changed, by the steps of a plan: removals, deepest first, and then directories and files in
+/// byte order of path.
 ///
 /// After an error the index is as it was. The folder is as it was, or, once the plan was begun, each path holds its old
 /// contents, the head's, or nothing where the head has nothing or another kind. What is neither a file nor a directory is never
@@ -80,5 +81,5 @@ fn sync_index<F: Folder, R: Remote, C: Clock>(
         Ok(settled) => settled,
         Err(fault) => return Err(fault),
     };
-    finish(alloc, folder, index, remote, &asker, cuts, settled)
+    finish(alloc, folder, index, remote, &asker, user, cuts, settled)
 }

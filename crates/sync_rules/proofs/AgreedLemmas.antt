@@ -1,5 +1,5 @@
--- A folder that agrees with an index holds the tree for which that stands, and nothing is to be done for it. The key lemmas are
--- agreed_at, agreed_left, agreed_plan and agreed_held.
+-- A folder that visibly holds just a tree: nothing is to be done for it. So of one that agrees with an index, and the tree for which that
+-- stands. The key lemmas are alike_left, alike_plan, alike_held, agreed_at, agreed_left, agreed_plan and agreed_held.
 use Rattle.std.proofs.Common.{◌≡◌, ◌&&◌, ℕ, not, Bool, true, false, List, [], ◌∷◌, ◌++◌, if◌then◌else◌, Option, None, Some, option_and_then, refl, sym, ap, ap₂, subst, ◌∙◌, inl, inr}
 use Rattle.std.specs.FinMap as fin
 use Rattle.std.specs.List.{IsDistinct, cons_option, filter_map}
@@ -45,6 +45,87 @@ AreAlike (Some Dir) (Some node.Dir) = Unit {0}
 AreAlike (Some (File bytes)) (Some (node.File file)) = bytes ≡ file.bytes
 AreAlike _ _ = ⊥
 
+-- ---- a folder that visibly holds just a tree
+
+module _ (c : Contents) (t : Tree) (shows : (path : PathV) → AreAlike (at c path) (fin.get t path)) where
+  left_by : (hidden : Bool) (o : Option Holding) (n : Option Node) → AreAlike o n → option_and_then held_of o ≡ with_stuck (is_dir o && hidden) (option_map plain_node n)
+  left_by hidden None None same = refl
+  left_by hidden None (Some n) same = absurd same
+  left_by hidden (Some Other) None same = refl
+  left_by hidden (Some Other) (Some n) same = absurd same
+  left_by hidden (Some Dir) None same = absurd same
+  left_by hidden (Some Dir) (Some node.Dir) same = refl
+  left_by hidden (Some Dir) (Some (node.File file)) same = absurd same
+  left_by hidden (Some (File bytes)) None same = absurd same
+  left_by hidden (Some (File bytes)) (Some node.Dir) same = absurd same
+  left_by hidden (Some (File bytes)) (Some (node.File file)) same = ap (λ (b : List ℕ). Some (PlainFile b)) same
+
+  pub alike_left : HoldsLeft t c c
+  alike_left path = left_by (hides c path) (at c path) (fin.get t path) (shows path)
+
+  -- nothing is to be done
+  spared_by : (stuck : Bool) (o : Option Holding) (n : Option Node) → AreAlike o n → false ≡ (not (keeps n o) && not (is_kept_apart stuck o))
+  spared_by stuck None None same = refl
+  spared_by stuck None (Some n) same = absurd same
+  spared_by stuck (Some Other) None same = refl
+  spared_by stuck (Some Other) (Some n) same = absurd same
+  spared_by stuck (Some Dir) None same = absurd same
+  spared_by stuck (Some Dir) (Some node.Dir) same = refl
+  spared_by stuck (Some Dir) (Some (node.File file)) same = absurd same
+  spared_by stuck (Some (File bytes)) None same = absurd same
+  spared_by stuck (Some (File bytes)) (Some node.Dir) same = absurd same
+  spared_by stuck (Some (File bytes)) (Some (node.File file)) same = refl
+
+  -- where each file is left alone
+  module _ (alone : PathV → Bool) (left_alone : (path : PathV) (bytes : List ℕ) (file : FileVersion) → at c path ≡ Some (File bytes) → fin.get t path ≡ Some (node.File file) → alone path ≡ true) where
+    none_written : (b : Bool) (path : PathV) (o : Option Holding) (n : Node) → AreAlike o (Some n) → ((bytes : List ℕ) (file : FileVersion) → o ≡ Some (File bytes) → n ≡ node.File file → b ≡ true)
+        → write_at b path n o ≡ []
+    none_written b path None n same let_alone = absurd same
+    none_written b path (Some Other) n same let_alone = absurd same
+    none_written b path (Some Dir) node.Dir same let_alone = refl
+    none_written b path (Some Dir) (node.File file) same let_alone = absurd same
+    none_written b path (Some (File bytes)) node.Dir same let_alone = absurd same
+    none_written b path (Some (File bytes)) (node.File file) same let_alone = rw (let_alone bytes file refl refl) refl
+
+    nothing_written : (es : List (PathV × Node)) → ((e : PathV × Node) → In e es → fin.get t e.0 ≡ Some e.1) → writes_of alone c es ≡ []
+    nothing_written [] are = refl
+    nothing_written (e ∷ es) are =
+        ap₂ (λ (x y : List Step). x ++ y)
+        (none_written (alone e.0) e.0 (at c e.0) e.1 (subst (λ (n : Option Node). AreAlike (at c e.0) n) (are e (inl refl)) (shows e.0))
+        (λ bytes file here is. left_alone e.0 bytes file here (are e (inl refl) ∙ ap Some is)))
+        (nothing_written es (λ f there. are f (inr there)))
+
+    pub alike_plan : IsPlan t c alone []
+    unfolding IsDistinct
+    alike_plan = record {
+      doomed = [];
+      is = sym (nothing_written (fin.entries t) (λ e there. fin.get-entries t e.0 ∙ found_of (fin.entries t) e (Rises-entries t) there));
+      deepest = tt;
+      once = tt;
+      all = λ path. spared_by (is_stuck c path) (at c path) (fin.get t path) (shows path);
+      alike = λ path file bytes there here is. sym (subst (λ (n : Option Node). AreAlike (Some (File bytes)) n) there (subst (λ (o : Option Holding). AreAlike o (fin.get t path)) here (shows path)));
+    }
+
+  -- no directory is held beside the tree
+  none_held : (path : PathV) (hidden : Bool) (o : Option Holding) (n : Option Node) → AreAlike o n → (if is_dir o && hidden then lacked n path else None) ≡ None
+  none_held path hidden None None same = refl
+  none_held path hidden None (Some n) same = absurd same
+  none_held path hidden (Some Other) None same = refl
+  none_held path hidden (Some Other) (Some n) same = absurd same
+  none_held path hidden (Some Dir) None same = absurd same
+  none_held path true (Some Dir) (Some n) same = refl
+  none_held path false (Some Dir) (Some n) same = refl
+  none_held path hidden (Some (File bytes)) n same = refl
+
+  held_by : (es : List (PathV × Holding)) → [] ≡ filter_map (lacks t c) es
+  held_by [] = refl
+  held_by (e ∷ es) = held_by es ∙ sym (ap (λ (o : Option PathV). cons_option o (filter_map (lacks t c) es)) (none_held e.0 (hides c e.0) (at c e.0) (fin.get t e.0) (shows e.0)))
+
+  pub alike_held : [] ≡ held_list t c
+  alike_held = held_by (fin.entries c.paths)
+
+-- ---- one that agrees with an index
+
 unchanged : (a b : List ℕ) {X : Type 0} (x : X) → (if not (bytes_eq a b) then Some x else None) ≡ None → a ≡ b
 unchanged a b x is = by (bytes_eq a b) refl is
   where
@@ -80,36 +161,10 @@ module _ (objects : Objects) (cuts : Cuts) (c : Contents) (index : Index) (base 
       agreed_by cuts (at c path) (fin.get index.entries path) (fin.get base path) (agrees path) (over.stands path)
       (λ bytes file here there same. own_alike objects cuts c index base had over path path bytes file here there same)
 
-  -- ---- what the folder holds
-
-  left_by : (hidden : Bool) (o : Option Holding) (n : Option Node) → AreAlike o n → option_and_then held_of o ≡ with_stuck (is_dir o && hidden) (option_map plain_node n)
-  left_by hidden None None alike = refl
-  left_by hidden None (Some n) alike = absurd alike
-  left_by hidden (Some Other) None alike = refl
-  left_by hidden (Some Other) (Some n) alike = absurd alike
-  left_by hidden (Some Dir) None alike = absurd alike
-  left_by hidden (Some Dir) (Some node.Dir) alike = refl
-  left_by hidden (Some Dir) (Some (node.File file)) alike = absurd alike
-  left_by hidden (Some (File bytes)) None alike = absurd alike
-  left_by hidden (Some (File bytes)) (Some node.Dir) alike = absurd alike
-  left_by hidden (Some (File bytes)) (Some (node.File file)) alike = ap (λ (b : List ℕ). Some (PlainFile b)) alike
+  -- ---- what the folder holds, and that nothing is to be done
 
   pub agreed_left : HoldsLeft base c c
-  agreed_left path = left_by (hides c path) (at c path) (fin.get base path) (agreed_at path)
-
-  -- ---- nothing is to be done
-
-  spared_by : (stuck : Bool) (o : Option Holding) (n : Option Node) → AreAlike o n → false ≡ (not (keeps n o) && not (is_kept_apart stuck o))
-  spared_by stuck None None alike = refl
-  spared_by stuck None (Some n) alike = absurd alike
-  spared_by stuck (Some Other) None alike = refl
-  spared_by stuck (Some Other) (Some n) alike = absurd alike
-  spared_by stuck (Some Dir) None alike = absurd alike
-  spared_by stuck (Some Dir) (Some node.Dir) alike = refl
-  spared_by stuck (Some Dir) (Some (node.File file)) alike = absurd alike
-  spared_by stuck (Some (File bytes)) None alike = absurd alike
-  spared_by stuck (Some (File bytes)) (Some node.Dir) alike = absurd alike
-  spared_by stuck (Some (File bytes)) (Some (node.File file)) alike = refl
+  agreed_left = alike_left c base agreed_at
 
   module _ (root : List ℕ) (knows : KnowsRoot objects root index) where
     abbrev left_there : PathV → Bool
@@ -119,54 +174,23 @@ module _ (objects : Objects) (cuts : Cuts) (c : Contents) (index : Index) (base 
     same_known : (own was id its : List ℕ) → was ≡ own → its ≡ id → (if bytes_eq was own then bytes_eq its id else (false && bytes_eq own id)) ≡ true
     same_known own was id its same named = rw ((bytes_eq-Decides was own).1 same, (bytes_eq-Decides its id).1 named) refl
 
-    none_written : (path : PathV) (o : Option Holding) (n : Node) (k : Option Known) (e : Option Entry) → AreAlike o (Some n) → change_of (option_and_then (seen_of cuts) o) k ≡ None → KnowsEntry e k
-        → write_at (is_alone cuts o k e false) path n o ≡ []
-    none_written path None n k e alike same is = absurd alike
-    none_written path (Some Other) n k e alike same is = absurd alike
-    none_written path (Some Dir) node.Dir k e alike same is = refl
-    none_written path (Some Dir) (node.File file) k e alike same is = absurd alike
-    none_written path (Some (File bytes)) node.Dir k e alike same is = absurd alike
-    none_written path (Some (File bytes)) (node.File file) None e alike same is = absurd (cc)
-    none_written path (Some (File bytes)) (node.File file) (Some known.Dir) e alike same is = absurd (cc)
-    none_written path (Some (File bytes)) (node.File file) (Some (known.File its was size mode mtime modifier)) None alike same is = absurd is
-    none_written path (Some (File bytes)) (node.File file) (Some (known.File its was size mode mtime modifier)) (Some entry.Dir) alike same is = absurd is
-    none_written path (Some (File bytes)) (node.File file) (Some (known.File its was size mode mtime modifier)) (Some (entry.File id its_mode its_mtime its_modifier its_size)) alike same is =
-        rw (same_known (own_of cuts bytes) was id its (sym (unchanged (own_of cuts bytes) was _ same)) is.0) refl
-
-    nothing_written : (es : List (PathV × Node)) → ((e : PathV × Node) → In e es → fin.get base e.0 ≡ Some e.1) → writes_of left_there c es ≡ []
-    nothing_written [] are = refl
-    nothing_written (e ∷ es) are =
-        ap₂ (λ (x y : List Step). x ++ y)
-        (none_written e.0 (at c e.0) e.1 (fin.get index.entries e.0) (entry_below objects e.0 root)
-        (subst (λ (n : Option Node). AreAlike (at c e.0) n) (are e (inl refl)) (agreed_at e.0)) (agrees e.0) (knows e.0))
-        (nothing_written es (λ f there. are f (inr there)))
+    let_alone : (o : Option Holding) (n : Option Node) (k : Option Known) (e : Option Entry) (bytes : List ℕ) (file : FileVersion) → o ≡ Some (File bytes) → n ≡ Some (node.File file)
+        → change_of (option_and_then (seen_of cuts) o) k ≡ None → KnowsEntry e k → is_alone cuts o k e false ≡ true
+    let_alone None n k e bytes file here there same is = absurd (cc)
+    let_alone (Some Other) n k e bytes file here there same is = absurd (cc)
+    let_alone (Some Dir) n k e bytes file here there same is = absurd (cc)
+    let_alone (Some (File its)) n None e bytes file here there same is = absurd (cc)
+    let_alone (Some (File its)) n (Some known.Dir) e bytes file here there same is = absurd (cc)
+    let_alone (Some (File its)) n (Some (known.File id was size mode mtime modifier)) None bytes file here there same is = absurd is
+    let_alone (Some (File its)) n (Some (known.File id was size mode mtime modifier)) (Some entry.Dir) bytes file here there same is = absurd is
+    let_alone (Some (File its)) n (Some (known.File id was size mode mtime modifier)) (Some (entry.File of its_mode its_mtime its_modifier its_size)) bytes file here there same is =
+        same_known (own_of cuts its) was of id (sym (unchanged (own_of cuts its) was _ same)) is.0
 
     pub agreed_plan : IsPlan base c left_there []
-    unfolding IsDistinct
-    agreed_plan = record {
-      doomed = [];
-      is = sym (nothing_written (fin.entries base) (λ e there. fin.get-entries base e.0 ∙ found_of (fin.entries base) e (Rises-entries base) there));
-      deepest = tt;
-      once = tt;
-      all = λ path. spared_by (is_stuck c path) (at c path) (fin.get base path) (agreed_at path);
-      alike = λ path file bytes there here is. sym (subst (λ (n : Option Node). AreAlike (Some (File bytes)) n) there (subst (λ (o : Option Holding). AreAlike o (fin.get base path)) here (agreed_at path)));
-    }
-
-  -- ---- no directory is held beside the tree
-
-  none_held : (path : PathV) (hidden : Bool) (o : Option Holding) (n : Option Node) → AreAlike o n → (if is_dir o && hidden then lacked n path else None) ≡ None
-  none_held path hidden None None alike = refl
-  none_held path hidden None (Some n) alike = absurd alike
-  none_held path hidden (Some Other) None alike = refl
-  none_held path hidden (Some Other) (Some n) alike = absurd alike
-  none_held path hidden (Some Dir) None alike = absurd alike
-  none_held path true (Some Dir) (Some n) alike = refl
-  none_held path false (Some Dir) (Some n) alike = refl
-  none_held path hidden (Some (File bytes)) n alike = refl
-
-  held_by : (es : List (PathV × Holding)) → [] ≡ filter_map (lacks base c) es
-  held_by [] = refl
-  held_by (e ∷ es) = held_by es ∙ sym (ap (λ (o : Option PathV). cons_option o (filter_map (lacks base c) es)) (none_held e.0 (hides c e.0) (at c e.0) (fin.get base e.0) (agreed_at e.0)))
+    agreed_plan =
+        alike_plan c base agreed_at left_there
+        (λ path bytes file here there.
+        let_alone (at c path) (fin.get base path) (fin.get index.entries path) (entry_below objects path root) bytes file here there (agrees path) (knows path))
 
   pub agreed_held : [] ≡ held_list base c
-  agreed_held = held_by (fin.entries c.paths)
+  agreed_held = alike_held c base agreed_at

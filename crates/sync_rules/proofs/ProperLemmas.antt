@@ -1,4 +1,4 @@
--- An index that a sync left is one that is read back. The key lemma is left_proper.
+-- An index that a sync left is one that is read back. The key lemmas are all_of, one_of and left_proper.
 use Rattle.std.proofs.Common.{◌≡◌, ◌⊎◌, inl, inr, ℕ, Bool, true, false, if◌then◌else◌, List, [], ◌∷◌, Option, None, Some, Ok, refl, sym, ap, subst, ◌∙◌}
 use Rattle.std.specs.Prelude.{option_and_then, option_map}
 use Rattle.std.specs.List.{list_all}
@@ -23,17 +23,17 @@ use Rattle.local_index.specs.declared.index.Known.{Known}
 use Rattle.local_index.specs.declared.index.Known.TheVariants as known
 use Rattle.remote_calls.specs.Sends.{Sent}
 use Rattle.sync_rules.specs.Named.{HasGot}
-use Rattle.sync_rules.specs.OneSync.{IsSpared, KnowsHead, LeavesIndex}
+use Rattle.sync_rules.specs.OneSync.{IsSpared, KnowsHead, KnowsPushed, LeavesIndex}
 use Rattle.sync_rules.specs.Premises.{KnowsEntry, KnowsRoot}
 use Rattle.sync_rules.specs.declared.synced.Synced.{Synced}
 
 -- ---- each entry stands in a directory
 
-all_of : {A : Type 0} (test : A → Bool) (es : List A) → ((e : A) → In e es → test e ≡ true) → list_all test es ≡ true
+pub all_of : {A : Type 0} (test : A → Bool) (es : List A) → ((e : A) → In e es → test e ≡ true) → list_all test es ≡ true
 all_of test [] each = refl
 all_of test (e ∷ es) each = rw (each e (inl refl)) (all_of test es (λ f there. each f (inr there)))
 
-one_of : {A : Type 0} (test : A → Bool) (es : List A) (e : A) → list_all test es ≡ true → In e es → test e ≡ true
+pub one_of : {A : Type 0} (test : A → Bool) (es : List A) (e : A) → list_all test es ≡ true → In e es → test e ≡ true
 one_of test [] e all there = absurd there
 one_of test (f ∷ es) e all there = by (and_parts (test f) (list_all test es) all) (λ rest more. one_of test es e rest more) there
   where
@@ -158,6 +158,7 @@ same_proper i j base same proper = record {
 pub left_proper : (objects : Objects) (i j : Index) (more : List Sent) (s : Synced) → HasGot objects more → LeavesIndex i j more (Ok s) → IsProper i → IsProper j
 left_proper objects i j more s got (base, lib, how) proper = by how
   where
-    by : IsSpared i j more s ⊎ ((o : Objects) → HasGot o more → KnowsHead o j s) → IsProper j
+    by : IsSpared i j more s ⊎ (((o : Objects) → HasGot o more → KnowsHead o j s) ⊎ KnowsPushed j more s) → IsProper j
     by (inl spared) = same_proper i j (base ∙ sym spared.head) spared.same proper
-    by (inr knows) = knows_proper objects j s base (knows objects got)
+    by (inr (inl knows)) = knows_proper objects j s base (knows objects got)
+    by (inr (inr pushed)) = knows_proper pushed.texts j s base (pushed.knows pushed.texts (record { kept = λ key bytes there. there }))

@@ -91,6 +91,7 @@ module _ (lib secret id : List ℕ) (first later : Tag) where
           is_plan = agreed_plan objects cuts c index base [] over agrees of_base.0.root knows;
           done = refl;
           spared = λ none head. refl;
+          unfetched = λ same. absurd (true≢false (sym (ap is_some same)));
           asked = All-nil (IsOfWritten objects of_base.0.root []);
           whole = inl (refl, is);
           sized = λ path bytes there. absurd (none_contained (Step.Wrote path bytes) there);

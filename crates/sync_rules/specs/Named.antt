@@ -1,5 +1,5 @@
--- What the sends of a sync name, and the bytes that it had for that. Our own. Read has_name and IsHad first, then HasAll and HasGot;
--- last_head is the head that they name, and last_round, at the end, what was sent in one round.
+-- What the sends of a sync name, and the bytes that it had for that. Our own. Read has_name and IsHad first, then HasAll, HasGot and
+-- AreTextsOf; last_head is the head that they name, and last_round, at the end, what was sent in one round.
 use Rattle.std.specs.Prelude.{ℕ, ◌≡◌, Bool, true, false, if◌then◌else◌, All, List, [], ◌∷◌, ◌++◌, Option, None, Some, Ok, is_ok, map, ⊤}
 use Rattle.std.specs.FinMap as fin
 use Rattle.std.specs.List.{Contains, filter_map, flat_map}
@@ -12,6 +12,7 @@ use Rattle.ids.specs.declared.key.Kind.TheVariants as kind
 use Rattle.library_state.specs.declared.call.Op.TheVariants as op
 use Rattle.library_state.specs.declared.reply.Reply.TheVariants as reply
 use Rattle.object_graph.specs.Objects.{commit_in, fs_key}
+use Rattle.object_graph.specs.Traversal.{is_in}
 use Rattle.http_front.specs.declared.order.What.{What}
 use Rattle.http_front.specs.declared.order.What.TheVariants as what
 use Rattle.http_front.specs.declared.outcome.Outcome.TheVariants.{Plain, Packed}
@@ -113,6 +114,10 @@ abbrev pub last_head : List Sent → Option Head → Option Head
 last_head [] before = before
 last_head (sent ∷ more) before = last_head more (head_after sent.0.what sent.1 before)
 
+-- the last order asked the library to stand at this commit: nothing was sent behind it
+abbrev pub EndsAtUpdate : List Sent → (id : List ℕ) → Type 0
+EndsAtUpdate more id = (before : List Sent) × (sent : Sent) × (more ≡ before ++ sent ∷ []) × (sent.0.what ≡ what.Update id)
+
 -- the head that was asked since the last upload check, which begins a round
 abbrev pub asked_after : What → Ending → Option (List ℕ) → Option (List ℕ)
 asked_after (what.Check op.Upload) ending before = None
@@ -128,6 +133,11 @@ asked_head (sent ∷ more) before = asked_head more (asked_after sent.0.what sen
 -- those that are sent or asked about
 abbrev pub keys_named : List Sent → List Key
 keys_named sends = map (λ (named : Named). named.0) (flat_map (λ (sent : Sent). named_by sent.0.what) sends)
+
+-- texts of some of them, each under its own name: what a call had for names that it sent or asked about
+pub record AreTextsOf (sends : List Sent) (texts : Objects) : Type 0 where
+  pub named : (key : Key) (bytes : List ℕ) → fin.get texts key ≡ Some bytes → is_in (keys_named sends) key ≡ true
+  pub own : (key : Key) (bytes : List ℕ) → fin.get texts key ≡ Some bytes → has_name key bytes ≡ true
 
 -- those that are sent
 abbrev pub put_by : What → List Key

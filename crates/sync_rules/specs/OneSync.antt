@@ -9,13 +9,14 @@ use Rattle.tree_model.specs.Tree.{Tree}
 use Rattle.block_chunker.specs.declared.cuts.Cuts.{Cuts}
 use Rattle.commit_objects.specs.declared.commit.Commit.{Commit}
 use Rattle.object_graph.specs.Objects.{commit_at}
+use Rattle.object_graph.specs.Unchanged.{Keeps}
 use Rattle.tree_walk.specs.declared.fault.WalkFault.TheVariants as walk
 use Rattle.folder_side.specs.Folder.{Contents}
 use Rattle.folder_side.specs.ScanReport.{IsWithinLimits}
 use Rattle.local_index.specs.declared.index.Index.{Index}
 use Rattle.remote_calls.specs.Sends.{Sent}
 use Rattle.sync_rules.specs.Causes.{CausedOver, FindsSome, HasPath, WentWell}
-use Rattle.sync_rules.specs.Named.{HasGot, IsHad, gets_tree, is_block, is_check, keys_asked, last_head}
+use Rattle.sync_rules.specs.Named.{AreTextsOf, EndsAtUpdate, HasGot, IsHad, gets_tree, is_block, is_check, keys_asked, last_head}
 use Rattle.sync_rules.specs.Offer.{Agrees}
 use Rattle.sync_rules.specs.Premises.{KnowsRoot, KnowsSizes, Over}
 use Rattle.sync_rules.specs.Synced.{IsConflict, IsStopped, IsSynced, is_early}
@@ -74,10 +75,20 @@ pub record KnowsHead (objects : Objects) (j : Index) (s : Synced) : Type 0 where
   pub knows : KnowsRoot objects commit.root j
   pub sizes : KnowsSizes objects commit.root j
 
--- after a fault the index is as it was; else the head is its base, and it knows the head's tree, over any objects that have what was got
+-- nothing was got of the head, since it is the commit that was pushed: the index knows its tree, over any objects that have the texts that
+-- the call had for what it sent or asked about
+pub record KnowsPushed (j : Index) (more : List Sent) (s : Synced) : Type 0 where
+  pub pushed : s.pushed ≡ Some s.head
+  pub ends : EndsAtUpdate more s.head
+  pub texts : Objects
+  pub are : AreTextsOf more texts
+  pub knows : (objects : Objects) → Keeps texts objects → KnowsHead objects j s
+
+-- after a fault the index is as it was; else the head is its base, and it knows the head's tree, over any objects that have what was got,
+-- or what was sent or asked about where the head is the pushed commit
 abbrev pub LeavesIndex : Index → Index → List Sent → Result Synced SyncFault → Type 0
 LeavesIndex i j more (Ok s) = (j.base ≡ Some s.head) × (j.lib ≡ i.lib)
-    × (IsSpared i j more s ⊎ ((objects : Objects) → HasGot objects more → KnowsHead objects j s))
+    × (IsSpared i j more s ⊎ (((objects : Objects) → HasGot objects more → KnowsHead objects j s) ⊎ KnowsPushed j more s))
 LeavesIndex i j more (Err f) = j ≡ i
 
 -- ---- all of it

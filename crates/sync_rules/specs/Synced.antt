@@ -23,7 +23,7 @@ use Rattle.folder_side.specs.declared.holding.Holding.TheVariants as holding
 use Rattle.local_index.specs.declared.index.Index.{Index}
 use Rattle.remote_calls.specs.Sends.{Sent}
 use Rattle.sync_rules.specs.Checkout.{Front, IsPlan, MayHold, Step, first_blocked, is_alone, run}
-use Rattle.sync_rules.specs.Named.{asked_head, is_block, keys_asked, last_head}
+use Rattle.sync_rules.specs.Named.{EndsAtUpdate, asked_head, is_block, keys_asked, last_head}
 use Rattle.sync_rules.specs.Offer.{IsOfferOf}
 use Rattle.sync_rules.specs.Premises.{KnowsRoot, KnowsSizes, NamesFiles, Stands}
 use Rattle.sync_rules.specs.declared.fault.SyncFault.{SyncFault}
@@ -90,10 +90,13 @@ pub record IsSynced (objects : Objects) (cuts : Cuts) (c d : Contents) (i j : In
   pub steps : List Step
   pub is_plan : IsPlan t c (λ path. is_alone cuts (at c path) (fin.get i.entries path) (entry_below objects path commit.root) (is_some s.pushed)) steps
   pub done : d ≡ run steps c
-  -- nothing is got where nothing was pushed and the head is the base; else the whole tree was, nothing is wrong in it and no path blocked
+  -- nothing is got where nothing was pushed and the head is the base, nor of a head that is the pushed commit itself; else the whole tree
+  -- was, nothing is wrong in it and no path blocked
   pub spared : s.pushed ≡ None → i.base ≡ Some s.head → keys_asked more ≡ []
+  pub unfetched : s.pushed ≡ Some s.head → EndsAtUpdate more s.head
   pub asked : AsksWritten objects commit.root steps more
-  pub whole : ((s.pushed ≡ None) × (i.base ≡ Some s.head)) ⊎ (((walk_root false objects commit.root start).fault ≡ None) × (first_blocked c (fin.entries t) ≡ None))
+  pub whole : ((s.pushed ≡ None) × (i.base ≡ Some s.head))
+      ⊎ ((((walk_root false objects commit.root start).fault ≡ None) × (first_blocked c (fin.entries t) ≡ None)) ⊎ (s.pushed ≡ Some s.head))
   pub sized : (path : PathV) (bytes : List ℕ) → Contains steps (Step.Wrote path bytes) → IsSized objects commit.root path bytes
   pub removed : s.removed ≡ count_of removed_by steps
   pub written : s.written ≡ count_of written_by steps

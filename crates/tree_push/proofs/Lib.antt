@@ -24,4 +24,5 @@ pub mod NamingLemmas
 pub mod NamedKeyLemmas
 pub mod ReachLemmas
 pub mod OfferLemmas
+pub mod HeldOfferLemmas
 pub mod PushEndLemmas

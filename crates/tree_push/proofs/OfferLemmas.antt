@@ -1,5 +1,5 @@
--- A commit at which a library is asked to stand is what the folder offers, over what was named before. The key lemmas are offer_over and
--- offers_once.
+-- A commit at which a library is asked to stand is what the folder offers, over what was named before. The key lemmas are same_holding,
+-- commit_read, offer_over and offers_once.
 use Rattle.std.proofs.Common.{◌≡◌, ℕ, Bool, if◌then◌else◌, List, [], ◌∷◌, ◌++◌, length, Option, None, Some, option_map, Ok, Err, refl, sym, ap, ◌∙◌, subst, append_assoc}
 use Rattle.std.specs.Prelude.{is_ok, option_and_then}
 use Rattle.std.specs.Cmp.Lexicographic.{bytes_decides}
@@ -53,7 +53,7 @@ same_entry cuts moment user None bytes = refl
 same_entry cuts moment user (Some known.Dir) bytes = refl
 same_entry cuts moment user (Some (known.File id own size mode mtime modifier)) bytes = refl
 
-same_holding : (cuts : Cuts) (moment : ℕ) (user : List ℕ) (was : Option Known) (o : Option Holding)
+pub same_holding : (cuts : Cuts) (moment : ℕ) (user : List ℕ) (was : Option Known) (o : Option Holding)
     → option_map (offered_entry moment user was) (option_and_then (seen_of cuts) o) ≡ option_and_then (entry_of_holding cuts moment user was) o
 same_holding cuts moment user was None = refl
 same_holding cuts moment user was (Some Dir) = refl
@@ -84,7 +84,7 @@ module _ (library : Library) (root parent user : List ℕ) (moment : ℕ) (id te
   abbrev commit : Commit
   commit = offered_commit library root parent user moment
 
-  commit_read : commit_in id (Some text) ≡ Ok commit
+  pub commit_read : commit_in id (Some text) ≡ Ok commit
   commit_read =
       ap (of_name id) own.reads
       ∙ ap (λ (b : Bool). if b then Ok commit else Err (Unreadable (commit_key id))) (ap (same_id commit.id) own.named ∙ (bytes_decides commit.id commit.id).1 refl)

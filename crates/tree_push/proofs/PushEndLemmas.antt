@@ -1,5 +1,5 @@
 -- What comes of a push at each of its ways out. The key lemmas are stopped_push and stood_push.
-use Rattle.std.proofs.Common.{◌≡◌, ℕ, List, [], ◌∷◌, ◌++◌, Option, Some, option_map, Result, Ok, Err, ap, ◌∙◌, append_assoc}
+use Rattle.std.proofs.Common.{◌≡◌, ℕ, List, [], ◌∷◌, ◌++◌, Option, Some, option_map, Result, Ok, Err, sym, ap, subst, ◌∙◌, append_assoc}
 use Rattle.std.specs.Prelude.{⊤, IfErr}
 use Rattle.std.specs.FinMap as fin
 use Rattle.ids.specs.Key.{Objects}
@@ -16,13 +16,14 @@ use Rattle.tree_push.specs.Asking.{IsOrderFault}
 use Rattle.tree_push.specs.BlockUpload.{NotChanged}
 use Rattle.tree_push.specs.OfferedEntries.{IsSeenFolder, offered_entry}
 use Rattle.tree_push.specs.OfferedTree.{IsMadeOf}
-use Rattle.tree_push.specs.Pushing.{PushesSo}
+use Rattle.tree_push.specs.Pushing.{HoldsOffer, PushesSo}
 use Rattle.tree_push.specs.Standing.{StandsSo}
 use Rattle.tree_push.specs.Upload.{SeesFolder, UploadsSo, any_key}
 use Rattle.tree_push.specs.Wanted.{AreChangedBlocks, AreOwnNamed, HasFiles}
 use Rattle.tree_push.specs.declared.asking.Library.{Library}
 use Rattle.tree_push.specs.declared.standing.Pushed.{Pushed}
 use Rattle.tree_push.specs.declared.wanted.Wanted.{Wanted}
+use Rattle.tree_push.proofs.HeldOfferLemmas.{holds_offer}
 use Rattle.tree_push.proofs.OfferLemmas.{offers_once}
 use Rattle.tree_push.proofs.PushLemmas.{NoUpdate, no_change_of, no_updates, push_stood, push_stopped}
 use Rattle.tree_push.proofs.RoundLemmas.{ordered_sends}
@@ -56,5 +57,8 @@ module _ (library : Library) (user : List ℕ) (moment : ℕ) (parent : List ℕ
             (λ id text ending last own at c is folder seen.
             offers_once library root parent user moment id text own cuts c index scan folder seen wanted files changed named gives tree lib up.more up.ends.1 ending last
             (all_append NoUpdate up.more (put_of library id text ending ∷ []) (no_updates library up.more are) (put_no_update id text ending, tt)) stood.later at)
+            (λ id text ending last own at.
+            subst (λ (l : List Sent). HoldsOffer library user moment parent index scan (up.more ++ l) id) (sym at)
+            (holds_offer library root parent user moment id text own index scan wanted named gives up.more up.ends.1 ending last))
             (no_change_of result orders),
       )

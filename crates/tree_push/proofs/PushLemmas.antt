@@ -32,7 +32,7 @@ use Rattle.sync_rules.specs.declared.fault.SyncFault.TheVariants as fault
 use Rattle.sync_rules.proofs.WentLemmas.{goes_well, went_then}
 use Rattle.tree_push.specs.Asking.{ArePuts, IsOrderFault, IsSend, Replies, is_put, order_for}
 use Rattle.tree_push.specs.BlockUpload.{IsNoChange, NotChanged}
-use Rattle.tree_push.specs.Pushing.{EndsPush, OffersOnce, PushesSo, is_change}
+use Rattle.tree_push.specs.Pushing.{EndsPush, HoldsOffer, HoldsSo, OffersOnce, PushesSo, is_change}
 use Rattle.tree_push.specs.Standing.{IsOwnCommit, IsStored, offered_commit}
 use Rattle.tree_push.specs.Upload.{SeesFolder, UploadsAll, UploadsSo, any_key}
 use Rattle.tree_push.specs.declared.asking.Library.{Library}
@@ -95,6 +95,7 @@ module _ (library : Library) (user : List ℕ) (moment : ℕ) (parent : List ℕ
     puts = tt;
     rounds = tt;
     ends = (tt, tt, (λ other. All-nil WentWell), refl);
+    holds = tt;
     offers = λ c is folder seen first sent later id at update. absurd (none_split first sent later at);
     no_change = λ c is folder seen within. refl;
   }
@@ -114,6 +115,7 @@ module _ (library : Library) (user : List ℕ) (moment : ℕ) (parent : List ℕ
         puts = up.puts;
         rounds = subst (λ (more : List Sent). GoesInRounds Uploads more) (append-nil up.more) (rounds_first library up.more [] are tt);
         ends = (stops_well library any_key f up.more up.ends, caused_by f up.more last, (λ other. ordered_went f up.more other last), stops_fresh library any_key f up.more up.ends);
+        holds = tt;
         offers = λ c is folder seen first sent later id at update. absurd (none_updates up.more (no_updates library up.more are) first sent later id at update);
         no_change = λ c is folder seen within. no_change f (cause c is seen.paths);
       }
@@ -293,6 +295,19 @@ module _ (library : Library) (user : List ℕ) (moment : ℕ) (parent : List ℕ
                 ∙ fresh_append front (update_of library id last ∷ []) front_fresh (fresh_more (update_of library id last) [] (ends_fresh (what.Update id) last f ends.0) refl),
           )
 
+    -- ---- at what it stands
+
+    holds_by : (sends : List Sent) (id : List ℕ) (last : Ending) (result : Result Pushed SyncFault) → EndsUpdate library id last result
+        → HoldsOffer library user moment parent index scan sends id → HoldsSo library user moment parent index scan sends result
+    holds_by sends id last (Ok (Installed commit head)) (told, tells, is) holds = subst (HoldsOffer library user moment parent index scan sends) (sym is.0) holds
+    holds_by sends id last (Ok (Late now)) ends holds = tt
+    holds_by sends id last (Err f) ends holds = tt
+
+    holds_none : (sends : List Sent) (id text : List ℕ) (ending : Ending) (result : Result Pushed SyncFault) → EndsPut library id text ending result
+        → HoldsSo library user moment parent index scan sends result
+    holds_none sends id text ending (Ok pushed) ends = absurd ends
+    holds_none sends id text ending (Err f) ends = tt
+
     -- ---- all of it
 
     abbrev IsNotChanged : Result Pushed SyncFault → Type 0
@@ -301,8 +316,10 @@ module _ (library : Library) (user : List ℕ) (moment : ℕ) (parent : List ℕ
     pub push_stood : (root : List ℕ) (later : List Sent) (result : Result Pushed SyncFault) → StandsBy library root parent user moment later result
         → ((id text : List ℕ) (ending last : Ending) → IsOwnCommit library root parent user moment id text → later ≡ put_of library id text ending ∷ update_of library id last ∷ []
         → (c : Contents) → told ≡ Some c → IsFolder c → IsScan cuts c scan → OffersOnce cuts c index user moment parent (more ++ later))
+        → ((id text : List ℕ) (ending last : Ending) → IsOwnCommit library root parent user moment id text → later ≡ put_of library id text ending ∷ update_of library id last ∷ []
+        → HoldsOffer library user moment parent index scan (more ++ later) id)
         → IsNotChanged result → PushesSo library user moment parent told cuts index scan (more ++ later) result
-    push_stood root later result (inl none) offers quiet =
+    push_stood root later result (inl none) offers held quiet =
         subst (λ (l : List Sent). PushesSo library user moment parent told cuts index scan (more ++ l) result) (sym none.0)
         (subst (λ (l : List Sent). PushesSo library user moment parent told cuts index scan l result) (sym (append-nil more))
         (subst (λ (r : Result Pushed SyncFault). PushesSo library user moment parent told cuts index scan more r) (sym none.1) (record {
@@ -313,10 +330,11 @@ module _ (library : Library) (user : List ℕ) (moment : ℕ) (parent : List ℕ
           puts = lacks;
           rounds = subst (λ (l : List Sent). GoesInRounds Uploads l) (append-nil more) (rounds_first library more [] are tt);
           ends = (goes_well more well, tt, (λ other. absurd (true≢false other)), sends_fresh library any_key more went);
+          holds = tt;
           offers = λ c is folder seen first sent after id at update. absurd (none_updates more (no_updates library more are) first sent after id at update);
           no_change = λ c is folder seen within. refl;
         })))
-    push_stood root later result (inr (inl only)) offers quiet =
+    push_stood root later result (inr (inl only)) offers held quiet =
         let put = put_of library only.id only.text only.ending in
         subst (λ (l : List Sent). PushesSo library user moment parent told cuts index scan (more ++ l) result) (sym only.is) (record {
           asks = All-append (IsSyncOrder library.lib library.secret) more (put ∷ []) (asks_all library more are)
@@ -327,6 +345,7 @@ module _ (library : Library) (user : List ℕ) (moment : ℕ) (parent : List ℕ
           puts = lacked_then library [] more (put ∷ []) are lacks (puts_put more only.id only.text only.ending [] tt);
           rounds = rounds_first library more (put ∷ []) are (refl, tt);
           ends = ends_put only.id only.text only.ending result only.ends;
+          holds = holds_none (more ++ put ∷ []) only.id only.text only.ending result only.ends;
           offers = λ c is folder seen first sent after id at update.
               absurd (none_updates (more ++ put ∷ []) (no_updates_put only.id only.text only.ending) first sent after id at update);
           no_change = λ c is folder seen within. quiet;
@@ -335,7 +354,7 @@ module _ (library : Library) (user : List ℕ) (moment : ℕ) (parent : List ℕ
         no_updates_put : (id text : List ℕ) (ending : Ending) → AllByRecursion NoUpdate (more ++ put_of library id text ending ∷ [])
         no_updates_put id text ending =
             all_append NoUpdate more (put_of library id text ending ∷ []) (no_updates library more are) ((λ other is. absurd (cc)), tt)
-    push_stood root later result (inr (inr both)) offers quiet =
+    push_stood root later result (inr (inr both)) offers held quiet =
         let put = put_of library both.id both.text both.ending in
         let update = update_of library both.id both.last in
         record {
@@ -353,6 +372,7 @@ module _ (library : Library) (user : List ℕ) (moment : ℕ) (parent : List ℕ
               (lacked_then library [] more (put ∷ update ∷ []) are lacks (puts_both both.id both.text both.ending both.last));
           rounds = subst (λ (l : List Sent). GoesInRounds Uploads (more ++ l)) (sym both.is) (rounds_first library more (put ∷ update ∷ []) are (refl, (refl, tt)));
           ends = subst (λ (l : List Sent). EndsPush (more ++ l) result) (sym both.is) (ends_update both.id both.text both.ending both.last both.told both.replied both.stored result both.ends);
+          holds = holds_by (more ++ later) both.id both.last result both.ends (held both.id both.text both.ending both.last both.own both.is);
           offers = λ c is folder seen. offers both.id both.text both.ending both.last both.own both.is c is folder seen;
           no_change = λ c is folder seen within. quiet;
         }

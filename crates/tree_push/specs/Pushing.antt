@@ -1,13 +1,17 @@
--- What the push of one round sends, and what comes of it. Our own. Read PushesSo, at the end.
-use Rattle.std.specs.Prelude.{ℕ, ◌≡◌, Bool, true, false, All, List, [], ◌∷◌, ◌++◌, Option, None, Some, Result, Ok, Err, IfErr, ⊤}
+-- What the push of one round sends, and what comes of it. Our own. Read PushesSo, at the end, then OffersOnce and HoldsOffer.
+use Rattle.std.specs.Prelude.{ℕ, ◌≡◌, Bool, true, false, All, List, [], ◌∷◌, ◌++◌, Option, None, Some, option_map, Result, Ok, Err, IfErr, ⊤}
+use Rattle.std.specs.FinMap as fin
 use Rattle.ids.specs.Key.{Objects}
 use Rattle.ids.specs.declared.key.Key.{Key}
+use Rattle.tree_model.specs.Path.{PathV}
 use Rattle.tree_model.specs.Tree.{Tree}
 use Rattle.block_chunker.specs.declared.cuts.Cuts.{Cuts}
 use Rattle.folder_side.specs.Folder.{Contents, IsFolder}
 use Rattle.folder_side.specs.ScanReport.{IsScan, IsWithinLimits}
 use Rattle.folder_side.specs.declared.scan_report.Scan.{Scan}
 use Rattle.local_index.specs.declared.index.Index.{Index}
+use Rattle.object_graph.specs.Objects.{commit_key, entry_below}
+use Rattle.object_graph.specs.Unchanged.{Keeps}
 use Rattle.http_front.specs.declared.order.Order.{Order}
 use Rattle.http_front.specs.declared.order.What.TheVariants as what
 use Rattle.http_front.specs.declared.outcome.Outcome.TheVariants.{Plain}
@@ -16,7 +20,7 @@ use Rattle.library_state.specs.declared.reply.Reply.TheVariants as reply
 use Rattle.library_state.specs.declared.tag.Tag.{Tag}
 use Rattle.remote_calls.specs.Sends.{Ending, Sent}
 use Rattle.sync_rules.specs.Causes.{CausedBy, GoesWell, IsRefusedBy, WentWell, is_of_order, stale_count}
-use Rattle.sync_rules.specs.Named.{IsHad, is_upload}
+use Rattle.sync_rules.specs.Named.{AreTextsOf, IsHad, is_upload}
 use Rattle.sync_rules.specs.Offer.{IsOffer}
 use Rattle.sync_rules.specs.Orders.{GoesInRounds, IsSyncOrder, MadeSo, PutsLacked}
 use Rattle.sync_rules.specs.Orders.Stage.{Uploads}
@@ -24,6 +28,8 @@ use Rattle.sync_rules.specs.Premises.{Over}
 use Rattle.sync_rules.specs.Uploads.{IsUploadOf}
 use Rattle.sync_rules.specs.declared.fault.SyncFault.{SyncFault}
 use Rattle.sync_rules.specs.declared.fault.SyncFault.TheVariants as fault
+use Rattle.tree_push.specs.OfferedEntries.{IsSeenFolder, offered_entry}
+use Rattle.tree_push.specs.Standing.{IsOwnCommit}
 use Rattle.tree_push.specs.declared.asking.Library.{Library}
 use Rattle.tree_push.specs.declared.standing.Pushed.{Pushed}
 use Rattle.tree_push.specs.declared.standing.Pushed.TheVariants.{Installed, Late}
@@ -52,6 +58,23 @@ OffersOnce cuts c index user moment parent more = (first : List Sent) (sent : Se
     → (had : List (Key × List ℕ)) × IsHad first had × ((objects : Objects) (base : Tree) → Over objects cuts c index base had
     → IsOffer objects cuts c index moment user (Some parent) id × IsUploadOf objects index first id)
 
+-- of which texts the commit is at which a library stands, over every folder: its own was sent, the others were asked about, and over any
+-- objects that have them just those entries stand below its root that are offered, where what was seen is what stands in a folder
+pub record HoldsOffer (library : Library) (user : List ℕ) (moment : ℕ) (parent : List ℕ) (index : Index) (scan : Scan) (more : List Sent) (id : List ℕ) : Type 0 where
+  pub root : List ℕ
+  pub text : List ℕ
+  pub own : IsOwnCommit library root parent user moment id text
+  pub texts : Objects
+  pub are : AreTextsOf more texts
+  pub commit : fin.get texts (commit_key id) ≡ Some text
+  pub holds : IsSeenFolder index.entries scan.paths → (objects : Objects) → Keeps texts objects → (path : PathV)
+      → entry_below objects path root ≡ option_map (offered_entry moment user (fin.get index.entries path)) (fin.get scan.paths path)
+
+abbrev pub HoldsSo : Library → (user : List ℕ) → (moment : ℕ) → (parent : List ℕ) → Index → Scan → List Sent → Result Pushed SyncFault → Type 0
+HoldsSo library user moment parent index scan more (Ok (Installed commit head)) = HoldsOffer library user moment parent index scan more commit
+HoldsSo library user moment parent index scan more (Ok (Late now)) = ⊤
+HoldsSo library user moment parent index scan more (Err f) = ⊤
+
 pub record PushesSo (library : Library) (user : List ℕ) (moment : ℕ) (parent : List ℕ) (told : Option Contents) (cuts : Cuts) (index : Index) (scan : Scan) (more : List Sent)
     (result : Result Pushed SyncFault) : Type 0 where
   pub asks : All (IsSyncOrder library.lib library.secret) more
@@ -60,5 +83,6 @@ pub record PushesSo (library : Library) (user : List ℕ) (moment : ℕ) (parent
   pub puts : PutsLacked [] more
   pub rounds : GoesInRounds Uploads more
   pub ends : EndsPush more result
+  pub holds : HoldsSo library user moment parent index scan more result
   pub offers : (c : Contents) → told ≡ Some c → IsFolder c → IsScan cuts c scan → OffersOnce cuts c index user moment parent more
   pub no_change : (c : Contents) → told ≡ Some c → IsFolder c → IsScan cuts c scan → IsWithinLimits c → IfErr result (λ f. is_change f ≡ false)

@@ -21,6 +21,7 @@ mod wanted;
 pub use asking::Library;
 pub use block_upload::put_blocks;
 pub use lacking::{ask_lacking, ids_of};
+pub use offered_entries::file_entry;
 pub use offered_objects::offered_tree;
 pub use offering::{Offered, offer};
 pub use pushing::push;

@@ -62,8 +62,9 @@ fn offered_entry(
     }
 }
 
-/// The entry of a file of this own id and size.
-fn file_entry(
+/// The entry that is offered of a file of this own id and size: as it is known, where its own id is, and else with the mode that is known,
+/// the moment and the user.
+pub fn file_entry(
     alloc: Global,
     was: Option<&Known>,
     own: ObjId,

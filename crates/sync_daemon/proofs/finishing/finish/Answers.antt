@@ -1,22 +1,26 @@
--- Nothing to do, or the commit is got and the folder brought to it.
+-- Nothing to do; the head is the commit that was pushed; or it is another.
 use Rattle.std.proofs.Common.{inl, refl}
-use Rattle.sync_daemon.proofs.BringLemmas.{finishes_by, halts_by, not_so}
+use Rattle.sync_daemon.proofs.BringLemmas.{knows_fails, knows_finishes, not_so, reaches_finishes}
 use Rattle.sync_daemon.proofs.finishing.finish.Goals as goal
 
 pub returns-then-is_done-clause-value : goal.returns-then-is_done-clause-value
 returns-then-is_done-clause-value g c = inl (c.is_done.ensures.value.0 c.if-is_done.true, refl, refl, refl, c.spared.ensures.value)
 
 pub returns-in-Err-clause-value : goal.returns-in-Err-clause-value
-returns-in-Err-clause-value g c = (refl, inl (c.in-Err.ensures.value, refl))
+returns-in-Err-clause-value g c = inl (refl, refl, refl, refl)
 
-pub returns-in-Err-bring-clause-value : goal.returns-in-Err-bring-clause-value
-returns-in-Err-bring-clause-value g c =
-    halts_by c.args.asker.now c.args.cuts c.args.settled (g.R.Remote.sends c.args.remote.now) (g.R.Remote.sends c.fetch_commit.new.remote) (g.R.Remote.sends c.bring.new.remote)
-    (g.F.Folder.told c.args.folder.now) (g.F.Folder.told c.bring.new.folder) c.args.index.now c.in-Ok.commit c.in-Ok.ensures.value c.is_pushed-pushed.result c.is_pushed-pushed.ensures.value c.in-Err-bring.fault
-    c.in-Err-bring.ensures.value
+pub returns-then-own-clause-value : goal.returns-then-own-clause-value
+returns-then-own-clause-value g c =
+    knows_finishes c.args.asker.now c.args.user.now c.args.cuts c.args.settled (g.R.Remote.sends c.args.remote.now) (g.F.Folder.told c.args.folder.now) c.args.index.now c.know_offer.new.index
+    c.know_offer.result (c.in-Ok.ensures.value.0 c.if-own.true) c.know_offer.ensures.value
+
+pub returns-then-own-clause-faults : goal.returns-then-own-clause-faults
+returns-then-own-clause-faults g c =
+    knows_fails c.args.asker.now c.args.user.now c.args.cuts c.args.settled (g.R.Remote.sends c.args.remote.now) (g.F.Folder.told c.args.folder.now) c.args.index.now c.know_offer.new.index
+    c.know_offer.result (g.F.Folder.faults c.args.folder.now) c.know_offer.ensures.value
 
 pub returns-clause-value : goal.returns-clause-value
 returns-clause-value g c =
-    finishes_by c.args.asker.now c.args.cuts c.args.settled (g.R.Remote.sends c.args.remote.now) (g.R.Remote.sends c.fetch_commit.new.remote) (g.R.Remote.sends c.bring.new.remote)
-    (g.F.Folder.told c.args.folder.now) (g.F.Folder.told c.bring.new.folder) c.args.index.now c.in-Ok.commit c.in-Ok.ensures.value c.is_pushed-pushed.result c.is_pushed-pushed.ensures.value c.in-Ok-bring.done
-    c.tells_conflict-conflict.result c.tells_conflict-conflict.ensures.value (not_so c.is_done.result c.is_done.ensures.value c.if-is_done.false) c.in-Ok-bring.ensures.value
+    reaches_finishes c.args.asker.now c.args.user.now c.args.cuts c.args.settled (g.R.Remote.sends c.args.remote.now) (g.F.Folder.told c.args.folder.now) c.args.index.now c.reach.new.index
+    (g.R.Remote.sends c.reach.new.remote) (g.F.Folder.told c.reach.new.folder) c.reach.result (not_so c.is_done.result c.is_done.ensures.value c.if-is_done.false)
+    (not_so c.in-Ok.own c.in-Ok.ensures.value c.if-own.false) c.reach.ensures.value
