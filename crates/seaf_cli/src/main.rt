@@ -5,10 +5,12 @@
 
 mod own_folder;
 mod progress;
+mod shown_dial;
 mod shown_folder;
 mod system_desk;
 
 use crate::own_folder::own_folder;
+use crate::progress::Progress;
 use crate::system_desk::SystemDesk;
 use client_commands::cli;
 use http_front::Sink;
@@ -43,6 +45,7 @@ fn run_over<
         Ok(own) => own,
         Err(_) => return 3,
     };
-    let mut desk = SystemDesk::new(rt, own, err);
+    let progress = Progress::new(rt, rt.alloc(), err);
+    let mut desk = SystemDesk::new(rt, own, &progress);
     cli(rt, rt.alloc(), words, &mut desk, clock, out)
 }

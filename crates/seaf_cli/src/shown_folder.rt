@@ -7,51 +7,60 @@ use std::alloc::Global;
 use std::time::Clock;
 use tree_model::Path;
 
-/// A folder, with a line that shows what is done in it. All else is the folder's own.
+/// A folder, with a line that shows what is done in it, unless nothing is to be shown. All else is the folder's own.
 #[derive(Drop)]
-pub struct ShownFolder<F, R> {
+pub struct ShownFolder<'a, F, R> {
     folder: F,
-    progress: Progress<R>,
-    files: u64,
-    bytes: u64,
-    written: u64,
-    removed: u64,
+    progress: Option<&'a Progress<R>>,
 }
 
-impl<F, R: Clock + Drop> ShownFolder<F, R> {
-    /// This folder, of which nothing was shown yet.
-    pub fn new(folder: F, progress: Progress<R>) -> ShownFolder<F, R>
+impl<'a, F, R: Clock> ShownFolder<'a, F, R> {
+    /// This folder, with a line that is shared.
+    pub fn new(folder: F, progress: Option<&'a Progress<R>>) -> ShownFolder<'a, F, R>
         ensures value { result.folder ≡ folder }
     {
-        ShownFolder {
-            folder,
-            progress,
-            files: 0,
-            bytes: 0,
-            written: 0,
-            removed: 0,
-        }
+        ShownFolder { folder, progress }
     }
 
     /// The folder itself. The line is taken away.
     pub fn into_folder(self) -> F
-        ensures value { result ≡ self.folder }
+        ensures value { result ≡ self.entry.folder }
     {
-        let ShownFolder {
-            folder,
-            progress,
-            files: _,
-            bytes: _,
-            written: _,
-            removed: _,
-        } = self;
-        let mut progress = progress;
-        progress.clear();
+        let ShownFolder { folder, progress } = self;
+        if let Some(progress) = progress {
+            progress.end();
+        }
         folder
     }
 }
 
-impl<F: Folder, R: Clock> Folder for ShownFolder<F, R> {
+/// Notes that so many bytes of a file were read, the first of them or later ones.
+fn note_read<R: Clock>(progress: Option<&Progress<R>>, is_first: bool, count: usize) {
+    let Some(progress) = progress else {
+        return;
+    };
+    let done = progress.done();
+    progress.note(Done {
+        files: done.files.saturating_add(u64::from(is_first)),
+        bytes: done.bytes.saturating_add(count as u64),
+        ..done
+    });
+}
+
+/// Notes that so many files were written, and so many paths removed.
+fn note_change<R: Clock>(progress: Option<&Progress<R>>, written: u64, removed: u64) {
+    let Some(progress) = progress else {
+        return;
+    };
+    let done = progress.done();
+    progress.note(Done {
+        written: done.written.saturating_add(written),
+        removed: done.removed.saturating_add(removed),
+        ..done
+    });
+}
+
+impl<F: Folder, R: Clock> Folder for ShownFolder<'_, F, R> {
     ghost told = { λ shown. F.told shown.folder };
 
     ghost spare = { λ shown. F.spare shown.folder };
@@ -65,12 +74,7 @@ impl<F: Folder, R: Clock> Folder for ShownFolder<F, R> {
     fn read(&mut self, file: &Path, place: u64, into: &mut [u8]) -> Result<usize, FolderFault> {
         let read = self.folder.read(file, place, into);
         if let Ok(count) = &read {
-            self.files = self.files.saturating_add(u64::from(place == 0));
-            self.bytes = self.bytes.saturating_add(*count as u64);
-            self.progress.show(Done::Read {
-                files: self.files,
-                bytes: self.bytes,
-            });
+            note_read(self.progress, place == 0, *count);
         }
         read
     }
@@ -85,11 +89,7 @@ impl<F: Folder, R: Clock> Folder for ShownFolder<F, R> {
 
     fn spare_move(&mut self, file: &Path) -> Result<(), FolderFault> {
         let moved = self.folder.spare_move(file);
-        self.written = self.written.saturating_add(1);
-        self.progress.show(Done::Changed {
-            written: self.written,
-            removed: self.removed,
-        });
+        note_change(self.progress, u64::from(moved.is_ok()), 0);
         moved
     }
 
@@ -99,11 +99,7 @@ impl<F: Folder, R: Clock> Folder for ShownFolder<F, R> {
 
     fn remove(&mut self, path: &Path) -> Result<(), FolderFault> {
         let removed = self.folder.remove(path);
-        self.removed = self.removed.saturating_add(1);
-        self.progress.show(Done::Changed {
-            written: self.written,
-            removed: self.removed,
-        });
+        note_change(self.progress, 0, u64::from(removed.is_ok()));
         removed
     }
 }

@@ -3,6 +3,7 @@ ghost use Rattle.std.specs.Prelude.{◌≡◌, IfOk};
 
 use crate::own_folder::OwnFolder;
 use crate::progress::Progress;
+use crate::shown_dial::ShownDial;
 use crate::shown_folder::ShownFolder;
 use client_desk::Desk;
 use folder_side::FolderFault;
@@ -10,11 +11,11 @@ use http_server::Log;
 use local_folder::{LocalFolder, Permissions, SystemDirectories, answer};
 use std::fs::{DirBuilder, File, Files};
 use std::io;
-use std::io::{ErrorKind, Stderr};
+use std::io::ErrorKind;
 use std::net::{Net, TcpStream};
 use std::os::unix::fs::DirBuilderExt;
 use std::time::Clock;
-use tcp_links::TcpDial;
+use tcp_links::{TcpDial, TcpLink};
 
 /// The folders of a runtime's file system, and dials over its network. It tells no contents, and counts the faults of its
 /// folders and those of its dials.
@@ -26,20 +27,21 @@ use tcp_links::TcpDial;
 pub struct SystemDesk<'a, R> {
     rt: &'a R,
     own: OwnFolder,
-    err: Stderr,
+    progress: &'a Progress<&'a R>,
     folder_faults: u64,
     dial_faults: u64,
     // The dials that came back, for proofs alone.
-    dials: Log<TcpDial<&'a R>, u64>,
+    dials: Log<ShownDial<'a, TcpDial<&'a R>, TcpLink, &'a R>, u64>,
 }
 
 impl<'a, R> SystemDesk<'a, R> {
-    /// A desk over this runtime, for a client whose own folder this is, which shows on standard error what is done in the others.
-    pub fn new(rt: &'a R, own: OwnFolder, err: Stderr) -> SystemDesk<'a, R> {
+    /// A desk over this runtime, for a client whose own folder this is, which shows by this line what is done in the others, and what is
+    /// sent and fetched.
+    pub fn new(rt: &'a R, own: OwnFolder, progress: &'a Progress<&'a R>) -> SystemDesk<'a, R> {
         SystemDesk {
             rt,
             own,
-            err,
+            progress,
             folder_faults: 0,
             dial_faults: 0,
             dials: Log::new(),
@@ -51,9 +53,9 @@ impl<'a, R: Files<File = File> + Net<Stream = TcpStream> + Clock + AllocGlobal +
     for SystemDesk<'a, R> {
     ghost use Rattle.std.specs.Prelude.{None, map, true};
 
-    type F = ShownFolder<LocalFolder<SystemDirectories<R>>, &'a R>;
+    type F = ShownFolder<'a, LocalFolder<SystemDirectories<R>>, &'a R>;
 
-    type N = TcpDial<&'a R>;
+    type N = ShownDial<'a, TcpDial<&'a R>, TcpLink, &'a R>;
 
     ghost has_place = { λ desk dir. true };
 
@@ -68,34 +70,38 @@ impl<'a, R: Files<File = File> + Net<Stream = TcpStream> + Clock + AllocGlobal +
     fn folder(
         &mut self,
         dir: &str,
-    ) -> Result<ShownFolder<LocalFolder<SystemDirectories<R>>, &'a R>, FolderFault> {
+    ) -> Result<ShownFolder<'a, LocalFolder<SystemDirectories<R>>, &'a R>, FolderFault> {
         let opened = open(self.rt, &self.own, dir);
         let folder = match answer(&mut self.folder_faults, opened) {
             Ok(folder) => folder,
             Err(fault) => return Err(fault),
         };
-        let is_wanted = self.own.path.slice() != dir;
-        let progress = Progress::new(self.rt, self.rt.alloc(), self.err, is_wanted);
+        let progress = if self.own.path.slice() == dir {
+            None
+        } else {
+            Some(self.progress)
+        };
         Ok(ShownFolder::new(folder, progress))
     }
 
     fn give_back(
         &mut self,
         dir: &str,
-        folder: ShownFolder<LocalFolder<SystemDirectories<R>>, &'a R>,
+        folder: ShownFolder<'a, LocalFolder<SystemDirectories<R>>, &'a R>,
     ) {
         let _ = dir;
         let folder = folder.into_folder();
         self.folder_faults = self.folder_faults.saturating_add(folder.end());
     }
 
-    fn dial(&mut self) -> TcpDial<&'a R> {
-        TcpDial::new(self.rt)
+    fn dial(&mut self) -> ShownDial<'a, TcpDial<&'a R>, TcpLink, &'a R> {
+        ShownDial::new(TcpDial::new(self.rt), self.progress)
     }
 
-    fn hang_up(&mut self, dial: TcpDial<&'a R>) {
-        self.dial_faults = self.dial_faults.saturating_add(dial.faults());
+    fn hang_up(&mut self, dial: ShownDial<'a, TcpDial<&'a R>, TcpLink, &'a R>) {
         self.dials = self.dials.and(&dial, &0);
+        let dial = dial.into_dial();
+        self.dial_faults = self.dial_faults.saturating_add(dial.faults());
     }
 }
 
