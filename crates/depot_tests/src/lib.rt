@@ -11,6 +11,8 @@ mod cost_tests;
 #[cfg(test)]
 mod fault_tests;
 #[cfg(test)]
+mod law_tests;
+#[cfg(test)]
 mod library;
 #[cfg(test)]
 mod make_stop_tests;

@@ -108,7 +108,7 @@ fn new_shelf(alloc: Global) -> Result<MemoryShelf, AllocError> {
 }
 
 /// Adds a token for reading, whose secret is forty `b`; whether that was done.
-fn is_added(alloc: Global, depot: &mut Depot<FuseShelf>) -> bool {
+pub(crate) fn is_added(alloc: Global, depot: &mut Depot<FuseShelf>) -> bool {
     let user = match Text::copy(alloc, "you") {
         Ok(user) => user,
         Err(_) => return false,
@@ -128,9 +128,28 @@ fn added_on(alloc: Global, shelf: MemoryShelf, passes: u64, late: bool) -> (Memo
     }
 }
 
-/// Whether the one whose secret is twenty times this byte is told the head.
+/// The head that the one is told whose secret is twenty times this byte.
+fn told_to(depot: &mut Depot<FuseShelf>, byte: u8) -> Option<ObjId> {
+    match asked_by(depot, byte, Act::Head) {
+        Said::Head(head) => Some(head),
+        _ => None,
+    }
+}
+
+/// Whether that one is told the head.
 fn is_told(depot: &mut Depot<FuseShelf>, byte: u8) -> bool {
-    matches!(asked_by(depot, byte, Act::Head), Said::Head(_))
+    told_to(depot, byte).is_some()
+}
+
+/// The head that the one with that token is told, if the library opens.
+pub(crate) fn head_told(alloc: Global, shelf: MemoryShelf) -> Option<ObjId> {
+    match opened(alloc, shelf, 1_000_000, false) {
+        Ok(depot) => {
+            let mut depot = depot;
+            told_to(&mut depot, 0xbb)
+        }
+        Err(_) => None,
+    }
 }
 
 fn token_stop(alloc: Global, passes: u64, late: bool) -> Result<Stop, AllocError> {

@@ -25,14 +25,6 @@ pub(crate) fn opened(
     }
 }
 
-/// The head with which a library opens from a shelf, if it does.
-pub(crate) fn head_on(alloc: Global, shelf: MemoryShelf) -> Option<ObjId> {
-    match opened(alloc, shelf, 1_000_000, false) {
-        Ok(depot) => Some(depot.head()),
-        Err(_) => None,
-    }
-}
-
 /// The shelf, as the collection that the stop cut off left it; and whether it ended.
 fn stopped(alloc: Global, shelf: MemoryShelf, passes: u64, late: bool) -> (MemoryShelf, bool) {
     match opened(alloc, shelf, passes, late) {
