@@ -1,0 +1,9 @@
+pub mod CollectLemmas
+pub mod FillLemmas
+pub mod LedLemmas
+pub mod NumberLemmas
+pub mod OwnLemmas
+pub mod PushingLemmas
+pub mod ReadyLemmas
+pub mod RuleLemmas
+pub mod TreeLemmas

@@ -1,0 +1,199 @@
+-- A library that was filled, as it stands. Our own. Read IsPush, then IsFilled. Read before: Generated; State of `library_rules`, IsTreeOf of
+-- `object_graph`.
+use Rattle.std.specs.Prelude.{◌≡◌, ◌≢◌, ℕ, ◌+◌, ◌%◌, ◌==◌, ◌&&◌, ◌||◌, not, min, Bool, true, false, if◌then◌else◌, List, [], ◌∷◌, ◌++◌, All, length, pos, None, Some, Ok, codes, ⊤}
+use Rattle.std.specs.FinMap as map
+use Rattle.sha1.specs.Sha1.{sha1}
+use Rattle.commit_objects.specs.declared.commit.Commit.{Commit}
+use Rattle.fs_objects.specs.FsObject.{fs_of}
+use Rattle.fs_objects.specs.Spelling.{text_of}
+use Rattle.fs_objects.specs.declared.file_object.FileObject.{FileObject}
+use Rattle.fs_objects.specs.declared.fs_object.FsObject.TheVariants as fs
+use Rattle.ids.specs.Key.{Objects, key_cmp}
+use Rattle.ids.specs.ObjectId.{nil}
+use Rattle.ids.specs.declared.key.Key.{Key}
+use Rattle.library_rules.specs.LibraryState.{State, head_of, is_needed, is_stored}
+use Rattle.object_graph.specs.Objects.{AreEntriesOf, IsTreeOf, block_key, commit_at, fs_key}
+use Rattle.object_graph.specs.Traversal.{needs}
+use Rattle.object_graph.specs.Unchanged.{AgreeOn, Keeps}
+use Rattle.object_graph.specs.declared.entry.Entry.{Entry}
+use Rattle.object_graph.specs.declared.entry.Entry.TheVariants as entry
+use Rattle.sync_calls.specs.Collecting.{told}
+use Rattle.tree_merge.specs.Sides.{Entries}
+use Rattle.tree_merge.specs.TreeBuilding.{IsSound}
+use Rattle.generated_library.specs.Generated.{bytes_made, changed_from, dir_name, file_bytes, file_name, files_from, tree_of, with_mark}
+use Rattle.generated_library.specs.Leading.{Grows}
+use Rattle.generated_library.specs.declared.filling.Filled.{Filled}
+
+-- ---- what was pushed
+
+-- a commit that `make` made at a moment, over one other, has the tree of these files
+pub record IsPush (objects : Objects) (id parent : List ℕ) (moment : ℕ) (files : List (List ℕ)) : Type 0 where
+  pub commit : Commit
+  pub at : commit_at objects id ≡ Ok commit
+  pub over : (commit.parent ≡ Some parent) × (commit.second_parent ≡ None)
+  pub by : (commit.creator_name ≡ codes "make") × (commit.ctime ≡ moment)
+  pub tree : IsTreeOf objects commit.root (tree_of moment files)
+
+-- at a moment that the clock shows the files were pushed over the first commit, and then every tenth with one byte more over that; so the
+-- library stood as its collection began. What is left stood there then; one update is kept, and a kept commit needs all that is left.
+-- The numbers are those of the head's tree, of the objects that were stored as the collection began, and of those that left
+pub record IsFilled (shows : ℕ → Type 0) (count number : ℕ) (first : List ℕ) (filled : Filled) (t : State) : Type 0 where
+  pub moment : ℕ
+  pub shown : shows moment
+  pub before : Objects
+  pub mid : List ℕ
+  pub one : IsPush before mid first moment (files_from count number)
+  pub two : IsPush before (head_of t.state.kept) mid moment (changed_from 0 (files_from count number))
+  pub head : IsPush t.objects (head_of t.state.kept) mid moment (changed_from 0 (files_from count number))
+  pub left : Keeps t.objects before
+  pub alone : length t.state.kept ≡ 1
+  pub clean : (key : Key) → is_stored t.objects key ≡ true → is_needed t.objects t.state.kept key ≡ true
+  pub paths : filled.paths ≡ map.len (tree_of moment (changed_from 0 (files_from count number)))
+  pub bytes : filled.bytes ≡ bytes_made count number
+  pub gone : ℕ
+  pub size : map.len before ≡ map.len t.objects + gone
+  pub removed : filled.removed ≡ told gone
+
+-- ---- for private clauses: what is put of a file
+
+abbrev pub file_object : List ℕ → FileObject
+file_object bytes = record { blocks = sha1 bytes ∷ []; size = length bytes }
+
+abbrev pub file_text : List ℕ → List ℕ
+file_text bytes = text_of (fs.File (file_object bytes))
+
+abbrev pub file_id : List ℕ → List ℕ
+file_id bytes = sha1 (file_text bytes)
+
+-- the block and the object of a file are stored, its object is read as it, and neither has forty zeros
+pub record IsFileStored (objects : Objects) (bytes : List ℕ) : Type 0 where
+  pub block : map.get objects (block_key (sha1 bytes)) ≡ Some bytes
+  pub file : map.get objects (fs_key (file_id bytes)) ≡ Some (file_text bytes)
+  pub reads : fs_of (file_text bytes) ≡ Ok (fs.File (file_object bytes))
+  pub some : (sha1 bytes ≢ nil) × (file_id bytes ≢ nil)
+
+abbrev pub AreStored : Objects → List (List ℕ) → Type 0
+AreStored objects files = All (IsFileStored objects) files
+
+-- before a second push the files are stored already
+abbrev pub AreThere : Bool → Objects → List (List ℕ) → Type 0
+AreThere false objects files = ⊤
+AreThere true objects files = AreStored objects files
+
+-- the files of a push, the first or the second, where those from this number on are left
+abbrev pub pushed_files : Bool → ℕ → List (List ℕ) → List (List ℕ)
+pushed_files false from files = files
+pushed_files true from files = changed_from from files
+
+-- whether a push changes a file, and with its mark
+abbrev pub is_marked : Bool → ℕ → Bool
+is_marked is_second number = is_second && (number % 10 == 0)
+
+abbrev pub marked : Bool → List ℕ → List ℕ
+marked is_changed bytes = if is_changed then bytes ++ 33 ∷ [] else bytes
+
+-- the bytes of one, and whether it is put
+abbrev pub pushed_bytes : Bool → ℕ → List ℕ → List ℕ
+pushed_bytes is_second number bytes = marked (is_marked is_second number) bytes
+
+abbrev pub is_put : Bool → ℕ → Bool
+is_put is_second number = is_marked is_second number || not is_second
+
+-- the entry of a file
+abbrev pub entry_by : ℕ → List ℕ → ℕ → Entry
+entry_by moment id size = entry.File id 33188 (pos (min moment 9223372036854775807)) (codes "make") size
+
+abbrev pub file_entry : ℕ → List ℕ → Entry
+file_entry moment bytes = entry_by moment (file_id bytes) (length bytes)
+
+-- the entries with that of one file more, in its directory; and with these files more
+abbrev pub put_entry : ℕ → Entry → Entries → Entries
+put_entry number e entries = map.insert (map.insert entries (dir_name number ∷ []) entry.Dir) (dir_name number ∷ file_name number ∷ []) e
+
+abbrev pub with_entry : ℕ → ℕ → List ℕ → Entries → Entries
+with_entry moment number bytes entries = put_entry number (file_entry moment bytes) entries
+
+abbrev pub with_entries : ℕ → ℕ → List (List ℕ) → Entries → Entries
+with_entries moment number [] entries = entries
+with_entries moment number (bytes ∷ more) entries = with_entries moment (number + 1) more (with_entry moment number bytes entries)
+
+abbrev pub entries_of : ℕ → List (List ℕ) → Entries
+entries_of moment files = with_entries moment 0 files map.empty
+
+-- ---- for private clauses: what each step leaves of a library
+
+-- an object was put, or was stored already
+abbrev pub Puts : Key → List ℕ → State → State → Type 0
+Puts key bytes s t = Grows s t × (map.get t.objects key ≡ Some bytes) × (key.id ≢ nil)
+
+-- so were a block and a file object, each under its own name
+pub record PutsBoth (bytes text : List ℕ) (s t : State) : Type 0 where
+  pub mid : State
+  pub block : Puts (block_key (sha1 bytes)) bytes s mid
+  pub file : Puts (fs_key (sha1 text)) text mid t
+
+-- so were all of these objects
+abbrev pub PutsAll : Objects → State → State → Type 0
+PutsAll made s t = Grows s t × ((objects : Objects) → Keeps t.objects objects → Keeps made objects)
+
+-- so was a file, where it is new
+abbrev pub PutsFile : Bool → List ℕ → State → State → Type 0
+PutsFile is_new bytes s t = Grows s t × (is_new ≡ true → IsFileStored t.objects bytes)
+
+abbrev pub HasFiles : Bool → List (List ℕ) → State → Type 0
+HasFiles is_second files s = AreThere is_second s.objects files
+
+abbrev pub Stores : List (List ℕ) → State → State → Type 0
+Stores files s t = Grows s t × AreStored t.objects files
+
+-- the root stands for the entries, and so it does as long as what is stored stays
+abbrev pub HasTree : Entries → List ℕ → State → State → Type 0
+HasTree entries root s t = Grows s t × (IsSound entries → (objects : Objects) → Keeps t.objects objects → AreEntriesOf objects root entries)
+
+abbrev pub HasCommit : List ℕ → Commit → State → State → Type 0
+HasCommit id commit s t = Grows s t × (commit.id ≡ id) × (commit_at t.objects id ≡ Ok commit) × (id ≢ nil)
+
+-- a commit is stored whose first parent is the head
+abbrev pub IsOver : List ℕ → State → Type 0
+IsOver id s = (commit : Commit) × (commit_at s.objects id ≡ Ok commit) × (commit.parent ≡ Some (head_of s.state.kept))
+
+-- it is the head
+pub record Updates (id : List ℕ) (s t : State) : Type 0 where
+  pub objects : t.objects ≡ s.objects
+  pub head : head_of t.state.kept ≡ id
+  pub idle : s.running ≡ None → t.running ≡ None
+
+-- a library stands at a commit, and has the files before a second push
+abbrev pub IsBeside : Bool → List ℕ → List (List ℕ) → State → Type 0
+IsBeside is_second parent files s = (head_of s.state.kept ≡ parent) × HasFiles is_second files s
+
+-- files were pushed by a commit, which is the head
+pub record Pushes (id parent : List ℕ) (moment : ℕ) (files : List (List ℕ)) (s t : State) : Type 0 where
+  pub keeps : Keeps s.objects t.objects
+  pub idle : s.running ≡ None → t.running ≡ None
+  pub head : head_of t.state.kept ≡ id
+  pub push : (objects : Objects) → Keeps t.objects objects → IsPush objects id parent moment files
+  pub stored : AreStored t.objects files
+
+-- no history is to be kept
+abbrev pub Limits : State → State → Type 0
+Limits s t = Grows s t × (t.state.days ≡ pos 0) × (t.objects ≡ s.objects)
+
+-- no collection runs, and no history is to be kept
+abbrev pub IsResting : State → Type 0
+IsResting s = (s.running ≡ None) × (s.state.days ≡ pos 0)
+
+-- the head alone is kept, what it needs is as it was, and so many objects left, all that it doesn't need
+pub record Collects (removed : ℕ) (s t : State) : Type 0 where
+  pub gone : ℕ
+  pub size : map.len s.objects ≡ map.len t.objects + gone
+  pub count : removed ≡ told gone
+  pub left : Keeps t.objects s.objects
+  pub alone : length t.state.kept ≡ 1
+  pub head : head_of t.state.kept ≡ head_of s.state.kept
+  pub agree : AgreeOn (needs s.objects (head_of s.state.kept)) s.objects t.objects
+  pub clean : (key : Key) → is_stored t.objects key ≡ true → is_needed t.objects t.state.kept key ≡ true
+
+-- no collection runs, and the library stands at this commit
+abbrev pub IsNew : List ℕ → State → Type 0
+IsNew first s = (s.running ≡ None) × (head_of s.state.kept ≡ first)
