@@ -1,4 +1,4 @@
-//! Tests of the turnstile, of the depot, of a hall, of how connections end and of one with a hall, over their public calls
+//! Tests of the turnstile, of the depot, of a hall, of how connections end, of one with a hall and of a port, over their public calls
 //! alone: what no scenario over the built program can show.
 //!
 //! They stand apart, since a crate with tests is proved twice. It has no code but its tests.
@@ -6,6 +6,10 @@
 
 #[cfg(test)]
 mod depot_tests;
+#[cfg(test)]
+mod gate_ground;
+#[cfg(test)]
+mod gate_link;
 #[cfg(test)]
 mod hall;
 #[cfg(test)]
@@ -20,5 +24,7 @@ mod hall_threads_tests;
 mod library;
 #[cfg(test)]
 mod library_server_tests;
+#[cfg(test)]
+mod port_tests;
 #[cfg(test)]
 mod turnstile_tests;
