@@ -88,5 +88,6 @@ impl<'a, V: Story> Held<'a, V> {
         } = self;
         turnstile.put_back(pass, value);
         turnstile.release(pass);
+        turnstile.wake();
     }
 }

@@ -17,6 +17,7 @@ mod steps;
 mod story;
 mod turnstile;
 mod view;
+mod waiting;
 
 pub use held::Held;
 pub use lock::{Lock, Turnstile};

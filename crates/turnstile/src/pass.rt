@@ -15,7 +15,6 @@ use crate::lock::Turnstile;
 use crate::seated::Pass;
 use crate::story::Story;
 use std::sync::Wait;
-use std::thread;
 
 /// The turnstile has served its greatest number of turns.
 #[derive(Clone, Copy, Debug, PartialEq, Eq)]
@@ -57,7 +56,7 @@ impl<V: Story> Turnstile<V> {
             if self.look(pass) == ticket {
                 return;
             }
-            thread::yield_now();
+            self.rest(rt, ticket);
         }
         unreachable!()
     }

@@ -15,9 +15,9 @@ use std::snapshot::Snapshot;
 // The words of the table, and its one slot.
 const PASSES: usize = 0;
 
-const DRAWN: usize = 1;
+pub(crate) const DRAWN: usize = 1;
 
-const SERVING: usize = 2;
+pub(crate) const SERVING: usize = 2;
 
 const COUNT: usize = 3;
 
