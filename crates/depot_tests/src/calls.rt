@@ -77,15 +77,15 @@ pub(crate) enum Step {
     Swept(u64),
     Ended(u64),
     Over(u64),
-    /// It was refused, as the shelf failed.
-    Failed,
+    /// It was refused, as the shelf failed, and told so many keys.
+    Failed(u64),
     /// It was refused for anything else.
     Refused,
 }
 
-fn refused_for(why: &Refusal) -> Step {
+fn refused_for(why: &Refusal, removed: u64) -> Step {
     match why {
-        Refusal::Store => Step::Failed,
+        Refusal::Store => Step::Failed(removed),
         _ => Step::Refused,
     }
 }
@@ -97,7 +97,7 @@ fn step_of(turn: &Turn) -> Step {
         Turn::Swept(keys) => Step::Swept(keys.len() as u64),
         Turn::Ended(number) => Step::Ended(*number),
         Turn::Over(number) => Step::Over(*number),
-        Turn::Refused(why, _) => refused_for(why),
+        Turn::Refused(why, keys) => refused_for(why, keys.len() as u64),
     }
 }
 
@@ -109,7 +109,8 @@ pub(crate) fn turned<S: Shelf>(depot: &mut Depot<S>, goal: Option<u64>, at_most:
     step_of(&turn)
 }
 
-/// What a collection came to that ended: how many objects it removed, and how often the shelf failed.
+/// What a collection came to that ended: how many objects its turns told as removed, refused ones too, and how often the shelf
+/// failed.
 #[derive(Clone, Copy)]
 pub(crate) struct Collected {
     pub(crate) removed: u64,
@@ -128,7 +129,10 @@ pub(crate) fn run_to_end<S: Shelf>(depot: &mut Depot<S>, at_most: u64) -> Option
             Step::Began(_) => {}
             Step::Marked(_) => {}
             Step::Swept(count) => removed = removed.saturating_add(count),
-            Step::Failed => failures = failures.saturating_add(1),
+            Step::Failed(count) => {
+                removed = removed.saturating_add(count);
+                failures = failures.saturating_add(1);
+            }
             Step::Ended(_) => return Some(Collected { removed, failures }),
             _ => return None,
         }

@@ -35,7 +35,7 @@ fn pushed(alloc: Global, names: &[&str]) -> Result<(MemoryShelf, ObjId), AllocEr
 fn takes_turns(depot: &mut Depot<FuseShelf>, turns: u64) -> bool {
     for _ in 0..turns {
         match turned(depot, None, 1) {
-            Step::Failed => return false,
+            Step::Failed(_) => return false,
             Step::Refused => return false,
             _ => {}
         }

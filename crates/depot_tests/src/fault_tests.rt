@@ -11,7 +11,8 @@ enum Came {
     Unmade,
     /// No turn was refused: the call comes after the collection.
     Untouched,
-    /// One turn was refused, as the shelf failed. The collection ended, and the library is whole.
+    /// One turn was refused, as the shelf failed. The collection ended, each of the nine objects that left was told once, and the
+    /// library is whole.
     Outlived,
     /// None of these.
     Lost,
@@ -26,7 +27,11 @@ fn came_of(alloc: Global, depot: Kept) -> Came {
     match ended {
         Some(collected) => match collected.failures {
             0 => Came::Untouched,
-            1 => if whole { Came::Outlived } else { Came::Lost },
+            1 => if whole && collected.removed == 9 {
+                Came::Outlived
+            } else {
+                Came::Lost
+            },
             _ => Came::Lost,
         },
         None => Came::Lost,

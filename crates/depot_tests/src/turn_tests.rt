@@ -17,7 +17,7 @@ fn letter_of(step: Step) -> char {
         Step::Swept(1) => 's',
         Step::Ended(1) => 'e',
         Step::Over(1) => 'o',
-        Step::Failed => 'f',
+        Step::Failed(_) => 'f',
         Step::Refused => 'r',
         _ => '?',
     }
