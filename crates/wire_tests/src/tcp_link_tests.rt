@@ -43,14 +43,14 @@ fn goes_both_ways(link: &mut TcpLink, listener: &TcpListener) -> io::Result<bool
     Ok(link.give(b"abc").is_ok() && serves(listener)? && takes(link, b"defg") && takes(link, b""))
 }
 
-/// Whether a link that was made is good, and the dial counts no fault.
-fn links(rt: &HostRuntime) -> Result<bool, Fail> {
-    let (listener, port) = listener(rt)?;
+/// Whether a link that was made to a host is good, and the dial counts no fault.
+fn links(rt: &HostRuntime, listener: &TcpListener, host: &str) -> Result<bool, Fail> {
+    let port = listener.local_addr()?.port();
     let mut dial = TcpDial::new(rt.clone()?);
-    let is_good = match dial.link("localhost", port) {
+    let is_good = match dial.link(host, port) {
         Ok(link) => {
             let mut link = link;
-            let is_good = goes_both_ways(&mut link, &listener)?;
+            let is_good = goes_both_ways(&mut link, listener)?;
             dial.hang_up(link);
             is_good
         }
@@ -61,7 +61,24 @@ fn links(rt: &HostRuntime) -> Result<bool, Fail> {
 
 #[test]
 fn bytes_go_both_ways_over_a_link(rt: HostRuntime) -> Result<(), Fail> {
-    assert!(rt; links(&rt)?);
+    let (listener, _) = listener(&rt)?;
+    let is_good = links(&rt, &listener, "localhost")?;
+    drop(listener);
+    assert!(rt; is_good);
+    Ok(())
+}
+
+/// Whether a link to this machine's address of IPv6 is good. A machine that has none shows nothing.
+fn links_over_ipv6(rt: &HostRuntime) -> Result<bool, Fail> {
+    match TcpListener::bind(rt, "[::1]:0") {
+        Ok(listener) => links(rt, &listener, "::1"),
+        Err(_) => Ok(true),
+    }
+}
+
+#[test]
+fn bytes_go_both_ways_over_a_link_to_an_address_of_ipv6(rt: HostRuntime) -> Result<(), Fail> {
+    assert!(rt; links_over_ipv6(&rt)?);
     Ok(())
 }
 
