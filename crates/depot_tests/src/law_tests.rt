@@ -13,6 +13,7 @@ fn each_theorem_on_stops_is_had_at_a_shelf_in_memory(_rt: HostRuntime) -> Result
     laws::a_text_is_open_to_what_a_change_was_refused::<MemoryShelf>();
     laws::a_kept_commit_is_kept_through_a_history::<MemoryShelf>();
     laws::a_commit_that_a_change_kept_stays_kept::<MemoryShelf>();
+    laws::while_nothing_fails_what_lies_there_is_the_librarys::<MemoryShelf>();
     laws::a_shelf_that_stands_for_a_library_is_opened_as_it::<MemoryShelf>();
     laws::a_refused_making_leaves_no_other_library::<MemoryShelf>();
     Ok(())

@@ -1,5 +1,6 @@
 -- A history of which the changes are told, with all that was done between them: what its text is open to is what a change was refused, and
--- which commits stay kept. The key lemmas are refused_at, retains_all and kept_behind.
+-- which commits stay kept; and while no fault is counted no object comes to lie there that the store doesn't hold. The key lemmas are refused_at,
+-- retains_all, kept_behind and none_strays.
 use Rattle.std.proofs.Common.{◌≡◌, inl, inr, ℕ, ◌<◌, ◌≤◌, ◌+◌, ◌-◌, ◌^◌, true, false, true≢false, List, [], ◌∷◌, ◌++◌, append_assoc, refl, sym, ap, ◌∙◌, subst, arith, Option}
 use Rattle.std.specs.Prelude.{min}
 use Rattle.std.specs.List.{AllByRecursion}
@@ -12,10 +13,11 @@ use Rattle.library_state.specs.declared.reply.Reply.{Reply}
 use Rattle.library_state.specs.declared.reply.Reply.TheVariants as reply
 use Rattle.library_state.specs.declared.state.LibState.{LibState}
 use Rattle.object_store.specs.Shelf.{Contents}
+use Rattle.object_store.specs.StoreView.{AddsNoStray, HasNoStray}
 use Rattle.object_store.specs.declared.shelf.Slot.{Slot}
 use Rattle.depot.specs.CollectionTurns.{CountsTurn}
 use Rattle.depot.specs.DepotView.{DepotView}
-use Rattle.depot.specs.ObjectCalls.{Counts}
+use Rattle.depot.specs.ObjectCalls.{Counts, is_counted}
 use Rattle.depot.specs.Story.{AreChangesOf, Done, answered, turned, given_token, IsAsked, IsDoneSo, IsMadeAs, IsSame, Runs}
 use Rattle.depot.specs.declared.story.Change.{Change}
 use Rattle.depot.specs.declared.story.Made.{Made}
@@ -53,6 +55,20 @@ below_before before now grows less = below (2 ^ 64 - 1) before now grows less
   where
     below : (most before now : ℕ) → before ≤ now → now < most → before < most
     below most before now grows less = omega (arith, grows, less)
+
+-- two steps up
+grows_on : (a b c : ℕ) → a ≤ b → b ≤ c → a ≤ c
+grows_on a b c up on = omega (arith, up, on)
+
+-- what ends where it began stayed there
+stays_between : (start between now : ℕ) → start ≤ between → between ≤ now → now ≡ start → between ≡ start
+stays_between start between now up on same = omega (arith, up, on, same)
+
+-- no failure of the shelf is told where no fault was counted
+uncounted : (r : Reply) (before now : ℕ) → Counts before now r → now ≡ before → now < 2 ^ 64 - 1 → is_counted r ≡ false
+uncounted (reply.Refused refusal.Store) before now counts same less = absurd (no_rise before now same less counts.1)
+uncounted (reply.Refused other) before now counts same less = refl
+uncounted other before now counts same less = refl
 
 -- ---- lists that grow at their end
 
@@ -228,3 +244,51 @@ module _ {S : Type 0} (contents : S → Option Contents) (may_give : S → Slot 
           (subst (λ (c : Change (DepotView S)). (d : Done) → IsMadeAs c.made c.moment d → KeepsCommit contents may_give texts faults c.before.value d commit) (sym parts.1) each.1) in
           let was = again some commit parts.0 settled kept each.0 in
           (done_keeps contents may_give texts faults runs.0 done now commit runs.2 was.0 keeps, λ still next opens. goes was keeps next opens)
+
+  -- ---- while no fault is counted
+
+  -- what made a change is no token
+  made_asked : (c : Made) (at : ℕ) (done : Done) → IsMadeAs c at done → IsAsked done
+  made_asked c at (answered call moment said) is = tt
+  made_asked c at (turned goal moment at_most taken) is = tt
+  made_asked (made.Asked call said) at (given_token user secret right result) is = is
+  made_asked (made.Turned goal most taken) at (given_token user secret right result) is = is
+
+  -- what is done brings no object that the store doesn't hold
+  adds_none : (old : DepotView S) (done : Done) (new : DepotView S) → IsAsked done → IsDoneSo contents may_give texts faults old done new
+      → faults new.store.shelf ≡ faults old.store.shelf → faults new.store.shelf < 2 ^ 64 - 1 → AddsNoStray contents old.store new.store
+  adds_none old (answered call moment said) new asked did same less =
+      did.serves.lying (uncounted said (faults old.store.shelf) (faults new.store.shelf) did.serves.count same less)
+  adds_none old (turned goal moment at_most (turn.Refused refusal.Store keys)) new asked did same less =
+      let counts : CountsTurn (faults old.store.shelf) (faults new.store.shelf) (turn.Refused refusal.Store keys) = did.takes.count in
+      absurd (no_rise (faults old.store.shelf) (faults new.store.shelf) same less counts.1)
+  adds_none old (turned goal moment at_most (turn.Refused other keys)) new asked did same less = did.takes.lying
+  adds_none old (turned goal moment at_most other) new asked did same less = did.takes.lying
+  adds_none old (given_token user secret right result) new asked did same less = absurd asked
+
+  -- the count as a history began is no greater
+  run_grows : (start : DepotView S) (dones : List Done) (now : DepotView S) (runs : Runs contents may_give texts faults start dones now) (changes : List (Change (DepotView S)))
+      → AreChangesOf contents may_give texts faults start dones now runs changes → faults start.store.shelf ≤ faults now.store.shelf
+  run_grows start [] now runs changes are = same_grows (faults start.store.shelf) (faults now.store.shelf) (ap (λ (d : DepotView S). faults d.store.shelf) runs)
+  run_grows start (done ∷ earlier) now runs changes (inl (asked, same, rest)) =
+      grows_on (faults start.store.shelf) (faults runs.0.store.shelf) (faults now.store.shelf) (run_grows start earlier runs.0 runs.1 changes rest)
+      (same_grows (faults runs.0.store.shelf) (faults now.store.shelf) same.count)
+  run_grows start (done ∷ earlier) now runs changes (inr (before, one, rest)) =
+      grows_on (faults start.store.shelf) (faults runs.0.store.shelf) (faults now.store.shelf) (run_grows start earlier runs.0 runs.1 before rest)
+      (done_grows runs.0 done now one.change one.made runs.2)
+
+  pub none_strays : (start : DepotView S) (dones : List Done) (now : DepotView S) (runs : Runs contents may_give texts faults start dones now) (changes : List (Change (DepotView S)))
+      → AreChangesOf contents may_give texts faults start dones now runs changes → HasNoStray contents start.store → faults now.store.shelf < 2 ^ 64 - 1
+      → faults now.store.shelf ≡ faults start.store.shelf → HasNoStray contents now.store
+  none_strays start [] now runs changes are clean less stays = subst (λ (d : DepotView S). HasNoStray contents d.store) (sym runs) clean
+  none_strays start (done ∷ earlier) now runs changes (inl (asked, same, rest)) clean less stays =
+      let was : HasNoStray contents runs.0.store
+      = none_strays start earlier runs.0 runs.1 changes rest clean (subst (λ n. n < 2 ^ 64 - 1) same.count less) (sym same.count ∙ stays) in
+      λ key stray. was key (adds_none runs.0 done now asked runs.2 same.count less key stray)
+  none_strays start (done ∷ earlier) now runs changes (inr (before, one, rest)) clean less stays =
+      let grew : faults runs.0.store.shelf ≤ faults now.store.shelf = done_grows runs.0 done now one.change one.made runs.2 in
+      let stood : faults runs.0.store.shelf ≡ faults start.store.shelf
+      = stays_between (faults start.store.shelf) (faults runs.0.store.shelf) (faults now.store.shelf) (run_grows start earlier runs.0 runs.1 before rest) grew stays in
+      let was : HasNoStray contents runs.0.store
+      = none_strays start earlier runs.0 runs.1 before rest clean (below_before (faults runs.0.store.shelf) (faults now.store.shelf) grew less) stood in
+      λ key stray. was key (adds_none runs.0 done now (made_asked one.change.made one.change.moment done one.made) runs.2 (stays ∙ sym stood) less key stray)

@@ -88,6 +88,13 @@ pub fn a_commit_that_a_change_kept_stays_kept<S: Shelf>()
         → (next : LibState) → IsOpen S.contents S.may_give S.texts S.faults start comes.ran.dones now comes.ran.runs next → is_kept next.kept commit ≡ true) }
 {}
 
+/// While no fault of the shelf is counted through a history, no object comes to lie there that the library's store doesn't hold: where each
+/// that lay there as it began was the library's, so is each as it ends.
+pub fn while_nothing_fails_what_lies_there_is_the_librarys<S: Shelf>()
+    ensures { (start : DepotView S) → (changes : List (Change (DepotView S))) → (now : DepotView S) → ComesBy S.contents S.may_give S.texts S.faults start changes now
+        → HasNoStray S.contents start.store → S.faults now.store.shelf < 2 ^ 64 - 1 → S.faults now.store.shelf ≡ S.faults start.store.shelf → HasNoStray S.contents now.store }
+{}
+
 /// A shelf that stands for a sound library is opened as it, with one opening more; or the opening is refused, by the last opening number,
 /// by damage of an object that lies there, by the shelf, or for want of memory, and the shelf then stands for it as before, or where the
 /// shelf failed with one opening more.
