@@ -173,3 +173,30 @@ fn an_update_and_a_collection_beside_it_both_end(rt: HostRuntime) -> Result<(), 
     assert!(rt; both_end(&rt, &hall, first, second, &commit, &clock));
     Ok(())
 }
+
+/// Whether the head is a new commit, once one thread pushed it while the other one looked, and their passes are joined.
+fn is_pushed<S: Shelf + Send, R: Threads + Wait + Sync>(
+    rt: &R,
+    hall: &Hall<S>,
+    mut first: HallPass<S>,
+    second: HallPass<S>,
+    commit: &Call,
+) -> bool
+    requires first { AreReady S.contents S.may_give S.texts S.faults hall.now first }
+    requires second { AreReady S.contents S.may_give S.texts S.faults hall.now second }
+{
+    let _ = ask(rt, hall, &mut first, commit);
+    let update = asked(Act::Update(later()));
+    let look = asked(Act::Head);
+    let mut pass = beside(rt, hall, first, second, &update, &look, None);
+    head(rt, hall, &mut pass) == later()
+}
+
+#[test]
+fn a_commit_that_one_thread_pushed_is_read_by_the_other(rt: HostRuntime) -> Result<(), Fail> {
+    let depot = library_on(rt.alloc(), &[])?;
+    let (hall, mut first, second) = two_passes(rt.alloc(), depot)?;
+    let commit = commit_on(rt.alloc(), &head(&rt, &hall, &mut first))?;
+    assert!(rt; is_pushed(&rt, &hall, first, second, &commit));
+    Ok(())
+}
