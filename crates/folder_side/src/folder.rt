@@ -1,8 +1,9 @@
 //! A folder of files, as a sync sees it.
 
-ghost use Rattle.std.specs.Prelude.{◌≡◌, ℕ, ◌<◌, ◌≤◌, ◌++◌, [], List, length, Option, Some, None, IsSome, IfOk, OnOk};
+ghost use Rattle.std.specs.Prelude.{◌≡◌, ℕ, ◌<◌, ◌≤◌, ◌++◌, [], true, List, length, Option, Some, None, IsSome, IfOk, OnOk};
 ghost use Rattle.std.specs.Option.{option_map};
-ghost use Rattle.folder_side.specs.Folder.{Contents, IsFolder, Changes, PartAt, listing_at, with_file, with_dir, without, at, FolderFails, TakesFile, IsFree, IsRemovable};
+ghost use Rattle.folder_side.specs.Folder.{Contents, IsFolder, Changes, PartAt, listing_at, with_file, with_dir, without, at, is_dir_at, kind_of, FolderFails, TakesFile, IsFree, IsRemovable};
+ghost use Rattle.tree_model.specs.Path.{parent_of};
 
 use crate::error::FolderFault;
 use ids::Items;
@@ -32,6 +33,17 @@ pub struct Listing {
     pub nameless: u64,
 }
 
+/// What is ahead of a sync in its folder.
+#[derive(Clone, Copy, Debug, PartialEq, Eq)]
+pub enum Ahead {
+    /// A scan, in which so many files are known from the last sync.
+    Files(u64),
+    /// An upload, in which so many blocks are still to be read again and sent.
+    Blocks(u64),
+    /// A checkout of so many steps: paths to be removed, directories to be made, and files to be moved in.
+    Steps(u64),
+}
+
 /// A folder whose files a sync reads and changes, and one spare file outside its tree.
 ///
 /// A new file is written into the spare and then moved to its path. Contracts see what the folder holds
@@ -49,6 +61,15 @@ pub trait Folder {
     fn list(&mut self, alloc: Global, dir: &Path) -> Result<Listing, FolderFault>
         ensures formed { (c : Contents) → told self.old ≡ Some c → OnOk result (IsFolder c) }
         ensures listed { (c : Contents) → told self.old ≡ Some c → IfOk result (λ listing. Some listing ≡ listing_at c dir.now) }
+        ensures stays { (told self.new ≡ told self.old) × (spare self.new ≡ spare self.old) }
+        ensures faults { FolderFails (faults self.old) (faults self.new) result };
+
+    /// What kind of entry stands at a path, if one does; at the root stands none. A path that stands in no directory is a
+    /// fault.
+    fn look(&mut self, path: &Path) -> Result<Option<ItemKind>, FolderFault>
+        ensures formed { (c : Contents) → told self.old ≡ Some c → OnOk result (IsFolder c) }
+        ensures found { (c : Contents) → told self.old ≡ Some c → OnOk result (is_dir_at c (parent_of path.now) ≡ true) }
+        ensures value { (c : Contents) → told self.old ≡ Some c → IfOk result (λ kind. kind ≡ option_map kind_of (at c path.now)) }
         ensures stays { (told self.new ≡ told self.old) × (spare self.new ≡ spare self.old) }
         ensures faults { FolderFails (faults self.old) (faults self.new) result };
 
@@ -95,4 +116,7 @@ pub trait Folder {
         ensures found { (c : Contents) → told self.old ≡ Some c → OnOk result (IsRemovable c path.now (at c path.now)) }
         ensures stays { spare self.new ≡ spare self.old }
         ensures faults { FolderFails (faults self.old) (faults self.new) result };
+
+    /// Hears what is ahead of the sync, for a user who looks on. It is no call that fails, and nothing is changed by it.
+    fn ahead(&self, ahead: Ahead);
 }

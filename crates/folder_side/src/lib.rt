@@ -20,7 +20,7 @@ mod scan_report;
 
 pub use error::{FolderFault, ScanFault};
 pub use file_reader::{FileRead, ReadFault, end_file, read_file, take_piece};
-pub use folder::{Folder, Item, ItemKind, Listing};
+pub use folder::{Ahead, Folder, Item, ItemKind, Listing};
 pub use folder_scan::scan;
 pub use holding::Holding;
 pub use memory_folder::MemoryFolder;

@@ -83,6 +83,14 @@ impl MemoryContents {
         file_bytes(self.paths.get(path))
     }
 
+    /// The kind of what stands at a path.
+    pub fn kind(&self, path: &Path) -> Option<ItemKind>
+        ensures value { result ≡ option_map kind_of (at self.now path.now) }
+        ensures formed { IsFolder self.now }
+    {
+        kind_at(self.paths.get(path))
+    }
+
     /// The listing of the folder itself or of a directory in it.
     pub fn list(&self, alloc: Global, dir: &Path) -> Result<Option<Listing>, AllocError>
         ensures value { IfOk result (λ listing. listing ≡ listing_at self.now dir.now) }
@@ -206,6 +214,16 @@ fn file_bytes(holding: Option<&Holding>) -> Option<&[u8]>
         Some(Holding::Dir) => None,
         Some(Holding::File(bytes)) => Some(bytes.slice()),
         Some(Holding::Other) => None,
+        None => None,
+    }
+}
+
+/// The kind of what stands there.
+fn kind_at(holding: Option<&Holding>) -> Option<ItemKind>
+    ensures value { result ≡ option_map kind_of (option_copied holding.entry) }
+{
+    match holding {
+        Some(there) => Some(kind_of(there)),
         None => None,
     }
 }

@@ -5,13 +5,14 @@ ghost use Rattle.std.specs.List.{list_any};
 ghost use Rattle.std.specs.Option.{option_map};
 ghost use Rattle.folder_side.specs.declared.error.FolderFault.TheVariants as fault;
 ghost use Rattle.ids.specs.Outcome.{Exactly};
-ghost use Rattle.folder_side.specs.Folder.{Contents, IsFolder, Changes, PartAt, listing_at, with_file, with_dir, with_holding, without, at, is_dir_at, FolderFails, IsFree, TakesFile, IsRemovable, IsPart};
+ghost use Rattle.folder_side.specs.Folder.{Contents, IsFolder, Changes, PartAt, listing_at, with_file, with_dir, with_holding, without, at, is_dir_at, kind_of, FolderFails, IsFree, TakesFile, IsRemovable, IsPart};
+ghost use Rattle.tree_model.specs.Path.{parent_of};
 ghost use Rattle.folder_side.specs.declared.holding.Holding.TheVariants.{File};
 ghost use Rattle.ids.specs.FaultCount.{counted};
 ghost use Rattle.folder_side.specs.MemoryFolder.{nothing, bytes_of, with_nameless, fails_next, after_call, after_fault, is_want, FailsIf};
 
 use crate::error::FolderFault;
-use crate::folder::{Folder, Listing};
+use crate::folder::{Ahead, Folder, ItemKind, Listing};
 use crate::holding::Holding;
 use crate::memory_contents::MemoryContents;
 use ids::{Bytes, Items};
@@ -147,6 +148,31 @@ impl Folder for MemoryFolder {
         }
     }
 
+    fn look(&mut self, path: &Path) -> Result<Option<ItemKind>, FolderFault>
+        ensures formed { (c : Contents) → Some self.old.contents ≡ Some c → OnOk result (IsFolder c) }
+        ensures found { (c : Contents) → Some self.old.contents ≡ Some c → OnOk result (is_dir_at c (parent_of path.now) ≡ true) }
+        ensures value { (c : Contents) → Some self.old.contents ≡ Some c → IfOk result (λ kind. kind ≡ option_map kind_of (at c path.now)) }
+        ensures stays { (Some self.new.contents ≡ Some self.old.contents) × (self.new.spare ≡ self.old.spare) }
+        ensures faults { FolderFails self.old.faults self.new.faults result }
+
+        // It fails exactly where it is to fail, and where the path stands in no directory.
+        ensures folder { Exactly is_want result fault.Folder (FailsIf self.old (is_dir_at self.old.contents (parent_of path.now) ≡ false)) }
+        ensures ok { OnOk result (self.new ≡ after_call self.old) }
+        ensures err { IfErr result (λ e. self.new ≡ after_fault e self.old) }
+    {
+        if begin_call(self) {
+            return fail(self);
+        }
+        let dir = match path.parent(self.alloc) {
+            Ok(dir) => dir,
+            Err(AllocError) => return Err(FolderFault::NoMemory),
+        };
+        if !self.contents.is_dir(&dir) {
+            return fail(self);
+        }
+        Ok(self.contents.kind(path))
+    }
+
     fn read(&mut self, file: &Path, place: u64, into: &mut [u8]) -> Result<usize, FolderFault>
         requires some { 0 < length into.old }
         ensures bound { IfOk result (λ count. count ≤ length into.new) }
@@ -273,6 +299,10 @@ impl Folder for MemoryFolder {
         }
         self.contents.remove(path);
         Ok(())
+    }
+
+    fn ahead(&self, ahead: Ahead) {
+        let _ = ahead;
     }
 }
 

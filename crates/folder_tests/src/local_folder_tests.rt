@@ -77,6 +77,8 @@ fn lists<F: Folder>(alloc: Global, folder: &mut F) -> Result<bool, AllocError> {
 #[derive(Clone, Copy)]
 enum Step {
     List,
+    /// This is found, or nothing.
+    Look(Option<ItemKind>),
     Make,
     Remove,
     /// `new` is written, by way of the spare.
@@ -97,6 +99,7 @@ fn goes<F: Folder>(
     let path = path(alloc, text)?;
     Ok(match step {
         Step::List => folder.list(alloc, &path).is_ok(),
+        Step::Look(kind) => folder.look(&path) == Ok(kind),
         Step::Make => folder.make_dir(&path).is_ok(),
         Step::Remove => folder.remove(&path).is_ok(),
         Step::Write => write(folder, &path, b"new").is_ok(),
@@ -106,7 +109,15 @@ fn goes<F: Folder>(
 }
 
 /// Steps one after another, and whether each is done. None is that would go through the link, or to where the spare stands.
-const STEPS: [(Step, &str, bool); 20] = [
+const STEPS: [(Step, &str, bool); 28] = [
+    (Step::Look(Some(ItemKind::File)), "d/f", true),
+    (Step::Look(Some(ItemKind::Dir)), "d", true),
+    (Step::Look(Some(ItemKind::Other)), "l", true),
+    (Step::Look(None), "d/x", true),
+    (Step::Look(None), ".seaf-cli.spare", true),
+    (Step::Look(None), "a/x", false),
+    (Step::Look(None), "x/y", false),
+    (Step::Look(Some(ItemKind::File)), "l/f", false),
     (Step::ReadOld, "d/f", true),
     (Step::ReadOld, "l/f", false),
     (Step::List, "l", false),
@@ -205,25 +216,26 @@ fn one_client_at_a_time_has_a_folder(rt: HostRuntime) -> Result<(), Fail> {
     Ok(())
 }
 
-/// Whether a listing of the root is an answer.
-fn lists_something<F: Folder>(alloc: Global, folder: &mut F) -> bool {
+/// Whether a listing of the root is an answer, or a look at this entry of it.
+fn tells_something<F: Folder>(alloc: Global, folder: &mut F, entry: &Path) -> bool {
     let root = Path::root(alloc);
-    folder.list(alloc, &root).is_ok()
+    folder.list(alloc, &root).is_ok() || folder.look(entry).is_ok()
 }
 
-/// Whether a folder that was removed lists something.
-fn lists_once_removed(rt: &HostRuntime, place: &str) -> io::Result<bool> {
+/// Whether a folder that was removed tells something.
+fn tells_once_removed(rt: &HostRuntime, place: &str) -> io::Result<bool> {
+    let entry = path(rt.alloc(), "a")?;
     let mut folder = work(rt, place)?;
     fs::remove_dir_all(rt, within(rt, place, "work")?.as_str())?;
-    Ok(lists_something(rt.alloc(), &mut folder))
+    Ok(tells_something(rt.alloc(), &mut folder, &entry))
 }
 
 #[test]
 fn a_folder_that_was_removed_is_no_empty_folder(rt: HostRuntime) -> Result<(), Fail> {
     let place = scratch(&rt, "removed")?;
-    let is_listed = lists_once_removed(&rt, place.as_str())?;
+    let is_told = tells_once_removed(&rt, place.as_str())?;
     fs::remove_dir_all(&rt, place.as_str())?;
-    assert!(rt; !is_listed);
+    assert!(rt; !is_told);
     Ok(())
 }
 
@@ -314,12 +326,15 @@ fn a_call_that_fails_leaves_the_old_or_the_new(rt: HostRuntime) -> Result<(), Fa
     Ok(())
 }
 
-/// Whether no file `A` takes the place of `a` where both names find one file, and `a` is replaced all the same.
+/// Whether only `a` stands there and no file `A` takes its place where both names find one file, and `a` is replaced all the
+/// same.
 fn keeps_both<F: Folder>(alloc: Global, folder: &mut F) -> Result<bool, AllocError> {
     let small = path(alloc, "a")?;
     let large = path(alloc, "A")?;
     Ok(
-        write(folder, &large, b"big").is_err()
+        folder.look(&large) == Ok(None)
+            && folder.look(&small) == Ok(Some(ItemKind::File))
+            && write(folder, &large, b"big").is_err()
             && reads(folder, &small, 0, b"abc")
             && write(folder, &small, b"new").is_ok()
             && reads(folder, &small, 0, b"new"),

@@ -106,6 +106,38 @@ fn files_are_read_up_to_their_end(rt: HostRuntime) -> Result<(), AllocError> {
     Ok(())
 }
 
+/// A path, and what a look at it finds, or that it is refused.
+const LOOKS: [(&str, Result<Option<ItemKind>, FolderFault>); 6] = [
+    ("a-b", Ok(Some(ItemKind::File))),
+    ("a", Ok(Some(ItemKind::Dir))),
+    ("a!", Ok(Some(ItemKind::Other))),
+    ("a/x", Ok(None)),
+    ("a-b/x", Err(FolderFault::Folder)),
+    ("x/y", Err(FolderFault::Folder)),
+];
+
+/// The path of the first of these that is looked at otherwise; no text where none is.
+fn first_looked_otherwise(
+    alloc: Global,
+    folder: &mut MemoryFolder,
+) -> Result<&'static str, AllocError> {
+    for (text, found) in LOOKS {
+        let path = path(alloc, text)?;
+        if folder.look(&path) != found {
+            return Ok(text);
+        }
+    }
+    Ok("")
+}
+
+#[test]
+fn one_path_is_looked_at(rt: HostRuntime) -> Result<(), AllocError> {
+    let mut folder = folder(rt.alloc(), &[])?;
+    let text = first_looked_otherwise(rt.alloc(), &mut folder)?;
+    assert!(rt; text.is_empty() && folder.faults() == 2, "{text}");
+    Ok(())
+}
+
 /// Makes a directory, or else removes something.
 fn change<F: Folder>(folder: &mut F, is_made: bool, path: &Path) -> Result<(), FolderFault> {
     if is_made {

@@ -76,6 +76,51 @@ pub(crate) fn listing_at<C: DirectoryCalls>(
     Ok(listing)
 }
 
+/// What stands at a path, as the listing of its directory has it: neither the spare, nor what is listed under another name, as
+/// where the file system takes letters of both cases for the same.
+pub(crate) fn look_at<C: DirectoryCalls>(
+    calls: &mut C,
+    root: &C::Dir,
+    names: &[Name],
+) -> io::Result<Option<ItemKind>>
+    requires root { IsTrue (C.stands_at root.now []) }
+    ensures stays { C.steps calls.new ≡ C.steps calls.old }
+{
+    match names.split_last() {
+        Some((name, above)) => {
+            if is_spare(above) {
+                return Err(no_entry());
+            }
+            if is_spare(names) {
+                return Ok(None);
+            }
+            let dir = open_at(calls, root, above)?;
+            look_in(calls, &dir, name.as_str())
+        }
+        None => Ok(None),
+    }
+}
+
+/// What a directory lists under just this name. It is listed only where the system finds something.
+fn look_in<C: DirectoryCalls>(
+    calls: &mut C,
+    dir: &C::Dir,
+    name: &str,
+) -> io::Result<Option<ItemKind>>
+    ensures stays { C.steps calls.new ≡ C.steps calls.old }
+{
+    match calls.look(dir, name)? {
+        Some(kind) => {
+            if calls.is_listed(dir, name)? {
+                Ok(Some(item_kind(kind)))
+            } else {
+                Ok(None)
+            }
+        }
+        None => Ok(None),
+    }
+}
+
 /// Adds an entry to a listing. One that is gone is left out, and one whose text is no name is counted.
 fn add_entry<C: DirectoryCalls>(
     calls: &mut C,

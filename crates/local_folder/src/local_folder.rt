@@ -6,8 +6,8 @@ ghost use Rattle.local_folder.specs.Steps.{Does, DoesAll, Empties, Wrote, made, 
 use crate::changes::{make_at, move_spare, new_spare, remove_at, sweep};
 use crate::counting::answer;
 use crate::directory_calls::DirectoryCalls;
-use crate::entries::{Reading, listing_at, no_entry, read_at};
-use folder_side::{Folder, FolderFault, Listing};
+use crate::entries::{Reading, listing_at, look_at, no_entry, read_at};
+use folder_side::{Ahead, Folder, FolderFault, ItemKind, Listing};
 use std::alloc::Global;
 use std::io;
 use tree_model::Path;
@@ -21,8 +21,8 @@ use tree_model::Path;
 /// and a removal the names of its directory are durable, and so are the bytes of a file that was moved in.
 ///
 /// The folder is locked (flock) as long as it is open, so that one client at a time has it; the system gives the lock up
-/// with the process. A listing of the root fails once another folder, or none, stands at its path; all else goes on in the
-/// folder that was opened.
+/// with the process. A listing of the root, and a look at what stands in it, fail once another folder, or none, stands at its
+/// path; all else goes on in the folder that was opened.
 #[derive(Drop)]
 pub struct LocalFolder<C: DirectoryCalls> {
     calls: C,
@@ -95,8 +95,19 @@ impl<C: DirectoryCalls + Drop> Folder for LocalFolder<C> {
         ensures stays { C.steps self.new.calls ≡ C.steps self.old.calls }
     {
         let listed = listing_at(&mut self.calls, alloc, &self.root, dir.names());
-        let listed = self.if_there(dir, listed);
+        let listed = self.if_there(dir.names().is_empty(), listed);
         answer(&mut self.faults, listed)
+    }
+
+    fn look(&mut self, path: &Path) -> Result<Option<ItemKind>, FolderFault>
+        ensures faults { FolderFails self.old.faults self.new.faults result }
+
+        // Nothing is changed.
+        ensures stays { C.steps self.new.calls ≡ C.steps self.old.calls }
+    {
+        let found = look_at(&mut self.calls, &self.root, path.names());
+        let found = self.if_there(path.names().len() <= 1, found);
+        answer(&mut self.faults, found)
     }
 
     fn read(&mut self, file: &Path, place: u64, into: &mut [u8]) -> Result<usize, FolderFault>
@@ -176,19 +187,23 @@ impl<C: DirectoryCalls + Drop> Folder for LocalFolder<C> {
         let removed = remove_at(&mut self.calls, &self.root, path.names());
         answer(&mut self.faults, removed)
     }
+
+    fn ahead(&self, ahead: Ahead) {
+        let _ = ahead;
+    }
 }
 
 impl<C: DirectoryCalls> LocalFolder<C> {
-    /// A listing of the root counts only where the folder still stands at its path: one that was removed lists nothing.
-    fn if_there(&mut self, dir: &Path, listed: io::Result<Listing>) -> io::Result<Listing>
+    /// What was found in the root counts only where the folder still stands at its path: in one that was removed is nothing.
+    fn if_there<T: Drop>(&mut self, is_root: bool, found: io::Result<T>) -> io::Result<T>
         ensures faults { self.new.faults ≡ self.old.faults }
         ensures stays { C.steps self.new.calls ≡ C.steps self.old.calls }
     {
-        let listing = listed?;
-        if dir.names().is_empty() && !self.calls.is_at(&self.root, self.path.as_str())? {
+        let found = found?;
+        if is_root && !self.calls.is_at(&self.root, self.path.as_str())? {
             return Err(no_entry());
         }
-        Ok(listing)
+        Ok(found)
     }
 
     /// Appends to the spare, if there is one.

@@ -2,7 +2,7 @@
 ghost use Rattle.std.specs.Prelude.{◌≡◌};
 
 use crate::progress::{Done, Progress};
-use folder_side::{Folder, FolderFault, Listing};
+use folder_side::{Ahead, Folder, FolderFault, ItemKind, Listing};
 use std::alloc::Global;
 use std::time::Clock;
 use tree_model::Path;
@@ -71,6 +71,10 @@ impl<F: Folder, R: Clock> Folder for ShownFolder<'_, F, R> {
         self.folder.list(alloc, dir)
     }
 
+    fn look(&mut self, path: &Path) -> Result<Option<ItemKind>, FolderFault> {
+        self.folder.look(path)
+    }
+
     fn read(&mut self, file: &Path, place: u64, into: &mut [u8]) -> Result<usize, FolderFault> {
         let read = self.folder.read(file, place, into);
         if let Ok(count) = &read {
@@ -101,5 +105,9 @@ impl<F: Folder, R: Clock> Folder for ShownFolder<'_, F, R> {
         let removed = self.folder.remove(path);
         note_change(self.progress, 0, u64::from(removed.is_ok()));
         removed
+    }
+
+    fn ahead(&self, ahead: Ahead) {
+        self.folder.ahead(ahead);
     }
 }
