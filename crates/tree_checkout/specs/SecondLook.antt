@@ -1,12 +1,10 @@
 -- What a second look at a path finds beside what was seen there first. Our own. Read LooksAs.
-use Rattle.std.specs.Prelude.{ℕ, ◌≡◌, Bool, true, false, if◌then◌else◌, nat_eq, List, [], ◌∷◌, Option, None, Some, ⊤}
+use Rattle.std.specs.Prelude.{◌≡◌, Bool, true, false, if◌then◌else◌, Option, None, Some, ⊤}
 use Rattle.std.specs.FinMap as fin
-use Rattle.std.specs.Cmp.Lexicographic.{pointwise}
 use Rattle.block_chunker.specs.declared.cuts.Cuts.{Cuts}
 use Rattle.tree_model.specs.Path.{PathV}
 use Rattle.folder_side.specs.FileRead.{ReadsFile}
 use Rattle.folder_side.specs.Folder.{Contents, at}
-use Rattle.folder_side.specs.declared.folder.Item.{Item}
 use Rattle.folder_side.specs.declared.folder.ItemKind.{ItemKind}
 use Rattle.folder_side.specs.declared.folder.ItemKind.TheVariants as kind
 use Rattle.folder_side.specs.declared.holding.Holding.{Holding}
@@ -37,12 +35,7 @@ IsLookFault cuts told path first fault.NoMemory = ⊤
 IsLookFault cuts told path first (fault.Changed changed) = (changed ≡ path) × ((c : Contents) → told ≡ Some c → LooksAs cuts (at c path) first → ⊥)
 IsLookFault cuts told path first _ = ⊥
 
--- ---- what is listed
-
--- the kind of the first item of this name
-abbrev pub kind_named : List ℕ → List Item → Option ItemKind
-kind_named name [] = None
-kind_named name (item ∷ items) = if pointwise nat_eq item.name name then Some item.kind else kind_named name items
+-- ---- what stands there
 
 abbrev pub is_dir_kind : Option ItemKind → Bool
 is_dir_kind None = false

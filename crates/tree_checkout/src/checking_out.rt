@@ -16,7 +16,7 @@ ghost use Rattle.tree_checkout.specs.Writing.{is_change};
 use crate::block_gets::Source;
 use crate::steps::{Write, remove_all, write_all};
 use block_chunker::Cuts;
-use folder_side::{Folder, Scan};
+use folder_side::{Ahead, Folder, Scan};
 use ids::{IdList, Items};
 use remote_calls::Remote;
 use std::alloc::Global;
@@ -55,6 +55,7 @@ pub fn checkout<F: Folder, R: Remote>(
     ensures stays { R.peer remote.new ≡ R.peer remote.old }
     ensures faults { FailsBy is_folder_fault (F.faults folder.old) (F.faults folder.new) result }
 {
+    folder.ahead(Ahead::Steps((doomed.len() as u64).saturating_add(writes.len() as u64)));
     match remove_all(alloc, folder, scan, doomed, cuts, buffer) {
         Ok(()) => {}
         Err(fault) => return Err(fault),

@@ -1,5 +1,5 @@
 //! A second look at a path, before it is touched.
-ghost use Rattle.std.specs.Prelude.{◌≡◌, ◌<◌, ◌≤◌, ◌↔◌, ◌++◌, ◌∷◌, [], ℕ, List, IsTrue, IfErr, IfOk, OnOk, Some, length, option_copied};
+ghost use Rattle.std.specs.Prelude.{◌≡◌, ◌<◌, ◌≤◌, ◌↔◌, ℕ, List, IsTrue, IfErr, IfOk, OnOk, Some, length, option_copied};
 ghost use Rattle.std.specs.Option.{option_map};
 ghost use Rattle.ids.specs.FaultCount.{FailsBy};
 ghost use Rattle.folder_side.specs.FileRead.{ReadsFile};
@@ -7,15 +7,15 @@ ghost use Rattle.folder_side.specs.Folder.{Contents, FolderFails, at, kind_of};
 ghost use Rattle.folder_side.specs.declared.folder_scan.TheConstants.{PIECE};
 ghost use Rattle.folder_side.specs.declared.holding.Holding.TheVariants.{File};
 ghost use Rattle.sync_rules.specs.Causes.{is_folder_fault};
-ghost use Rattle.tree_checkout.specs.SecondLook.{IsChange, IsLookFault, LooksAs, is_dir_kind, is_file_kind, kind_named};
+ghost use Rattle.tree_checkout.specs.SecondLook.{IsChange, IsLookFault, LooksAs, is_dir_kind, is_file_kind};
 
 use crate::fault::folder_fault;
 use block_chunker::Cuts;
-use folder_side::{FileRead, Folder, FolderFault, Item, ItemKind, ReadFault, Seen, read_file};
+use folder_side::{FileRead, Folder, FolderFault, ItemKind, ReadFault, Seen, read_file};
 use ids::ObjId;
 use std::alloc::{AllocError, Global};
 use sync_rules::SyncFault;
-use tree_model::{Name, Path};
+use tree_model::Path;
 
 /// Whether there stands at a path what was seen there first; a file is read and cut again.
 ///
@@ -69,7 +69,7 @@ fn looks_as<F: Folder>(
     ensures stays { (F.told folder.new ≡ F.told folder.old) × (F.spare folder.new ≡ F.spare folder.old) }
     ensures faults { FolderFails (F.faults folder.old) (F.faults folder.new) result }
 {
-    let kind = match kind_at(alloc, folder, path) {
+    let kind = match folder.look(path) {
         Ok(kind) => kind,
         Err(fault) => return Err(fault),
     };
@@ -168,69 +168,4 @@ fn are_one(left: &[ObjId], right: &[ObjId]) -> bool
     ensures value { IsTrue result ↔ (left.now ≡ right.now) }
 {
     left == right
-}
-
-/// What kind of entry stands at a path, if one does.
-fn kind_at<F: Folder>(
-    alloc: Global,
-    folder: &mut F,
-    path: &Path,
-) -> Result<Option<ItemKind>, FolderFault>
-    ensures value { (c : Contents) → F.told folder.old ≡ Some c → IfOk result (λ kind. kind ≡ option_map kind_of (at c path.now)) }
-    ensures stays { (F.told folder.new ≡ F.told folder.old) × (F.spare folder.new ≡ F.spare folder.old) }
-    ensures faults { FolderFails (F.faults folder.old) (F.faults folder.new) result }
-{
-    let copied = match path.copy(alloc) {
-        Ok(copied) => copied,
-        Err(AllocError) => return Err(FolderFault::NoMemory),
-    };
-    match copied.split_last() {
-        Some((dir, name)) => kind_in(alloc, folder, &dir, &name),
-        None => nothing_at_root(alloc, folder, path),
-    }
-}
-
-/// At the root itself stands no entry.
-fn nothing_at_root<F: Folder>(
-    alloc: Global,
-    folder: &mut F,
-    root: &Path,
-) -> Result<Option<ItemKind>, FolderFault>
-    ensures value { (c : Contents) → F.told folder.old ≡ Some c → root.now ≡ [] → IfOk result (λ kind. kind ≡ option_map kind_of (at c root.now)) }
-    ensures stays { (F.told folder.new ≡ F.told folder.old) × (F.spare folder.new ≡ F.spare folder.old) }
-    ensures faults { FolderFails (F.faults folder.old) (F.faults folder.new) result }
-{
-    match folder.list(alloc, root) {
-        Ok(_) => Ok(None),
-        Err(fault) => Err(fault),
-    }
-}
-
-/// What kind of entry a directory has under a name, if it has one.
-fn kind_in<F: Folder>(
-    alloc: Global,
-    folder: &mut F,
-    dir: &Path,
-    name: &Name,
-) -> Result<Option<ItemKind>, FolderFault>
-    ensures value { (c : Contents) → F.told folder.old ≡ Some c → IfOk result (λ kind. kind ≡ option_map kind_of (at c (dir.now ++ name.now ∷ []))) }
-    ensures stays { (F.told folder.new ≡ F.told folder.old) × (F.spare folder.new ≡ F.spare folder.old) }
-    ensures faults { FolderFails (F.faults folder.old) (F.faults folder.new) result }
-{
-    match folder.list(alloc, dir) {
-        Ok(listing) => Ok(kind_named(listing.items.slice(), name)),
-        Err(fault) => Err(fault),
-    }
-}
-
-/// The kind of the item of this name, if there is one.
-fn kind_named(items: &[Item], name: &Name) -> Option<ItemKind>
-    ensures value { result ≡ kind_named name.now items.now }
-{
-    for item in items {
-        if item.name == *name {
-            return Some(item.kind);
-        }
-    }
-    None
 }
