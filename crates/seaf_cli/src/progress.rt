@@ -1,4 +1,5 @@
 //! A line on standard error that shows what is going on.
+use folder_side::Ahead;
 use std::alloc::{AllocError, Global};
 use std::cell::Cell;
 use std::io::{IsTerminal, Stderr, Write};
@@ -7,10 +8,10 @@ use std::time::{Clock, Duration, Instant};
 /// How many milliseconds a line stands at least before it is drawn anew.
 const STANDS_MILLISECONDS: u64 = 100;
 
-/// What was done so far of a job.
+/// What was done so far of a job, and what is ahead.
 #[derive(Clone, Copy, Debug, PartialEq, Eq)]
 pub struct Done {
-    /// So many files of so many bytes were read.
+    /// So many files of so many bytes were read in the last scan.
     pub files: u64,
     pub bytes: u64,
     /// So many bytes went to the server, and so many came.
@@ -19,6 +20,8 @@ pub struct Done {
     /// So many files were written, and so many paths removed.
     pub written: u64,
     pub removed: u64,
+    /// What is ahead, without the steps that were done of it.
+    pub ahead: Ahead,
 }
 
 const NOTHING: Done = Done {
@@ -28,6 +31,7 @@ const NOTHING: Done = Done {
     fetched: 0,
     written: 0,
     removed: 0,
+    ahead: Ahead::Files(0),
 };
 
 /// A line on standard error, drawn anew now and then, where that is a terminal. Where it can't be drawn nothing is shown.
@@ -103,15 +107,39 @@ impl<R: Clock> Progress<R> {
     }
 }
 
-/// The line that tells what was done, over the one that stands there.
+/// The line that tells what is going on and how many are left, over the one that stands there. With numbers of six digits it fits
+/// into 80 columns.
 fn line_of(alloc: Global, done: Done) -> Result<String, AllocError> {
-    format!(in alloc;
-        "\r\x1b[Kread {} files, {} MB; sent {} MB, fetched {} MB; wrote {} files, removed {}",
-        done.files,
-        done.bytes / 1_000_000,
-        done.sent / 1_000_000,
-        done.fetched / 1_000_000,
-        done.written,
-        done.removed
-    )
+    match done.ahead {
+        Ahead::Files(0) => format!(in alloc;
+            "\r\x1b[Kread {} files, {} MB; sent {} MB, fetched {} MB",
+            done.files,
+            megabytes(done.bytes),
+            megabytes(done.sent),
+            megabytes(done.fetched)
+        ),
+        Ahead::Files(known) => format!(in alloc;
+            "\r\x1b[Kread {} of about {known} files, {} MB; sent {} MB, fetched {} MB",
+            done.files,
+            megabytes(done.bytes),
+            megabytes(done.sent),
+            megabytes(done.fetched)
+        ),
+        Ahead::Blocks(left) => format!(in alloc;
+            "\r\x1b[Kread {} files; sent {} MB, fetched {} MB; {left} blocks left",
+            done.files,
+            megabytes(done.sent),
+            megabytes(done.fetched)
+        ),
+        Ahead::Steps(left) => format!(in alloc;
+            "\r\x1b[Kfetched {} MB; wrote {} files, removed {}; {left} steps left",
+            megabytes(done.fetched),
+            done.written,
+            done.removed
+        ),
+    }
+}
+
+fn megabytes(bytes: u64) -> u64 {
+    bytes / 1_000_000
 }

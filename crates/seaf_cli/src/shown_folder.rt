@@ -34,30 +34,61 @@ impl<'a, F, R: Clock> ShownFolder<'a, F, R> {
     }
 }
 
-/// Notes that so many bytes of a file were read, the first of them or later ones.
+/// Notes what is ahead. With a scan the files that are read are counted anew.
+fn note_ahead<R: Clock>(progress: Option<&Progress<R>>, ahead: Ahead) {
+    let Some(progress) = progress else {
+        return;
+    };
+    let done = progress.done();
+    progress.note(match ahead {
+        Ahead::Files(_) => Done {
+            files: 0,
+            bytes: 0,
+            ahead,
+            ..done
+        },
+        _ => Done { ahead, ..done },
+    });
+}
+
+/// Notes that so many bytes of a file were read, the first of them or later ones. Behind the scan they were counted before.
 fn note_read<R: Clock>(progress: Option<&Progress<R>>, is_first: bool, count: usize) {
     let Some(progress) = progress else {
         return;
     };
     let done = progress.done();
-    progress.note(Done {
-        files: done.files.saturating_add(u64::from(is_first)),
-        bytes: done.bytes.saturating_add(count as u64),
-        ..done
-    });
+    if let Ahead::Files(_) = done.ahead {
+        progress.note(Done {
+            files: done.files.saturating_add(u64::from(is_first)),
+            bytes: done.bytes.saturating_add(count as u64),
+            ..done
+        });
+    }
 }
 
-/// Notes that so many files were written, and so many paths removed.
-fn note_change<R: Clock>(progress: Option<&Progress<R>>, written: u64, removed: u64) {
+/// Notes a step, if it was done, by which so many files were written, and so many paths removed.
+fn note_step<R: Clock>(progress: Option<&Progress<R>>, is_done: bool, written: u64, removed: u64) {
     let Some(progress) = progress else {
         return;
     };
+    if !is_done {
+        return;
+    }
     let done = progress.done();
     progress.note(Done {
         written: done.written.saturating_add(written),
         removed: done.removed.saturating_add(removed),
+        ahead: behind_step(done.ahead),
         ..done
     });
+}
+
+/// What is ahead once one more step was done.
+fn behind_step(ahead: Ahead) -> Ahead {
+    match ahead {
+        Ahead::Steps(left) => Ahead::Steps(left.saturating_sub(1)),
+        other => other,
+    }
 }
 
 impl<F: Folder, R: Clock> Folder for ShownFolder<'_, F, R> {
@@ -93,21 +124,24 @@ impl<F: Folder, R: Clock> Folder for ShownFolder<'_, F, R> {
 
     fn spare_move(&mut self, file: &Path) -> Result<(), FolderFault> {
         let moved = self.folder.spare_move(file);
-        note_change(self.progress, u64::from(moved.is_ok()), 0);
+        note_step(self.progress, moved.is_ok(), 1, 0);
         moved
     }
 
     fn make_dir(&mut self, dir: &Path) -> Result<(), FolderFault> {
-        self.folder.make_dir(dir)
+        let made = self.folder.make_dir(dir);
+        note_step(self.progress, made.is_ok(), 0, 0);
+        made
     }
 
     fn remove(&mut self, path: &Path) -> Result<(), FolderFault> {
         let removed = self.folder.remove(path);
-        note_change(self.progress, 0, u64::from(removed.is_ok()));
+        note_step(self.progress, removed.is_ok(), 0, 1);
         removed
     }
 
     fn ahead(&self, ahead: Ahead) {
         self.folder.ahead(ahead);
+        note_ahead(self.progress, ahead);
     }
 }

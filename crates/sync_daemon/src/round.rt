@@ -13,9 +13,9 @@ ghost use Rattle.sync_daemon.specs.Rounds.{IsChecked, IsJoined, IsSeen, RoundSo,
 
 use crate::asking::{ask_head, may_upload};
 use crate::joining::join;
-use crate::scanning::{is_changed, scan_folder};
+use crate::scanning::{files_known, is_changed, scan_folder};
 use block_chunker::Cuts;
-use folder_side::{Folder, Scan};
+use folder_side::{Ahead, Folder, Scan};
 use ids::{ObjId, Text};
 use library_state::{Clock, Refusal};
 use local_index::Index;
@@ -118,6 +118,7 @@ fn checked_round<F: Folder, R: Remote, C: Clock>(
     ensures stays { (F.told folder.new ≡ F.told folder.old) × (R.peer remote.new ≡ R.peer remote.old) }
     ensures faults { FailsBy is_folder_fault (F.faults folder.old) (F.faults folder.new) result }
 {
+    folder.ahead(Ahead::Files(files_known(index)));
     let report = match scan_folder(alloc, folder, cuts) {
         Ok(report) => report,
         Err(fault) => return Err(fault),

@@ -6,7 +6,7 @@ ghost use Rattle.sync_daemon.specs.Rounds.{ScansSo, TellsChange, scan_fault};
 
 use block_chunker::Cuts;
 use folder_side::{Folder, Scan, ScanFault, scan};
-use local_index::{Index, changes};
+use local_index::{Index, Known, changes};
 use std::alloc::{AllocError, Global};
 use sync_rules::SyncFault;
 
@@ -43,4 +43,20 @@ pub(crate) fn is_changed(alloc: Global, report: &Scan, index: &Index) -> Result<
 {
     let changes = changes(alloc, report, index)?;
     Ok(!changes.is_empty())
+}
+
+/// How many files an index knows, for who looks on.
+pub(crate) fn files_known(index: &Index) -> u64 {
+    let mut count: u64 = 0;
+    for (_, known) in index.entries.iter() {
+        count = count.saturating_add(u64::from(is_file(known)));
+    }
+    count
+}
+
+fn is_file(known: &Known) -> bool {
+    match known {
+        Known::Dir => false,
+        Known::File { .. } => true,
+    }
 }

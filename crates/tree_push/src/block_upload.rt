@@ -17,7 +17,7 @@ ghost use Rattle.tree_push.specs.BlockUpload.{IsChange, IsFileFault, IsPutFault,
 use crate::asking::Library;
 use crate::puts::put_block;
 use block_chunker::{Chunker, Cuts};
-use folder_side::{Folder, FolderFault};
+use folder_side::{Ahead, Folder, FolderFault};
 use ids::{Bytes, Items, Key, KeyTable, Kind, ObjId};
 use remote_calls::Remote;
 use std::alloc::{AllocError, Global};
@@ -53,6 +53,7 @@ pub fn put_blocks<F: Folder, R: Remote>(
     let mut chunker = Chunker::new(alloc, cuts);
     let mut place: u64 = 0;
     while place < size {
+        folder.ahead(Ahead::Blocks(lacking.len() as u64));
         let count = match read_piece(alloc, folder, path, place, size - place, buffer) {
             Ok(count) => count,
             Err(fault) => return Err(fault),

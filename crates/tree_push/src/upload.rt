@@ -21,7 +21,7 @@ use crate::lacking::{ask_lacking, ids_of};
 use crate::puts::put_objects;
 use crate::wanted::Wanted;
 use block_chunker::Cuts;
-use folder_side::{Folder, Seen};
+use folder_side::{Ahead, Folder, Seen};
 use ids::{Key, KeyTable, Kind, ObjId};
 use remote_calls::Remote;
 use std::alloc::{AllocError, Global};
@@ -73,6 +73,7 @@ pub(crate) fn upload<F: Folder, R: Remote>(
         Ok(()) => {}
         Err(fault) => return Err(fault),
     }
+    folder.ahead(Ahead::Blocks(blocks.len() as u64));
     put_objects(alloc, remote, library, &wanted.made, &objects)
 }
 
