@@ -132,13 +132,16 @@ for path in {path for client in clients for path in client.shared}:
         wrong.append(f'no last version of {path} is left')
 serving.kill()
 serving.wait()
-again = subprocess.Popen([SERVER, 'serve', 'kept', str(port), '1', '1', LIB], stdin=subprocess.DEVNULL, stdout=subprocess.DEVNULL, stderr=open('err2', 'wb'))
+again = subprocess.Popen([SERVER, 'serve', 'kept', str(port), '1', '4294967295', LIB], stdin=subprocess.DEVNULL, stdout=subprocess.DEVNULL, stderr=open('err2', 'wb'))
 while b'listening' not in open('err2', 'rb').read():
     time.sleep(0.05)
-status, body = ask(port, 'GET', 'commit/HEAD')
+run(CLIENT, 'init', '-c', 'conf-after')
+os.mkdir('after')
+status, line = run(CLIENT, 'download', '-c', 'conf-after', '-l', LIB, '-s', f'http://127.0.0.1:{port}', '-w', 'after', '-u', 'after', '-k', SECRET)
+again.kill()
 again.wait()
-if status != 200:
-    wrong.append(f'after a kill the head is answered {status}')
+if status != 0 or tree('after') != trees[0]:
+    wrong.append(f'after a kill another folder is downloaded otherwise: {line}')
 for client in clients:
     print(f'{client.name_of}: {client.syncs} syncs, the slowest {client.slowest:.2f} s, refused: {client.refused}')
 print(f'{collections} collections, the slowest {slowest:.2f} s; {len(trees[0])} files in the end; {len(wrong)} wrong')

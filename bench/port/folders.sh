@@ -2,7 +2,7 @@
 # A folder of 10,000 files (82 MB) brought from one client to another through `seaf-server serve`: first push, first clone, one file changed
 # and taken over, and no change at each client; beside rsync with a daemon on loopback where it is installed. By the clock and by processor
 # time of the client and of the server, and the most memory of each. BASELINES, where it is told, is a folder with `b_syncthing.py`, which is
-# run over the same files where syncthing is installed. W names a folder to work in.
+# run where syncthing is installed, over as many files made by the same rule from another number. W names a folder to work in.
 #   bench/port/folders.sh SERVER CLIENT [FILES [BASELINES]]
 here=$(cd "$(dirname "$0")" && pwd)
 . "$here/common.sh"

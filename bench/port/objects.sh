@@ -84,4 +84,5 @@ awk '{ size = $3; sub(/.*=/, "", size); what = $1 " " $2 " " ($2 == "look" ? "he
        for (name in value) if (name == "cpu_us" || name == "p50us" || name == "p99us") { key = what SUBSEP name; if (!(key in least) || value[name] + 0 < least[key]) least[key] = value[name] + 0 }
        if (!(what in seen)) { seen[what] = 1; order[++lines] = what } }
      END { for (i = 1; i <= lines; i++) printf "%-22s cpu %8.1f us  p50 %6d us  p99 %6d us\n", order[i], least[order[i], "cpu_us"], least[order[i], "p50us"], least[order[i], "p99us"] }' "$work/lines" | sort -k2,3
-echo "most memory of the server: $(most_memory "$server_pid") MiB"
+echo "most memory of the server: $(most_memory "$server_pid") MiB; of the C server: $(most_memory "$floor_pid") MiB"
+for one in $nginx_pids; do echo "most memory of a worker of nginx: $(most_memory "$one") MiB"; done
