@@ -5,7 +5,8 @@ some_port() {
     printf '%s\n' "$((20000 + $(od -An -N2 -tu2 /dev/urandom) % 40000))"
 }
 
-# listen WORKERS CONNECTIONS LIB..: from here on the program serves the folder `folder` at a port of this machine, which is found free.
+# listen WORKERS CONNECTIONS LIB..: from here on the program serves the folder `folder`, or the place that $serves names, at a port of this
+# machine, which is found free.
 # It is in $port. The row fails where none was opened.
 listen() {
     tries=0
@@ -22,7 +23,7 @@ listens() {
     : > port_got
     # (the program itself has the number that is written down, and not the `timeout` around it)
     timeout -k 5 "$SECONDS_EACH" sh -c 'echo "$$" > port_number && exec "$@"' _ \
-        "$PROGRAM" serve folder "$port" "$workers" "$connections" "$@" < /dev/null > port_got 2> port_complaint &
+        "$PROGRAM" serve "${serves-folder}" "$port" "$workers" "$connections" "$@" < /dev/null > port_got 2> port_complaint &
     port_process=$!
     waited=0
     until grep -q '^seaf-server: listening' port_complaint; do
