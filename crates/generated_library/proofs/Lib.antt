@@ -6,4 +6,5 @@ pub mod OwnLemmas
 pub mod PushingLemmas
 pub mod ReadyLemmas
 pub mod RuleLemmas
+pub mod StoppingLemmas
 pub mod TreeLemmas

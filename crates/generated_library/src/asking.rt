@@ -1,10 +1,12 @@
 //! One call after another of a library in a hall, each of which has to be done.
-ghost use Rattle.std.specs.Prelude.{◌≡◌, IfOk, Some, false, true};
+ghost use Rattle.std.specs.Prelude.{◌≡◌, ◌↔◌, IfErr, IfOk, Some, false, true};
 ghost use Rattle.library_rules.specs.Changes.{is_refused};
 ghost use Rattle.library_state.specs.declared.reply.Reply.{Reply};
 ghost use Rattle.sync_calls.specs.Hall.{AreReady, made_with, shares_of, shown_by};
 ghost use Rattle.generated_library.specs.Filled.{IsOver, Puts, Updates};
 ghost use Rattle.generated_library.specs.Leading.{Any, IsAnswered, Leads, call_of};
+ghost use Rattle.generated_library.specs.Stopping.{IsOfFilling, IsRefusalOf, StopsFor, WasAsked};
+ghost use Rattle.sync_calls.specs.declared.asking.Answer.{Answer};
 
 use ids::{Bytes, Key, LibId, ObjId};
 use library_state::{Act, Call, Refusal, Reply, Secret};
@@ -52,10 +54,13 @@ pub(crate) fn ask<S: Shelf, R: Wait>(
     act: Act,
 ) -> Result<Reply, NotFilled>
     requires ready { AreReady S.contents S.may_give S.texts S.faults hall.now pass.old }
+    requires asks { IsOfFilling act }
     ensures ready { AreReady S.contents S.may_give S.texts S.faults hall.now pass.new }
     ensures size { (shares_of pass.new ≡ shares_of pass.old) × (made_with pass.new ≡ made_with pass.old) }
     ensures leads { IfOk result (λ reply. Leads S.contents S.faults (shown_by pass.old) (shown_by pass.new) Any (IsAnswered (call_of (Some asker.now.secret) act) asker.now.moment reply)) }
     ensures done { IfOk result (λ reply. is_refused reply ≡ false) }
+    ensures stops { IfErr result (StopsFor S.contents S.may_give S.texts S.faults asker.now.lib asker.now.secret asker.now.moment pass.new) }
+    ensures asked { IfOk result (λ reply. (answer : Answer) × WasAsked S.contents S.may_give S.texts S.faults asker.now.lib asker.now.secret asker.now.moment act answer pass.new × (answer.reply ≡ reply)) }
 {
     let call = Call {
         secret: Some(asker.secret),
@@ -68,6 +73,7 @@ pub(crate) fn ask<S: Shelf, R: Wait>(
 /// A reply that isn't a refusal.
 fn unrefused(reply: Reply) -> Result<Reply, NotFilled>
     ensures value { IfOk result (λ told. (told ≡ reply) × (is_refused reply ≡ false)) }
+    ensures stops { IfErr result (IsRefusalOf reply) }
 {
     match reply {
         Reply::Refused(why) => Err(NotFilled::Refused(why)),
@@ -88,6 +94,7 @@ pub(crate) fn put<S: Shelf, R: Wait>(
     ensures ready { AreReady S.contents S.may_give S.texts S.faults hall.now pass.new }
     ensures size { (shares_of pass.new ≡ shares_of pass.old) × (made_with pass.new ≡ made_with pass.old) }
     ensures leads { IfOk result (λ done. Leads S.contents S.faults (shown_by pass.old) (shown_by pass.new) Any (Puts key bytes)) }
+    ensures stops { IfErr result (StopsFor S.contents S.may_give S.texts S.faults asker.now.lib asker.now.secret asker.now.moment pass.new) }
 {
     let _reply = ask(rt, hall, pass, asker, Act::Put(key, bytes))?;
     Ok(())
@@ -105,6 +112,7 @@ pub(crate) fn update<S: Shelf, R: Wait>(
     ensures ready { AreReady S.contents S.may_give S.texts S.faults hall.now pass.new }
     ensures size { (shares_of pass.new ≡ shares_of pass.old) × (made_with pass.new ≡ made_with pass.old) }
     ensures leads { IfOk result (λ done. Leads S.contents S.faults (shown_by pass.old) (shown_by pass.new) (IsOver commit) (Updates commit)) }
+    ensures stops { IfErr result (StopsFor S.contents S.may_give S.texts S.faults asker.now.lib asker.now.secret asker.now.moment pass.new) }
 {
     let reply = ask(rt, hall, pass, asker, Act::Update(commit))?;
     if !is_updated(&reply, commit) {
@@ -115,7 +123,7 @@ pub(crate) fn update<S: Shelf, R: Wait>(
 
 /// Whether the library stands at this commit now.
 fn is_updated(reply: &Reply, commit: ObjId) -> bool
-    ensures told { result ≡ true → reply.now ≡ Reply.Updated commit }
+    ensures told { (result ≡ true) ↔ (reply.now ≡ Reply.Updated commit) }
 {
     match reply {
         Reply::Updated(head) => *head == commit,

@@ -1,10 +1,11 @@
 //! The run that fills a library: two pushes, and a collection of what the second left behind.
-ghost use Rattle.std.specs.Prelude.{◌≡◌, ◌≤◌, ℕ, IfOk};
+ghost use Rattle.std.specs.Prelude.{◌≡◌, ◌≤◌, ℕ, IfErr, IfOk};
 ghost use Rattle.std.specs.FinMap as map;
 ghost use Rattle.sync_calls.specs.Hall.{AreReady, made_with, shares_of, shown_by};
 ghost use Rattle.generated_library.specs.Filled.{Collects, IsFilled, IsNew, IsResting, Limits};
 ghost use Rattle.generated_library.specs.Generated.{bytes_made, changed_from, files_from, tree_of};
 ghost use Rattle.generated_library.specs.Leading.{Any, Grows, Leads};
+ghost use Rattle.generated_library.specs.Stopping.{EndsFor, StopsFor, WasCollected};
 
 use crate::asking::{Asker, NotFilled, ask};
 use crate::pushing::{Round, push};
@@ -56,6 +57,12 @@ pub fn fill<S: Shelf, C: Clock, R: Wait>(
         (λ s t. IsFilled (C.shows clock.now) plan.now.count plan.now.number plan.now.head filled t)) }
     ensures numbers { IfOk result (λ filled. (moment : ℕ) × C.shows clock.now moment
         × (filled.paths ≡ map.len (tree_of moment (changed_from 0 (files_from plan.now.count plan.now.number)))) × (filled.bytes ≡ bytes_made plan.now.count plan.now.number)) }
+
+    // The number of the objects that left is what the collection told, the last thing that is asked.
+    ensures last { IfOk result (λ filled. WasCollected S.contents S.may_give S.texts S.faults plan.now.lib plan.now.secret (C.shows clock.now) filled.removed pass.new) }
+
+    // It stops for what was asked last, for a clash of names, or for want of memory.
+    ensures stops { IfErr result (EndsFor S.contents S.may_give S.texts S.faults plan.now.lib plan.now.secret (C.shows clock.now) pass.new) }
 {
     let asker = Asker {
         lib: plan.lib,
@@ -94,6 +101,7 @@ fn check<S: Shelf, R: Wait>(
     ensures ready { AreReady S.contents S.may_give S.texts S.faults hall.now pass.new }
     ensures size { (shares_of pass.new ≡ shares_of pass.old) × (made_with pass.new ≡ made_with pass.old) }
     ensures leads { IfOk result (λ done. Leads S.contents S.faults (shown_by pass.old) (shown_by pass.new) Any Grows) }
+    ensures stops { IfErr result (StopsFor S.contents S.may_give S.texts S.faults asker.now.lib asker.now.secret asker.now.moment pass.new) }
 {
     let _reply = ask(rt, hall, pass, asker, Act::Check(Op::Upload))?;
     Ok(())
@@ -110,6 +118,7 @@ fn limit<S: Shelf, R: Wait>(
     ensures ready { AreReady S.contents S.may_give S.texts S.faults hall.now pass.new }
     ensures size { (shares_of pass.new ≡ shares_of pass.old) × (made_with pass.new ≡ made_with pass.old) }
     ensures leads { IfOk result (λ done. Leads S.contents S.faults (shown_by pass.old) (shown_by pass.new) Any Limits) }
+    ensures stops { IfErr result (StopsFor S.contents S.may_give S.texts S.faults asker.now.lib asker.now.secret asker.now.moment pass.new) }
 {
     let _reply = ask(rt, hall, pass, asker, Act::Limit(0))?;
     Ok(())
@@ -127,6 +136,8 @@ fn collect<S: Shelf, C: Clock, R: Wait>(
     ensures ready { AreReady S.contents S.may_give S.texts S.faults hall.now pass.new }
     ensures size { (shares_of pass.new ≡ shares_of pass.old) × (made_with pass.new ≡ made_with pass.old) }
     ensures leads { IfOk result (λ removed. Leads S.contents S.faults (shown_by pass.old) (shown_by pass.new) IsResting (Collects removed)) }
+    ensures last { IfOk result (λ removed. WasCollected S.contents S.may_give S.texts S.faults plan.now.lib plan.now.secret (C.shows clock.now) removed pass.new) }
+    ensures stops { IfErr result (EndsFor S.contents S.may_give S.texts S.faults plan.now.lib plan.now.secret (C.shows clock.now) pass.new) }
 {
     match hall.collect(rt, pass, plan.lib, &Some(plan.secret), clock) {
         Collected::Done {

@@ -1,5 +1,5 @@
 //! A push of the generated files: their blocks and objects, the directories, a commit, and the update.
-ghost use Rattle.std.specs.Prelude.{◌≡◌, ◌≢◌, ◌<◌, ◌≤◌, ◌||◌, IfOk, None, Ok, OnOk, Some, codes, false, length, not};
+ghost use Rattle.std.specs.Prelude.{◌≡◌, ◌≢◌, ◌<◌, ◌≤◌, ◌||◌, IfErr, IfOk, None, Ok, OnOk, Some, codes, false, length, not};
 ghost use Rattle.std.specs.FinMap as map;
 ghost use Rattle.ids.specs.ObjectId.{nil};
 ghost use Rattle.sha1.specs.Sha1.{sha1};
@@ -10,6 +10,7 @@ ghost use Rattle.sync_calls.specs.Hall.{AreReady, made_with, shares_of, shown_by
 ghost use Rattle.generated_library.specs.Filled.{HasCommit, HasFiles, HasTree, IsBeside, Pushes, PutsAll, PutsBoth, PutsFile, Stores, entries_of, entry_by, file_id, file_object, file_text, is_marked, is_put, marked, pushed_bytes, pushed_files, put_entry, with_entry};
 ghost use Rattle.generated_library.specs.Generated.{after_file, bytes_pushed, file_bytes, files_from, tree_of};
 ghost use Rattle.generated_library.specs.Leading.{Any, Leads};
+ghost use Rattle.generated_library.specs.Stopping.{StopsAsBuilt, StopsFor};
 
 use crate::asking::{Asker, NotFilled, put, update};
 use crate::numbers::Numbers;
@@ -65,6 +66,7 @@ pub(crate) fn push<S: Shelf, R: Wait>(
     ensures paths { IfOk result (λ pushed. pushed.paths ≡ map.len (tree_of asker.now.moment (pushed_files round.is_second 0 (files_from round.count round.number)))) }
     ensures leads { IfOk result (λ pushed. Leads S.contents S.faults (shown_by pass.old) (shown_by pass.new) (IsBeside round.is_second parent (files_from round.count round.number))
         (Pushes pushed.commit parent asker.now.moment (pushed_files round.is_second 0 (files_from round.count round.number)))) }
+    ensures stops { IfErr result (StopsFor S.contents S.may_give S.texts S.faults asker.now.lib asker.now.secret asker.now.moment pass.new) }
 {
     let mut entries = PathTable::new(alloc);
     let bytes = put_files(rt, alloc, hall, pass, asker, round, &mut entries)?;
@@ -99,6 +101,7 @@ fn put_files<S: Shelf, R: Wait>(
     ensures entries { IfOk result (λ total. entries.new ≡ entries_of asker.now.moment (pushed_files round.is_second 0 (files_from round.count round.number))) }
     ensures leads { IfOk result (λ total. Leads S.contents S.faults (shown_by pass.old) (shown_by pass.new) (HasFiles round.is_second (files_from round.count round.number))
         (Stores (pushed_files round.is_second 0 (files_from round.count round.number)))) }
+    ensures stops { IfErr result (StopsFor S.contents S.may_give S.texts S.faults asker.now.lib asker.now.secret asker.now.moment pass.new) }
 {
     let mut numbers = Numbers { now: round.number };
     let mut total = 0u64;
@@ -140,6 +143,7 @@ fn put_next<S: Shelf, R: Wait>(
     ensures entries { OnOk result (entries.new ≡ with_entry asker.now.moment number (pushed_bytes round.is_second number (file_bytes numbers.old.now)) entries.old) }
     ensures leads { OnOk result (Leads S.contents S.faults (shown_by pass.old) (shown_by pass.new) Any
         (PutsFile (is_put round.is_second number) (pushed_bytes round.is_second number (file_bytes numbers.old.now)))) }
+    ensures stops { IfErr result (StopsFor S.contents S.may_give S.texts S.faults asker.now.lib asker.now.secret asker.now.moment pass.new) }
 {
     let mut bytes = numbers.file(alloc)?;
     let is_changed = is_marked(round.is_second, number);
@@ -235,6 +239,7 @@ fn put_file<S: Shelf, R: Wait>(
     ensures size { (shares_of pass.new ≡ shares_of pass.old) × (made_with pass.new ≡ made_with pass.old) }
     ensures value { IfOk result (λ id. id ≡ file_id bytes.items) }
     ensures leads { IfOk result (λ id. Leads S.contents S.faults (shown_by pass.old) (shown_by pass.new) Any (PutsFile is_new bytes.items)) }
+    ensures stops { IfErr result (StopsFor S.contents S.may_give S.texts S.faults asker.now.lib asker.now.secret asker.now.moment pass.new) }
 {
     let text = text_of(alloc, bytes.as_slice())?;
     let id = ObjId::of(text.slice());
@@ -272,6 +277,7 @@ fn put_both<S: Shelf, R: Wait>(
     ensures ready { AreReady S.contents S.may_give S.texts S.faults hall.now pass.new }
     ensures size { (shares_of pass.new ≡ shares_of pass.old) × (made_with pass.new ≡ made_with pass.old) }
     ensures leads { OnOk result (Leads S.contents S.faults (shown_by pass.old) (shown_by pass.new) Any (PutsBoth bytes.items text)) }
+    ensures stops { IfErr result (StopsFor S.contents S.may_give S.texts S.faults asker.now.lib asker.now.secret asker.now.moment pass.new) }
 {
     let block = Key {
         kind: Kind::Block,
@@ -299,6 +305,7 @@ fn put_directories<S: Shelf, R: Wait>(
     ensures ready { AreReady S.contents S.may_give S.texts S.faults hall.now pass.new }
     ensures size { (shares_of pass.new ≡ shares_of pass.old) × (made_with pass.new ≡ made_with pass.old) }
     ensures leads { IfOk result (λ root. Leads S.contents S.faults (shown_by pass.old) (shown_by pass.new) Any (HasTree entries root)) }
+    ensures stops { IfErr result (StopsFor S.contents S.may_give S.texts S.faults asker.now.lib asker.now.secret asker.now.moment pass.new) }
 {
     let built = match build(alloc, entries) {
         Ok(built) => built,
@@ -310,7 +317,9 @@ fn put_directories<S: Shelf, R: Wait>(
 }
 
 /// Why a tree has no objects, as why a filling stops.
-fn not_built(fault: &BuildFault) -> NotFilled {
+fn not_built(fault: &BuildFault) -> NotFilled
+    ensures value { StopsAsBuilt fault.now result }
+{
     match fault {
         BuildFault::Taken(id) => NotFilled::Taken(*id),
         BuildFault::NoMemory => NotFilled::NoMemory,
@@ -329,6 +338,7 @@ fn put_all<S: Shelf, R: Wait>(
     ensures ready { AreReady S.contents S.may_give S.texts S.faults hall.now pass.new }
     ensures size { (shares_of pass.new ≡ shares_of pass.old) × (made_with pass.new ≡ made_with pass.old) }
     ensures leads { OnOk result (Leads S.contents S.faults (shown_by pass.old) (shown_by pass.new) Any (PutsAll made)) }
+    ensures stops { IfErr result (StopsFor S.contents S.may_give S.texts S.faults asker.now.lib asker.now.secret asker.now.moment pass.new) }
 {
     while let Some(key) = made.next(None) {
         let Some(bytes) = made.remove(&key) else {
@@ -357,6 +367,7 @@ fn put_commit<S: Shelf, R: Wait>(
     ensures size { (shares_of pass.new ≡ shares_of pass.old) × (made_with pass.new ≡ made_with pass.old) }
     ensures leads { IfOk result (λ id. Leads S.contents S.faults (shown_by pass.old) (shown_by pass.new) (λ s. parent ≢ nil)
         (HasCommit id (made asker.now.lib root (Some parent) None (codes "make") (codes "make") asker.now.moment false))) }
+    ensures stops { IfErr result (StopsFor S.contents S.may_give S.texts S.faults asker.now.lib asker.now.secret asker.now.moment pass.new) }
 {
     let name = Text::copy(alloc, "make")?;
     let commit = Commit::make(

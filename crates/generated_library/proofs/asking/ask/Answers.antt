@@ -7,6 +7,7 @@ use Rattle.tree_merge.proofs.TableLemmas.{if_ok_more}
 use Rattle.generated_library.specs.Leading.{Any, IsAnswered, Leads, call_of}
 use Rattle.generated_library.proofs.OwnLemmas.{asks_lead}
 use Rattle.generated_library.proofs.ReadyLemmas.{ready_books}
+use Rattle.generated_library.proofs.StoppingLemmas.{asked_done, asked_stops}
 use Rattle.generated_library.proofs.asking.ask.Goals as goal
 
 pub returns-clause-leads : goal.returns-clause-leads
@@ -22,3 +23,11 @@ returns-clause-leads g c =
 pub returns-clause-done : goal.returns-clause-done
 returns-clause-done g c =
     if_ok_more c.unrefused.result (λ reply said. subst (λ (r : Reply). is_refused r ≡ false) (sym said.0) said.1) c.unrefused.ensures.value
+
+pub returns-clause-stops : goal.returns-clause-stops
+returns-clause-stops g c =
+    asked_stops g.S.Shelf.contents g.S.Shelf.may_give g.S.Shelf.texts g.S.Shelf.faults c.args.asker.now.lib c.args.asker.now.secret c.args.asker.now.moment (shown_by c.args.pass.now) c.ask_own-answer.new.pass c.args.act c.ask_own-answer.result c.ask_own-answer.ensures.asks c.requires.asks c.unrefused.result c.unrefused.ensures.stops
+
+pub returns-clause-asked : goal.returns-clause-asked
+returns-clause-asked g c =
+    asked_done g.S.Shelf.contents g.S.Shelf.may_give g.S.Shelf.texts g.S.Shelf.faults c.args.asker.now.lib c.args.asker.now.secret c.args.asker.now.moment (shown_by c.args.pass.now) c.ask_own-answer.new.pass c.args.act c.ask_own-answer.result c.ask_own-answer.ensures.asks c.unrefused.result c.unrefused.ensures.value

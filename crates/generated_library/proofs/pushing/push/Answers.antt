@@ -8,6 +8,7 @@ use Rattle.generated_library.specs.Generated.{files_from}
 use Rattle.generated_library.specs.Leading.{Any, Leads}
 use Rattle.generated_library.proofs.FillLemmas.{tree_len}
 use Rattle.generated_library.proofs.LedLemmas.{push_led}
+use Rattle.generated_library.proofs.StoppingLemmas.{stopped}
 use Rattle.generated_library.proofs.pushing.push.Goals as goal
 
 pub returns-clause-paths : goal.returns-clause-paths
@@ -26,3 +27,19 @@ returns-clause-leads g c =
     push_led g.S.Shelf.contents g.S.Shelf.may_give g.S.Shelf.texts g.S.Shelf.faults (shown_by c.args.pass.now) (shown_by c.put_files.new.pass) (shown_by c.put_directories.new.pass) (shown_by c.put_commit.new.pass)
     (shown_by c.update.new.pass) round.is_second c.args.parent c.in_ok-commit.commit c.args.asker.now.moment first files c.args.asker.now.lib c.in_ok-root.root
     c.in_ok-bytes.ensures.leads dirs c.in_ok-commit.ensures.leads c.in_ok-update.ensures.leads
+
+pub returns-in_err-bytes-clause-stops : goal.returns-in_err-bytes-clause-stops
+returns-in_err-bytes-clause-stops g c =
+    stopped g.S.Shelf.contents g.S.Shelf.may_give g.S.Shelf.texts g.S.Shelf.faults c.args.asker.now.lib c.args.asker.now.secret c.args.asker.now.moment c.put_files.new.pass c.in_err-bytes.field-0.0 c.from_residual.result c.from_residual.ensures.1 c.in_err-bytes.ensures.stops
+
+pub returns-in_err-root-clause-stops : goal.returns-in_err-root-clause-stops
+returns-in_err-root-clause-stops g c =
+    stopped g.S.Shelf.contents g.S.Shelf.may_give g.S.Shelf.texts g.S.Shelf.faults c.args.asker.now.lib c.args.asker.now.secret c.args.asker.now.moment c.put_directories.new.pass c.in_err-root.field-0.0 c.from_residual-in_err-root.result c.from_residual-in_err-root.ensures.1 c.in_err-root.ensures.stops
+
+pub returns-in_err-commit-clause-stops : goal.returns-in_err-commit-clause-stops
+returns-in_err-commit-clause-stops g c =
+    stopped g.S.Shelf.contents g.S.Shelf.may_give g.S.Shelf.texts g.S.Shelf.faults c.args.asker.now.lib c.args.asker.now.secret c.args.asker.now.moment c.put_commit.new.pass c.in_err-commit.field-0.0 c.from_residual-in_err-commit.result c.from_residual-in_err-commit.ensures.1 c.in_err-commit.ensures.stops
+
+pub returns-in_err-update-clause-stops : goal.returns-in_err-update-clause-stops
+returns-in_err-update-clause-stops g c =
+    stopped g.S.Shelf.contents g.S.Shelf.may_give g.S.Shelf.texts g.S.Shelf.faults c.args.asker.now.lib c.args.asker.now.secret c.args.asker.now.moment c.update.new.pass c.in_err-update.field-0.0 c.from_residual-in_err-update.result c.from_residual-in_err-update.ensures.1 c.in_err-update.ensures.stops

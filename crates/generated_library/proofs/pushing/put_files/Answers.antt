@@ -6,6 +6,7 @@ use Rattle.generated_library.specs.Generated.{files_from}
 use Rattle.generated_library.specs.Leading.{Leads}
 use Rattle.generated_library.proofs.LedLemmas.{PutSoFar, files_all, files_led, files_none}
 use Rattle.generated_library.proofs.PushingLemmas.{bytes_all, bytes_begun, bytes_more, entries_all, entries_begun, entries_more, one_left}
+use Rattle.generated_library.proofs.StoppingLemmas.{stopped}
 use Rattle.generated_library.proofs.pushing.put_files.Goals as goal
 
 whole : (count : ℕ) → count - 0 ≡ count
@@ -69,3 +70,7 @@ returns-clause-leads g c =
     files_all g.S.Shelf.contents g.S.Shelf.may_give g.S.Shelf.texts g.S.Shelf.faults (shown_by c.args.pass.now) (shown_by c.loop-number.pass) round.is_second first all c.loop-number.number c.loop-number.numbers.now
     (subst (λ (n : ℕ). Leads g.S.Shelf.contents g.S.Shelf.faults (shown_by c.args.pass.now) (shown_by c.loop-number.pass) (HasFiles round.is_second first)
     (PutSoFar round.is_second all c.loop-number.number n c.loop-number.numbers.now)) (none_left round.count c.loop-number.number c.loop-number-test.false) c.loop-number.invariant.leads)
+
+pub returns-in_err-size-clause-stops : goal.returns-in_err-size-clause-stops
+returns-in_err-size-clause-stops g c =
+    stopped g.S.Shelf.contents g.S.Shelf.may_give g.S.Shelf.texts g.S.Shelf.faults c.args.asker.now.lib c.args.asker.now.secret c.args.asker.now.moment c.put_next.new.pass c.in_err-size.field-0.0 c.from_residual.result c.from_residual.ensures.1 c.in_err-size.ensures.stops
