@@ -181,9 +181,9 @@ module _ {S : Type 0} (contents : S → Option Contents) (may_give : S → Slot 
       → GivesNoMore (gives (location_text location) lib) (now (location_text location) lib)
       → IsBrought contents may_give faults now location shows mid lib depot → IsBrought contents may_give faults gives location shows old lib depot
   brought_now mid now lib depot same reads is = record {
-    state = absent_given location lib shows (Ok depot) reads is.state;
+    state = absent_given location lib shows (λ (d : DepotView S). d.state) (Ok depot) reads is.state;
     told = λ standing there. is.told standing (same ∙ there);
-    laid = absent_gives location lib shows may_give (Ok depot) reads is.laid;
+    laid = absent_gives location lib shows may_give (λ (d : DepotView S). d) (Ok depot) reads is.laid;
     none = is.none;
     settled = is.settled;
     good = is.good;

@@ -41,11 +41,11 @@ module _ (location : Location) (lib : List ℕ) (shows : ℕ → Type 0) where
       by (inr laid) = inr (laid_text laid.0 laid.1)
 
   -- one that was looked for first
-  pub absent_gives : {S : Type 0} {before now : Slot → Option (List ℕ) → Type 0} (may_give : S → Slot → Option (List ℕ) → Type 0) (result : Result (DepotView S) NotBrought) → GivesNoMore before now
-      → IfOk result (λ depot. GivesBy (IsOfOpening location lib shows depot.state) now (may_give depot.store.shelf))
-      → IfOk result (λ depot. GivesBy (IsOfOpening location lib shows depot.state) before (may_give depot.store.shelf))
-  absent_gives may_give (Ok depot) reads gives = read_by reads gives
-  absent_gives may_give (Err why) reads gives = tt
+  pub absent_gives : {S T : Type 0} {before now : Slot → Option (List ℕ) → Type 0} (may_give : S → Slot → Option (List ℕ) → Type 0) (depot_in : T → DepotView S) (result : Result T NotBrought) → GivesNoMore before now
+      → IfOk result (λ x. GivesBy (IsOfOpening location lib shows (depot_in x).state) now (may_give (depot_in x).store.shelf))
+      → IfOk result (λ x. GivesBy (IsOfOpening location lib shows (depot_in x).state) before (may_give (depot_in x).store.shelf))
+  absent_gives may_give depot_in (Ok x) reads gives = read_by reads gives
+  absent_gives may_give depot_in (Err why) reads gives = tt
 
   -- neither lays what is damage
   pub opening_harmless : {before now : Slot → Option (List ℕ) → Type 0} (state : LibState) → GivesBy (IsOfOpening location lib shows state) before now → Harmless before now

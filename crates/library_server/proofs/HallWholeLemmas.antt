@@ -1,5 +1,5 @@
--- A connection with several libraries over storage that never fails, and objects under their own names. The key lemmas are hall_whole
--- and served_whole.
+-- A connection with several libraries over storage that never fails, and objects under their own names. The key lemmas are names_after,
+-- did_call, did_turn, hall_whole and served_whole.
 use Rattle.std.proofs.Common.{◌≡◌, inl, inr, ℕ, zero, suc, ◌<◌, false, List, [], ◌∷◌, length, Option, Some, ap, arith, refl, subst, subst₂, sym, ◌∙◌}
 use Rattle.std.specs.List.{AllByRecursion, slice_get}
 use Rattle.std.specs.Prelude.{slice_index_or, slice_set, map as map_list}
@@ -105,7 +105,7 @@ module _ {S : Type 0} (contents : S → Option Contents) (may_give : S → Slot 
       by (made.Turned goal most taken) at turned =
           (turn_whole contents may_give texts faults shows steady c.before.value goal at most taken.value c.after.value turned.takes names).1
 
-  names_after : (x : DepotView S) (cs : List (Change (DepotView S))) (y : DepotView S) → LeadsTo contents may_give texts faults x cs y → NamesIn contents x → (n : ℕ) (d : DepotView S)
+  pub names_after : (x : DepotView S) (cs : List (Change (DepotView S))) (y : DepotView S) → LeadsTo contents may_give texts faults x cs y → NamesIn contents x → (n : ℕ) (d : DepotView S)
       → library_after (Some x) cs n ≡ Some d → NamesIn contents d
   names_after x cs y leads names zero d is = subst (λ (z : DepotView S). NamesIn contents z) (from_some x d is) names
   names_after x [] y leads names (suc n) d is = absurd (none_some d is)
@@ -128,7 +128,7 @@ module _ {S : Type 0} (contents : S → Option Contents) (may_give : S → Slot 
 
   -- ---- one deed
 
-  did_call : (u : Shown S) (place : ℕ) (call : Call) (moment : ℕ) (r : Reply) (v : Shown S) → IsDone contents may_give texts faults u place (Called call moment r) v
+  pub did_call : (u : Shown S) (place : ℕ) (call : Call) (moment : ℕ) (r : Reply) (v : Shown S) → IsDone contents may_give texts faults u place (Called call moment r) v
       → ((d : DepotView S) → library_at v place ≡ Some d → NamesIn contents d) → is_storage_reply r ≡ false
   did_call u place call moment r v (inl reads) named =
       (call_whole reads.reads.before reads.reads.after call moment r reads.reads.does
@@ -142,7 +142,7 @@ module _ {S : Type 0} (contents : S → Option Contents) (may_give : S → Slot 
           subst (λ (x : Reply). is_storage_reply x ≡ false) is.1 (call_whole changes.change.before.value changes.change.after.value asked.value at said.value answered names).0
       by (made.Turned goal most taken) at is answered names = absurd is
 
-  did_turn : (u : Shown S) (place : ℕ) (goal : Option ℕ) (moment most : ℕ) (taken : Turn) (v : Shown S) → IsDone contents may_give texts faults u place (TookTurn goal moment most taken) v
+  pub did_turn : (u : Shown S) (place : ℕ) (goal : Option ℕ) (moment most : ℕ) (taken : Turn) (v : Shown S) → IsDone contents may_give texts faults u place (TookTurn goal moment most taken) v
       → ((d : DepotView S) → library_at v place ≡ Some d → NamesIn contents d) → is_storage_turn taken ≡ false
   did_turn u place goal moment most taken v (inl reads) named =
       (turn_whole contents may_give texts faults shows steady reads.reads.before goal moment most taken reads.reads.after reads.reads.does.takes

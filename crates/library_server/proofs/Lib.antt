@@ -21,3 +21,5 @@ pub mod PortLemmas
 pub mod WorkersLemmas
 pub mod HallWholeLemmas
 pub mod HallKeysLemmas
+pub mod FilledLemmas
+pub mod StoppedLemmas

@@ -9,7 +9,7 @@ use Rattle.object_store.specs.declared.shelf.Slot.{Slot}
 use Rattle.object_store.specs.Shelf.{Contents}
 use Rattle.server_words.specs.Lines.{fault_status, line_text, status_of as line_status}
 use Rattle.server_words.specs.declared.command.Command.{Command}
-use Rattle.server_words.specs.declared.command.Command.TheVariants.{Create, Token, Inetd, Serve, Help, Version, Usage}
+use Rattle.server_words.specs.declared.command.Command.TheVariants.{Create, Token, Inetd, Serve, Make, Help, Version, Usage}
 use Rattle.server_words.specs.declared.fault.Fault.{Fault}
 use Rattle.server_words.specs.declared.fault.Fault.TheVariants as fault
 use Rattle.server_words.specs.declared.line.Line.{Line}
@@ -19,6 +19,8 @@ use Rattle.worker_server.specs.declared.served.Served.TheVariants as end_of
 use Rattle.hall_workers.specs.declared.worker.Worker.{Worker}
 use Rattle.link_ears.specs.Ear.{EarRules, LinkView, NetView}
 use Rattle.library_server.specs.Connections.{ServesOpened, opened, status_of, unbrought}
+use Rattle.generated_library.specs.declared.filling.Filled.{Filled}
+use Rattle.library_server.specs.Filling.{MakesFiles, filled_line, not_opened, opened as opened_here}
 use Rattle.library_server.specs.HallConnections.{no_room, one as only, served, several, stopped}
 use Rattle.library_server.specs.Counting.{OpenedView, opened_now}
 use Rattle.library_server.specs.Lines.{fault_of_not_added, fault_of_not_made, fault_of_not_brought}
@@ -27,7 +29,7 @@ use Rattle.library_server.specs.Adding.{IsAddedTo, IsNotAdded, is_unadded_counte
 use Rattle.library_server.specs.Making.{IsNotMade, RoseWhere, is_unmade_counted}
 use Rattle.library_server.specs.declared.adding.NewToken.{NewToken}
 use Rattle.library_server.specs.declared.making.NewLibrary.{NewLibrary}
-use Rattle.library_server.specs.Runs.{IsAdded, IsCreated, OnlyNamedGivesMore, Printed, PrintsSo, RunsSo, SinkView, added_line, adds, created_line, creates, help_printed, in_part, line_printed, printed_of, prints, serves, serves_port, unread, version_printed, whole}
+use Rattle.library_server.specs.Runs.{IsAdded, IsCreated, OnlyNamedGivesMore, Printed, PrintsSo, RunsSo, SinkView, added_line, adds, created_line, creates, help_printed, in_part, line_printed, makes, printed_of, prints, serves, serves_port, unread, version_printed, whole}
 use Rattle.library_server.specs.Bringing.{UnnamedGiveNoMore}
 use Rattle.library_server.specs.Port.{ServesPort, fault_of_net, fault_of_unserved, line_by, started, tally_of, unopened}
 use Rattle.library_server.specs.Port.{opened as opened_port, stopped as stopped_so, held as held_so, not_held as not_held_so}
@@ -68,6 +70,7 @@ usage_alone (Create location lib name user secret) printed e two = absurd (cc)
 usage_alone (Token location lib user secret right) printed e two = absurd (cc)
 usage_alone (Inetd location libs) printed e two = absurd (cc)
 usage_alone (Serve location port workers connections libs) printed e two = absurd (cc)
+usage_alone (Make location lib count number) printed e two = absurd (cc)
 usage_alone Help printed e two = absurd (zero_two (sym (ap (λ z. z.status) (unwrapped help_printed printed e)) ∙ two))
   where
     zero_two : ◌≡◌ {A = ℕ} 0 2 → ⊥
@@ -100,6 +103,15 @@ module _ {S E L : Type 0} (contents : S → Option Contents) (may_give : S → S
   no_port location port libs old new net net_now told (opened_port ears ends are (stopped_so why at still is) asked taken) two = no_fault (fault_of_unserved why) (ap line_status (sym is) ∙ two)
   no_port location port libs old new net net_now told (unopened why asked kept count same is) two = no_fault (fault_of_net why) (ap line_status (sym is) ∙ two)
 
+  no_making : (location : Location) (lib : List ℕ) (count number : ℕ) (old new : GroundView) (told : Line) → MakesFiles contents may_give texts faults gives location lib count number shows old new told
+      → line_status told ≡ 2 → ⊥
+  no_making location lib count number old new told (opened_here depot after objects stored filled here came back good rose is) two = by filled (ap line_status (sym is) ∙ two)
+    where
+      by : (result : Result Filled Fault) → line_status (filled_line result stored) ≡ 2 → ⊥
+      by (Ok what) e = cc
+      by (Err why) e = no_fault why e
+  no_making location lib count number old new told (not_opened why at is) two = no_fault (fault_of_unserved why) (ap line_status (sym is) ∙ two)
+
   -- the status 2 comes with the usage line alone
   pub runs_usage : (command : Command) (old new : GroundView) (before now : LinkView) (net net_now : NetView E) (out_before out_now : SinkView) (status : ℕ)
       → RunsSo contents may_give texts faults rules gives shows command old new before now net net_now out_before out_now status → status ≡ 2
@@ -110,7 +122,7 @@ module _ {S E L : Type 0} (contents : S → Option Contents) (may_give : S → S
       absurd (no_print (line_printed (added_line added.added)) out_before out_now status added.prints (no_addition added.added) two)
   runs_usage command old new before now net net_now out_before out_now status (serves location libs is (only lib same (opened depot after state opens given none settled service caused good back)) kept out) two =
       absurd (no_service (opened_now depot) after before now status service two)
-  runs_usage command old new before now net net_now out_before out_now status (serves location libs is (only lib same (unbrought why refused code left)) kept out) two =
+  runs_usage command old new before now net net_now out_before out_now status (serves location libs is (only lib same (unbrought why cause code left)) kept out) two =
       absurd (no_fault (fault_of_not_brought why) (sym code ∙ two))
   runs_usage command old new before now net net_now out_before out_now status (serves location libs is (several some (served depots afters brought held back good)) kept out) two =
       absurd (no_end held.how (sym held.status_is ∙ two))
@@ -119,6 +131,8 @@ module _ {S E L : Type 0} (contents : S → Option Contents) (may_give : S → S
   runs_usage command old new before now net net_now out_before out_now status (serves location libs is (several some (no_room depots afters brought same back good code left)) kept out) two = absurd (cc (code, two))
   runs_usage command old new before now net net_now out_before out_now status (serves_port location port libs is told service put left) two =
       absurd (no_print (line_printed told) out_before out_now status put (no_port location port libs old new net net_now told service) two)
+  runs_usage command old new before now net net_now out_before out_now status (makes location lib count number is told made put left kept) two =
+      absurd (no_print (line_printed told) out_before out_now status put (no_making location lib count number old new told made) two)
   runs_usage command old new before now net net_now out_before out_now status (prints printed is (whole put kept code) same left alone) two =
       let usage = usage_alone command printed is (sym code ∙ two) in
       (usage.0, put ∙ ap (append_known out_before.given) usage.1)
@@ -158,6 +172,7 @@ kept_alone old (Create location lib name user secret) = λ f l apart slot given 
 kept_alone old (Token location lib user secret right) = λ f l apart slot given is. is
 kept_alone old (Inetd location libs) = λ f l apart slot given is. is
 kept_alone old (Serve location port workers connections libs) = λ f l apart slot given is. is
+kept_alone old (Make location lib count number) = λ f l apart slot given is. is
 kept_alone old Help = λ f l slot given is. is
 kept_alone old Version = λ f l slot given is. is
 kept_alone old Usage = λ f l slot given is. is

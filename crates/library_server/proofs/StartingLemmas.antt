@@ -5,13 +5,13 @@ use Rattle.std.specs.Prelude.{IfErr, IfOk}
 use Rattle.std.specs.Str.{bytes_eq}
 use Rattle.std.proofs.lemmas.Slice.Eq.{bytes_eq-Decides}
 use Rattle.ids.specs.Key.{Objects}
-use Rattle.depot.specs.DepotView.{DepotView}
 use Rattle.depot.proofs.MakeLemmas.{make_before}
 use Rattle.library_rules.specs.Creation.{opening_commit, opening_object}
 use Rattle.depot.specs.Start.{IsDueOr, IsGiven, IsNextOf, IsOpened, IsTextFault, first_incomplete, next_opening, start_refusal, text_refusal}
 use Rattle.depot.proofs.StartLemmas.{fault_before}
 use Rattle.depot.specs.declared.error.StartFault.{StartFault}
 use Rattle.depot.specs.declared.error.StartFault.TheVariants as start
+use Rattle.folder_storage.specs.Ground.{Absent, Standing}
 use Rattle.library_rules.specs.LibraryState.{kept_commits, last_number}
 use Rattle.library_state.specs.StateText.{state_of as read_state}
 use Rattle.library_state.specs.declared.state.LibState.{LibState}
@@ -22,7 +22,7 @@ use Rattle.object_store.specs.StoreView.{StoreView, status_of}
 use Rattle.object_store.specs.declared.shelf.Slot.{Slot}
 use Rattle.object_store.specs.declared.shelf.Slot.TheVariants.{Status}
 use Rattle.server_words.specs.declared.command.Location.{Location}
-use Rattle.library_server.specs.Starting.{GivesOther, IsDueOpening, IsNotBrought, IsNotStarted, IsOpenedState, IsTextOf, memory_library, of_new, of_text, opening_refusal, read_refusal}
+use Rattle.library_server.specs.Starting.{GivesOther, IsDueOpening, IsNotBrought, IsNotStarted, IsOpenedState, IsTextOf, memory_library, objects_in, of_new, of_text, opening_refusal, read_refusal}
 use Rattle.library_server.specs.Making.{IsNotMade}
 use Rattle.library_server.specs.declared.making.NewLibrary.{NewLibrary}
 use Rattle.library_server.specs.declared.not_done.NotMade.{NotMade}
@@ -87,15 +87,21 @@ unbrought_before location lib shows (unbrought.Refused why) gives is = unstarted
 unbrought_before location lib shows (unbrought.Unmade why) gives is = (is.0, is.1, is.2, unmade_before (memory_library lib) is.1 why gives is.3)
 
 -- the same where it was looked for first, and is not there
-pub absent_given : {S : Type 0} {before now : Slot → Option (List ℕ) → Type 0} (location : Location) (lib : List ℕ) (shows : ℕ → Type 0) (result : Result (DepotView S) NotBrought)
-    → GivesNoMore before now → IfOk result (λ depot. IsOpenedState now location lib shows depot.state) → IfOk result (λ depot. IsOpenedState before location lib shows depot.state)
-absent_given location lib shows (Ok depot) gives is = opened_before location lib shows depot.state gives is
-absent_given location lib shows (Err why) gives is = tt
+pub absent_given : {T : Type 0} {before now : Slot → Option (List ℕ) → Type 0} (location : Location) (lib : List ℕ) (shows : ℕ → Type 0) (state_in : T → LibState) (result : Result T NotBrought)
+    → GivesNoMore before now → IfOk result (λ x. IsOpenedState now location lib shows (state_in x)) → IfOk result (λ x. IsOpenedState before location lib shows (state_in x))
+absent_given location lib shows state_in (Ok x) gives is = opened_before location lib shows (state_in x) gives is
+absent_given location lib shows state_in (Err why) gives is = tt
 
-pub absent_cause : {S : Type 0} {before now : Slot → Option (List ℕ) → Type 0} (location : Location) (lib : List ℕ) (shows : ℕ → Type 0) (result : Result (DepotView S) NotBrought)
+pub absent_cause : {T : Type 0} {before now : Slot → Option (List ℕ) → Type 0} (location : Location) (lib : List ℕ) (shows : ℕ → Type 0) (result : Result T NotBrought)
     → GivesNoMore before now → IfErr result (IsNotBrought now location lib shows) → IfErr result (IsNotBrought before location lib shows)
-absent_cause location lib shows (Ok depot) gives is = tt
+absent_cause location lib shows (Ok x) gives is = tt
 absent_cause location lib shows (Err why) gives is = unbrought_before location lib shows why gives is
+
+-- a library that isn't there is opened with one object
+pub counted_absent : {A : Type 0} (result : Result (A × ℕ) NotBrought) (standing : Standing) → standing ≡ Absent → IfOk result (λ opened. opened.1 ≡ 1)
+    → IfOk result (λ opened. opened.1 ≡ objects_in standing)
+counted_absent (Ok opened) standing absent one = one ∙ ap objects_in (sym absent)
+counted_absent (Err why) standing absent one = tt
 
 ok_same : (a b : LibState) → ◌≡◌ {A = Result LibState StateKey} (Ok a) (Ok b) → a ≡ b
 ok_same a b e = cc

@@ -12,5 +12,6 @@ pub mod Adding
 pub mod Connections
 pub mod HallConnections
 pub mod Port
+pub mod Filling
 pub mod Runs
 pub mod WholeRuns

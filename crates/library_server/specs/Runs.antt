@@ -10,7 +10,7 @@ use Rattle.object_store.specs.declared.shelf.Slot.{Slot}
 use Rattle.server_words.specs.Lines.{help_text, line_text, status_of, version_text}
 use Rattle.server_words.specs.Spelling.{location_text}
 use Rattle.server_words.specs.declared.command.Command.{Command}
-use Rattle.server_words.specs.declared.command.Command.TheVariants.{Create, Token, Inetd, Serve, Help, Version, Usage}
+use Rattle.server_words.specs.declared.command.Command.TheVariants.{Create, Token, Inetd, Serve, Make, Help, Version, Usage}
 use Rattle.server_words.specs.declared.command.Location.{Location}
 use Rattle.server_words.specs.declared.line.Line.{Line}
 use Rattle.server_words.specs.declared.line.Line.TheVariants as line
@@ -18,6 +18,7 @@ use Rattle.library_server.specs.Adding.{AddsSo, IsAddedTo, IsNotAdded, is_unadde
 use Rattle.library_server.specs.Bringing.{UnnamedGiveNoMore}
 use Rattle.link_ears.specs.Ear.{EarRules, LinkView, NetView}
 use Rattle.library_server.specs.Creating.{CreatesSo}
+use Rattle.library_server.specs.Filling.{MakesFiles}
 use Rattle.library_server.specs.HallConnections.{ServesNamed}
 use Rattle.library_server.specs.Lines.{fault_of_not_added, fault_of_not_made}
 use Rattle.library_server.specs.Port.{ServesPort}
@@ -66,6 +67,7 @@ printed_of (Create location lib name user secret) = None
 printed_of (Token location lib user secret right) = None
 printed_of (Inetd location libs) = None
 printed_of (Serve location port workers connections libs) = None
+printed_of (Make location lib count number) = None
 
 -- ---- the commands that change a library
 
@@ -112,7 +114,7 @@ pub record AddsToken {S : Type 0} (contents : S → Option Contents) (gives : Ma
 
 -- ---- all of it
 
--- a command makes a library, adds a token, serves a connection and prints nothing, or serves a port and prints the line of that; or it
+-- a command makes a library, adds a token, serves a connection and prints nothing, serves a port or fills a library and prints the line of that; or it
 -- prints its text and leaves the libraries, the link and the net alone; or there was no memory for the words, and nothing was done. What the libraries may give is
 -- that before the command
 pub data RunsSo {S E L : Type 0} (contents : S → Option Contents) (may_give : S → Slot → Option (List ℕ) → Type 0) (texts faults : S → ℕ) (rules : EarRules E L) (gives : MayGive)
@@ -131,6 +133,9 @@ pub data RunsSo {S E L : Type 0} (contents : S → Option Contents) (may_give : 
       → (told : Line) → ServesPort contents may_give texts faults rules gives location port libs shows old new net net_now told
       → PrintsSo (line_printed told) out_before out_now status
       → now ≡ before → RunsSo contents may_give texts faults rules gives shows command old new before now net net_now out_before out_now status
+  makes : (location : Location) (lib : List ℕ) (count number : ℕ) → command ≡ Make location lib count number
+      → (told : Line) → MakesFiles contents may_give texts faults gives location lib count number shows old new told → PrintsSo (line_printed told) out_before out_now status
+      → now ≡ before → net_now ≡ net → RunsSo contents may_give texts faults rules gives shows command old new before now net net_now out_before out_now status
   prints : (printed : Printed) → printed_of command ≡ Some printed → PrintsSo printed out_before out_now status
       → new ≡ old → now ≡ before → net_now ≡ net → RunsSo contents may_give texts faults rules gives shows command old new before now net net_now out_before out_now status
   unread : status ≡ 3 → new ≡ old → now ≡ before → net_now ≡ net → out_now ≡ out_before
@@ -142,6 +147,7 @@ OnlyNamedGivesMore (Create location lib name user secret) old new = OthersGiveNo
 OnlyNamedGivesMore (Token location lib user secret right) old new = OthersGiveNoMore old new (location_text location) lib
 OnlyNamedGivesMore (Inetd location libs) old new = UnnamedGiveNoMore old new (location_text location) libs 0 (length libs)
 OnlyNamedGivesMore (Serve location port workers connections libs) old new = UnnamedGiveNoMore old new (location_text location) libs 0 (length libs)
+OnlyNamedGivesMore (Make location lib count number) old new = OthersGiveNoMore old new (location_text location) lib
 OnlyNamedGivesMore Help old new = AllGiveNoMore old new
 OnlyNamedGivesMore Version old new = AllGiveNoMore old new
 OnlyNamedGivesMore Usage old new = AllGiveNoMore old new

@@ -1,6 +1,7 @@
 -- A library that a command starts: which it opens, and why it doesn't. Our own. Read OpensTo first, then opening_refusal,
 -- OpensSo and IsNotBrought.
 use Rattle.std.specs.Prelude.{◌≡◌, ◌≢◌, ◌⊎◌, ℕ, Bool, false, if◌then◌else◌, List, Option, None, Some, option_map, IsTrue, Result, Ok, Err, codes, replicate, ⊤}
+use Rattle.std.specs.FinMap as map
 use Rattle.std.specs.Str.{bytes_eq}
 use Rattle.ids.specs.Key.{Objects}
 use Rattle.library_state.specs.StateText.{state_of as read_state}
@@ -69,6 +70,16 @@ pub data IsOpenedState (gives : Slot → Option (List ℕ) → Type 0) (location
     : Type 0 where
   of_text : IsNextOf gives state → state.lib ≡ lib → IsOpenedState gives location lib shows state
   of_new : IsMemory location → (moment : ℕ) → shows moment → state ≡ first_of (memory_library lib) moment → IsOpenedState gives location lib shows state
+
+-- how many objects a library has as it is opened: those that lie there, or the commit of one that is made
+abbrev pub objects_in : Standing → ℕ
+objects_in (Kept held) = map.len held.objects
+objects_in other = 1
+
+-- what was opened, without the count of its objects
+abbrev pub without_count : {A E : Type 0} → Result (A × ℕ) E → Result A E
+without_count (Ok opened) = Ok opened.0
+without_count (Err why) = Err why
 
 -- what the opening of a library lays onto its shelf: the text of the state that was opened, and, where that is the first of
 -- a library that was made in memory, the opening commit of the same moment

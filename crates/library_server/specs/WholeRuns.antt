@@ -15,7 +15,7 @@ use Rattle.link_ears.specs.Ear.{EarRules, LinkView, NetView}
 use Rattle.library_server.specs.Connections.{ServesLocation, opened, unbrought}
 use Rattle.library_server.specs.HallConnections.{ServesLibraries, ServesNamed, no_room, one, served, several, stopped}
 use Rattle.library_server.specs.Lines.{fault_of_not_brought, is_storage_fault}
-use Rattle.library_server.specs.Runs.{RunsSo, SinkView, added_line, adds, created_line, creates, prints, serves, serves_port, unread}
+use Rattle.library_server.specs.Runs.{RunsSo, SinkView, added_line, adds, created_line, creates, makes, prints, serves, serves_port, unread}
 use Rattle.library_server.specs.Standing.{GroundView}
 
 -- a line that tells of no fault of the storage
@@ -64,5 +64,6 @@ RunsWhole (creates location lib name user secret is made left kept) = is_storage
 RunsWhole (adds location lib token is added left kept) = is_storage_line (added_line added.added) ≡ false
 RunsWhole (serves location libs is service kept out) = NamedWhole service
 RunsWhole (serves_port location port libs is told service put left) = is_storage_line told ≡ false
+RunsWhole (makes location lib count number is told made put left kept) = is_storage_line told ≡ false
 RunsWhole (prints printed is put same left kept) = ⊤
 RunsWhole (unread three same left kept out) = ⊤

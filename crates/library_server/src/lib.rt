@@ -1,4 +1,4 @@
-//! What the server program does: it makes libraries, adds tokens to them, and serves one connection or a port.
+//! What the server program does: it makes libraries, adds tokens to them, fills them, and serves one connection or a port.
 //!
 //! Shown upward: `run`, the server's top call, with `run_in_memory`, and `serve_link`, the promise of one connection with an `OpenedLibrary`, over any shelf, link, clock
 //! and place of libraries. Definitions: specs/, read Answering, then Runs and what it cites.
@@ -10,6 +10,7 @@ mod bringing;
 mod collecting;
 mod counting;
 mod creating;
+mod filling;
 mod inetd;
 mod inetd_hall;
 pub mod laws;

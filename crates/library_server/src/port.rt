@@ -99,7 +99,7 @@ where
 }
 
 /// As it is printed of a port. Another library than the one that was named is told as such.
-fn fault_of_unserved(why: NotBrought) -> Fault
+pub(crate) fn fault_of_unserved(why: NotBrought) -> Fault
     ensures value { result ≡ fault_of_unserved why }
 {
     match why {

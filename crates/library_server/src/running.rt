@@ -20,6 +20,7 @@ ghost use Rattle.library_server.specs.WholeRuns.{NamedWhole, RunsWhole, is_stora
 
 use crate::adding::{NewToken, add_token};
 use crate::creating::create;
+use crate::filling::{Files, make_files};
 use crate::inetd::inetd;
 use crate::inetd_hall::inetd_hall;
 use crate::making::NewLibrary;
@@ -43,8 +44,10 @@ use std::thread::Threads;
 /// library alone or with several through a hall, where it may wait, and puts nothing.
 /// `serve FOLDER PORT WORKERS CONNECTIONS LIB [LIB..]` opens a port of `net` and lets so many workers serve its connections beside
 /// each other, each so many, where it may wait, and puts how many were served.
-/// `--help` and `--version`, alone, put their texts. Other words put the usage line. Where FOLDER is `:memory:`, `token`, `inetd` and
-/// `serve` first make a library that is not there, of the name `memory`, the user `me` and a secret of forty `a`. What `libraries` and
+/// `make FOLDER LIB COUNT NUMBER` fills a library that has no more than its first commit with so many generated files, and puts what came
+/// of it.
+/// `--help` and `--version`, alone, put their texts. Other words put the usage line. Where FOLDER is `:memory:`, `token`, `inetd`,
+/// `serve` and `make` first make a library that is not there, of the name `memory`, the user `me` and a secret of forty `a`. What `libraries` and
 /// `net` handed out is back.
 ///
 /// The status is 0 where the command was done, for `inetd` where the connection ended well or met its limit; 1 after a
@@ -219,6 +222,16 @@ where
             };
             let libs = libs.slice();
             let line = serve_port(rt, alloc, libraries, &location, port, libs, net, clock);
+            print_line(out, line)
+        }
+        Command::Make {
+            location,
+            lib,
+            count,
+            number,
+        } => {
+            let files = Files { count, number };
+            let line = make_files(rt, alloc, libraries, &location, lib, files, clock);
             print_line(out, line)
         }
         Command::Help => print(out, help_text(), 0),

@@ -1,5 +1,6 @@
 //! How a command starts the library that it names.
 ghost use Rattle.std.specs.Prelude.{◌≡◌, ℕ, List, IfOk, IfErr, OnOk, Option, Some, Err, ⊤, false, codes};
+ghost use Rattle.std.specs.FinMap as map;
 ghost use Rattle.ids.specs.FaultCount.{FailsBy};
 ghost use Rattle.ids.specs.Key.{Objects};
 ghost use Rattle.depot.specs.DepotView.{IsGood, state_of};
@@ -12,7 +13,7 @@ ghost use Rattle.object_store.specs.declared.shelf.Slot.TheVariants as slots;
 ghost use Rattle.object_store.specs.StoreView.{AddsNoStray, HasNoStray, Keeps, ReadsShelf, objects_of, status_of};
 ghost use Rattle.server_words.specs.Spelling.{location_text};
 ghost use Rattle.library_server.specs.Answering.{NeverFails};
-ghost use Rattle.library_server.specs.Starting.{IsDueOpening, IsMemory, IsNotBrought, IsNotStarted, IsOfOpening, IsOpenedState, IsTextOf, LeavesShelf, LeftUnstarted, OpensAs, OpensFrom, OpensSo, is_unbrought_counted, is_unstarted_counted, memory_library};
+ghost use Rattle.library_server.specs.Starting.{IsDueOpening, IsMemory, IsNotBrought, IsNotStarted, IsOfOpening, IsOpenedState, IsTextOf, LeavesShelf, LeftUnstarted, OpensAs, OpensFrom, OpensSo, is_unbrought_counted, is_unstarted_counted, memory_library, objects_in, without_count};
 ghost use Rattle.library_server.specs.Lines.{fault_of_not_brought};
 ghost use Rattle.library_server.specs.Making.{RoseWhere};
 ghost use Rattle.library_server.specs.Standing.{HandsOutOr, OthersGiveNoMore};
@@ -64,6 +65,37 @@ pub(crate) fn start_library<G: Ground, C: Clock>(
     ensures good { IfOk result (IsGood G.S.contents G.S.faults) }
     ensures count { OnOk result (G.faults libraries.new ≡ G.faults libraries.old) }
 {
+    let (depot, _count) = match start_counted(alloc, libraries, location, lib, clock) {
+        Ok(opened) => opened,
+        Err(why) => return Err(why),
+    };
+    Ok(depot)
+}
+
+/// Starts the library that a command names, as `start_library` does, and tells how many objects it has.
+pub(crate) fn start_counted<G: Ground, C: Clock>(
+    alloc: Global,
+    libraries: &mut G,
+    location: &Location,
+    lib: LibId,
+    clock: &C,
+) -> Result<(Depot<G::S>, u64), NotBrought>
+    ensures any { IfOk result (λ opened. IsOpenedState (G.may_give libraries.old (location_text location.now) lib) location.now lib (C.shows clock.now) opened.0.state) }
+    ensures gives { IfOk result (λ opened. GivesBy (IsOfOpening location.now lib (C.shows clock.now) opened.0.state) (G.may_give libraries.old (location_text location.now) lib) (G.S.may_give opened.0.store.shelf)) }
+    ensures settled { IfOk result (λ opened. opened.0.unsettled ≡ false) }
+    ensures lying { IfOk result (λ opened. HasNoStray G.S.contents opened.0.store) }
+    ensures shown { (standing : Standing) → G.stands libraries.old (location_text location.now) lib ≡ Some standing
+        → OpensSo G.S.contents G.S.faults location.now lib (C.shows clock.now) standing (without_count result) (G.stands libraries.new (location_text location.now) lib) }
+    ensures back { HandsOutOr G.S.contents (G.stands libraries.old) (G.stands libraries.new) (location_text location.now) lib result }
+    ensures others { OthersGiveNoMore (G.may_give libraries.old) (G.may_give libraries.new) (location_text location.now) lib }
+    ensures cause { IfErr result (IsNotBrought (G.may_give libraries.old (location_text location.now) lib) location.now lib (C.shows clock.now)) }
+    ensures faults { IfErr result (λ why. RoseWhere (is_unbrought_counted why) (G.faults libraries.old) (G.faults libraries.new)) }
+    ensures steady { NeverFails G.S.faults → (standing : Standing) → G.stands libraries.old (location_text location.now) lib ≡ Some standing → IsWhole standing
+        → OutWhole fault_of_not_brought G.S.contents (without_count result) }
+    ensures good { IfOk result (λ opened. IsGood G.S.contents G.S.faults opened.0) }
+    ensures count { OnOk result (G.faults libraries.new ≡ G.faults libraries.old) }
+    ensures size { (standing : Standing) → G.stands libraries.old (location_text location.now) lib ≡ Some standing → IfOk result (λ opened. opened.1 ≡ objects_in standing) }
+{
     let folder = folder_word(location);
     let shelf = match libraries.find(folder, lib) {
         Ok(Some(shelf)) => shelf,
@@ -71,7 +103,7 @@ pub(crate) fn start_library<G: Ground, C: Clock>(
         Err(failed) => return Err(NotBrought::Storage(failed)),
     };
     match start_on(alloc, shelf, &lib) {
-        Ok(depot) => Ok(depot),
+        Ok(opened) => Ok(opened),
         Err((shelf, why)) => {
             libraries.give_back(folder, lib, shelf);
             Err(NotBrought::Refused(why))
@@ -89,27 +121,28 @@ pub(crate) fn bring_back<G: Ground>(libraries: &mut G, folder: &str, lib: LibId,
     libraries.give_back(folder, lib, depot.close().end());
 }
 
-/// Starts a library that is not there: it is made in memory, and nowhere else.
+/// Starts a library that is not there: it is made in memory, and nowhere else. It has one object.
 fn start_absent<G: Ground, C: Clock>(
     alloc: Global,
     libraries: &mut G,
     location: &Location,
     lib: LibId,
     clock: &C,
-) -> Result<Depot<G::S>, NotBrought>
-    ensures any { IfOk result (λ depot. IsOpenedState (G.may_give libraries.old (location_text location.now) lib) location.now lib (C.shows clock.now) depot.state) }
-    ensures gives { IfOk result (λ depot. GivesBy (IsOfOpening location.now lib (C.shows clock.now) depot.state) (G.may_give libraries.old (location_text location.now) lib) (G.S.may_give depot.store.shelf)) }
-    ensures settled { IfOk result (λ depot. depot.unsettled ≡ false) }
-    ensures lying { IfOk result (λ depot. HasNoStray G.S.contents depot.store) }
+) -> Result<(Depot<G::S>, u64), NotBrought>
+    ensures any { IfOk result (λ opened. IsOpenedState (G.may_give libraries.old (location_text location.now) lib) location.now lib (C.shows clock.now) opened.0.state) }
+    ensures gives { IfOk result (λ opened. GivesBy (IsOfOpening location.now lib (C.shows clock.now) opened.0.state) (G.may_give libraries.old (location_text location.now) lib) (G.S.may_give opened.0.store.shelf)) }
+    ensures settled { IfOk result (λ opened. opened.0.unsettled ≡ false) }
+    ensures lying { IfOk result (λ opened. HasNoStray G.S.contents opened.0.store) }
     ensures shown { G.stands libraries.old (location_text location.now) lib ≡ Some Absent
-        → OpensSo G.S.contents G.S.faults location.now lib (C.shows clock.now) Absent result (G.stands libraries.new (location_text location.now) lib) }
+        → OpensSo G.S.contents G.S.faults location.now lib (C.shows clock.now) Absent (without_count result) (G.stands libraries.new (location_text location.now) lib) }
     ensures back { HandsOutOr G.S.contents (G.stands libraries.old) (G.stands libraries.new) (location_text location.now) lib result }
     ensures others { OthersGiveNoMore (G.may_give libraries.old) (G.may_give libraries.new) (location_text location.now) lib }
     ensures cause { IfErr result (IsNotBrought (G.may_give libraries.old (location_text location.now) lib) location.now lib (C.shows clock.now)) }
     ensures faults { IfErr result (λ why. RoseWhere (is_unbrought_counted why) (G.faults libraries.old) (G.faults libraries.new)) }
-    ensures steady { NeverFails G.S.faults → G.stands libraries.old (location_text location.now) lib ≡ Some Absent → OutWhole fault_of_not_brought G.S.contents result }
-    ensures good { IfOk result (IsGood G.S.contents G.S.faults) }
+    ensures steady { NeverFails G.S.faults → G.stands libraries.old (location_text location.now) lib ≡ Some Absent → OutWhole fault_of_not_brought G.S.contents (without_count result) }
+    ensures good { IfOk result (λ opened. IsGood G.S.contents G.S.faults opened.0) }
     ensures count { OnOk result (G.faults libraries.new ≡ G.faults libraries.old) }
+    ensures size { IfOk result (λ opened. opened.1 ≡ 1) }
 {
     match location {
         Location::Folder(_) => Err(NotBrought::Absent),
@@ -117,33 +150,34 @@ fn start_absent<G: Ground, C: Clock>(
     }
 }
 
-/// Makes the library that a command names in memory, where there is none.
+/// Makes the library that a command names in memory, where there is none. It has one object.
 fn make_in_memory<G: Ground, C: Clock>(
     alloc: Global,
     libraries: &mut G,
     lib: LibId,
     clock: &C,
-) -> Result<Depot<G::S>, NotBrought>
-    ensures any { IfOk result (λ depot. IsOpenedState (G.may_give libraries.old (codes ":memory:") lib) Location.Memory lib (C.shows clock.now) depot.state) }
-    ensures gives { IfOk result (λ depot. GivesBy (IsOfOpening Location.Memory lib (C.shows clock.now) depot.state) (G.may_give libraries.old (codes ":memory:") lib) (G.S.may_give depot.store.shelf)) }
-    ensures settled { IfOk result (λ depot. depot.unsettled ≡ false) }
-    ensures lying { IfOk result (λ depot. HasNoStray G.S.contents depot.store) }
+) -> Result<(Depot<G::S>, u64), NotBrought>
+    ensures any { IfOk result (λ opened. IsOpenedState (G.may_give libraries.old (codes ":memory:") lib) Location.Memory lib (C.shows clock.now) opened.0.state) }
+    ensures gives { IfOk result (λ opened. GivesBy (IsOfOpening Location.Memory lib (C.shows clock.now) opened.0.state) (G.may_give libraries.old (codes ":memory:") lib) (G.S.may_give opened.0.store.shelf)) }
+    ensures settled { IfOk result (λ opened. opened.0.unsettled ≡ false) }
+    ensures lying { IfOk result (λ opened. HasNoStray G.S.contents opened.0.store) }
     ensures shown { G.stands libraries.old (codes ":memory:") lib ≡ Some Absent
-        → OpensSo G.S.contents G.S.faults Location.Memory lib (C.shows clock.now) Absent result (G.stands libraries.new (codes ":memory:") lib) }
+        → OpensSo G.S.contents G.S.faults Location.Memory lib (C.shows clock.now) Absent (without_count result) (G.stands libraries.new (codes ":memory:") lib) }
     ensures back { HandsOutOr G.S.contents (G.stands libraries.old) (G.stands libraries.new) (codes ":memory:") lib result }
     ensures others { OthersGiveNoMore (G.may_give libraries.old) (G.may_give libraries.new) (codes ":memory:") lib }
     ensures cause { IfErr result (IsNotBrought (G.may_give libraries.old (codes ":memory:") lib) Location.Memory lib (C.shows clock.now)) }
     ensures faults { IfErr result (λ why. RoseWhere (is_unbrought_counted why) (G.faults libraries.old) (G.faults libraries.new)) }
-    ensures steady { NeverFails G.S.faults → G.stands libraries.old (codes ":memory:") lib ≡ Some Absent → OutWhole fault_of_not_brought G.S.contents result }
-    ensures good { IfOk result (IsGood G.S.contents G.S.faults) }
+    ensures steady { NeverFails G.S.faults → G.stands libraries.old (codes ":memory:") lib ≡ Some Absent → OutWhole fault_of_not_brought G.S.contents (without_count result) }
+    ensures good { IfOk result (λ opened. IsGood G.S.contents G.S.faults opened.0) }
     ensures count { OnOk result (G.faults libraries.new ≡ G.faults libraries.old) }
+    ensures size { IfOk result (λ opened. opened.1 ≡ 1) }
 {
     let new = match memory_library(alloc, lib) {
         Ok(new) => new,
         Err(_) => return Err(NotBrought::Storage(ShelfFailed::NoMemory)),
     };
     match make_library(alloc, libraries, ":memory:", &new, clock.now()) {
-        Ok(depot) => Ok(depot),
+        Ok(depot) => Ok((depot, 1)),
         Err(fault) => Err(NotBrought::Unmade(fault)),
     }
 }
@@ -163,19 +197,24 @@ fn memory_library(alloc: Global, lib: LibId) -> Result<NewLibrary, AllocError>
     })
 }
 
-/// Starts the library of a shelf, which is this one. After a refusal the shelf is given back.
-fn start_on<S: Shelf>(alloc: Global, shelf: S, lib: &LibId) -> Result<Depot<S>, (S, NotStarted)>
-    ensures gives { IfOk result (λ depot. GivesAlso (S.may_give shelf) (S.may_give depot.store.shelf) slots.Status (Some (text_of depot.state))) }
-    ensures settled { IfOk result (λ depot. depot.unsettled ≡ false) }
-    ensures lying { IfOk result (λ depot. HasNoStray S.contents depot.store) }
-    ensures named { IfOk result (λ depot. depot.state.lib ≡ lib.now) }
-    ensures any { IfOk result (λ depot. IsNextOf (S.may_give shelf) depot.state) }
-    ensures good { IfOk result (IsGood S.contents S.faults) }
-    ensures shown { (held : Contents) → S.contents shelf ≡ Some held → IfOk result (OpensFrom S.contents S.faults lib.now held) }
+/// Starts the library of a shelf, which is this one, and tells how many objects it has. After a refusal the shelf is given back.
+fn start_on<S: Shelf>(
+    alloc: Global,
+    shelf: S,
+    lib: &LibId,
+) -> Result<(Depot<S>, u64), (S, NotStarted)>
+    ensures gives { IfOk result (λ opened. GivesAlso (S.may_give shelf) (S.may_give opened.0.store.shelf) slots.Status (Some (text_of opened.0.state))) }
+    ensures settled { IfOk result (λ opened. opened.0.unsettled ≡ false) }
+    ensures lying { IfOk result (λ opened. HasNoStray S.contents opened.0.store) }
+    ensures named { IfOk result (λ opened. opened.0.state.lib ≡ lib.now) }
+    ensures any { IfOk result (λ opened. IsNextOf (S.may_give shelf) opened.0.state) }
+    ensures good { IfOk result (λ opened. IsGood S.contents S.faults opened.0) }
+    ensures shown { (held : Contents) → S.contents shelf ≡ Some held → IfOk result (λ opened. OpensFrom S.contents S.faults lib.now held opened.0) }
     ensures refused { (held : Contents) → S.contents shelf ≡ Some held → OpensAs lib.now held.objects held.status (without_store result) }
     ensures left { (held : Contents) → S.contents shelf ≡ Some held → IfErr result (λ refused. LeavesShelf refused.1 held (S.contents refused.0)) }
     ensures cause { IfErr result (λ refused. IsNotStarted (S.may_give shelf) lib.now refused.1) }
     ensures faults { IfErr result (λ refused. FailsBy {T = ⊤} is_unstarted_counted (S.faults shelf) (S.faults refused.0) (Err refused.1)) }
+    ensures size { (held : Contents) → S.contents shelf ≡ Some held → IfOk result (λ opened. opened.1 ≡ map.len held.objects) }
 {
     let mut store = match Store::start(alloc, shelf) {
         Ok(store) => store,
@@ -185,8 +224,9 @@ fn start_on<S: Shelf>(alloc: Global, shelf: S, lib: &LibId) -> Result<Depot<S>, 
         Ok(()) => {}
         Err(why) => return Err((store.end(), why)),
     }
+    let count = store.count();
     match start_named(alloc, store, lib) {
-        Ok(depot) => Ok(depot),
+        Ok(depot) => Ok((depot, count)),
         Err((store, why)) => Err((store.end(), why)),
     }
 }

@@ -1,11 +1,11 @@
 -- The place of a command is that of its second word. The key lemma is location_of_words, at the end.
-use Rattle.std.proofs.Common.{◌≡◌, ℕ, Bool, true, false, ◌&&◌, List, [], ◌∷◌, Option, Some, None, refl, cond, codes}
+use Rattle.std.proofs.Common.{◌≡◌, ℕ, ◌-◌, ◌^◌, Bool, true, false, ◌&&◌, List, [], ◌∷◌, Option, Some, None, refl, cond, codes}
 use Rattle.std.specs.Option.{IfSome}
 use Rattle.std.specs.Str.{bytes_eq}
 use Rattle.json_words.specs.IdText.{library_id_of}
 use Rattle.library_state.specs.Rights.{right_of}
 use Rattle.library_state.specs.declared.right.Right.{Right}
-use Rattle.server_words.specs.CommandLine.{command_of, create_by, create_command, inetd_by, inetd_command, is_memory, is_name, libraries_of, most_connections, most_workers, other_command, serve_by, serve_command, names_memory, location_in, location_word, secret_of, token_by, token_command}
+use Rattle.server_words.specs.CommandLine.{command_of, create_by, create_command, inetd_by, inetd_command, is_memory, is_name, libraries_of, make_by, most_connections, most_files, most_workers, other_command, serve_by, serve_command, names_memory, location_in, location_word, secret_of, token_by, token_command}
 use Rattle.server_words.specs.Number.{number_within}
 use Rattle.server_words.specs.declared.command.Command.{Command}
 use Rattle.server_words.specs.declared.command.Command.TheVariants.{Create, Token, Serve, Help, Version, Usage}
@@ -82,6 +82,19 @@ served_in memory folder [] is = usage_in memory
 served_in memory folder (a ∷ []) is = usage_in memory
 served_in memory folder (a ∷ b ∷ []) is = usage_in memory
 
+make_in : (memory : Bool) (p : Option Location) (l : Option (List ℕ)) (count number : Option ℕ) → IfSome p (λ location. memory ≡ is_memory location) → IsIn memory (make_by p l count number)
+unfolding IsIn
+make_in memory (Some p) (Some lib) (Some count) (Some number) is = λ q e. same_place memory p q is e
+make_in memory None l count number is = λ q e. absurd (none_some q e)
+make_in memory (Some p) None count number is = λ q e. absurd (none_some q e)
+make_in memory (Some p) (Some lib) None number is = λ q e. absurd (none_some q e)
+make_in memory (Some p) (Some lib) (Some count) None is = λ q e. absurd (none_some q e)
+
+made_in : (memory b : Bool) (folder lib count number : List ℕ) → IfSome (location_word folder) (λ location. memory ≡ is_memory location)
+    → IsIn memory (cond b (make_by (location_word folder) (library_id_of lib) (number_within 1 most_files count) (number_within 0 (2 ^ 64 - 1) number)) Usage)
+made_in memory true folder lib count number is = make_in memory (location_word folder) (library_id_of lib) (number_within 1 most_files count) (number_within 0 (2 ^ 64 - 1) number) is
+made_in memory false folder lib count number is = usage_in memory
+
 long_in : (memory b d : Bool) (folder lib third fourth fifth : List ℕ) → IfSome (location_word folder) (λ location. memory ≡ is_memory location)
     → IsIn memory (cond b (create_command folder lib third fourth fifth) (cond d (token_command folder lib third fourth fifth) Usage))
 long_in memory true d folder lib third fourth fifth is = create_in memory third fourth (location_word folder) (library_id_of lib) (secret_of fifth) is
@@ -100,7 +113,7 @@ other_in memory word folder (lib ∷ a ∷ b ∷ c ∷ []) is = long_in memory (
 other_in memory word folder [] is = usage_in memory
 other_in memory word folder (lib ∷ []) is = usage_in memory
 other_in memory word folder (lib ∷ a ∷ []) is = usage_in memory
-other_in memory word folder (lib ∷ a ∷ b ∷ []) is = usage_in memory
+other_in memory word folder (lib ∷ a ∷ b ∷ []) is = made_in memory (bytes_eq word (codes "make")) folder lib a b is
 other_in memory word folder (lib ∷ a ∷ b ∷ c ∷ d ∷ more) is = usage_in memory
 
 placed_in : (memory b d : Bool) (word folder : List ℕ) (more : List (List ℕ)) → IfSome (location_word folder) (λ location. memory ≡ is_memory location)

@@ -1,6 +1,6 @@
 -- What is read as a command is its spelling, and the spelling of a command is read as it.
 -- The key lemmas are command_of-words_of and words_of-command_of, at the end.
-use Rattle.std.proofs.Common.{◌≡◌, ◌≢◌, ℕ, arith, decimal, Bool, true, false, ◌&&◌, List, [], ◌∷◌, All, Option, Some, None, ap, ap₂, inl, map, refl, sym, cond, codes}
+use Rattle.std.proofs.Common.{◌≡◌, ◌≢◌, ℕ, ◌-◌, ◌^◌, arith, decimal, Bool, true, false, ◌&&◌, List, [], ◌∷◌, All, Option, Some, None, ap, ap₂, inl, map, refl, sym, cond, codes}
 use Rattle.std.proofs.lemmas.List.Elements.{All-head, All-tail}
 use Rattle.std.specs.Option.{IfSome}
 use Rattle.std.specs.Result.{result_ok}
@@ -18,11 +18,11 @@ use Rattle.json_words.proofs.IdLemmas.{IsOf-has_form, library_id_of-good, object
 use Rattle.library_state.specs.Rights.{right_of, right_text}
 use Rattle.library_state.specs.declared.right.Right.{Right}
 use Rattle.library_state.specs.declared.right.Right.TheVariants.{Read, Write, Owner}
-use Rattle.server_words.specs.CommandLine.{command_of, create_by, create_command, ids_of, inetd_by, inetd_command, is_line_of_libraries, is_name, joined, libraries_of, location_word, most_connections, most_workers, other_command, secret_of, serve_by, serve_command, token_by, token_command}
+use Rattle.server_words.specs.CommandLine.{command_of, create_by, create_command, ids_of, inetd_by, inetd_command, is_line_of_libraries, is_name, joined, libraries_of, location_word, make_by, most_connections, most_files, most_workers, other_command, secret_of, serve_by, serve_command, token_by, token_command}
 use Rattle.server_words.specs.Number.{number_within}
 use Rattle.server_words.specs.Spelling.{IsBytesOf, IsCommand, IsLocation, location_text, words_of}
 use Rattle.server_words.specs.declared.command.Command.{Command}
-use Rattle.server_words.specs.declared.command.Command.TheVariants.{Create, Token, Inetd, Serve, Help, Version, Usage}
+use Rattle.server_words.specs.declared.command.Command.TheVariants.{Create, Token, Inetd, Serve, Make, Help, Version, Usage}
 use Rattle.server_words.specs.declared.command.Location.{Location}
 use Rattle.server_words.specs.declared.command.Location.TheVariants.{Memory, Folder}
 use Rattle.server_words.proofs.NumberLemmas.{number_within-decimal, within_is_text}
@@ -145,6 +145,25 @@ served_spelling folder [] = λ other. absurd (other refl)
 served_spelling folder (a ∷ []) = λ other. absurd (other refl)
 served_spelling folder (a ∷ b ∷ []) = λ other. absurd (other refl)
 
+make_spelling : (folder lib a b : List ℕ) (p : Option Location) (l : Option (List ℕ)) (count number : Option ℕ) → IfSome p (λ location. folder ≡ location_text location)
+    → IfSome l (λ id. lib ≡ hyphenated_text lower id) → IfSome count (λ n. a ≡ decimal n) → IfSome number (λ n. b ≡ decimal n)
+    → IsSpelling (codes "make" ∷ folder ∷ lib ∷ a ∷ b ∷ []) (make_by p l count number)
+unfolding IsSpelling
+make_spelling folder lib a b (Some location) (Some id) (Some count) (Some number) same-p same-l same-a same-b = λ other. rw (same-p, same-l, same-a, same-b) refl
+make_spelling folder lib a b None l count number same-p same-l same-a same-b = λ other. absurd (other refl)
+make_spelling folder lib a b (Some location) None count number same-p same-l same-a same-b = λ other. absurd (other refl)
+make_spelling folder lib a b (Some location) (Some id) None number same-p same-l same-a same-b = λ other. absurd (other refl)
+make_spelling folder lib a b (Some location) (Some id) (Some count) None same-p same-l same-a same-b = λ other. absurd (other refl)
+
+made_spelling_at : (word folder lib a b : List ℕ) (is : Bool) → (is ≡ true → word ≡ codes "make")
+    → IsSpelling (word ∷ folder ∷ lib ∷ a ∷ b ∷ []) (cond is (make_by (location_word folder) (library_id_of lib) (number_within 1 most_files a) (number_within 0 (2 ^ 64 - 1) b)) Usage)
+unfolding IsSpelling
+made_spelling_at word folder lib a b true same = λ other.
+    rw (same refl)
+    (make_spelling folder lib a b (location_word folder) (library_id_of lib) (number_within 1 most_files a) (number_within 0 (2 ^ 64 - 1) b)
+    (location_word_text folder) (library_text lib) (within_is_text 1 most_files a) (within_is_text 0 (2 ^ 64 - 1) b) other)
+made_spelling_at word folder lib a b false same = λ other. absurd (other refl)
+
 lone_spelling_at : (word : List ℕ) (b d : Bool) → (b ≡ true → word ≡ codes "--help") → (d ≡ true → word ≡ codes "--version")
     → IsSpelling (word ∷ []) (cond b Help (cond d Version Usage))
 unfolding IsSpelling
@@ -172,7 +191,7 @@ other_spelling word folder (lib ∷ a ∷ b ∷ c ∷ []) =
 other_spelling word folder [] = λ other. absurd (other refl)
 other_spelling word folder (lib ∷ []) = λ other. absurd (other refl)
 other_spelling word folder (lib ∷ a ∷ []) = λ other. absurd (other refl)
-other_spelling word folder (lib ∷ a ∷ b ∷ []) = λ other. absurd (other refl)
+other_spelling word folder (lib ∷ a ∷ b ∷ []) = made_spelling_at word folder lib a b (bytes_eq word (codes "make")) (same_from_bytes_eq word (codes "make"))
 other_spelling word folder (lib ∷ a ∷ b ∷ c ∷ d ∷ more) = λ other. absurd (other refl)
 
 placed_spelling_at : (word folder : List ℕ) (more : List (List ℕ)) (b d : Bool) → (b ≡ true → word ≡ codes "inetd") → (d ≡ true → word ≡ codes "serve")
@@ -226,6 +245,15 @@ command_of-words_of (Serve location port workers connections libs) other is =
       number_within-decimal 1 most_connections connections d.0 d.1 (omega (arith, d.1)),
       is.5,
       ids_of-texts libs is.4,
+    )
+command_of-words_of (Make location lib count number) other is =
+    let a = is.2 in
+    let b = is.3 in
+    rw (
+      location_word-location_text location is.0,
+      library_id_of-text lib is.1,
+      number_within-decimal 1 most_files count a.0 a.1 (omega (arith, a.1)),
+      number_within-decimal 0 (2 ^ 64 - 1) number (omega arith) (omega (arith, b)) b,
     )
 command_of-words_of Help other is = refl
 command_of-words_of Version other is = refl

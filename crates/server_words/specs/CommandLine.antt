@@ -1,6 +1,6 @@
 -- The words of the command line, without the program's name, as a command. Our own. Read command_of first, at the end.
 use Rattle.library_state.specs.declared.state.TheConstants.{MAX_STATE_NAME}
-use Rattle.std.specs.Prelude.{ℕ, ◌≡◌, ◌≢◌, ◌<◌, ◌≤◌, ◌==◌, ◌&&◌, ◌||◌, Bool, true, false, not, nat_lt, nat_le, ⊤, if◌then◌else◌, List, [], ◌∷◌, length, slice_index_or, Option, None, Some, codes}
+use Rattle.std.specs.Prelude.{ℕ, ◌≡◌, ◌≢◌, ◌<◌, ◌≤◌, ◌-◌, ◌^◌, ◌==◌, ◌&&◌, ◌||◌, Bool, true, false, not, nat_lt, nat_le, ⊤, if◌then◌else◌, List, [], ◌∷◌, length, slice_index_or, Option, None, Some, codes}
 use Rattle.std.specs.List.{list_any}
 use Rattle.std.specs.Str.{bytes_eq}
 use Rattle.json_words.specs.IdText.{library_id_of, object_id_of}
@@ -8,7 +8,7 @@ use Rattle.library_state.specs.Rights.{right_of}
 use Rattle.library_state.specs.declared.right.Right.{Right}
 use Rattle.server_words.specs.Number.{number_within}
 use Rattle.server_words.specs.declared.command.Command.{Command}
-use Rattle.server_words.specs.declared.command.Command.TheVariants.{Create, Token, Inetd, Serve, Help, Version, Usage}
+use Rattle.server_words.specs.declared.command.Command.TheVariants.{Create, Token, Inetd, Serve, Make, Help, Version, Usage}
 use Rattle.server_words.specs.declared.command.Location.{Location}
 use Rattle.server_words.specs.declared.command.Location.TheVariants.{Memory, Folder}
 
@@ -85,12 +85,15 @@ lone_command word =
 abbrev pub inetd_command : List ℕ → List (List ℕ) → Command
 inetd_command folder libs = inetd_by (location_word folder) (libraries_of libs)
 
--- how many workers serve a port, and how many connections each serves
+-- how many workers serve a port, how many connections each serves, and how many files are made
 abbrev pub most_workers : ℕ
 most_workers = 64
 
 abbrev pub most_connections : ℕ
 most_connections = 4294967295
+
+abbrev pub most_files : ℕ
+most_files = 10000
 
 abbrev pub serve_by : Option Location → (port workers connections : Option ℕ) → Option (List (List ℕ)) → Command
 serve_by (Some location) (Some port) (Some workers) (Some connections) (Some libs) = Serve location port workers connections libs
@@ -104,6 +107,16 @@ abbrev pub serve_command : List ℕ → List (List ℕ) → Command
 serve_command folder (port ∷ workers ∷ connections ∷ libs) =
     served_command folder (number_within 1 65535 port) (number_within 1 most_workers workers) (number_within 1 most_connections connections) libs
 serve_command folder _ = Usage
+
+abbrev pub make_by : Option Location → Option (List ℕ) → (count number : Option ℕ) → Command
+make_by (Some location) (Some lib) (Some count) (Some number) = Make location lib count number
+make_by _ _ _ _ = Usage
+
+-- `make FOLDER LIB COUNT NUMBER`; no other word has two numbers after it
+abbrev pub make_command : List ℕ → List ℕ → List ℕ → List ℕ → List ℕ → Command
+make_command word folder lib count number =
+    if bytes_eq word (codes "make") then make_by (location_word folder) (library_id_of lib) (number_within 1 most_files count) (number_within 0 (2 ^ 64 - 1) number)
+    else Usage
 
 -- `create FOLDER LIB NAME USER TOKEN`
 abbrev pub create_command : List ℕ → List ℕ → List ℕ → List ℕ → List ℕ → Command
@@ -124,6 +137,7 @@ long_command word folder lib third fourth fifth =
 
 -- the command of a word and a folder, with words after them
 abbrev pub other_command : List ℕ → List ℕ → List (List ℕ) → Command
+other_command word folder (lib ∷ count ∷ number ∷ []) = make_command word folder lib count number
 other_command word folder (lib ∷ third ∷ fourth ∷ fifth ∷ []) = long_command word folder lib third fourth fifth
 other_command word folder _ = Usage
 
@@ -145,6 +159,7 @@ location_in (Create location lib name user secret) = Some location
 location_in (Token location lib user secret right) = Some location
 location_in (Inetd location libs) = Some location
 location_in (Serve location port workers connections libs) = Some location
+location_in (Make location lib count number) = Some location
 location_in _ = None
 
 abbrev pub is_memory : Location → Bool
@@ -178,4 +193,5 @@ NamesFit (Create location lib name user secret) = IsNameSize name × IsNameSize 
 NamesFit (Token location lib user secret right) = IsNameSize user
 NamesFit (Inetd location libs) = AreLibraries libs
 NamesFit (Serve location port workers connections libs) = AreLibraries libs × Between 1 65535 port × Between 1 most_workers workers × Between 1 most_connections connections
+NamesFit (Make location lib count number) = Between 1 most_files count
 NamesFit _ = ⊤

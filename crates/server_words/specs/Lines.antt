@@ -67,10 +67,15 @@ created_words lib head = codes "created " ++ hyphenated_text lower lib ++ codes 
 abbrev pub served_words : ℕ → List ℕ
 served_words count = codes "served " ++ decimal count
 
+abbrev pub made_words : (paths bytes stored removed : ℕ) → List ℕ
+made_words paths bytes stored removed =
+    codes "paths " ++ decimal paths ++ codes " bytes " ++ decimal bytes ++ codes " stored " ++ decimal stored ++ codes " removed " ++ decimal removed
+
 abbrev pub line_words : Line → List ℕ
 line_words (line.Created lib head) = created_words lib head
 line_words line.TokenAdded = codes "token added"
 line_words (line.Served count) = served_words count
+line_words (line.Made paths bytes stored removed) = made_words paths bytes stored removed
 line_words (line.Fault fault) = codes "seaf-server: " ++ fault_words fault
 line_words line.Usage = codes "seaf-server: usage"
 
@@ -88,6 +93,7 @@ abbrev pub status_of : Line → ℕ
 status_of (line.Created lib head) = 0
 status_of line.TokenAdded = 0
 status_of (line.Served count) = 0
+status_of (line.Made paths bytes stored removed) = 0
 status_of (line.Fault fault) = fault_status fault
 status_of line.Usage = 2
 
@@ -102,6 +108,7 @@ help_text =
     ++ printed (codes "       seaf-server token FOLDER LIB USER TOKEN RIGHT")
     ++ printed (codes "       seaf-server inetd FOLDER LIB [LIB..]")
     ++ printed (codes "       seaf-server serve FOLDER PORT WORKERS CONNECTIONS LIB [LIB..]")
+    ++ printed (codes "       seaf-server make FOLDER LIB COUNT NUMBER")
     ++ printed (codes "FOLDER keeps the libraries, or is :memory:. LIB is a UUID.")
     ++ printed (codes "TOKEN has 40 lower-case hexadecimal digits. RIGHT is r, rw or own.")
     ++ printed (codes "inetd serves one connection over standard input and output,")

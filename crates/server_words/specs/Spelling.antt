@@ -1,12 +1,12 @@
 -- How a command is spelled: the words that read as it, which are one list for each command. Our own.
 -- Read words_of, then IsCommand.
-use Rattle.std.specs.Prelude.{ℕ, ◌≢◌, ◌<◌, ◌≡◌, All, IsTrue, ⊤, List, [], ◌∷◌, length, map, codes, decimal}
+use Rattle.std.specs.Prelude.{ℕ, ◌≢◌, ◌^◌, ◌<◌, ◌≡◌, All, IsTrue, ⊤, List, [], ◌∷◌, length, map, codes, decimal}
 use Rattle.hex.specs.Hex.{encode_lower}
 use Rattle.uuid.specs.Text.{hyphenated_text, lower}
 use Rattle.library_state.specs.Rights.{right_text}
-use Rattle.server_words.specs.CommandLine.{Between, is_line_of_libraries, is_name, most_connections, most_workers}
+use Rattle.server_words.specs.CommandLine.{Between, is_line_of_libraries, is_name, most_connections, most_files, most_workers}
 use Rattle.server_words.specs.declared.command.Command.{Command}
-use Rattle.server_words.specs.declared.command.Command.TheVariants.{Create, Token, Inetd, Serve, Help, Version, Usage}
+use Rattle.server_words.specs.declared.command.Command.TheVariants.{Create, Token, Inetd, Serve, Make, Help, Version, Usage}
 use Rattle.server_words.specs.declared.command.Location.{Location}
 use Rattle.server_words.specs.declared.command.Location.TheVariants.{Memory, Folder}
 
@@ -24,6 +24,7 @@ words_of (Token location lib user secret right) =
 words_of (Inetd location libs) = codes "inetd" ∷ location_text location ∷ map (hyphenated_text lower) libs
 words_of (Serve location port workers connections libs) =
     codes "serve" ∷ location_text location ∷ decimal port ∷ decimal workers ∷ decimal connections ∷ map (hyphenated_text lower) libs
+words_of (Make location lib count number) = codes "make" ∷ location_text location ∷ hyphenated_text lower lib ∷ decimal count ∷ decimal number ∷ []
 words_of Help = codes "--help" ∷ []
 words_of Version = codes "--version" ∷ []
 words_of Usage = []
@@ -45,6 +46,7 @@ IsCommand (Token location lib user secret right) = IsLocation location × IsByte
 IsCommand (Inetd location libs) = IsLocation location × All (IsBytesOf 16) libs × IsTrue (is_line_of_libraries (map (hyphenated_text lower) libs))
 IsCommand (Serve location port workers connections libs) = IsLocation location × Between 1 65535 port × Between 1 most_workers workers × Between 1 most_connections connections
     × All (IsBytesOf 16) libs × IsTrue (is_line_of_libraries (map (hyphenated_text lower) libs))
+IsCommand (Make location lib count number) = IsLocation location × IsBytesOf 16 lib × Between 1 most_files count × (number < 2 ^ 64)
 IsCommand Help = ⊤
 IsCommand Version = ⊤
 IsCommand Usage = ⊤

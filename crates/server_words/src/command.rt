@@ -44,6 +44,13 @@ pub enum Command {
         connections: u32,
         libs: Items<LibId>,
     },
+    /// Fill a new library with so many generated files, 1 to 10,000, from this number, change some of them, and collect it.
+    Make {
+        location: Location,
+        lib: LibId,
+        count: u32,
+        number: u64,
+    },
     /// Print the words that there are.
     Help,
     /// Print the program's name and version.

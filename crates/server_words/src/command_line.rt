@@ -6,7 +6,7 @@ ghost use Rattle.std.specs.Str.{bytes_eq};
 ghost use Rattle.server_words.specs.CommandLine.{AreLibraries, IsNameSize, NamesFit, command_of, create_command, ids_of, inetd_command, is_control, is_distinct, is_line_of_libraries, is_name, libraries_of, lone_command, long_command, names_memory, location_word, placed_command, secret_of, token_command};
 
 use crate::command::{Command, Location};
-use crate::numbered::serve_command;
+use crate::numbered::{make_command, serve_command};
 use ids::{Items, LibId, Text};
 use json_words::library_id;
 use library_state::{MAX_STATE_NAME, Right, Secret};
@@ -20,11 +20,12 @@ use std::alloc::{AllocError, Global};
 /// | `token FOLDER LIB USER TOKEN RIGHT` | add a token |
 /// | `inetd FOLDER LIB [LIB..]` | serve one connection with 1 to 1,000 libraries |
 /// | `serve FOLDER PORT WORKERS CONNECTIONS LIB [LIB..]` | serve a port with 1 to 1,000 libraries |
+/// | `make FOLDER LIB COUNT NUMBER` | fill a new library |
 /// | `--help`, `--version` | alone |
 ///
 /// FOLDER is not empty, and `:memory:` is no folder but the place in memory. LIB is a library id of 36 characters, none of which stands there twice,
-/// TOKEN 40 lower-case hexadecimal digits, RIGHT `r`, `rw` or `own`. PORT is 1 to 65,535, WORKERS 1 to 64 and CONNECTIONS 1 to
-/// 4,294,967,295, in decimal without leading zeros. A NAME or USER without a byte, with more than
+/// TOKEN 40 lower-case hexadecimal digits, RIGHT `r`, `rw` or `own`. PORT is 1 to 65,535, WORKERS 1 to 64, CONNECTIONS 1 to
+/// 4,294,967,295, COUNT 1 to 10,000 and NUMBER below 2^64, in decimal without leading zeros. A NAME or USER without a byte, with more than
 /// 255, or with a control character in it (0 to 31, or 127) is refused. Other words are `Usage`. Our own.
 pub fn read_command(alloc: Global, words: &[Text]) -> Result<Command, AllocError>
     ensures value { IfOk result (λ command. command ≡ command_of words.now) }
@@ -80,6 +81,16 @@ fn placed_command(
         return serve_command(alloc, folder, more);
     }
     match more {
+        [lib, count, number] => {
+            make_command(
+                alloc,
+                word,
+                folder,
+                lib.slice(),
+                count.slice(),
+                number.slice(),
+            )
+        }
         [lib, third, fourth, fifth] => long_command(
             alloc,
             word,

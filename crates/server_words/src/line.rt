@@ -1,6 +1,6 @@
 //! The lines that are printed, and the status of a command that prints one.
 ghost use Rattle.std.specs.Prelude.{◌≡◌, ◌+◌, ◌≤◌, ◌++◌, decimal, length};
-ghost use Rattle.server_words.specs.Lines.{bad_state_words, created_words, fault_status, fault_words, help_text, line_text, line_words, state_key_word, status_of, version_text, with_id, with_key};
+ghost use Rattle.server_words.specs.Lines.{bad_state_words, created_words, fault_status, fault_words, help_text, line_text, line_words, made_words, state_key_word, status_of, version_text, with_id, with_key};
 
 use crate::fault::Fault;
 use crate::line_text::LineText;
@@ -12,11 +12,22 @@ use library_state::StateKey;
 #[derive(Clone, Copy, Debug, PartialEq, Eq)]
 pub enum Line {
     /// `create` made this library, which stands at this commit.
-    Created { lib: LibId, head: ObjId },
+    Created {
+        lib: LibId,
+        head: ObjId,
+    },
     /// `token` added a token.
     TokenAdded,
     /// `serve` served so many connections.
     Served(u64),
+    /// `make` filled a library: how many paths and bytes its head has, how many objects were stored before its collection, and how many of
+    /// them were removed.
+    Made {
+        paths: u64,
+        bytes: u64,
+        stored: u64,
+        removed: u64,
+    },
     /// The command was not done.
     Fault(Fault),
     /// The words were no command.
@@ -40,7 +51,7 @@ impl Line {
         ensures value { result ≡ status_of self.now }
     {
         match self {
-            Line::Created { .. } | Line::TokenAdded | Line::Served(_) => 0,
+            Line::Created { .. } | Line::TokenAdded | Line::Served(_) | Line::Made { .. } => 0,
             Line::Fault(fault) => fault_status(fault),
             Line::Usage => 2,
         }
@@ -66,6 +77,12 @@ fn push_words(text: &mut LineText, line: &Line)
         Line::Created { lib, head } => push_created(text, lib, head),
         Line::TokenAdded => text.push(b"token added"),
         Line::Served(count) => push_number(text, b"served ", *count),
+        Line::Made {
+            paths,
+            bytes,
+            stored,
+            removed,
+        } => push_made(text, *paths, *bytes, *stored, *removed),
         Line::Fault(fault) => {
             text.push(b"seaf-server: ");
             push_fault(text, fault);
@@ -83,6 +100,18 @@ fn push_created(text: &mut LineText, lib: &LibId, head: &ObjId)
     text.push(b"created ");
     text.push(&lib.digits());
     push_id(text, b" ", head);
+}
+
+/// Appends what a library was filled with.
+fn push_made(text: &mut LineText, paths: u64, bytes: u64, stored: u64, removed: u64)
+    requires fits { length text.old ≡ 0 }
+    ensures ok { text.new ≡ text.old ++ made_words paths bytes stored removed }
+    ensures bound { length text.new ≤ 127 }
+{
+    push_number(text, b"paths ", paths);
+    push_number(text, b" bytes ", bytes);
+    push_number(text, b" stored ", stored);
+    push_number(text, b" removed ", removed);
 }
 
 /// Appends words and a number, which has at most 20 digits.
@@ -186,5 +215,5 @@ pub fn version_text() -> &'static [u8]
 pub fn help_text() -> &'static [u8]
     ensures value { result.now ≡ help_text }
 {
-    b"usage: seaf-server create FOLDER LIB NAME USER TOKEN\n       seaf-server token FOLDER LIB USER TOKEN RIGHT\n       seaf-server inetd FOLDER LIB [LIB..]\n       seaf-server serve FOLDER PORT WORKERS CONNECTIONS LIB [LIB..]\nFOLDER keeps the libraries, or is :memory:. LIB is a UUID.\nTOKEN has 40 lower-case hexadecimal digits. RIGHT is r, rw or own.\ninetd serves one connection over standard input and output,\nserve as many as WORKERS times CONNECTIONS at a port of 127.0.0.1.\n"
+    b"usage: seaf-server create FOLDER LIB NAME USER TOKEN\n       seaf-server token FOLDER LIB USER TOKEN RIGHT\n       seaf-server inetd FOLDER LIB [LIB..]\n       seaf-server serve FOLDER PORT WORKERS CONNECTIONS LIB [LIB..]\n       seaf-server make FOLDER LIB COUNT NUMBER\nFOLDER keeps the libraries, or is :memory:. LIB is a UUID.\nTOKEN has 40 lower-case hexadecimal digits. RIGHT is r, rw or own.\ninetd serves one connection over standard input and output,\nserve as many as WORKERS times CONNECTIONS at a port of 127.0.0.1.\n"
 }

@@ -1,11 +1,12 @@
 //! The commands that have numbers among their words.
 ghost use Rattle.std.specs.Prelude.{◌≡◌, ◌≤◌, IfOk, IfSome};
-ghost use Rattle.server_words.specs.CommandLine.{NamesFit, serve_command, served_command};
+ghost use Rattle.server_words.specs.CommandLine.{NamesFit, make_command, serve_command, served_command};
 
 use crate::command::Command;
 use crate::command_line::{location_word, read_libraries};
 use crate::number::number_within;
 use ids::Text;
+use json_words::library_id;
 use std::alloc::{AllocError, Global};
 
 /// The command `serve` with these words.
@@ -59,6 +60,44 @@ fn served_command(
             workers: workers as u32,
             connections: connections as u32,
             libs,
+        }),
+        None => Ok(Command::Usage),
+    }
+}
+
+/// The command of a word with a library and two numbers after it.
+pub(crate) fn make_command(
+    alloc: Global,
+    word: &str,
+    folder: &str,
+    lib: &str,
+    count: &str,
+    number: &str,
+) -> Result<Command, AllocError>
+    ensures value { IfOk result (λ command. command ≡ make_command word.now folder.now lib.now count.now number.now) }
+    ensures bound { IfOk result NamesFit }
+{
+    if word != "make" {
+        return Ok(Command::Usage);
+    }
+    let lib = match library_id(lib) {
+        Some(lib) => lib,
+        None => return Ok(Command::Usage),
+    };
+    let count = match number_within(count, 1, 10_000) {
+        Some(count) => count as u32,
+        None => return Ok(Command::Usage),
+    };
+    let number = match number_within(number, 0, u64::MAX) {
+        Some(number) => number,
+        None => return Ok(Command::Usage),
+    };
+    match location_word(alloc, folder)? {
+        Some(location) => Ok(Command::Make {
+            location,
+            lib,
+            count,
+            number,
         }),
         None => Ok(Command::Usage),
     }

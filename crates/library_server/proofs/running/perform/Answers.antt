@@ -3,8 +3,8 @@ use Rattle.std.proofs.Common.{ℕ, List, refl, ap, subst, sym}
 use Rattle.server_words.specs.CommandLine.{AreLibraries, NamesFit}
 use Rattle.server_words.specs.Spelling.{location_text}
 use Rattle.server_words.specs.declared.command.Command.{Command}
-use Rattle.server_words.specs.declared.command.Command.TheVariants.{Serve}
-use Rattle.library_server.specs.Runs.{adds, creates, help_printed, line_printed, printed_of, prints, serves, serves_port, version_printed}
+use Rattle.server_words.specs.declared.command.Command.TheVariants.{Make, Serve}
+use Rattle.library_server.specs.Runs.{adds, creates, help_printed, line_printed, makes, printed_of, prints, serves, serves_port, version_printed}
 use Rattle.server_words.specs.declared.line.Line.TheVariants as line
 use Rattle.library_server.specs.declared.port.Port.{Port}
 use Rattle.library_server.proofs.RunLemmas.{kept_alone, named_alone, printed_as}
@@ -72,6 +72,22 @@ returns-in-Serve g c =
       steady = λ steady all. (serves_port c.in-Serve.location port c.in-Serve.libs c.in-Serve.is c.serve_port-line.result served c.print_line.ensures.prints refl, c.serve_port-line.ensures.steady steady all);
       others = named_alone (g.G.Ground.may_give c.args.libraries.now) (g.G.Ground.may_give c.serve_port-line.new.libraries) c.args.command _ c.in-Serve.is (rw c.slice-libs.ensures.value at c.serve_port-line.ensures.others);
     }
+
+pub make_files-line-requires : goal.make_files-line-requires
+make_files-line-requires g c =
+    let fits : NamesFit (Make c.in-Make.location c.in-Make.lib c.in-Make.count c.in-Make.number) = subst (λ (k : Command). NamesFit k) c.in-Make.is c.requires.fits in
+    record { few = fits.1 }
+
+pub returns-in-Make : goal.returns-in-Make
+returns-in-Make g c = record {
+  runs = makes c.in-Make.location c.in-Make.lib c.in-Make.count c.in-Make.number c.in-Make.is c.make_files-line.result c.make_files-line.ensures.makes c.print_line-in-Make.ensures.prints refl refl;
+  steady = λ steady all.
+      let whole = all (location_text c.in-Make.location) c.in-Make.lib in (
+        makes c.in-Make.location c.in-Make.lib c.in-Make.count c.in-Make.number c.in-Make.is c.make_files-line.result c.make_files-line.ensures.makes c.print_line-in-Make.ensures.prints refl refl,
+        c.make_files-line.ensures.steady steady whole.0 whole.1 whole.2,
+      );
+  others = named_alone (g.G.Ground.may_give c.args.libraries.now) (g.G.Ground.may_give c.make_files-line.new.libraries) c.args.command _ c.in-Make.is c.make_files-line.ensures.others;
+}
 
 pub returns-in-Help : goal.returns-in-Help
 returns-in-Help g c =
