@@ -12,7 +12,7 @@ ghost use Rattle.sync_calls.specs.Shown.{shown_of};
 
 use crate::hall::{Hall, HallPass, Room};
 use crate::question::{First, Lent, Own, Question};
-use crate::served_turn::ask_one;
+use crate::served_turn::ask_behind_gate;
 use depot::Depot;
 use ids::{LibId, ObjId};
 use library_state::{Call, Refusal, Reply, Secret};
@@ -158,7 +158,7 @@ fn ask_at<S: Shelf, R: Wait, Q: Question<S>>(
         drop(question);
         return without_turn(Refusal::Denied);
     }
-    match ask_one(rt, &room.lock, pass, question, moment) {
+    match ask_behind_gate(rt, room, pass, question, moment) {
         Ok(served) => Answer {
             reply: served.reply,
             opening: room.door.opening,

@@ -16,7 +16,7 @@ use depot::{Depot, Turn};
 use ids::LibId;
 use library_state::{Clock, Refusal, Secret};
 use object_store::Shelf;
-use std::sync::Wait;
+use std::sync::{Mutex, Wait};
 use turnstile::{Pass, Turnstile};
 
 /// How a collection that was asked for ended.
@@ -101,13 +101,14 @@ fn collect_at<S: Shelf, R: Wait, C: Clock>(
     if !admits_collection(&room.door, secret) {
         return Collected::Refused(Refusal::Denied);
     }
-    collect_all(rt, &room.lock, pass, clock)
+    collect_all(rt, &room.lock, &room.gate, pass, clock)
 }
 
 /// Takes turns until the collection ended or one is refused.
 fn collect_all<S: Shelf, R: Wait, C: Clock>(
     rt: &R,
     lock: &Turnstile<Depot<S>>,
+    gate: &Mutex<()>,
     pass: &mut Pass<Depot<S>>,
     clock: &C,
 ) -> Collected
@@ -127,7 +128,7 @@ fn collect_all<S: Shelf, R: Wait, C: Clock>(
         turns: 0,
     };
     for _ in rt.forever() {
-        match turn_on(rt, lock, pass, clock, so_far) {
+        match turn_on(rt, lock, gate, pass, clock, so_far) {
             Step::Goes(more) => so_far = more,
             Step::Ends(ends) => return ends,
         }
@@ -135,10 +136,11 @@ fn collect_all<S: Shelf, R: Wait, C: Clock>(
     unreachable!()
 }
 
-/// Takes one turn more, and tells what follows it.
+/// Takes one turn more, once it went through the gate, and tells what follows it.
 fn turn_on<S: Shelf, R: Wait, C: Clock>(
     rt: &R,
     lock: &Turnstile<Depot<S>>,
+    gate: &Mutex<()>,
     pass: &mut Pass<Depot<S>>,
     clock: &C,
     so_far: SoFar,
@@ -151,6 +153,7 @@ fn turn_on<S: Shelf, R: Wait, C: Clock>(
     ensures drawn { drawn_of pass.old ≡ most_turns → drawn_of pass.new ≡ most_turns }
     ensures told { TurnsOnce S.contents S.may_give S.texts S.faults (C.shows clock.now) (shown_of pass.old) so_far result (shown_of pass.new) (drawn_of pass.new) }
 {
+    drop(gate.lock(rt));
     match take_one(rt, lock, pass, so_far.goal, clock.now()) {
         Ok(taken) => step_of(taken, so_far),
         Err(_) => Step::Ends(Collected::Refused(Refusal::Spent)),

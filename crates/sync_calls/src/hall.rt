@@ -2,6 +2,7 @@
 use crate::door::Door;
 use depot::Depot;
 use std::snapshot::Snapshot;
+use std::sync::Mutex;
 use turnstile::{Pass, Story, Turnstile};
 
 /// The rooms of libraries and a way out, over plain parameters. A `Hall` is one.
@@ -12,11 +13,16 @@ pub struct Rooms<R, B> {
 }
 
 /// One library: who may ask, how it began, and the lock in which it lies.
+///
+/// Who asks holds the gate for a turn, so that its end wakes one of those who wait and not all of them. A collection goes
+/// through it before each of its turns, and holds it for none, so that others go between them. Nothing rests on it: what is
+/// promised of a turn is the lock's.
 #[derive(Drop)]
 pub struct Room<L, X> {
     pub(crate) door: Door,
     pub(crate) start: Snapshot<X>,
     pub(crate) lock: L,
+    pub(crate) gate: Mutex<()>,
 }
 
 /// A pass to each room and one to the way out, over plain parameters. A `HallPass` is one.

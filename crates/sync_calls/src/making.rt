@@ -13,6 +13,7 @@ use depot::Depot;
 use object_store::Shelf;
 use std::alloc::{AllocError, Global};
 use std::snapshot::Snapshot;
+use std::sync::Mutex;
 use turnstile::{Pass, Turnstile};
 
 /// A library in its room, with all passes to it.
@@ -97,7 +98,12 @@ fn start_one<S: Shelf>(
     let start = Snapshot::of(&depot);
     match Turnstile::new(alloc, depot, passes, 0) {
         Ok((lock, passes)) => Ok(Fresh {
-            room: Room { door, start, lock },
+            room: Room {
+                door,
+                start,
+                lock,
+                gate: Mutex::new(()),
+            },
             passes,
         }),
         Err(back) => Err(back),
@@ -126,6 +132,7 @@ fn end_one<S: Shelf>(fresh: FreshRoom<S>) -> Depot<S>
         door: _,
         start: _,
         lock,
+        gate: _,
     } = room;
     let mut first = match passes.pop() {
         Some(first) => first,

@@ -9,6 +9,7 @@ ghost use Rattle.sync_calls.specs.Operations.{Called, IsDone};
 ghost use Rattle.sync_calls.specs.ServedTurn.{CatchesUp, IsEntryOf, IsSameShare};
 ghost use Rattle.sync_calls.specs.Shown.{Knows, Shown, shown_in, shown_of};
 
+use crate::hall::Room;
 use crate::question::Question;
 use depot::{Change, Depot, Made};
 use library_state::{Call, Reply};
@@ -25,8 +26,34 @@ pub(crate) struct Served {
     pub length: u64,
 }
 
+/// Takes a turn at the library of a room, behind its gate, and asks a question in it.
+pub(crate) fn ask_behind_gate<S: Shelf, R: Wait, Q: Question<S>>(
+    rt: &R,
+    room: &Room<Turnstile<Depot<S>>, Depot<S>>,
+    pass: &mut Pass<Depot<S>>,
+    question: Q,
+    moment: u64,
+) -> Result<Served, Spent>
+    requires ready { IsPassOf room.now.lock pass.old }
+    requires known { Knows S.contents S.may_give S.texts S.faults (shown_of pass.old) }
+    ensures ready { IsPassOf room.now.lock pass.new }
+    ensures known { Knows S.contents S.may_give S.texts S.faults (shown_of pass.new) }
+    ensures same { IsSameShare pass.old pass.new }
+    ensures told { IfOk result (λ served. (done : IsDone S.contents S.may_give S.texts S.faults (shown_of pass.old) served.place (Called (Q.call question) moment served.reply) (shown_of pass.new))
+        × Spares (Q.too_much question) served.reply done) }
+    ensures size { IfOk result (λ served. served.length ≡ length (seen_of pass.new)) }
+    ensures err { OnErr result ((shown_of pass.new ≡ shown_of pass.old) × (drawn_of pass.new ≡ most_turns)) }
+    ensures unspent { OnOk result (drawn_of pass.new < most_turns) }
+    ensures drawn { drawn_of pass.old ≡ most_turns → drawn_of pass.new ≡ most_turns }
+{
+    let gate = room.gate.lock(rt);
+    let asked = ask_one(rt, &room.lock, pass, question, moment);
+    drop(gate);
+    asked
+}
+
 /// Takes a turn, and asks a question in it.
-pub(crate) fn ask_one<S: Shelf, R: Wait, Q: Question<S>>(
+fn ask_one<S: Shelf, R: Wait, Q: Question<S>>(
     rt: &R,
     lock: &Turnstile<Depot<S>>,
     pass: &mut Pass<Depot<S>>,
