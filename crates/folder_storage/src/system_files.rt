@@ -2,7 +2,7 @@
 use crate::file_system::{FileFacts, FileKind, FileSystem, SyncEnding, SyncPlace};
 use std::alloc::{AllocError, Global};
 use std::fs::{DirBuilder, DirEntry, File, Files, Metadata, OpenOptions};
-use std::io::{ErrorKind, Write};
+use std::io::{ErrorKind, Read, Write};
 use std::marker::PhantomData;
 use std::os::unix::fs::{DirBuilderExt, MetadataExt, OpenOptionsExt};
 use std::thread::{Threads, for_each_mut};
@@ -72,8 +72,8 @@ impl<R: Files<File = File> + AllocGlobal + Threads + Sync + Clone + Drop> FileSy
     }
 
     fn read(&mut self, path: &str) -> io::Result<Option<Vec<u8>>> {
-        match fs::read(&self.rt, path) {
-            Ok(bytes) => Ok(Some(bytes)),
+        match File::open(&self.rt, path) {
+            Ok(file) => Ok(Some(bytes_of(self.rt.alloc(), file)?)),
             Err(failure) if failure.kind() == ErrorKind::NotFound => Ok(None),
             Err(failure) => Err(failure),
         }
@@ -154,6 +154,15 @@ impl<R: Files<File = File> + AllocGlobal + Threads + Sync + Clone + Drop> FileSy
         }
         Err(io::Error::from(ErrorKind::ResourceBusy))
     }
+}
+
+/// The bytes of an open file. There is room from the beginning for as many as the system tells, and for one more, so that their
+/// end is met without another place for them.
+fn bytes_of(alloc: Global, mut file: File) -> io::Result<Vec<u8>> {
+    let size = file.metadata()?.len() as usize;
+    let mut bytes = Vec::with_capacity(alloc, size.saturating_add(1))?;
+    file.read_to_end(&mut bytes)?;
+    Ok(bytes)
 }
 
 /// Makes what stands at a path durable, if something does.
