@@ -10,26 +10,25 @@ use std::io;
 use std::io::ErrorKind;
 
 impl<F: FileSystem + Drop> LibraryFolder<F> {
-    /// Comes before an object that was written to the spare file is moved into its slot: where that file is older than the
+    /// Comes before an object that was written to the spare file at this time is moved into its slot: where that is before the
     /// state text a mark is left, durably. After a failure no mark is trusted, and the spare file is taken away, if it can be.
-    pub(crate) fn watch_clock(&mut self, spare: &str) -> io::Result<()>
+    pub(crate) fn watch_clock(&mut self, spare: &str, time: i64) -> io::Result<()>
         ensures stays { doubts_of self.new ≡ doubts_of self.old }
     {
-        let watched = self.mark_if_older(spare);
+        let watched = self.mark_if_older(time);
         if watched.is_err() {
             let _ = self.files.remove_file(spare);
         }
         watched
     }
 
-    /// Leaves the mark where a file is older than the state text, unless it stands.
-    fn mark_if_older(&mut self, spare: &str) -> io::Result<()>
+    /// Leaves the mark where a file of this time is older than the state text, unless it stands.
+    fn mark_if_older(&mut self, time: i64) -> io::Result<()>
         ensures stays { doubts_of self.new ≡ doubts_of self.old }
     {
         if self.is_set_back {
             return Ok(());
         }
-        let time = self.time_of(spare)?;
         if time >= self.text_time {
             return Ok(());
         }

@@ -103,8 +103,9 @@ pub trait FileSystem {
     /// The bytes of a file.
     fn read(&mut self, path: &str) -> io::Result<Option<Vec<u8>>>;
 
-    /// Writes a file with these bytes, its owner's alone, in place of what stands there; durably if that is asked.
-    fn write(&mut self, path: &str, bytes: &[u8], is_durable: bool) -> io::Result<()>;
+    /// Writes a file with these bytes, its owner's alone, in place of what stands there; durably if that is asked. The answer
+    /// is when that was, as a look would tell it.
+    fn write(&mut self, path: &str, bytes: &[u8], is_durable: bool) -> io::Result<i64>;
 
     /// Makes the names in a folder durable. The answer is whether it is there.
     fn sync_folder(&mut self, path: &str) -> io::Result<bool>;

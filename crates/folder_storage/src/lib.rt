@@ -25,6 +25,7 @@ mod listing;
 mod memory_ground;
 mod opening;
 mod paths;
+mod seen_folders;
 mod settling;
 mod steady_shelf;
 mod syncing;

@@ -8,6 +8,7 @@ use crate::earlier::Earlier;
 use crate::file_system::FileSystem;
 use crate::listing::Listing;
 use crate::paths::{listed_folder, named_path, object_path, slot_path};
+use crate::seen_folders::SeenFolders;
 use ids::{Bytes, Key, Kind, ObjId};
 use object_store::{Found, Slot};
 use std::alloc::AllocError;
@@ -50,6 +51,8 @@ pub(crate) struct LibraryFolder<F> {
     pub(crate) text_time: i64,
     /// Whether the mark stands that something was put after the state text whose file is older.
     pub(crate) is_set_back: bool,
+    /// The folders of objects that this run saw or made: they are there.
+    there: SeenFolders,
     /// What was listed last.
     listing: Option<Listing>,
 }
@@ -75,6 +78,7 @@ impl<F: FileSystem + Drop> LibraryFolder<F> {
             is_adrift: false,
             text_time: i64::MIN,
             is_set_back: false,
+            there: SeenFolders::new(alloc),
             listing: None,
         }
     }
@@ -116,34 +120,47 @@ impl<F: FileSystem + Drop> LibraryFolder<F> {
         }
         self.commits.reserve(1)?;
         let way = self.way_of(key)?;
-        self.write_spare(way.spare.as_str(), bytes, false)?;
-        self.watch_clock(way.spare.as_str())?;
+        let time = self.write_spare(way.spare.as_str(), bytes, false)?;
+        self.watch_clock(way.spare.as_str(), time)?;
         Ok(way)
     }
 
-    /// The paths that an object is moved along, and whether its folder is there.
+    /// The paths that an object is moved along, and that of its folder where it has to be made.
     fn way_of(&mut self, key: &Key) -> io::Result<Way>
         ensures stays { doubts_of self.new ≡ doubts_of self.old }
     {
         let spare = self.spare()?;
-        let folder = self.folder_of(key)?;
         let path = object_path(self.files.alloc(), self.path.as_str(), key)?;
-        let is_there = self.files.look(folder.as_str())?.is_some();
+        let lacking = self.lacking_folder(key)?;
         Ok(Way {
             spare,
-            folder,
-            is_there,
+            lacking,
             path,
         })
     }
 
-    /// Writes the spare file. Where that fails it is taken away, if it can be.
+    /// The path of the folder that an object's file lies in, where it isn't there. One that is, is looked at once in a run.
+    fn lacking_folder(&mut self, key: &Key) -> io::Result<Option<String>>
+        ensures stays { doubts_of self.new ≡ doubts_of self.old }
+    {
+        if self.there.has(key) {
+            return Ok(None);
+        }
+        let folder = self.folder_of(key)?;
+        if self.files.look(folder.as_str())?.is_none() {
+            return Ok(Some(folder));
+        }
+        self.there.note(key);
+        Ok(None)
+    }
+
+    /// Writes the spare file, and tells when that was. Where it fails the file is taken away, if it can be.
     pub(crate) fn write_spare(
         &mut self,
         spare: &str,
         bytes: &[u8],
         is_durable: bool,
-    ) -> io::Result<()>
+    ) -> io::Result<i64>
         ensures stays { doubts_of self.new ≡ doubts_of self.old }
     {
         let written = self.files.write(spare, bytes, is_durable);
@@ -189,8 +206,9 @@ impl<F: FileSystem + Drop> LibraryFolder<F> {
         ensures after { PutsOne key.now bytes.now (is_ok result) (doubts_of self.old) (doubts_of self.new) }
     {
         self.note_commit(key, bytes)?;
-        if !way.is_there {
-            self.files.make_folder(way.folder.as_str())?;
+        if let Some(folder) = &way.lacking {
+            self.files.make_folder(folder.as_str())?;
+            self.there.note(key);
         }
         self.files.rename(way.spare.as_str(), way.path.as_str())?;
         take_out(&mut self.earlier.whole, key);
@@ -316,13 +334,12 @@ impl<F: FileSystem + Drop> LibraryFolder<F> {
     }
 }
 
-/// The paths that an object is moved along, from the spare file to its own in its folder, and whether that folder was there
-/// as they were found.
+/// The paths that an object is moved along, from the spare file to its own in its folder, and that of the folder where it wasn't
+/// there as they were found.
 #[derive(Drop)]
 pub(crate) struct Way {
     spare: String,
-    folder: String,
-    is_there: bool,
+    lacking: Option<String>,
     path: String,
 }
 

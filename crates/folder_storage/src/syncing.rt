@@ -136,8 +136,8 @@ impl<F: FileSystem + Drop> LibraryFolder<F> {
             return self.unless_near(key);
         }
         let spare = self.spare()?;
-        self.write_spare(spare.as_str(), bytes.as_slice(), true)?;
-        self.watch_clock(spare.as_str())?;
+        let time = self.write_spare(spare.as_str(), bytes.as_slice(), true)?;
+        self.watch_clock(spare.as_str(), time)?;
         self.move_spare(spare.as_str(), path)
     }
 

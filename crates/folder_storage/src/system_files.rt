@@ -79,15 +79,15 @@ impl<R: Files<File = File> + AllocGlobal + Threads + Sync + Clone + Drop> FileSy
         }
     }
 
-    fn write(&mut self, path: &str, bytes: &[u8], is_durable: bool) -> io::Result<()> {
+    fn write(&mut self, path: &str, bytes: &[u8], is_durable: bool) -> io::Result<i64> {
         let mut how = OpenOptions::new();
         how.write(true).create(true).truncate(true).mode(FILE_MODE);
         let mut file = how.open(&self.rt, path)?;
         file.write_all(bytes)?;
         if is_durable {
-            return file.sync_all();
+            file.sync_all()?;
         }
-        Ok(())
+        Ok(facts_of(&file.metadata()?).changed)
     }
 
     fn sync_folder(&mut self, path: &str) -> io::Result<bool> {

@@ -1,5 +1,5 @@
 //! A file system in memory that fails one sync, and loses what was not made durable.
-use crate::lossy_nodes::{Also, Failures, Home, NOWHERE, Node, parted};
+use crate::lossy_nodes::{Also, Failures, Home, NOW, NOWHERE, Node, parted};
 use folder_storage::{FileFacts, FileKind, FileSystem, SyncPlace};
 use std::alloc::{AllocError, Global};
 use std::io;
@@ -302,14 +302,14 @@ impl FileSystem for LossyFiles {
         }
     }
 
-    fn write(&mut self, path: &str, bytes: &[u8], is_durable: bool) -> io::Result<()> {
+    fn write(&mut self, path: &str, bytes: &[u8], is_durable: bool) -> io::Result<i64> {
         self.note("write ", path)?;
         self.add(path, FileKind::File, bytes)?;
         if is_durable {
             self.waits = self.waits.saturating_add(1);
             self.sync_at(path)?;
         }
-        Ok(())
+        Ok(NOW)
     }
 
     fn sync_folder(&mut self, path: &str) -> io::Result<bool> {

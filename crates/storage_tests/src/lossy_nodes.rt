@@ -5,7 +5,7 @@ use folder_storage::FileKind;
 pub(crate) const NOWHERE: usize = usize::MAX;
 
 /// When a file or folder was changed, unless it is set: long after any time that a row sets.
-const NOW: i64 = 2_000_000_000_000_000_000;
+pub(crate) const NOW: i64 = 2_000_000_000_000_000_000;
 
 /// The folder of a path, and its last name.
 pub(crate) fn parted(path: &str) -> (&str, &str) {
