@@ -30,3 +30,4 @@ pub mod LoopLemmas
 pub mod BringLemmas
 pub mod CheckoutFaultLemmas
 pub mod ChangeLemmas
+pub mod KnownOfferLemmas

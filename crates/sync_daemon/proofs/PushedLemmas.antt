@@ -34,6 +34,7 @@ use Rattle.sync_rules.proofs.OverLemmas.{over_later}
 use Rattle.sync_rules.proofs.WentLemmas.{went_then}
 use Rattle.tree_walk.specs.declared.fault.WalkFault.TheVariants as walk
 use Rattle.tree_fetch.specs.declared.asker.Asker.{Asker}
+use Rattle.tree_push.specs.ChangedOwns.{AreChangedOwns, Owns}
 use Rattle.tree_push.specs.Pushing.{EndsPush, HoldsOffer, IsPushFault, OffersOnce, PushesSo, is_change}
 use Rattle.tree_push.specs.declared.standing.Pushed.{Pushed}
 use Rattle.tree_push.specs.declared.standing.Pushed.TheVariants.{Installed, Late}
@@ -218,13 +219,13 @@ module _ (asker : Asker) (user : List ℕ) (shows : ℕ → Type 0) (cuts : Cuts
 
   -- ---- what a round comes to
 
-  abbrev pushed_to : List ℕ → List ℕ → Settled
-  pushed_to commit head = record { scan = report; head = head; pushed = Some commit; moment = moment }
+  abbrev pushed_to : Owns → List ℕ → List ℕ → Settled
+  pushed_to owns commit head = record { scan = report; owns = owns; head = head; pushed = Some commit; moment = moment }
 
-  pub push_goes : (commit head : List ℕ) → EndsPush more (Ok (Installed commit head)) → HoldsOffer (record { lib = asker.lib; secret = asker.secret }) user moment parent index report more commit
-      → IsSettled this (first ++ more) (pushed_to commit head)
+  pub push_goes : (owns : Owns) → AreChangedOwns index.entries report.paths owns → (commit head : List ℕ) → EndsPush more (Ok (Installed commit head)) → HoldsOffer (record { lib = asker.lib; secret = asker.secret }) user moment parent index report more commit
+      → IsSettled this (first ++ more) (pushed_to owns commit head)
   unfolding was had_of
-  push_goes commit head (went, done, order, tag, split, asks, none) held =
+  push_goes owns are commit head (went, done, order, tag, split, asks, none) held =
       let sent : Sent = (order, Ok (Plain (reply.Updated head) tag)) in
       let whole : first ++ more ≡ (first ++ done) ++ sent ∷ [] = all_split done sent commit split asks went in
       let ups : All IsUploading done = all_first IsUploading done (sent ∷ []) (subst (All IsUploading) split pushes.uploads) in
@@ -238,10 +239,11 @@ module _ (asker : Asker) (user : List ℕ) (shows : ℕ → Type 0) (cuts : Cuts
             ∙ ap (λ (w : What). head_after w (Ok (Plain (reply.Updated head) tag)) (last_head (first ++ done) None)) asks;
         spares = spares;
         shown = shown;
+        owns = are;
         pushed_as = λ id is.
             let both : Some commit ≡ Some id = is in
             let one : commit ≡ id = cc in
-            subst (λ (other : List ℕ). IsPushed this (first ++ more) (pushed_to commit head) other) one (record {
+            subst (λ (other : List ℕ). IsPushed this (first ++ more) (pushed_to owns commit head) other) one (record {
               ends = (first ++ done, sent, whole, asks);
               parent = parent;
               offer = held_then (record { lib = asker.lib; secret = asker.secret }) user moment parent index report first more commit held;

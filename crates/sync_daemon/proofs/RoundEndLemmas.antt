@@ -12,6 +12,7 @@ use Rattle.sync_rules.specs.Orders.Stage.{Begins}
 use Rattle.sync_rules.specs.declared.fault.SyncFault.{SyncFault}
 use Rattle.sync_rules.specs.declared.fault.SyncFault.TheVariants as fault
 use Rattle.tree_fetch.specs.declared.asker.Asker.{Asker}
+use Rattle.tree_push.specs.ChangedOwns.{AreChangedOwns, Owns}
 use Rattle.tree_push.specs.Pushing.{PushesSo}
 use Rattle.tree_push.specs.declared.standing.Pushed.{Pushed}
 use Rattle.tree_push.specs.declared.standing.Pushed.TheVariants.{Installed, Late}
@@ -57,14 +58,15 @@ module _ (asker : Asker) (user : List ℕ) (shows : ℕ → Type 0) (cuts : Cuts
   grown_to : (more : List Sent) → new ≡ old ++ more → new ≡ start ++ (first ++ more)
   grown_to more grown = grown ∙ ap (λ (sends : List Sent). sends ++ more) begun ∙ append_assoc start first more
 
-  pub round_pushed : (pushed : Pushed) → Pushes (Ok pushed) → RoundSo here start new late (Ok (pushed_round report moment pushed))
-  round_pushed (Installed commit head) (more, grown, pushes) = (
+  pub round_pushed : (owns : Owns) → AreChangedOwns index.entries report.paths owns → (pushed : Pushed) → Pushes (Ok pushed)
+      → RoundSo here start new late (Ok (pushed_round report owns moment pushed))
+  round_pushed owns are (Installed commit head) (more, grown, pushes) = (
     first ++ more,
     grown_to more grown,
-    push_goes asker user shows cuts told index start first late report asked joined seen changed parent parent_is moment shown more (Ok (Installed commit head)) pushes commit head pushes.ends
-        pushes.holds,
+    push_goes asker user shows cuts told index start first late report asked joined seen changed parent parent_is moment shown more (Ok (Installed commit head)) pushes owns are commit head
+        pushes.ends pushes.holds,
   )
-  round_pushed (Late count) (more, grown, pushes) =
+  round_pushed owns are (Late count) (more, grown, pushes) =
       let went = push_late asker user shows cuts told index start first late report asked joined seen changed parent parent_is moment shown more (Ok (Late count)) pushes count pushes.ends in
       (first ++ more, grown_to more grown, went.0, went.1, went.2)
 

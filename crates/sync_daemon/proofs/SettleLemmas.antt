@@ -24,6 +24,7 @@ use Rattle.sync_rules.specs.declared.fault.SyncFault.TheVariants as fault
 use Rattle.tree_walk.specs.declared.fault.WalkFault.TheVariants as walk
 use Rattle.tree_fetch.specs.Asking.{order_of}
 use Rattle.tree_fetch.specs.declared.asker.Asker.{Asker}
+use Rattle.tree_push.specs.ChangedOwns.{AreChangedOwns, Owns}
 use Rattle.tree_push.specs.Pushing.{IsPushFault}
 use Rattle.sync_daemon.specs.Asking.{HeadOf}
 use Rattle.sync_daemon.specs.Going.{Going, GoingOver, Refuses, Spares, Stops, Sync}
@@ -45,14 +46,14 @@ module _ (asker : Asker) (user : List ℕ) (shows : ℕ → Type 0) (cuts : Cuts
 
   -- ---- nothing changed
 
-  abbrev unpushed : List ℕ → (moment : ℕ) → Settled
-  unpushed head moment = record { scan = report; head = head; pushed = None; moment = moment }
+  abbrev unpushed : Owns → List ℕ → (moment : ℕ) → Settled
+  unpushed owns head moment = record { scan = report; owns = owns; head = head; pushed = None; moment = moment }
 
   -- whatever was sent so far, where the head was named last and nothing was pushed
-  settled : (more : List Sent) (id : List ℕ) (now : ℕ) → Going this more joined.stage late → shows now → TellsChange report index false → Spares this more → last_head more None ≡ Some (id, None)
+  settled : (owns : Owns) → AreChangedOwns index.entries report.paths owns → (more : List Sent) (id : List ℕ) (now : ℕ) → Going this more joined.stage late → shows now → TellsChange report index false → Spares this more → last_head more None ≡ Some (id, None)
       → ((c : Contents) → told ≡ Some c → index.base ≡ None → HasPath c → (before : List Sent) (sent : Sent) → more ≡ before ++ sent ∷ [] → sent.0.what ≡ what.Head None → ⊥)
-      → IsSettled this more (unpushed id now)
-  settled more id now going shown same spares named behind = record {
+      → IsSettled this more (unpushed owns id now)
+  settled owns are more id now going shown same spares named behind = record {
     stage = joined.stage;
     late = late;
     going = going;
@@ -61,6 +62,7 @@ module _ (asker : Asker) (user : List ℕ) (shows : ℕ → Type 0) (cuts : Cuts
     named = named;
     spares = spares;
     shown = shown;
+    owns = are;
     pushed_as = λ other is. absurd (true≢false (sym (ap is_some is)));
     seen = seen;
     agrees = λ c is none. agrees_of cuts c report (seen c is) index same;
@@ -79,16 +81,16 @@ module _ (asker : Asker) (user : List ℕ) (shows : ℕ → Type 0) (cuts : Cuts
       no_upload (what.GetFs ids) get = refl
       no_upload _ get = absurd (true≢false (sym get))
 
-  pub same_goes : (old new : List Sent) (head : List ℕ) (now : ℕ) → old ≡ start ++ first → shows now → TellsChange report index false → HeadOf asker asked old new (Ok head)
-      → (more : List Sent) × (new ≡ start ++ more) × IsSettled this more (unpushed head now)
-  same_goes old new head now begun shown same of = by asked joined.asked_for of
+  pub same_goes : (owns : Owns) → AreChangedOwns index.entries report.paths owns → (old new : List Sent) (head : List ℕ) (now : ℕ) → old ≡ start ++ first → shows now → TellsChange report index false → HeadOf asker asked old new (Ok head)
+      → (more : List Sent) × (new ≡ start ++ more) × IsSettled this more (unpushed owns head now)
+  same_goes owns are old new head now begun shown same of = by asked joined.asked_for of
     where
-      by : (o : Option (List ℕ)) → IsAskedFor index.base o first → HeadOf asker o old new (Ok head) → (more : List Sent) × (new ≡ start ++ more) × IsSettled this more (unpushed head now)
+      by : (o : Option (List ℕ)) → IsAskedFor index.base o first → HeadOf asker o old new (Ok head) → (more : List Sent) × (new ≡ start ++ more) × IsSettled this more (unpushed owns head now)
       by None (based, unasked) (tag, grown) =
           let last : Sent = head_sent head tag in (
             first ++ last ∷ [],
             grown ∙ ap (λ (sends : List Sent). sends ++ last ∷ []) begun ∙ append_assoc start first (last ∷ []),
-            settled (first ++ last ∷ []) head now
+            settled owns are (first ++ last ∷ []) head now
                 (head_goes asker user shows cuts told index start first joined.stage late joined.going joined.few (λ c is. (seen c is).within) head tag
                 (can_ask may joined.stage first joined.may_upload (what.Head None) refl refl) unasked)
                 shown same (spares_more this first last joined.spares refl) (head_then None first (last ∷ [])) (λ c is none has. absurd (true≢false (sym based ∙ ap is_some none))),
@@ -97,7 +99,7 @@ module _ (asker : Asker) (user : List ℕ) (shows : ℕ → Type 0) (cuts : Cuts
           let one : head ≡ id = cc in (
             first,
             stays ∙ begun,
-            settled first head now joined.going shown same joined.spares (named ∙ ap (λ (x : List ℕ). Some (x, None)) (sym one)) joined.behind,
+            settled owns are first head now joined.going shown same joined.spares (named ∙ ap (λ (x : List ℕ). Some (x, None)) (sym one)) joined.behind,
           )
 
   pub same_fails : (old new : List Sent) (f : SyncFault) → old ≡ start ++ first → HeadOf asker asked old new (Err f) → Stops this start new f

@@ -40,7 +40,8 @@ use Rattle.tree_checkout.specs.declared.planning.Plan.{Plan}
 use Rattle.tree_checkout.specs.declared.steps.Write.{Write}
 use Rattle.tree_checkout.specs.declared.steps.WriteNode.{WriteNode}
 use Rattle.tree_checkout.specs.declared.steps.WriteNode.TheVariants as write
-use Rattle.tree_push.specs.OfferedEntries.{IsSeenFolder, KnownPaths, SeenPaths, offered_entry}
+use Rattle.tree_push.specs.ChangedOwns.{own_or_known}
+use Rattle.tree_push.specs.OfferedEntries.{IsSeenFolder, KnownPaths, SeenPaths, file_entry, offered_entry}
 use Rattle.tree_fetch.specs.Fetching.{FetchesCommit, FetchesTree, IsFetchedCommit, IsFetchedTree}
 use Rattle.tree_fetch.specs.declared.asker.Asker.{Asker}
 use Rattle.tree_fetch.specs.declared.tree.FetchedTree.{FetchedTree}
@@ -173,6 +174,11 @@ IsOwnHead settled index = (settled.pushed ≡ Some settled.head) × IsSeenFolder
 -- what is known of what was seen and offered: its entry, and the own id with which it was seen
 abbrev pub offered_known : (moment : ℕ) → (user : List ℕ) → Option Known → Seen → Known
 offered_known moment user was s = known_of (seen_own (Some s)) (offered_entry moment user was s)
+
+-- the same, a file by the own id of one that is new or changed, or else by the one that is known; for a private clause
+abbrev pub known_by : (moment : ℕ) → (user : List ℕ) → (changed : Option (List ℕ)) → Option Known → Seen → Known
+known_by moment user changed was seen.Dir = known.Dir
+known_by moment user changed was (seen.File blocks size) = known_of (own_or_known changed was) (file_entry moment user was (own_or_known changed was) size)
 
 abbrev pub KnowsOffered : (moment : ℕ) → (user : List ℕ) → KnownPaths → SeenPaths → KnownPaths → Type 0
 KnowsOffered moment user knowns seens entries =

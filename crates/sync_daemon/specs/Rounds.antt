@@ -26,6 +26,7 @@ use Rattle.sync_rules.specs.Uploads.{IsEmptyHead}
 use Rattle.sync_rules.specs.declared.fault.SyncFault.{SyncFault}
 use Rattle.sync_rules.specs.declared.fault.SyncFault.TheVariants as fault
 use Rattle.tree_fetch.specs.declared.asker.Asker.{Asker}
+use Rattle.tree_push.specs.ChangedOwns.{AreChangedOwns, Owns}
 use Rattle.tree_push.specs.Pushing.{HoldsOffer}
 use Rattle.tree_push.specs.declared.standing.Pushed.{Pushed}
 use Rattle.tree_push.specs.declared.standing.Pushed.TheVariants as pushed
@@ -131,6 +132,7 @@ pub record IsSettled (s : Sync) (more : List Sent) (settled : Settled) : Type 0 
   pub named : last_head more None ≡ Some (settled.head, settled.pushed)
   pub spares : Spares s more
   pub shown : s.shows settled.moment
+  pub owns : AreChangedOwns s.index.entries settled.scan.paths settled.owns
   pub pushed_as : (id : List ℕ) → settled.pushed ≡ Some id → IsPushed s more settled id
   pub seen : (c : Contents) → s.told ≡ Some c → IsSeen s.cuts c settled.scan
   pub agrees : (c : Contents) → s.told ≡ Some c → settled.pushed ≡ None → Agrees s.cuts c s.index
@@ -157,6 +159,6 @@ RoundsSo s start now (Ok settled) = (more : List Sent) × (now ≡ start ++ more
 RoundsSo s start now (Err f) = Stops s start now f
 
 -- what a push comes to
-abbrev pub pushed_round : Scan → (moment : ℕ) → Pushed → Round
-pushed_round report moment (pushed.Installed commit head) = round.Settled (record { scan = report; head = head; pushed = Some commit; moment = moment })
-pushed_round report moment (pushed.Late count) = round.Late count
+abbrev pub pushed_round : Scan → Owns → (moment : ℕ) → Pushed → Round
+pushed_round report owns moment (pushed.Installed commit head) = round.Settled (record { scan = report; owns = owns; head = head; pushed = Some commit; moment = moment })
+pushed_round report owns moment (pushed.Late count) = round.Late count

@@ -3,6 +3,7 @@ ghost use Rattle.std.specs.Prelude.{◌≡◌, ◌↔◌, IsTrue};
 ghost use Rattle.std.specs.Str.{bytes_eq};
 ghost use Rattle.ids.specs.FaultCount.{FailsBy};
 ghost use Rattle.sync_rules.specs.Causes.{is_folder_fault};
+ghost use Rattle.tree_push.specs.ChangedOwns.{AreChangedOwns};
 ghost use Rattle.sync_daemon.specs.Bringing.{FinishesAs, IsDone, KnowsSo, ReachesAs, is_pushed, tells_conflict};
 ghost use Rattle.sync_daemon.specs.Finishing.{spared_of};
 
@@ -31,6 +32,7 @@ pub(crate) fn finish<F: Folder, R: Remote>(
     cuts: Cuts,
     settled: Settled,
 ) -> Result<Synced, SyncFault>
+    requires ids { AreChangedOwns index.old.entries settled.scan.paths settled.owns }
     ensures value { FinishesAs asker.now user.now cuts settled (R.sends remote.old) (R.sends remote.new) (F.told folder.old) (F.told folder.new) index.old index.new result }
     ensures stays { R.peer remote.new ≡ R.peer remote.old }
     ensures faults { FailsBy is_folder_fault (F.faults folder.old) (F.faults folder.new) result }
@@ -55,12 +57,14 @@ fn know_offer(
     user: &Text,
     settled: Settled,
 ) -> Result<Synced, SyncFault>
+    requires ids { AreChangedOwns index.old.entries settled.scan.paths settled.owns }
     ensures value { KnowsSo user.now settled index.old index.new result }
 {
     let entries = match known_offer(
         alloc,
         &settled.scan.paths,
         &index.entries,
+        &settled.owns,
         settled.moment,
         user,
     ) {

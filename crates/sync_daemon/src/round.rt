@@ -7,13 +7,14 @@ ghost use Rattle.folder_side.specs.Folder.{Contents};
 ghost use Rattle.remote_calls.specs.Sends.{Sent};
 ghost use Rattle.sync_rules.specs.Causes.{is_folder_fault};
 ghost use Rattle.sync_rules.specs.Orders.Stage.{Begins};
+ghost use Rattle.tree_push.specs.ChangedOwns.{AreChangedOwns};
 ghost use Rattle.sync_daemon.specs.Asking.{HeadOf};
 ghost use Rattle.sync_daemon.specs.Going.{Going, Spares};
 ghost use Rattle.sync_daemon.specs.Rounds.{IsChecked, IsJoined, IsSeen, RoundSo, RoundsSo, TellsChange, pushed_round, sync_of};
 
 use crate::asking::{ask_head, may_upload};
 use crate::joining::join;
-use crate::scanning::{files_known, is_changed, scan_folder};
+use crate::scanning::{Found, files_known, find_changes, scan_folder};
 use block_chunker::Cuts;
 use folder_side::{Ahead, Folder, Scan};
 use ids::{ObjId, Text};
@@ -23,6 +24,7 @@ use remote_calls::Remote;
 use std::alloc::{AllocError, Global};
 use sync_rules::SyncFault;
 use tree_fetch::Asker;
+use tree_model::PathTable;
 use tree_push::{Library, Pushed, push};
 
 /// What a round came to.
@@ -34,10 +36,12 @@ pub(crate) enum Round {
     Late(u64),
 }
 
-/// What the folder held, and where the library stands now; the moment of the round, at which it was offered where something was pushed.
+/// What the folder held, with the own ids of the files that are new or changed, and where the library stands now; the moment of the
+/// round, at which it was offered where something was pushed.
 #[derive(Drop)]
 pub(crate) struct Settled {
     pub(crate) scan: Scan,
+    pub(crate) owns: PathTable<ObjId>,
     pub(crate) head: ObjId,
     pub(crate) pushed: Option<ObjId>,
     pub(crate) moment: u64,
@@ -174,20 +178,20 @@ fn joined_round<F: Folder, R: Remote, C: Clock>(
     ensures stays { (F.told folder.new ≡ F.told folder.old) × (R.peer remote.new ≡ R.peer remote.old) }
     ensures faults { FailsBy is_folder_fault (F.faults folder.old) (F.faults folder.new) result }
 {
-    let changed = match is_changed(alloc, &report, index) {
-        Ok(changed) => changed,
+    let Found { is_changed, owns } = match find_changes(alloc, &report, index) {
+        Ok(found) => found,
         Err(AllocError) => return Err(SyncFault::NoMemory),
     };
-    if !changed {
+    if !is_changed {
         return same_round(
-            alloc, folder, remote, asker, index, user, clock, cuts, may, report, asked,
+            alloc, folder, remote, asker, index, user, clock, cuts, may, report, owns, asked,
         );
     }
     if !may {
         return Err(SyncFault::Refused(Refusal::Denied));
     }
     changed_round(
-        alloc, folder, remote, asker, index, user, clock, cuts, report, asked,
+        alloc, folder, remote, asker, index, user, clock, cuts, report, owns, asked,
     )
 }
 
@@ -203,9 +207,11 @@ fn same_round<F: Folder, R: Remote, C: Clock>(
     cuts: Cuts,
     may: bool,
     report: Scan,
+    owns: PathTable<ObjId>,
     asked: Option<ObjId>,
 ) -> Result<Round, SyncFault>
     requires library { asker.now.lib ≡ index.now.lib }
+    requires ids { AreChangedOwns index.now.entries report.paths owns }
     ensures value { (start before : List Sent) (late : ℕ) → R.sends remote.old ≡ start ++ before → IsJoined (sync_of asker.now user.now (C.shows clock.now) cuts (F.told folder.old) index.now) before late may asked → ((c : Contents) → F.told folder.old ≡ Some c → IsSeen cuts c report) → TellsChange report index.now false → RoundSo (sync_of asker.now user.now (C.shows clock.now) cuts (F.told folder.old) index.now) start (R.sends remote.new) late result }
     ensures stays { (F.told folder.new ≡ F.told folder.old) × (R.peer remote.new ≡ R.peer remote.old) }
     ensures faults { FailsBy is_folder_fault (F.faults folder.old) (F.faults folder.new) result }
@@ -214,6 +220,7 @@ fn same_round<F: Folder, R: Remote, C: Clock>(
     match head_of(alloc, remote, asker, asked) {
         Ok(head) => Ok(Round::Settled(Settled {
             scan: report,
+            owns,
             head,
             pushed: None,
             moment,
@@ -233,9 +240,11 @@ fn changed_round<F: Folder, R: Remote, C: Clock>(
     clock: &C,
     cuts: Cuts,
     report: Scan,
+    owns: PathTable<ObjId>,
     asked: Option<ObjId>,
 ) -> Result<Round, SyncFault>
     requires library { asker.now.lib ≡ index.now.lib }
+    requires ids { AreChangedOwns index.now.entries report.paths owns }
     ensures value { (start before : List Sent) (late : ℕ) → R.sends remote.old ≡ start ++ before → IsJoined (sync_of asker.now user.now (C.shows clock.now) cuts (F.told folder.old) index.now) before late true asked → ((c : Contents) → F.told folder.old ≡ Some c → IsSeen cuts c report) → TellsChange report index.now true → RoundSo (sync_of asker.now user.now (C.shows clock.now) cuts (F.told folder.old) index.now) start (R.sends remote.new) late result }
     ensures stays { (F.told folder.new ≡ F.told folder.old) × (R.peer remote.new ≡ R.peer remote.old) }
     ensures faults { FailsBy is_folder_fault (F.faults folder.old) (F.faults folder.new) result }
@@ -249,20 +258,21 @@ fn changed_round<F: Folder, R: Remote, C: Clock>(
     };
     let moment = clock.now();
     match push(
-        alloc, folder, remote, &library, &report, index, parent, cuts, user, moment,
+        alloc, folder, remote, &library, &report, index, &owns, parent, cuts, user, moment,
     ) {
-        Ok(pushed) => Ok(pushed_round(report, moment, pushed)),
+        Ok(pushed) => Ok(pushed_round(report, owns, moment, pushed)),
         Err(fault) => Err(fault),
     }
 }
 
 /// What a round came to in which something was pushed.
-fn pushed_round(report: Scan, moment: u64, pushed: Pushed) -> Round
-    ensures value { result ≡ pushed_round report moment pushed }
+fn pushed_round(report: Scan, owns: PathTable<ObjId>, moment: u64, pushed: Pushed) -> Round
+    ensures value { result ≡ pushed_round report owns moment pushed }
 {
     match pushed {
         Pushed::Installed { commit, head } => Round::Settled(Settled {
             scan: report,
+            owns,
             head,
             pushed: Some(commit),
             moment,

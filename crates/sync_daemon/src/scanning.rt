@@ -1,14 +1,18 @@
-//! What a folder holds, and whether that is what its index tells.
+//! What a folder holds, and how that differs from what its index tells.
 ghost use Rattle.std.specs.Prelude.{◌≡◌, IfOk};
 ghost use Rattle.ids.specs.FaultCount.{FailsBy};
 ghost use Rattle.sync_rules.specs.Causes.{is_folder_fault};
+ghost use Rattle.tree_push.specs.ChangedOwns.{AreChangedOwns};
 ghost use Rattle.sync_daemon.specs.Rounds.{ScansSo, TellsChange, scan_fault};
 
 use block_chunker::Cuts;
 use folder_side::{Folder, Scan, ScanFault, scan};
+use ids::ObjId;
 use local_index::{Index, Known, changes};
 use std::alloc::{AllocError, Global};
 use sync_rules::SyncFault;
+use tree_model::PathTable;
+use tree_push::changed_owns;
 
 /// Scans a folder. `Scan` where it is past a limit, `Folder` where it failed.
 pub(crate) fn scan_folder<F: Folder>(
@@ -37,12 +41,24 @@ fn scan_fault(fault: ScanFault) -> SyncFault
     }
 }
 
-/// Whether a folder differs from its index.
-pub(crate) fn is_changed(alloc: Global, report: &Scan, index: &Index) -> Result<bool, AllocError>
-    ensures value { IfOk result (TellsChange report.now index.now) }
+/// What a scan found changed: whether anything was, and the own ids of the files that are new or changed, each at its path.
+#[derive(Drop)]
+pub(crate) struct Found {
+    pub(crate) is_changed: bool,
+    pub(crate) owns: PathTable<ObjId>,
+}
+
+/// How a folder differs from its index.
+pub(crate) fn find_changes(alloc: Global, report: &Scan, index: &Index) -> Result<Found, AllocError>
+    ensures value { IfOk result (λ found. TellsChange report.now index.now found.is_changed) }
+    ensures ids { IfOk result (λ found. AreChangedOwns index.now.entries report.now.paths found.owns) }
 {
     let changes = changes(alloc, report, index)?;
-    Ok(!changes.is_empty())
+    let owns = changed_owns(alloc, &report.paths, changes.slice())?;
+    Ok(Found {
+        is_changed: !changes.is_empty(),
+        owns,
+    })
 }
 
 /// How many files an index knows, for who looks on.

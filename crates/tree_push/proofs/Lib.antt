@@ -1,5 +1,6 @@
 pub mod MappedLemmas
 pub mod OfferedEntryLemmas
+pub mod ChangedOwnLemmas
 pub mod NotedLemmas
 pub mod TraceLemmas
 pub mod EndingLemmas

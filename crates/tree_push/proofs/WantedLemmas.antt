@@ -1,5 +1,5 @@
--- What is wanted grows, file by file and id by id. The key lemmas are ids_start, ids_more, ids_end, files_start, files_more, files_end
--- and file_added.
+-- What is wanted grows, file by file and id by id. The key lemmas are ids_start, ids_more, ids_end, has_if, adds_if, files_start,
+-- files_more and files_end.
 use Rattle.std.proofs.Common.{◌≡◌, ◌⊎◌, inl, inr, ℕ, Bool, true, false, cond, List, [], ◌∷◌, Option, None, Some, IsSome, is_some, refl, sym, ap, ◌∙◌, subst}
 use Rattle.std.specs.Prelude.{⊤}
 use Rattle.std.specs.FinMap as fin
@@ -20,8 +20,9 @@ use Rattle.folder_side.specs.declared.scan_report.Seen.TheVariants as seen
 use Rattle.folder_side.proofs.SortedEntryLemmas.{Rises-entries, found_of, skip_first}
 use Rattle.local_index.specs.OwnIds.{own_id}
 use Rattle.local_index.specs.declared.index.Known.{Known}
+use Rattle.tree_push.specs.ChangedOwns.{changed_own, own_unless}
 use Rattle.tree_push.specs.OfferedEntries.{KnownPaths, SeenPaths, is_kept}
-use Rattle.tree_push.specs.Wanted.{AddsChanged, AddsIds, AddsOf, AddsText, AddsUnless, AreOwnNamed, Blocks, Grows, HasFiles, HasSeen, IsChangedBlock, IsChangedObject, IsIn, IsKept, IsObjectOf, IsOneOf, file_text}
+use Rattle.tree_push.specs.Wanted.{AddsChanged, AddsIds, AddsIf, AddsOf, AddsText, AddsUnless, AreOwnNamed, Blocks, Grows, HasFiles, HasIf, HasSeen, IsChangedBlock, IsChangedObject, IsIn, IsKept, IsObjectOf, IsOneOf, file_text}
 use Rattle.tree_push.specs.declared.wanted.Wanted.{Wanted}
 
 -- ---- ids
@@ -109,6 +110,20 @@ seen_grows old new was (seen.File blocks size) grows has = λ changed. record {
   };
   all = λ id there. grows.blocks (block_key id) ((has changed).all id there);
 }
+
+-- a file that is new or changed is the one that has an own id
+pub has_if : (new : Wanted) (was : Option Known) (s : Seen) (changed : Option (List ℕ)) → changed ≡ changed_own (Some s) was → HasIf s changed new → HasSeen new was s
+has_if new was seen.Dir changed is has = tt
+has_if new was (seen.File blocks size) changed is has = λ apart.
+    subst (λ (o : Option (List ℕ)). HasIf (seen.File blocks size) o new) (is ∙ ap (λ (b : Bool). own_unless b (own_id blocks size)) apart) has
+
+pub adds_if : (old new : Wanted) (was : Option Known) (s : Seen) (changed : Option (List ℕ)) → changed ≡ changed_own (Some s) was → AddsIf s changed old new → AddsOf was s old new
+adds_if old new was seen.Dir changed is adds = adds
+adds_if old new was (seen.File blocks size) changed is adds = by (is_kept was (own_id blocks size)) refl
+  where
+    by : (b : Bool) → is_kept was (own_id blocks size) ≡ b → AddsUnless b blocks size old new
+    by true kept = subst (λ (o : Option (List ℕ)). AddsIf (seen.File blocks size) o old new) (is ∙ ap (λ (b : Bool). own_unless b (own_id blocks size)) kept) adds
+    by false apart = subst (λ (o : Option (List ℕ)). AddsIf (seen.File blocks size) o old new) (is ∙ ap (λ (b : Bool). own_unless b (own_id blocks size)) apart) adds
 
 pub record IsAddingFiles (knowns : KnownPaths) (seens : SeenPaths) (rest : List (PathV × Seen)) (old now : Wanted) : Type 0 where
   pub grows : Grows old now

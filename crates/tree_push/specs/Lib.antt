@@ -1,4 +1,5 @@
 pub mod OfferedEntries
+pub mod ChangedOwns
 pub mod OfferedNames
 pub mod Asking
 pub mod Lacking

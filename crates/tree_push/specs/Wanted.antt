@@ -1,6 +1,6 @@
 -- The objects and the blocks of the files that are new or changed, of which a library is asked what it lacks. Our own. Read HasFile,
 -- then HasFiles.
-use Rattle.std.specs.Prelude.{◌≡◌, ◌⊎◌, ◌==◌, ℕ, Bool, true, false, List, [], ◌∷◌, Option, Some, IsSome, Ok, ⊤}
+use Rattle.std.specs.Prelude.{◌≡◌, ◌⊎◌, ◌==◌, ℕ, Bool, true, false, List, [], ◌∷◌, Option, None, Some, IsSome, Ok, ⊤}
 use Rattle.std.specs.FinMap as fin
 use Rattle.sha1.specs.Sha1.{sha1}
 use Rattle.ids.specs.Key.{Objects, key_cmp}
@@ -139,6 +139,18 @@ pub record AddsFile (blocks : List (List ℕ)) (size : ℕ) (old new : Wanted) :
 pub record AddsNone (old new : Wanted) : Type 0 where
   pub blocks : (key : Key) → IsSome (fin.get new.blocks key) → IsSome (fin.get old.blocks key)
   pub objects : (key : Key) → IsSome (fin.get new.made key) → IsSome (fin.get old.made key)
+
+-- a file that has an own id here, as those have that are new or changed, is wanted
+abbrev pub HasIf : Seen → (changed : Option (List ℕ)) → Wanted → Type 0
+HasIf seen.Dir changed wanted = ⊤
+HasIf (seen.File blocks size) None wanted = ⊤
+HasIf (seen.File blocks size) (Some own) wanted = HasFile wanted blocks size
+
+-- and no more is wanted
+abbrev pub AddsIf : Seen → (changed : Option (List ℕ)) → Wanted → Wanted → Type 0
+AddsIf seen.Dir changed old new = AddsNone old new
+AddsIf (seen.File blocks size) None old new = AddsNone old new
+AddsIf (seen.File blocks size) (Some own) old new = AddsFile blocks size old new
 
 -- what was seen is wanted, unless it is kept as it is known, and no more
 abbrev pub AddsUnless : (kept : Bool) → List (List ℕ) → ℕ → Wanted → Wanted → Type 0

@@ -2,11 +2,13 @@
 ghost use Rattle.std.specs.Prelude.{◌≡◌, IfOk, OnOk, Some, option_copied};
 ghost use Rattle.std.specs.FinMap as map;
 ghost use Rattle.std.specs.Str.{bytes_eq};
-ghost use Rattle.tree_push.specs.OfferedEntries.{AreOffered, changed_entry, file_entry, offered_entry};
+ghost use Rattle.tree_push.specs.ChangedOwns.{AreChangedOwns, entry_by};
+ghost use Rattle.tree_push.specs.OfferedEntries.{AreOffered, changed_entry, file_entry};
 
+use crate::own_table::own_or_known;
 use folder_side::Seen;
 use ids::{ObjId, Text};
-use local_index::{Known, own_id};
+use local_index::Known;
 use object_graph::Entry;
 use std::alloc::{AllocError, Global};
 use tree_model::{Path, PathTable};
@@ -17,19 +19,22 @@ const USUAL_MODE: u32 = 33_188;
 /// The last moment that an entry can have, in seconds since 1970-01-01 UTC.
 const LAST_MOMENT: u64 = 9_223_372_036_854_775_807;
 
-/// The entries that are offered of what was seen, at the same paths.
+/// The entries that are offered of what was seen, at the same paths, by the own ids of the files that are new or changed.
 pub(crate) fn offered_entries(
     alloc: Global,
     paths: &PathTable<Seen>,
     knowns: &PathTable<Known>,
+    owns: &PathTable<ObjId>,
     moment: u64,
     user: &Text,
 ) -> Result<PathTable<Entry>, AllocError>
+    requires ids { AreChangedOwns knowns.now paths.now owns.now }
     ensures value { IfOk result (AreOffered moment user.now knowns.now paths.now) }
 {
     let mut entries = PathTable::new(alloc);
     for (path, seen) in paths.iter() {
-        let entry = offered_entry(alloc, knowns.get(path), seen, moment, user)?;
+        let own = owns.get(path);
+        let entry = offered_entry(alloc, own, knowns.get(path), seen, moment, user)?;
         put(&mut entries, path.copy(alloc)?, entry)?;
     }
     Ok(entries)
@@ -43,20 +48,21 @@ fn put(entries: &mut PathTable<Entry>, path: Path, entry: Entry) -> Result<(), A
     Ok(())
 }
 
-/// The entry that is offered of what was seen at a path.
+/// The entry that is offered of what was seen at a path; `changed` is the own id of a file that is new or changed.
 fn offered_entry(
     alloc: Global,
+    changed: Option<&ObjId>,
     was: Option<&Known>,
     seen: &Seen,
     moment: u64,
     user: &Text,
 ) -> Result<Entry, AllocError>
-    ensures value { IfOk result (λ entry. entry ≡ offered_entry moment user.now (option_copied was.entry) seen.now) }
+    ensures value { IfOk result (λ entry. entry ≡ entry_by moment user.now (option_copied changed.entry) (option_copied was.entry) seen.now) }
 {
     match seen {
         Seen::Dir => Ok(Entry::Dir),
-        Seen::File { blocks, size } => {
-            let own = own_id(alloc, blocks.slice(), *size)?;
+        Seen::File { size, .. } => {
+            let own = own_or_known(changed, was);
             file_entry(alloc, was, own, *size, moment, user)
         }
     }

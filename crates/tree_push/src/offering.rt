@@ -7,6 +7,7 @@ ghost use Rattle.object_graph.specs.Objects.{entry_below};
 ghost use Rattle.object_graph.specs.Unchanged.{Keeps};
 ghost use Rattle.tree_merge.specs.TreeBuilding.{IsCausedInBuild, IsClash};
 ghost use Rattle.tree_merge.specs.declared.tree_builder.BuildFault.TheVariants.{Taken};
+ghost use Rattle.tree_push.specs.ChangedOwns.{AreChangedOwns};
 ghost use Rattle.tree_push.specs.OfferedEntries.{AreOffered, Entries, IsSeenFolder, offered_entry};
 ghost use Rattle.tree_push.specs.OfferedTree.{IsMadeOf};
 ghost use Rattle.tree_push.specs.Wanted.{AreChangedBlocks, AreOwnNamed, HasFiles};
@@ -28,16 +29,18 @@ pub struct Offered {
 }
 
 /// What is offered of what was seen, by what is known: the objects of all directories, and the objects and the blocks of all files that
-/// are new or changed.
+/// are new or changed. `owns` are the own ids of these.
 ///
 /// Refused where two directories have one name, or one has forty zeros, as no two texts that are known do.
 pub fn offer(
     alloc: Global,
     paths: &PathTable<Seen>,
     knowns: &PathTable<Known>,
+    owns: &PathTable<ObjId>,
     moment: u64,
     user: &Text,
 ) -> Result<Offered, BuildFault>
+    requires ids { AreChangedOwns knowns.now paths.now owns.now }
     ensures value { IfOk result (λ offered. IsSeenFolder knowns.now paths.now → (objects : Objects) → Keeps offered.wanted.made objects
         → (path : PathV) → entry_below objects path offered.root ≡ option_map (offered_entry moment user.now (map.get knowns.now path)) (map.get paths.now path)) }
     ensures ok { IfOk result (λ offered. HasFiles knowns.now paths.now offered.wanted) }
@@ -50,7 +53,7 @@ pub fn offer(
         → (entries : Entries) × AreOffered moment user.now knowns.now paths.now entries × IsClash entries id }
     ensures cause { IfErr result IsCausedInBuild }
 {
-    let BuiltTree { root, made } = match offered_tree(alloc, paths, knowns, moment, user) {
+    let BuiltTree { root, made } = match offered_tree(alloc, paths, knowns, owns, moment, user) {
         Ok(built) => built,
         Err(fault) => return Err(fault),
     };
@@ -58,7 +61,7 @@ pub fn offer(
         made,
         blocks: KeyTable::new(alloc),
     };
-    match add_files(alloc, paths, knowns, &mut wanted) {
+    match add_files(alloc, paths, owns, &mut wanted) {
         Ok(()) => Ok(Offered { root, wanted }),
         Err(AllocError) => Err(BuildFault::NoMemory),
     }

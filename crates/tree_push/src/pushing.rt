@@ -4,6 +4,7 @@ ghost use Rattle.ids.specs.FaultCount.{FailsBy};
 ghost use Rattle.ids.specs.ObjectId.{nil};
 ghost use Rattle.remote_calls.specs.Sends.{Sent};
 ghost use Rattle.sync_rules.specs.Causes.{is_folder_fault};
+ghost use Rattle.tree_push.specs.ChangedOwns.{AreChangedOwns};
 ghost use Rattle.tree_push.specs.Pushing.{PushesSo};
 
 use crate::asking::Library;
@@ -17,12 +18,13 @@ use local_index::Index;
 use remote_calls::Remote;
 use std::alloc::{AllocError, Global};
 use sync_rules::SyncFault;
+use tree_model::PathTable;
 
 /// The greatest number of bytes of a file that are read at once.
 const PIECE: usize = 65_536;
 
 /// Pushes what a folder offers, by what a scan saw of it and an index knows: asks what the library lacks of it, puts that, and asks the
-/// library to stand at its commit on this parent.
+/// library to stand at its commit on this parent. `owns` are the own ids of the files that are new or changed.
 ///
 /// Behind an upload check that was allowed. The folder is read and never changed; no more of a file is in memory than one chunk and two
 /// pieces. `Folder` where the folder failed, `Changed` where a file of which a block was lacking was changed since the scan, `Remote` and
@@ -35,6 +37,7 @@ pub fn push<F: Folder, R: Remote>(
     library: &Library,
     scan: &Scan,
     index: &Index,
+    owns: &PathTable<ObjId>,
     parent: ObjId,
     cuts: Cuts,
     user: &Text,
@@ -42,11 +45,12 @@ pub fn push<F: Folder, R: Remote>(
 ) -> Result<Pushed, SyncFault>
     requires some { parent ≢ nil }
     requires library { library.now.lib ≡ index.now.lib }
+    requires ids { AreChangedOwns index.now.entries scan.now.paths owns.now }
     ensures value { (more : List Sent) × (R.sends remote.new ≡ R.sends remote.old ++ more) × PushesSo library.now user.now moment parent (F.told folder.old) cuts index.now scan.now more result }
     ensures stays { (F.told folder.new ≡ F.told folder.old) × (R.peer remote.new ≡ R.peer remote.old) × (F.spare folder.new ≡ F.spare folder.old) }
     ensures faults { FailsBy is_folder_fault (F.faults folder.old) (F.faults folder.new) result }
 {
-    let offered = match offer(alloc, &scan.paths, &index.entries, moment, user) {
+    let offered = match offer(alloc, &scan.paths, &index.entries, owns, moment, user) {
         Ok(offered) => offered,
         Err(_) => return Err(SyncFault::NoMemory),
     };

@@ -1,16 +1,16 @@
 //! The objects and the blocks of the files that are new or changed.
-ghost use Rattle.std.specs.Prelude.{◌≡◌, OnOk, false, Some, option_copied};
+ghost use Rattle.std.specs.Prelude.{◌≡◌, OnOk, option_copied};
 ghost use Rattle.folder_side.specs.declared.scan_report.Seen.TheVariants as seen;
 ghost use Rattle.object_graph.specs.Objects.{fs_key};
 ghost use Rattle.object_graph.specs.Unchanged.{Keeps};
 ghost use Rattle.sha1.specs.Sha1.{sha1};
-ghost use Rattle.tree_push.specs.OfferedEntries.{is_kept};
-ghost use Rattle.tree_push.specs.Wanted.{AddsChanged, AddsFile, AddsIds, AddsOf, AddsText, AddsUnless, AreOwnNamed, Grows, HasFile, HasFiles, HasObject, HasSeen, IsKept, file_text};
+ghost use Rattle.tree_push.specs.ChangedOwns.{AreChangedOwns};
+ghost use Rattle.tree_push.specs.OfferedEntries.{KnownPaths};
+ghost use Rattle.tree_push.specs.Wanted.{AddsChanged, AddsFile, AddsIds, AddsIf, AddsText, AreOwnNamed, Grows, HasFile, HasFiles, HasIf, HasObject, IsKept, file_text};
 
 use folder_side::Seen;
 use fs_objects::{FileObject, FsObject};
 use ids::{Bytes, Items, Key, KeyTable, Kind, ObjId};
-use local_index::{Known, own_id};
 use std::alloc::{AllocError, Global};
 use tree_model::PathTable;
 
@@ -21,19 +21,19 @@ pub struct Wanted {
     pub blocks: KeyTable<()>,
 }
 
-/// Adds the objects and the blocks of all files that are new or changed.
+/// Adds the objects and the blocks of all files that are new or changed: those that have their own ids in the second table.
 pub fn add_files(
     alloc: Global,
     paths: &PathTable<Seen>,
-    knowns: &PathTable<Known>,
+    owns: &PathTable<ObjId>,
     wanted: &mut Wanted,
 ) -> Result<(), AllocError>
-    ensures ok { OnOk result (HasFiles knowns.now paths.now wanted.new) }
+    ensures ok { (knowns : KnownPaths) → AreChangedOwns knowns paths.now owns.now → OnOk result (HasFiles knowns paths.now wanted.new) }
     ensures stays { OnOk result (Grows wanted.old wanted.new) }
-    ensures within { OnOk result (AddsChanged knowns.now paths.now wanted.old wanted.new) }
+    ensures within { (knowns : KnownPaths) → AreChangedOwns knowns paths.now owns.now → OnOk result (AddsChanged knowns paths.now wanted.old wanted.new) }
 {
     for (path, seen) in paths.iter() {
-        match add_seen(alloc, seen, knowns.get(path), wanted) {
+        match add_seen(alloc, seen, owns.get(path), wanted) {
             Ok(()) => {}
             Err(failed) => return Err(failed),
         }
@@ -41,55 +41,39 @@ pub fn add_files(
     Ok(())
 }
 
-/// Adds those of what was seen at a path.
+/// Adds those of what was seen at a path, if it is a file that is new or changed: `changed` is its own id then.
 fn add_seen(
     alloc: Global,
     seen: &Seen,
-    was: Option<&Known>,
+    changed: Option<&ObjId>,
     wanted: &mut Wanted,
 ) -> Result<(), AllocError>
-    ensures ok { OnOk result (HasSeen wanted.new (option_copied was.entry) seen.now) }
+    ensures ok { OnOk result (HasIf seen.now (option_copied changed.entry) wanted.new) }
     ensures stays { OnOk result (Grows wanted.old wanted.new) }
-    ensures within { OnOk result (AddsOf (option_copied was.entry) seen.now wanted.old wanted.new) }
+    ensures within { OnOk result (AddsIf seen.now (option_copied changed.entry) wanted.old wanted.new) }
 {
     match seen {
         Seen::Dir => Ok(()),
-        Seen::File { blocks, size } => add_file(alloc, blocks.slice(), *size, was, wanted),
+        Seen::File { blocks, size } => add_file(alloc, blocks.slice(), *size, changed, wanted),
     }
 }
 
-/// Adds those of a file, unless it is kept as it is known.
+/// Adds those of a file, if it is new or changed.
 fn add_file(
     alloc: Global,
     blocks: &[ObjId],
     size: u64,
-    was: Option<&Known>,
+    changed: Option<&ObjId>,
     wanted: &mut Wanted,
 ) -> Result<(), AllocError>
-    ensures ok { OnOk result (HasSeen wanted.new (option_copied was.entry) (seen.File blocks.now size)) }
+    ensures ok { OnOk result (HasIf (seen.File blocks.now size) (option_copied changed.entry) wanted.new) }
     ensures stays { OnOk result (Grows wanted.old wanted.new) }
-    ensures within { OnOk result (AddsOf (option_copied was.entry) (seen.File blocks.now size) wanted.old wanted.new) }
+    ensures within { OnOk result (AddsIf (seen.File blocks.now size) (option_copied changed.entry) wanted.old wanted.new) }
 {
-    let own = own_id(alloc, blocks, size)?;
-    add_unless(alloc, is_kept(was, &own), blocks, size, wanted)
-}
-
-/// Adds those of a file, unless it is kept.
-fn add_unless(
-    alloc: Global,
-    kept: bool,
-    blocks: &[ObjId],
-    size: u64,
-    wanted: &mut Wanted,
-) -> Result<(), AllocError>
-    ensures ok { OnOk result (kept ≡ false → HasFile wanted.new blocks.now size) }
-    ensures stays { OnOk result (Grows wanted.old wanted.new) }
-    ensures within { OnOk result (AddsUnless kept blocks.now size wanted.old wanted.new) }
-{
-    if kept {
-        return Ok(());
+    match changed {
+        Some(_own) => add_changed(alloc, blocks, size, wanted),
+        None => Ok(()),
     }
-    add_changed(alloc, blocks, size, wanted)
 }
 
 fn add_changed(
@@ -107,25 +91,6 @@ fn add_changed(
         return Ok(());
     }
     add_object(alloc, blocks, size, &mut wanted.made)
-}
-
-/// Whether a file of this own id is kept as it is known.
-fn is_kept(was: Option<&Known>, own: &ObjId) -> bool
-    ensures value { result ≡ is_kept (option_copied was.entry) own.now }
-{
-    match was {
-        Some(known) => is_kept_as(known, own),
-        None => false,
-    }
-}
-
-fn is_kept_as(known: &Known, own: &ObjId) -> bool
-    ensures value { result ≡ is_kept (Some known.now) own.now }
-{
-    match known {
-        Known::Dir => false,
-        Known::File { own: its, .. } => own == its,
-    }
 }
 
 fn add_blocks(blocks: &[ObjId], wanted: &mut KeyTable<()>) -> Result<(), AllocError>

@@ -18,8 +18,8 @@ returns-in-Ok-clause-value g c = λ start before late is joined seen changed.
     late (Ok came))
     (sym c.pushed_round.ensures.value)
     (round_pushed c.args.asker.now c.args.user.now (g.C.Clock.shows c.args.clock.now) c.args.cuts (g.F.Folder.told c.args.folder.now) c.args.index.now start before late c.args.report c.args.asked
-    joined seen changed c.in-Some.parent c.in-Some.ensures.value.0 c.now-moment.result c.now-moment.ensures.value (g.R.Remote.sends c.args.remote.now) (g.R.Remote.sends c.push.new.remote) is c.in-Ok.pushed
-    c.in-Ok.ensures.value)
+    joined seen changed c.in-Some.parent c.in-Some.ensures.value.0 c.now-moment.result c.now-moment.ensures.value (g.R.Remote.sends c.args.remote.now) (g.R.Remote.sends c.push.new.remote) is c.args.owns c.requires.ids
+    c.in-Ok.pushed c.in-Ok.ensures.value)
 
 pub returns-in-Err-clause-value : goal.returns-in-Err-clause-value
 returns-in-Err-clause-value g c = λ start before late is joined seen changed.

@@ -9,18 +9,18 @@ returns-in-Err-clause-value g c = λ start before late is joined seen.
     joined_short c.args.asker.now c.args.user.now (g.C.Clock.shows c.args.clock.now) c.args.cuts (g.F.Folder.told c.args.folder.now) c.args.index.now start before late c.args.may c.args.report
     c.args.asked joined seen (g.R.Remote.sends c.args.remote.now) is
 
-pub returns-then-not-changed-clause-value : goal.returns-then-not-changed-clause-value
-returns-then-not-changed-clause-value g c = λ start before late is joined seen.
-    c.same_round.ensures.value start before late is joined seen (subst (TellsChange c.args.report c.args.index.now) c.if-not-changed.true c.in-Ok.ensures.value)
+pub returns-then-not-is_changed-clause-value : goal.returns-then-not-is_changed-clause-value
+returns-then-not-is_changed-clause-value g c = λ start before late is joined seen.
+    c.same_round.ensures.value start before late is joined seen (subst (TellsChange c.args.report c.args.index.now) c.if-not-is_changed.true c.in-Ok.ensures.value)
 
 pub returns-then-not-may-clause-value : goal.returns-then-not-may-clause-value
 returns-then-not-may-clause-value g c = λ start before late is joined seen.
     joined_denied c.args.asker.now c.args.user.now (g.C.Clock.shows c.args.clock.now) c.args.cuts (g.F.Folder.told c.args.folder.now) c.args.index.now start before late c.args.may c.args.report
-    c.args.asked joined seen (g.R.Remote.sends c.args.remote.now) is c.if-not-may.true (subst (TellsChange c.args.report c.args.index.now) c.if-not-changed.false c.in-Ok.ensures.value)
+    c.args.asked joined seen (g.R.Remote.sends c.args.remote.now) is c.if-not-may.true (subst (TellsChange c.args.report c.args.index.now) c.if-not-is_changed.false c.in-Ok.ensures.value)
 
 pub returns-clause-value : goal.returns-clause-value
 returns-clause-value g c = λ start before late is joined seen.
     c.changed_round.ensures.value start before late is
     (joined_may c.args.asker.now c.args.user.now (g.C.Clock.shows c.args.clock.now) c.args.cuts (g.F.Folder.told c.args.folder.now) c.args.index.now start before late c.args.may c.args.report
     c.args.asked joined seen c.if-not-may.false)
-    seen (subst (TellsChange c.args.report c.args.index.now) c.if-not-changed.false c.in-Ok.ensures.value)
+    seen (subst (TellsChange c.args.report c.args.index.now) c.if-not-is_changed.false c.in-Ok.ensures.value)

@@ -10,6 +10,9 @@ returns-in-Err-clause-value g c = (
       (g.F.Folder.told c.rounds.new.folder) c.args.index.now (g.R.Remote.sends c.args.remote.now) (g.R.Remote.sends c.rounds.new.remote) c.in-Err.fault c.rounds.ensures.stays.0 c.in-Err.ensures.value,
 )
 
+pub finish-requires : goal.finish-requires
+finish-requires g c = record { ids = c.in-Ok.ensures.value.2.owns }
+
 pub returns-clause-value : goal.returns-clause-value
 returns-clause-value g c = (
   c.usual-cuts.result,

@@ -5,28 +5,32 @@ use Rattle.std.specs.Map.Iter.{deref_pair}
 use Rattle.std.proofs.lemmas.Map.Iter.{rest_more}
 use Rattle.tree_model.specs.Path.{PathV}
 use Rattle.folder_side.specs.declared.scan_report.Seen.{Seen}
-use Rattle.tree_push.specs.OfferedEntries.{offered_entry}
+use Rattle.tree_push.specs.ChangedOwns.{entry_by}
+use Rattle.tree_push.proofs.ChangedOwnLemmas.{offered_by}
 use Rattle.tree_push.proofs.MappedLemmas.{IsMapped, mapped_end, mapped_more, mapped_start}
 use Rattle.tree_push.proofs.offered_entries.offered_entries.Goals as goal
 
 pub loop-path-init : goal.loop-path-init
 loop-path-init c =
-    subst (λ (left : List (PathV × Seen)). IsMapped (λ path seen. offered_entry c.args.moment c.args.user.now (fin.get c.args.knowns.now path) seen) c.args.paths.now c.new-entries.result left)
+    subst (λ (left : List (PathV × Seen)). IsMapped (λ path seen. entry_by c.args.moment c.args.user.now (fin.get c.args.owns.now path) (fin.get c.args.knowns.now path) seen) c.args.paths.now c.new-entries.result left)
     (sym (c.into_iter-path-iterator.ensures.into_iter_gives ∙ c.iter-path-items.ensures.rest))
-    (mapped_start (λ path seen. offered_entry c.args.moment c.args.user.now (fin.get c.args.knowns.now path) seen) c.args.paths.now c.new-entries.result c.new-entries.ensures.value)
+    (mapped_start (λ path seen. entry_by c.args.moment c.args.user.now (fin.get c.args.owns.now path) (fin.get c.args.knowns.now path) seen) c.args.paths.now c.new-entries.result c.new-entries.ensures.value)
 
 pub loop-path-preserved : goal.loop-path-preserved
 loop-path-preserved c =
     let next : c.loop-path.path-iterator ≡ (c.in-Some.path.now, c.in-Some.seen.now) ∷ c.next.new.self
     = rest_more deref_pair _ _ _ (c.in-Some.path, c.in-Some.seen) c.in-Some.is c.next.ensures.steps in
-    mapped_more (λ path seen. offered_entry c.args.moment c.args.user.now (fin.get c.args.knowns.now path) seen) c.args.paths.now c.loop-path.entries c.put.new.entries c.in-Some.path.now
+    mapped_more (λ path seen. entry_by c.args.moment c.args.user.now (fin.get c.args.owns.now path) (fin.get c.args.knowns.now path) seen) c.args.paths.now c.loop-path.entries c.put.new.entries c.in-Some.path.now
     c.in-Some.seen.now c.in_ok-entry.entry c.next.new.self
-    (subst (λ (left : List (PathV × Seen)). IsMapped (λ path seen. offered_entry c.args.moment c.args.user.now (fin.get c.args.knowns.now path) seen) c.args.paths.now c.loop-path.entries left) next c.loop-path.invariant)
-    (c.in_ok-entry.ensures.value ∙ ap (λ o. offered_entry c.args.moment c.args.user.now o c.in-Some.seen.now) c.get.ensures.value)
+    (subst (λ (left : List (PathV × Seen)). IsMapped (λ path seen. entry_by c.args.moment c.args.user.now (fin.get c.args.owns.now path) (fin.get c.args.knowns.now path) seen) c.args.paths.now c.loop-path.entries left) next
+    c.loop-path.invariant)
+    (c.in_ok-entry.ensures.value ∙ (λ i. entry_by c.args.moment c.args.user.now (c.get-own.ensures.value i) (c.get.ensures.value i) c.in-Some.seen.now))
     (c.in_ok-put.ensures.ok ∙ ap (λ (p : PathV). fin.insert c.loop-path.entries p c.in_ok-entry.entry) c.in_ok-copy.ensures.value)
 
 pub returns : goal.returns
 returns c = record {
-  value = mapped_end (λ path seen. offered_entry c.args.moment c.args.user.now (fin.get c.args.knowns.now path) seen) c.args.paths.now c.loop-path.entries
-      (subst (λ (left : List (PathV × Seen)). IsMapped (λ path seen. offered_entry c.args.moment c.args.user.now (fin.get c.args.knowns.now path) seen) c.args.paths.now c.loop-path.entries left) c.in-None.ensures.steps.0 c.loop-path.invariant);
+  value = offered_by c.args.moment c.args.user.now c.args.knowns.now c.args.paths.now c.args.owns.now c.loop-path.entries c.requires.ids
+      (mapped_end (λ path seen. entry_by c.args.moment c.args.user.now (fin.get c.args.owns.now path) (fin.get c.args.knowns.now path) seen) c.args.paths.now c.loop-path.entries
+      (subst (λ (left : List (PathV × Seen)). IsMapped (λ path seen. entry_by c.args.moment c.args.user.now (fin.get c.args.owns.now path) (fin.get c.args.knowns.now path) seen) c.args.paths.now c.loop-path.entries left)
+      c.in-None.ensures.steps.0 c.loop-path.invariant));
 }

@@ -8,8 +8,12 @@ pub returns-in-Ok-add_files-clause-value : goal.returns-in-Ok-add_files-clause-v
 returns-in-Ok-add_files-clause-value c = λ seen objects keeps path.
     c.in-Ok.ensures.value seen objects (keeps_then _ _ objects c.in-Ok-add_files.ensures.stays.made keeps) path
 
+pub returns-in-Ok-add_files-clause-ok : goal.returns-in-Ok-add_files-clause-ok
+returns-in-Ok-add_files-clause-ok c = c.in-Ok-add_files.ensures.ok c.args.knowns.now c.requires.ids
+
 pub returns-in-Ok-add_files-clause-within : goal.returns-in-Ok-add_files-clause-within
-returns-in-Ok-add_files-clause-within c = λ key there. changed_block c.args.knowns.now c.args.paths.now c.new.result c.new.ensures.value key (c.in-Ok-add_files.ensures.within.blocks key there)
+returns-in-Ok-add_files-clause-within c = λ key there.
+    changed_block c.args.knowns.now c.args.paths.now c.new.result c.new.ensures.value key ((c.in-Ok-add_files.ensures.within c.args.knowns.now c.requires.ids).blocks key there)
 
 pub returns-in-Ok-add_files-clause-tree : goal.returns-in-Ok-add_files-clause-tree
 returns-in-Ok-add_files-clause-tree c = λ seen.
@@ -24,7 +28,7 @@ returns-in-Ok-add_files-clause-tree c = λ seen.
       top = dirs.3;
       zeros = c.in-Ok.ensures.zeros seen;
       needed = c.in-Ok.ensures.needed seen;
-      others = c.in-Ok-add_files.ensures.within.objects;
+      others = (c.in-Ok-add_files.ensures.within c.args.knowns.now c.requires.ids).objects;
     }
 
 pub returns-in-Ok-add_files-clause-named : goal.returns-in-Ok-add_files-clause-named
