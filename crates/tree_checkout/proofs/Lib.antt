@@ -11,3 +11,4 @@ pub mod SecondLookLemmas
 pub mod StepsLemmas
 pub mod UnchangedLemmas
 pub mod WritingLemmas
+pub mod OneChunkLemmas

@@ -1,14 +1,16 @@
 -- A file that is got into the spare and moved to its path, by the sends for it. Our own. Read Writes first, then StopsWriting and
 -- IsMisfit. Read before: BlockGets, SecondLook.
-use Rattle.std.specs.Prelude.{ℕ, ◌≡◌, ◌⊎◌, ◌+◌, ◌<◌, Bool, true, false, List, [], ◌∷◌, ◌++◌, length, map, Option, Some, ⊤}
+use Rattle.std.specs.Prelude.{ℕ, ◌≡◌, ◌==◌, ◌⊎◌, ◌&&◌, ◌+◌, ◌<◌, Bool, true, false, List, [], ◌∷◌, ◌++◌, length, map, Option, Some, ⊤}
 use Rattle.std.specs.Option.{option_map}
 use Rattle.sha1.specs.Sha1.{sha1}
+use Rattle.block_chunker.specs.ChunkBoundaries.{last_chunk}
 use Rattle.block_chunker.specs.ChunkerProgress.{Progress, after_piece, finished_by}
 use Rattle.block_chunker.specs.declared.cuts.Cuts.{Cuts}
 use Rattle.tree_model.specs.Path.{PathV}
 use Rattle.folder_side.specs.Folder.{Contents, at, with_file}
 use Rattle.folder_side.specs.declared.scan_report.Seen.{Seen}
 use Rattle.remote_calls.specs.Sends.{Sent}
+use Rattle.local_index.specs.OwnIds.{own_id}
 use Rattle.sync_rules.specs.Offer.{own_of}
 use Rattle.sync_rules.specs.declared.fault.SyncFault.{SyncFault}
 use Rattle.sync_rules.specs.declared.fault.SyncFault.TheVariants as fault
@@ -59,6 +61,10 @@ pub record FailsToAdd (source : Source) (file block : List ℕ) (left : ℕ) (ol
   pub stops : Stops source more (block ∷ []) f
   pub wrong : IsTooLong file left more f
   pub no_change : is_change f ≡ false
+
+-- where no chunk ended in a file of one block, its own id is made of that block, for private clauses
+abbrev pub IsOneChunk : (names blocks : List (List ℕ)) → (size : ℕ) → (begun : List ℕ) → Type 0
+IsOneChunk names blocks size begun = ((length names == 0) && (length blocks == 1)) ≡ true → own_id blocks size ≡ own_id (names ++ map sha1 (last_chunk begun)) size
 
 -- the blocks of a file were got, they have its size, and where the folder tells what it holds the spare holds just their bytes. The own id
 -- of those bytes was noted

@@ -1,5 +1,5 @@
 //! A file of a tree, got block by block into the spare and moved to its path.
-ghost use Rattle.std.specs.Prelude.{◌≡◌, ◌<◌, ◌≤◌, ◌++◌, ◌∷◌, [], IfErr, IfOk, OnOk, Some, false, length, map as list_map, option_copied};
+ghost use Rattle.std.specs.Prelude.{◌≡◌, ◌==◌, ◌&&◌, ◌<◌, ◌≤◌, ◌++◌, ◌∷◌, [], IfErr, IfOk, OnOk, Some, false, length, map as list_map, option_copied};
 ghost use Rattle.block_chunker.specs.ChunkBoundaries.{last_chunk};
 ghost use Rattle.folder_side.specs.Folder.{Contents, at};
 ghost use Rattle.ids.specs.FaultCount.{FailsBy};
@@ -10,7 +10,7 @@ ghost use Rattle.sync_rules.specs.Causes.{is_folder_fault};
 ghost use Rattle.sync_rules.specs.declared.fault.SyncFault.TheVariants as fault;
 ghost use Rattle.tree_walk.specs.declared.fault.WalkFault.TheVariants as walk;
 ghost use Rattle.tree_checkout.specs.SecondLook.{LooksAs};
-ghost use Rattle.tree_checkout.specs.Writing.{AddsOne, FailsToAdd, Fills, StopsFilling, StopsWriting, Writes};
+ghost use Rattle.tree_checkout.specs.Writing.{AddsOne, FailsToAdd, Fills, IsOneChunk, StopsFilling, StopsWriting, Writes};
 
 use crate::block_gets::{Source, get_block};
 use crate::fault::folder_fault;
@@ -115,7 +115,8 @@ fn fill_spare<F: Folder, R: Remote>(
         }
     }
     if left == 0 {
-        return match note_own(alloc, chunker, names, file.object.size, owns) {
+        let blocks = file.object.blocks.slice();
+        return match note_own(alloc, chunker, names, blocks, file.object.size, owns) {
             Ok(()) => Ok(()),
             Err(AllocError) => Err(SyncFault::NoMemory),
         };
@@ -123,20 +124,48 @@ fn fill_spare<F: Folder, R: Remote>(
     Err(wrong_size(&file.id))
 }
 
-/// Notes the own id of a file, of whose chunks all but the last are named.
+/// Notes the own id of a file of these blocks, of whose chunks all but the last are named.
 fn note_own(
     alloc: Global,
     chunker: Chunker,
     names: IdList,
+    blocks: &[ObjId],
     size: u64,
     owns: &mut IdList,
 ) -> Result<(), AllocError>
     requires ready { chunker.failed ≡ false }
+    requires one { IsOneChunk names blocks.now size chunker.begun }
     ensures ok { OnOk result (owns.new ≡ owns.old ++ own_id (names ++ list_map sha1 (last_chunk chunker.begun)) size ∷ []) }
 {
+    let own = file_own(alloc, chunker, names, blocks, size)?;
+    owns.push(own)
+}
+
+/// The own id of a file. Where it has one block and no chunk ended in it, that is its one chunk, and isn't named again.
+fn file_own(
+    alloc: Global,
+    chunker: Chunker,
+    names: IdList,
+    blocks: &[ObjId],
+    size: u64,
+) -> Result<ObjId, AllocError>
+    requires ready { chunker.failed ≡ false }
+    requires one { IsOneChunk names blocks.now size chunker.begun }
+    ensures value { IfOk result (λ own. own ≡ own_id (names ++ list_map sha1 (last_chunk chunker.begun)) size) }
+{
+    if is_one(&names, blocks) {
+        return own_id(alloc, blocks, size);
+    }
     let read = end_file(chunker, names, size)?;
     let own = own_id(alloc, read.blocks.slice(), read.size)?;
-    owns.push(own)
+    Ok(own)
+}
+
+/// Whether no chunk is named, and there is one block.
+fn is_one(names: &IdList, blocks: &[ObjId]) -> bool
+    ensures value { result ≡ ((length names.now == 0) && (length blocks.now == 1)) }
+{
+    names.is_empty() && blocks.len() == 1
 }
 
 /// Gets a block, appends it to the spare, where at most `left` bytes are due, and hands it to the chunker; and tells how many bytes

@@ -1,5 +1,6 @@
 use Rattle.std.proofs.Common.{◌≡◌, ◌<◌, ◌≤◌, ◌∙◌, ℕ, List, length, get_or, refl, ap, subst, arith}
 use Rattle.block_chunker.specs.ChunkerProgress.{Progress}
+use Rattle.tree_checkout.proofs.OneChunkLemmas.{one_chunk}
 use Rattle.tree_checkout.proofs.WritingLemmas.{filling_end, filling_more, filling_short, filling_start, filling_stop, filling_wanting}
 use Rattle.tree_checkout.proofs.writing.fill_spare.Goals as goal
 
@@ -34,6 +35,12 @@ loop-block-preserved g c = record {
       (subst (λ (ids : List (List ℕ)). c.block-item.result ≡ get_or ids c.loop-block.block-index c.block-item.result) c.slice-block-items.ensures.value c.block-item.is)
       c.loop-block.invariant.filling c.in-Ok-add_block.ensures.ok;
 }
+
+pub note_own-requires-clause-one : goal.note_own-requires-clause-one
+note_own-requires-clause-one g c =
+    one_chunk c.args.source.now c.args.file.now c.args.cuts c.loop-block.block-index c.loop-block.left _ _ _ _ c.loop-block.chunker c.loop-block.names _ c.slice-blocks.ensures.value
+    (subst (λ (ids : List (List ℕ)). length ids ≤ c.loop-block.block-index) c.slice-block-items.ensures.value (omega arith))
+    c.if-left-eq0.true c.loop-block.invariant.filling
 
 pub returns-in-Ok-note_own-clause-ok : goal.returns-in-Ok-note_own-clause-ok
 returns-in-Ok-note_own-clause-ok g c =
