@@ -34,6 +34,14 @@ pub(crate) fn note_end(err: &mut Stderr, how: Served) {
     }
 }
 
+/// Tells that a port failed, so that one worker serves no more.
+pub(crate) fn note_stop(err: &mut Stderr) {
+    write(
+        err,
+        b"seaf-server: the port failed, and one of the workers has stopped\n",
+    );
+}
+
 /// Writes a line, if it can be written.
 fn write(err: &mut Stderr, line: &[u8]) {
     let _ = err.write_all(line);

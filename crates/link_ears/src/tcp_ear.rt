@@ -3,7 +3,7 @@ ghost use Rattle.std.specs.Prelude.{◌≡◌, map};
 ghost use Rattle.link_ears.specs.Ear.{IsNewEar};
 
 use crate::ear::Ear;
-use crate::notes::note_end;
+use crate::notes::{note_end, note_stop};
 use http_front::LinkFailed;
 use http_server::Log;
 use std::io;
@@ -19,7 +19,7 @@ const WAITS: Waits = Waits { take: 60, give: 60 };
 /// client that says nothing holds up a server no longer.
 ///
 /// Connections that no ear has taken yet wait, as many as the system lets. One whose client has gone already is passed over.
-/// A link that ended by a fault has a line on standard error.
+/// A link that ended by a fault has a line on standard error, and so has a port that failed, since its worker stops then.
 #[derive(Drop)]
 pub struct TcpEar {
     listener: TcpListener,
@@ -78,7 +78,10 @@ impl Ear for TcpEar {
                 self.gave = self.gave.and(&link, &0);
                 Ok(Some(link))
             }
-            Err(failed) => Err(failed),
+            Err(failed) => {
+                note_stop(&mut self.err);
+                Err(failed)
+            }
         }
     }
 
