@@ -6,6 +6,7 @@ pub mod MakeLemmas
 pub mod CompleteLemmas
 pub mod StartLemmas
 pub mod ObjectCallLemmas
+pub mod FoundLemmas
 pub mod AnsweringLemmas
 pub mod RefusalsLemmas
 pub mod GrownLemmas

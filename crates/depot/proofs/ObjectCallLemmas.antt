@@ -211,6 +211,11 @@ put_damage objects key bytes (Damaged want got) (inl due) =
     by (inl refused) = absurd (no_damage_by_name (has_other_name key bytes) (is_nil key.id || other_bytes (map.get objects key) bytes) (sha1 bytes) key.id want got refused)
     by (inr damage) = (key, damage)
 
+-- a get's fault is one of the store's
+pub get_fault : (objects : Objects) (key : Key) (fault : StoreFault) → (damage_at objects key ≡ Some fault) ⊎ (is_free fault ≡ true) → IsFault objects (reply.Refused (store_refusal fault))
+get_fault objects key fault (inr free) = free_told objects fault free
+get_fault objects key fault (inl due) = damage_told objects key (map.get objects key) fault due refl
+
 pub get_damage : (objects : Objects) (key : Key) (fault : StoreFault) → (damage_at objects key ≡ Some fault) ⊎ (is_free fault ≡ true)
     → IsToldDamage objects (reply.Refused (store_refusal fault))
 get_damage objects key (Taken id) e = tt

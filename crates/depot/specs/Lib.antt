@@ -8,6 +8,7 @@ pub mod Tokens
 pub mod Start
 pub mod Refusals
 pub mod ObjectCalls
+pub mod Unjudged
 pub mod Held
 pub mod Fresh
 pub mod FreshKeys

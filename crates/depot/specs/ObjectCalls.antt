@@ -1,5 +1,5 @@
 -- What the calls on objects answer and leave. Our own. Read SaysOr and DoneSo first.
-use Rattle.std.specs.Prelude.{◌≡◌, ◌⊎◌, ℕ, ◌≤◌, Bool, true, false, List, [], ◌∷◌, Option, Some, option_map, ⊤}
+use Rattle.std.specs.Prelude.{◌≡◌, ◌⊎◌, ℕ, ◌≤◌, Bool, true, false, List, [], ◌∷◌, Option, Some, option_map, IfSome, ⊤}
 use Rattle.std.specs.Bool.{MatchBool, then_some}
 use Rattle.sha1.specs.Sha1.{sha1}
 use Rattle.ids.specs.FaultCount.{Rose}
@@ -8,6 +8,8 @@ use Rattle.ids.specs.declared.key.Key.{Key}
 use Rattle.library_rules.specs.Calls.{Due, Denies, Says, Stores, Installs, Merges, by_state, first_refusal, put_by_objects}
 use Rattle.library_rules.specs.Changes.{put_new}
 use Rattle.library_rules.specs.LibraryState.{State}
+use Rattle.library_state.specs.declared.call.Act.{Act}
+use Rattle.library_state.specs.declared.call.Act.TheVariants as act
 use Rattle.library_state.specs.declared.refusal.Refusal.{Refusal}
 use Rattle.library_state.specs.declared.refusal.Refusal.TheVariants as refusal
 use Rattle.library_state.specs.declared.reply.Reply.{Reply}
@@ -77,3 +79,14 @@ store_decided key bytes = option_map reply.Refused (first_refusal (own_name key 
 -- what a put is due of which only the name and what is stored are still to be looked at
 abbrev pub store_due : State → Key → List ℕ → Due
 store_due s key bytes = by_state (store_decided key bytes) (put_by_objects s key bytes)
+
+-- ---- what is told with a call that is handed over
+
+-- the SHA-1 of what is put
+abbrev pub IsNameOf : Act → List ℕ → Type 0
+IsNameOf (act.Put key bytes) name = name ≡ sha1 bytes
+IsNameOf other name = ⊤
+
+-- the name that is told, if one is, is that
+abbrev pub TellsName : Act → Option (List ℕ) → Type 0
+TellsName a name = IfSome name (IsNameOf a)

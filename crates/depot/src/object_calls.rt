@@ -1,5 +1,5 @@
 //! The calls on objects: to get, to put, and to ask what is missing.
-ghost use Rattle.std.specs.Prelude.{false, ◌≡◌, ◌⊎◌, ◌∷◌, [], ℕ, List, Some, Err};
+ghost use Rattle.std.specs.Prelude.{false, ◌≡◌, ◌⊎◌, ◌∷◌, [], ℕ, List, Some, Ok, Err};
 ghost use Rattle.std.specs.FinMap as map;
 ghost use Rattle.ids.specs.Key.{Objects};
 ghost use Rattle.ids.specs.declared.key.Kind.TheVariants as kinds;
@@ -7,21 +7,24 @@ ghost use Rattle.library_rules.specs.Calls.{first_refusal, got, not_fs, other_na
 ghost use Rattle.library_rules.specs.LibraryState.{State};
 ghost use Rattle.library_state.specs.declared.call.Act.TheVariants as act;
 ghost use Rattle.object_store.specs.Shelf.{GivesNoMore};
+ghost use Rattle.object_store.specs.Store.{judged_found};
 ghost use Rattle.object_store.specs.StoreView.{AddsNoStray, Keeps, objects_of, status_of};
 ghost use Rattle.depot.specs.Answering.{MayAnswer, MayGet, ServesAct, put_decided};
 ghost use Rattle.depot.specs.Fresh.{EndsPut, is_stored_reply};
 ghost use Rattle.depot.specs.Held.{HoldsPut};
 ghost use Rattle.depot.specs.Giving.{GivesBy, IsObject, IsPut};
 ghost use Rattle.depot.specs.ObjectCalls.{Counts, DoneSo, IsToldDamage, SaysOr, is_counted, store_decided, store_due};
+ghost use Rattle.depot.specs.Unjudged.{judged, reply_found};
 ghost use Rattle.depot.specs.Writing.{with_stored};
 
 use crate::collection::Collection;
 use crate::depot::Depot;
 use crate::refusals::store_refusal;
 use crate::shields::{freshen, shield, stale};
+use crate::unjudged::Unjudged;
 use commit_objects::Commit;
 use fs_objects::{BadFs, FsObject};
-use ids::{Key, KeyList, Kind, LibId, ObjId};
+use ids::{Bytes, Key, KeyList, Kind, LibId, ObjId};
 use json_words::ReadFault;
 use library_state::{Refusal, Reply};
 use object_store::{Put, Shelf, Store, StoreFault};
@@ -35,6 +38,15 @@ impl<S: Shelf> Depot<S> {
         ensures held { self.new.store.index ≡ self.old.store.index }
     {
         get_object(&mut self.parts.store, key)
+    }
+
+    /// The same, of which the bytes are still to be judged.
+    pub(crate) fn get_unjudged(&mut self, key: &Key) -> Unjudged
+        ensures value { ServesAct S.contents S.may_give S.texts S.faults self.old (act.Get key.now) (judged result) self.new }
+        ensures gives { GivesNoMore (S.may_give self.old.store.shelf) (S.may_give self.new.store.shelf) }
+        ensures held { self.new.store.index ≡ self.old.store.index }
+    {
+        find_object(&mut self.parts.store, key)
     }
 
     /// Stores an object.
@@ -94,6 +106,40 @@ fn get_object<S: Shelf>(store: &mut Store<S>, key: &Key) -> Reply
         Ok(Some(bytes)) => Reply::Got(bytes),
         Ok(None) => Reply::Refused(Refusal::NoObject(*key)),
         Err(fault) => Reply::Refused(store_refusal(fault)),
+    }
+}
+
+/// The same, of which the bytes are still to be judged.
+fn find_object<S: Shelf>(store: &mut Store<S>, key: &Key) -> Unjudged
+    ensures value { (objects : Objects) → objects_of S.contents store.old ≡ Some objects → SaysOr objects (got key.now (map.get objects key.now)) (judged result) }
+    ensures stays { Keeps S.contents store.old store.new }
+    ensures cause { MayGet store.old.index (S.may_give store.new.shelf) key.now (judged result) }
+    ensures damaged { (objects : Objects) → objects_of S.contents store.old ≡ Some objects → IsToldDamage objects (judged result) }
+    ensures written { S.texts store.new.shelf ≡ S.texts store.old.shelf }
+    ensures gives { GivesNoMore (S.may_give store.old.shelf) (S.may_give store.new.shelf) }
+    ensures faults { Counts (S.faults store.old.shelf) (S.faults store.new.shelf) (judged result) }
+{
+    let found = store.fetch(*key);
+    answer_found(key, found)
+}
+
+/// The answer to a get where the store found this.
+fn answer_found(key: &Key, found: Result<Option<Bytes>, StoreFault>) -> Unjudged
+    ensures value { judged result ≡ reply_found key.now (judged_found key.now found) }
+{
+    match found {
+        Ok(found) => answer_object(key, found),
+        Err(fault) => Unjudged::Told(Reply::Refused(store_refusal(fault))),
+    }
+}
+
+/// The same where the shelf didn't fail.
+fn answer_object(key: &Key, found: Option<Bytes>) -> Unjudged
+    ensures value { judged result ≡ reply_found key.now (judged_found key.now (Ok found)) }
+{
+    match found {
+        Some(bytes) => Unjudged::Found(*key, bytes),
+        None => Unjudged::Told(Reply::Refused(Refusal::NoObject(*key))),
     }
 }
 

@@ -8,13 +8,16 @@ ghost use Rattle.object_store.specs.StoreView.{objects_of};
 ghost use Rattle.depot.specs.Answering.{permits};
 ghost use Rattle.depot.specs.DepotView.{running_of};
 ghost use Rattle.depot.specs.FirstGet.{fs_call, fs_get, sizes_of};
+ghost use Rattle.depot.specs.ObjectCalls.{TellsName};
 ghost use Rattle.depot.specs.Story.{IsAnswered, IsOther, IsSame, IsTurned};
 ghost use Rattle.depot.specs.Telling.{AreFigures, CountsFresh, checked_secret, is_step, last_seen};
+ghost use Rattle.depot.specs.Unjudged.{judged};
 
 use crate::answering::place_of;
 use crate::collection::Collection;
 use crate::depot::Depot;
 use crate::turn::Turn;
+use crate::unjudged::{Unjudged, judged};
 use ids::ObjId;
 use library_state::{Act, Call, Op, Refusal, Reply, Secret, Token};
 use object_store::Shelf;
@@ -38,17 +41,34 @@ impl<S: Shelf> Depot<S> {
     }
 
     /// Answers a call that is handed over, as `answer_own` does, and tells whether that changed the library, as `tell` does.
-    pub fn tell_own(&mut self, call: Call, moment: u64) -> (Reply, bool)
+    pub fn tell_own(&mut self, call: Call, name: Option<ObjId>, moment: u64) -> (Reply, bool)
+        requires named { TellsName call.act name }
         ensures answered { IsAnswered S.contents S.may_give S.texts S.faults self.old call moment result.0 self.new }
+        ensures same { result.1 ≡ false → IsSame S.contents S.faults self.old self.new }
+        ensures other { result.1 ≡ true → IsOther S.contents S.faults self.old self.new }
+    {
+        let (answer, changed) = self.tell_unjudged(call, name, moment);
+        (judged(answer), changed)
+    }
+
+    /// The same, where bytes that are got are still to be judged: who has a turn here can hash them after it.
+    pub fn tell_unjudged(
+        &mut self,
+        call: Call,
+        name: Option<ObjId>,
+        moment: u64,
+    ) -> (Unjudged, bool)
+        requires named { TellsName call.act name }
+        ensures answered { IsAnswered S.contents S.may_give S.texts S.faults self.old call moment (judged result.0) self.new }
         ensures same { result.1 ≡ false → IsSame S.contents S.faults self.old self.new }
         ensures other { result.1 ≡ true → IsOther S.contents S.faults self.old self.new }
     {
         let secret = checked_secret(&call);
         let before = self.figures(&secret);
-        let reply = self.answer_own(call, moment);
+        let answer = self.answer_unjudged(call, name, moment);
         let after = self.figures(&secret);
         let changed = differ(&before, &after);
-        (reply, changed)
+        (answer, changed)
     }
 
     /// Answers the first Get of several, as `get_first` does, and tells whether that changed the library, as `tell` does: it

@@ -103,7 +103,7 @@ fn answer<S: Shelf>(library: &mut OpenedLibrary<S>, lib: LibId, call: Call, mome
         drop(call);
         return elsewhere();
     }
-    let (reply, changed) = library.depot.tell_own(call, moment);
+    let (reply, changed) = library.depot.tell_own(call, None, moment);
     library.changes = count_after(library.changes, changed);
     told_at(library, reply)
 }

@@ -1,6 +1,6 @@
 -- What a shelf that tells its contents may give, and the refusals that follow. The key lemmas are given-stored,
--- get-refused, put-refused, same-held and new-refused.
-use Rattle.std.proofs.Common.{◌≡◌, ℕ, Bool, true, false, cond, List, length, Option, None, Some, is_some, Result, Ok, Err, inl, inr, refl, sym, ap, ◌∙◌, true≢false}
+-- get-refused, judged-as, stored-fault, put-refused, same-held and new-refused.
+use Rattle.std.proofs.Common.{◌≡◌, ℕ, Bool, true, false, if◌then◌else◌, cond, List, length, Option, None, Some, is_some, Result, Ok, Err, inl, inr, refl, sym, ap, ◌∙◌, true≢false}
 use Rattle.std.specs.Prelude.{option_map, OnOk}
 use Rattle.std.specs.Cmp.Lexicographic.{nat_list_eq_equiv}
 use Rattle.std.specs.FinMap as map
@@ -14,8 +14,8 @@ use Rattle.ids.proofs.MapLemmas.{insert-same}
 use Rattle.object_store.proofs.HeldLemmas.{IsReady, held-at, objects-beside, objects-put, sizes}
 use Rattle.object_store.proofs.MapLemmas.{get-retained, tied_key}
 use Rattle.object_store.specs.Shelf.{Contents, put_known}
-use Rattle.object_store.specs.Steps.{ChangesBoth, PutsStored}
-use Rattle.object_store.specs.Store.{HasNames, IsGetFault, IsOther, damage_of, damage_at, first_refusal, has_other_name, is_free, name_refusal, put_refusal, same_bytes, stored_refusal}
+use Rattle.object_store.specs.Steps.{ChangesBoth, FetchesWhole, PutsStored, judged}
+use Rattle.object_store.specs.Store.{CountsShelf, HasNames, IsGetFault, IsOfStored, IsOther, judged_found, damage_of, damage_at, first_refusal, has_other_name, is_free, name_refusal, put_refusal, same_bytes, stored_refusal}
 use Rattle.object_store.specs.StoreView.{Index, indexed, with_object}
 use Rattle.object_store.specs.declared.error.StoreFault.{StoreFault}
 use Rattle.object_store.specs.declared.error.StoreFault.TheVariants.{Taken, Wrong, Damaged, Shelf, NoMemory}
@@ -72,6 +72,34 @@ get-refused T may_give key stored there tells (Damaged want got) is =
     inl (ap (damage_of key) found.1 ∙ found.2)
 get-refused T may_give key stored there tells Shelf is = inr refl
 get-refused T may_give key stored there tells NoMemory is = inr refl
+
+-- bytes that were fetched are whole, or damaged; and so they are judged
+pub judged-as : (P : Result (Option (List ℕ)) StoreFault → Type 0) (may_give : Slot → Option (List ℕ) → Type 0) (key : Key) (bytes : List ℕ) → FetchesWhole may_give key (judged key bytes)
+    → (may_give (Object key) (Some bytes) → has_other_name key bytes ≡ false → P (Ok (Some bytes)))
+    → ((fault : StoreFault) → IsGetFault may_give key fault → P (Err fault)) → P (judged_found key (Ok (Some bytes)))
+judged-as P may_give key bytes fetched good bad = by (has_other_name key bytes) fetched
+  where
+    by : (b : Bool) → FetchesWhole may_give key (if b then Err (Damaged key.id (Some (sha1 bytes))) else Ok bytes)
+        → P (if b then Err (Damaged key.id (Some (sha1 bytes))) else Ok (Some bytes))
+    by true is = bad (Damaged key.id (Some (sha1 bytes))) is
+    by false is = good is.0 is.1
+
+-- a get's fault is of what the index knows
+pub stored-fault : (may_give : Slot → Option (List ℕ) → Type 0) (key : Key) (size : Option ℕ) → is_some size ≡ true → (fault : StoreFault) → IsGetFault may_give key fault
+    → IsOfStored size key fault
+stored-fault may_give key size there (Taken id) is = absurd is
+stored-fault may_give key size there (Wrong id) is = absurd is
+stored-fault may_give key size there (Damaged want got) is = there
+stored-fault may_give key size there Shelf is = tt
+stored-fault may_give key size there NoMemory is = tt
+
+-- and isn't one that the shelf counts, where it isn't the shelf's
+pub counts-judged : (before now : ℕ) (key : Key) (bytes : List ℕ) → now ≡ before → CountsShelf before now (judged_found key (Ok (Some bytes)))
+counts-judged before now key bytes same = by (has_other_name key bytes)
+  where
+    by : (b : Bool) → CountsShelf {T = Option (List ℕ)} before now (if b then Err (Damaged key.id (Some (sha1 bytes))) else Ok (Some bytes))
+    by true = same
+    by false = same
 
 -- ---- a put under a key that is stored
 

@@ -33,6 +33,11 @@ other_name key bytes = if has_other_name key bytes then Some (sha1 bytes) else N
 abbrev pub judged : Key → List ℕ → Result (List ℕ) StoreFault
 judged key bytes = if has_other_name key bytes then Err (Damaged key.id (Some (sha1 bytes))) else Ok bytes
 
+-- the same of bytes that a fetch gave
+abbrev pub judged_fetch : Key → Result (List ℕ) StoreFault → Result (List ℕ) StoreFault
+judged_fetch key (Ok bytes) = judged key bytes
+judged_fetch key (Err fault) = Err fault
+
 -- a fetch of a stored object gives bytes of its name, or tells how they are damaged
 abbrev pub FetchesWhole : (Slot → Option (List ℕ) → Type 0) → Key → Result (List ℕ) StoreFault → Type 0
 FetchesWhole may_give key (Ok bytes) = may_give (Object key) (Some bytes) × IsFalse (has_other_name key bytes)

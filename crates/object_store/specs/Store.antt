@@ -1,6 +1,6 @@
 -- When a store refuses an object, and when it finds one damaged. Our own; an object's name is the SHA-1 of FIPS 180-4.
 -- Read put_refusal first, then damage_at; then what holds of any shelf: IsDamage, IsPutFault, IsGetFault, IsOfStored.
-use Rattle.std.specs.Prelude.{ℕ, ◌≡◌, ◌⊎◌, Bool, true, false, ◌&&◌, not, if◌then◌else◌, nat_eq, List, Option, None, Some, Result, IsSome, IsTrue, IsFalse, ⊤}
+use Rattle.std.specs.Prelude.{ℕ, ◌≡◌, ◌⊎◌, Bool, true, false, ◌&&◌, not, if◌then◌else◌, nat_eq, List, Option, None, Some, Result, Ok, Err, IsSome, IsTrue, IsFalse, ⊤}
 use Rattle.std.specs.Cmp.Lexicographic.{pointwise}
 use Rattle.std.specs.FinMap as map
 use Rattle.sha1.specs.Sha1.{sha1}
@@ -62,6 +62,12 @@ has_other_name key bytes = is_named_by_bytes key.kind && not (same_bytes (sha1 b
 abbrev pub damage_of : Key → Option (List ℕ) → Option StoreFault
 damage_of key None = None
 damage_of key (Some stored) = if has_other_name key stored then Some (Damaged key.id (Some (sha1 stored))) else None
+
+-- what a get answers where a fetch found this: bytes of another name are damaged
+abbrev pub judged_found : Key → Result (Option (List ℕ)) StoreFault → Result (Option (List ℕ)) StoreFault
+judged_found key (Ok None) = Ok None
+judged_found key (Ok (Some bytes)) = if has_other_name key bytes then Err (Damaged key.id (Some (sha1 bytes))) else Ok (Some bytes)
+judged_found key (Err fault) = Err fault
 
 -- the refusal of a get
 abbrev pub damage_at : Objects → Key → Option StoreFault

@@ -43,13 +43,6 @@ pub(crate) fn name_refusal(key: &Key, bytes: &[u8]) -> Option<StoreFault>
     None
 }
 
-/// The same of bytes that are handed over.
-pub(crate) fn own_refusal(key: &Key, bytes: &Bytes) -> Option<StoreFault>
-    ensures value { result ≡ name_refusal key.now bytes.now }
-{
-    name_refusal(key, bytes.slice())
-}
-
 /// The bytes that the shelf gave for a key, unless they are damaged.
 fn judged(key: &Key, bytes: Bytes) -> Result<Bytes, StoreFault>
     ensures value { result ≡ judged key.now bytes }

@@ -19,6 +19,8 @@ mod odd_shelf;
 mod put;
 mod shelf;
 mod store;
+mod told_name;
+mod unjudged;
 
 pub use crate::call_count::CallCount;
 pub use crate::error::StoreFault;

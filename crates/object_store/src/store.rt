@@ -8,18 +8,18 @@ ghost use Rattle.ids.specs.MapView.{IsNext};
 ghost use Rattle.ids.specs.ObjectId.{nil};
 ghost use Rattle.ids.specs.Outcome.{ExactlyWith, RefusesAs};
 ghost use Rattle.object_store.specs.Shelf.{LaysBy};
-ghost use Rattle.object_store.specs.Store.{CountsShelf, IsFoundSame, IsGetFault, IsOfStored, IsPutFault, IsWhole, damage_at, has_other_name, is_free, is_of_shelf, is_want, put_refusal, same_bytes};
+ghost use Rattle.object_store.specs.Store.{CountsShelf, IsFoundSame, IsGetFault, IsOfStored, IsPutFault, IsWhole, damage_at, has_other_name, is_free, is_of_shelf, is_want, judged_found, put_refusal, same_bytes};
 ghost use Rattle.object_store.specs.StoreView.{AddsNoStray, ChangesShelf, HasNoStray, IsStarted, Keeps, NoteChanges, PutChanges, ReadsShelf, RemovalChanges, StartReads, StartsSo, StraysBy, left_after, objects_of, status_of, with_object};
 
 use crate::changing::{put_new, put_own_new, remove_object};
 use crate::error::StoreFault;
-use crate::fetching::{
-    fault_of, fetch_whole, name_refusal, own_refusal, put_own_stored, put_stored,
-};
+use crate::fetching::{fault_of, fetch_whole, name_refusal, put_own_stored, put_stored};
 use crate::key_index::read_index;
 use crate::put::Put;
 use crate::shelf::{Shelf, Slot};
-use ids::{Bytes, Key, KeyTable};
+use crate::told_name::own_refusal;
+use crate::unjudged::fetch_unjudged;
+use ids::{Bytes, Key, KeyTable, ObjId};
 use std::alloc::{AllocError, Global};
 use std::marker::Model;
 
@@ -100,8 +100,10 @@ impl<S: Shelf> Store<S> {
         }
     }
 
-    /// Stores an object as `put` does, of bytes that are handed over: a shelf that keeps them in memory need not copy them.
-    pub fn put_own(&mut self, key: Key, bytes: Bytes) -> Result<Put, StoreFault>
+    /// Stores an object as `put` does, of bytes that are handed over with their SHA-1: a shelf that keeps them in memory need
+    /// not copy them.
+    pub fn put_own(&mut self, key: Key, bytes: Bytes, name: &ObjId) -> Result<Put, StoreFault>
+        requires named { name.now ≡ sha1 bytes }
         ensures ok { OnOk result (objects_of S.contents self.new ≡ with_object (objects_of S.contents self.old) key bytes) }
         ensures err { OnErr result (objects_of S.contents self.new ≡ objects_of S.contents self.old) }
         ensures told { IfOk result (λ put. put ≡ (if is_some (map.get self.old.index key) then Put.Same else Put.New)) }
@@ -119,7 +121,7 @@ impl<S: Shelf> Store<S> {
         ensures shelf { ChangesShelf S.may_give S.texts self.old.shelf self.new.shelf (Slot.Object key) (Some bytes) }
         ensures faults { CountsShelf (S.faults self.old.shelf) (S.faults self.new.shelf) result }
     {
-        if let Some(fault) = own_refusal(&key, &bytes) {
+        if let Some(fault) = own_refusal(&key, &bytes, name) {
             return Err(fault);
         }
         let known = self.index.has(&key);
@@ -156,6 +158,30 @@ impl<S: Shelf> Store<S> {
         match fetch_whole(&mut self.shelf, &key) {
             Ok(bytes) => Ok(Some(bytes)),
             Err(cause) => Err(cause),
+        }
+    }
+
+    /// What a get would find, but that the name of the bytes is still to be looked at: what it would answer is told by the word
+    /// `judged_found`.
+    pub fn fetch(&mut self, key: Key) -> Result<Option<Bytes>, StoreFault>
+        ensures found { (objects : Objects) → objects_of S.contents self.old ≡ Some objects
+            → IfOk (judged_found key result) (λ found. found ≡ map.get objects key) }
+        ensures stays { Keeps S.contents self.old self.new }
+        ensures told { IfOk (judged_found key result) (λ found. is_some found ≡ is_some (map.get self.old.index key)) }
+        ensures value { IfOk (judged_found key result) (IsWhole (S.may_give self.new.shelf) key) }
+        ensures damaged { IfErr (judged_found key result) (IsGetFault (S.may_give self.new.shelf) key) }
+        ensures stored { IfErr (judged_found key result) (IsOfStored (map.get self.old.index key) key) }
+        ensures refused { (objects : Objects) → objects_of S.contents self.old ≡ Some objects
+            → RefusesAs is_free (judged_found key result) (damage_at objects key) }
+        ensures shelf { ReadsShelf S.may_give S.texts self.old.shelf self.new.shelf }
+        ensures faults { CountsShelf (S.faults self.old.shelf) (S.faults self.new.shelf) (judged_found key result) }
+    {
+        if !self.index.has(&key) {
+            return Ok(None);
+        }
+        match fetch_unjudged(&mut self.shelf, &key) {
+            Ok(bytes) => Ok(Some(bytes)),
+            Err(why) => Err(why),
         }
     }
 

@@ -116,7 +116,7 @@ fn answer<S: Shelf>(depot: &mut Depot<S>, lib: LibId, call: Call, moment: u64) -
         drop(call);
         return Reply::Refused(Refusal::NoLibrary);
     }
-    depot.answer_own(call, moment)
+    depot.answer_own(call, None, moment)
 }
 
 /// The reply to a call for a file or directory, after which more will be asked for. Where the index knows them to have more

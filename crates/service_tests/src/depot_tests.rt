@@ -109,7 +109,7 @@ fn own_limit_changes(depot: &mut Depot<MemoryShelf>, days: i64) -> bool {
         secret: Some(Secret::from_bytes([0xaa; 20])),
         act: Act::Limit(days),
     };
-    let (reply, changed) = depot.tell_own(call, 9);
+    let (reply, changed) = depot.tell_own(call, None, 9);
     drop(reply);
     changed
 }

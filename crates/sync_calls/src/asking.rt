@@ -1,6 +1,8 @@
 //! A call that is asked of a hall: one that is lent, one that is handed over, or the first of several.
 ghost use Rattle.std.specs.Prelude.{◌≡◌, ◌≢◌, ◌<◌, ◌∷◌, ℕ, List, length, slice_index_or, IfNone, IfSome};
+ghost use Rattle.library_state.specs.declared.call.Act.TheVariants as act;
 ghost use Rattle.depot.specs.FirstGet.{fs_call};
+ghost use Rattle.depot.specs.ObjectCalls.{TellsName};
 ghost use Rattle.turnstile.specs.PassView.{drawn_of, parts_of, passes_of};
 ghost use Rattle.sync_calls.specs.Asking.{AsksSo, without_turn};
 ghost use Rattle.sync_calls.specs.FirstAsking.{AsksOne, AsksTooMuch, SparesReading};
@@ -10,12 +12,13 @@ ghost use Rattle.sync_calls.specs.Operations.{Line};
 ghost use Rattle.sync_calls.specs.RoomPlace.{HasNoRoom, IsRoomOf};
 ghost use Rattle.sync_calls.specs.Shown.{shown_of};
 
+use crate::door::{Door, admits};
 use crate::hall::{Hall, HallPass, Room};
 use crate::question::{First, Lent, Own, Question};
 use crate::served_turn::ask_behind_gate;
-use depot::Depot;
-use ids::{LibId, ObjId};
-use library_state::{Call, Refusal, Reply, Secret};
+use depot::{Depot, judged};
+use ids::{Bytes, Key, Kind, LibId, ObjId};
+use library_state::{Act, Call, Refusal, Reply, Secret};
 use object_store::Shelf;
 use std::sync::Wait;
 use turnstile::{Pass, Turnstile};
@@ -56,7 +59,8 @@ impl<S: Shelf> Hall<S> {
         ask_by(rt, self, pass, lib, Lent { call }, moment)
     }
 
-    /// Asks a call that is handed over, as `ask` does. A block that is put lies on a shelf in memory where it lay in the call.
+    /// Asks a call that is handed over, as `ask` does. A block that is put lies on a shelf in memory where it lay in the call, and its
+    /// SHA-1 is made before the turn, beside those who have one.
     pub fn ask_own<R: Wait>(
         &self,
         rt: &R,
@@ -72,7 +76,8 @@ impl<S: Shelf> Hall<S> {
         ensures asks { (lines : List Line)
             × AsksSo S.contents S.may_give S.texts S.faults (shown_by pass.old) lib call moment result lines (shown_by pass.new) (drawn_by pass.new) }
     {
-        ask_by(rt, self, pass, lib, Own { call }, moment)
+        let name = name_before(self.rooms.as_slice(), &lib, &call);
+        ask_by(rt, self, pass, lib, Own { call, name }, moment)
     }
 
     /// Asks for a file or directory, as `ask` does, after which `more` will be asked for, one after another.
@@ -118,6 +123,7 @@ fn ask_by<S: Shelf, R: Wait, Q: Question<S>>(
     moment: u64,
 ) -> Answer
     requires ready { AreReady S.contents S.may_give S.texts S.faults hall.now pass.old }
+    requires named { Q.fits question }
     ensures ready { AreReady S.contents S.may_give S.texts S.faults hall.now pass.new }
     ensures size { (shares_of pass.new ≡ shares_of pass.old) × (made_with pass.new ≡ made_with pass.old) }
     ensures drawn { StaySpent (drawn_by pass.old) (drawn_by pass.new) }
@@ -150,6 +156,7 @@ fn ask_at<S: Shelf, R: Wait, Q: Question<S>>(
     moment: u64,
 ) -> Answer
     requires ready { IsReadyAt S.contents S.may_give S.texts S.faults (parts_of pass.old) (passes_of pass.old) room.now pass.old }
+    requires named { Q.fits question }
     ensures ready { IsReadyAt S.contents S.may_give S.texts S.faults (parts_of pass.old) (passes_of pass.old) room.now pass.new }
     ensures drawn { drawn_of pass.old ≡ most_turns → drawn_of pass.new ≡ most_turns }
     ensures asks { AsksOne S.contents S.may_give S.texts S.faults (Q.too_much question) (shown_of pass.old) (Q.call question) moment result (shown_of pass.new) (drawn_of pass.new) }
@@ -160,11 +167,48 @@ fn ask_at<S: Shelf, R: Wait, Q: Question<S>>(
     }
     match ask_behind_gate(rt, room, pass, question, moment) {
         Ok(served) => Answer {
-            reply: served.reply,
+            reply: judged(served.answer),
             opening: room.door.opening,
             place: served.length,
         },
         Err(_) => without_turn(Refusal::Spent),
+    }
+}
+
+/// The SHA-1 of the block that a call puts into the library with this id, where who asks is let in.
+fn name_before<L, X>(rooms: &[Room<L, X>], lib: &LibId, call: &Call) -> Option<ObjId>
+    ensures { TellsName call.now.act result }
+{
+    let place = match place_of(rooms, lib) {
+        Some(place) => place,
+        None => return None,
+    };
+    match rooms.get(place) {
+        Some(room) => name_at(&room.door, call),
+        None => None,
+    }
+}
+
+/// The same at the door of the library.
+fn name_at(door: &Door, call: &Call) -> Option<ObjId>
+    ensures { TellsName call.now.act result }
+{
+    if !admits(door, &call.secret, &call.act) {
+        return None;
+    }
+    match &call.act {
+        Act::Put(key, bytes) => block_name(key, bytes),
+        _ => None,
+    }
+}
+
+/// The SHA-1 of a block, and of nothing else.
+fn block_name(key: &Key, bytes: &Bytes) -> Option<ObjId>
+    ensures { TellsName (act.Put key.now bytes.now) result }
+{
+    match key.kind {
+        Kind::Block => Some(ObjId::of(bytes.slice())),
+        _ => None,
     }
 }
 

@@ -3,14 +3,16 @@ ghost use Rattle.std.specs.Prelude.{◌≡◌, ◌<◌, ◌∷◌, ℕ, false, t
 ghost use Rattle.library_rules.specs.Calls.{token_of};
 ghost use Rattle.depot.specs.Answering.{permits};
 ghost use Rattle.depot.specs.FirstGet.{fs_call, fs_get, sizes_of};
+ghost use Rattle.depot.specs.ObjectCalls.{TellsName};
 ghost use Rattle.depot.specs.Story.{IsAnswered, IsOther, IsSame};
+ghost use Rattle.depot.specs.Unjudged.{judged};
 ghost use Rattle.sync_calls.specs.Door.{admits};
 ghost use Rattle.sync_calls.specs.FirstAsking.{AsksTooMuch};
 
 use crate::door::{Door, admits};
-use depot::Depot;
+use depot::{Depot, Unjudged};
 use ids::{Key, Kind, ObjId};
-use library_state::{Act, Call, Reply, Secret};
+use library_state::{Act, Call, Secret};
 use object_store::Shelf;
 use std::snapshot::Snapshot;
 
@@ -22,6 +24,7 @@ pub(crate) trait Question<S: Shelf>: Drop {
     ghost use Rattle.library_state.specs.declared.reply.Reply.TheVariants as reply;
     ghost use Rattle.depot.specs.DepotView.{DepotView};
     ghost use Rattle.depot.specs.Story.{IsAnswered, IsOther, IsSame};
+    ghost use Rattle.depot.specs.Unjudged.{judged};
     ghost use Rattle.sync_calls.specs.Door.{admits};
 
     // The call that is asked.
@@ -29,6 +32,9 @@ pub(crate) trait Question<S: Shelf>: Drop {
 
     // The libraries of which too much is asked: they answer with want of memory, and stay as they are.
     ghost too_much: { Self → DepotView S → Type 0 };
+
+    // What is told with the call is right.
+    ghost fits: { Self → Type 0 };
 
     /// Whether a door lets in the one who asks.
     fn is_admitted(&self, door: &Door) -> bool
@@ -39,9 +45,10 @@ pub(crate) trait Question<S: Shelf>: Drop {
         ensures { result.value ≡ call self.now };
 
     /// Asks, and tells whether that changed the library.
-    fn tell(self, depot: &mut Depot<S>, moment: u64) -> (Reply, bool)
-        ensures answered { IsAnswered S.contents S.may_give S.texts S.faults depot.old (call self) moment result.0 depot.new }
-        ensures spares { too_much self depot.old → (result.0 ≡ reply.Refused NoMemory) × (depot.new ≡ depot.old) }
+    fn tell(self, depot: &mut Depot<S>, moment: u64) -> (Unjudged, bool)
+        requires named { fits self }
+        ensures answered { IsAnswered S.contents S.may_give S.texts S.faults depot.old (call self) moment (judged result.0) depot.new }
+        ensures spares { too_much self depot.old → (judged result.0 ≡ reply.Refused NoMemory) × (depot.new ≡ depot.old) }
         ensures same { result.1 ≡ false → IsSame S.contents S.faults depot.old depot.new }
         ensures other { result.1 ≡ true → IsOther S.contents S.faults depot.old depot.new };
 }
@@ -53,9 +60,13 @@ pub(crate) struct Lent<'a> {
 }
 
 impl<S: Shelf> Question<S> for Lent<'_> {
+    ghost use Rattle.std.specs.Prelude.{⊤};
+
     ghost call = { λ question. question.call.now };
 
     ghost too_much = { λ _ _. ⊥ };
+
+    ghost fits = { λ _. ⊤ };
 
     fn is_admitted(&self, door: &Door) -> bool {
         admits(door, &self.call.secret, &self.call.act)
@@ -65,21 +76,27 @@ impl<S: Shelf> Question<S> for Lent<'_> {
         Snapshot::of(self.call)
     }
 
-    fn tell(self, depot: &mut Depot<S>, moment: u64) -> (Reply, bool) {
-        depot.tell(self.call, moment)
+    fn tell(self, depot: &mut Depot<S>, moment: u64) -> (Unjudged, bool) {
+        let (reply, changed) = depot.tell(self.call, moment);
+        (Unjudged::Told(reply), changed)
     }
 }
 
-/// A call that is handed over.
+/// A call that is handed over, with the SHA-1 of the block that it puts, where that was made before the turn.
 #[derive(Drop)]
 pub(crate) struct Own {
     pub call: Call,
+    pub name: Option<ObjId>,
 }
 
 impl<S: Shelf> Question<S> for Own {
+    ghost use Rattle.depot.specs.ObjectCalls.{TellsName};
+
     ghost call = { λ question. question.call };
 
     ghost too_much = { λ _ _. ⊥ };
+
+    ghost fits = { λ question. TellsName question.call.act question.name };
 
     fn is_admitted(&self, door: &Door) -> bool {
         admits(door, &self.call.secret, &self.call.act)
@@ -89,8 +106,9 @@ impl<S: Shelf> Question<S> for Own {
         Snapshot::of(&self.call)
     }
 
-    fn tell(self, depot: &mut Depot<S>, moment: u64) -> (Reply, bool) {
-        depot.tell_own(self.call, moment)
+    fn tell(self, depot: &mut Depot<S>, moment: u64) -> (Unjudged, bool) {
+        let Own { call, name } = self;
+        depot.tell_unjudged(call, name, moment)
     }
 }
 
@@ -104,13 +122,15 @@ pub(crate) struct First<'a> {
 }
 
 impl<S: Shelf> Question<S> for First<'_> {
-    ghost use Rattle.std.specs.Prelude.{◌∷◌};
+    ghost use Rattle.std.specs.Prelude.{◌∷◌, ⊤};
     ghost use Rattle.depot.specs.FirstGet.{fs_call};
     ghost use Rattle.sync_calls.specs.FirstAsking.{AsksTooMuch};
 
     ghost call = { λ question. fs_call question.secret.now question.id };
 
     ghost too_much = { λ question depot. AsksTooMuch question.secret.now (question.id ∷ question.more.now) question.most depot };
+
+    ghost fits = { λ _. ⊤ };
 
     fn is_admitted(&self, door: &Door) -> bool {
         admits(door, self.secret, &get_of(self.id))
@@ -123,8 +143,9 @@ impl<S: Shelf> Question<S> for First<'_> {
         })
     }
 
-    fn tell(self, depot: &mut Depot<S>, moment: u64) -> (Reply, bool) {
-        depot.tell_first(self.secret, self.id, self.more, self.most, moment)
+    fn tell(self, depot: &mut Depot<S>, moment: u64) -> (Unjudged, bool) {
+        let (reply, changed) = depot.tell_first(self.secret, self.id, self.more, self.most, moment);
+        (Unjudged::Told(reply), changed)
     }
 }
 

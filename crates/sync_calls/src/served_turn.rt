@@ -4,6 +4,7 @@ ghost use Rattle.turnstile.specs.Rule.{most_turns};
 ghost use Rattle.turnstile.specs.PassView.{IsPassOf, StandsFor, drawn_of, seen_of, told_of, view_of};
 ghost use Rattle.turnstile.specs.HeldTurn.{IsHeld, IsSameTurn, pass_of, place_of, value_of};
 ghost use Rattle.depot.specs.Story.{ComesBy};
+ghost use Rattle.depot.specs.Unjudged.{judged};
 ghost use Rattle.sync_calls.specs.FirstAsking.{Spares};
 ghost use Rattle.sync_calls.specs.Operations.{Called, IsDone};
 ghost use Rattle.sync_calls.specs.ServedTurn.{CatchesUp, IsEntryOf, IsSameShare};
@@ -11,17 +12,18 @@ ghost use Rattle.sync_calls.specs.Shown.{Knows, Shown, shown_in, shown_of};
 
 use crate::hall::Room;
 use crate::question::Question;
-use depot::{Change, Depot, Made};
+use depot::{Change, Depot, Made, Unjudged, judged};
 use library_state::{Call, Reply};
 use object_store::Shelf;
 use std::snapshot::Snapshot;
 use std::sync::Wait;
 use turnstile::{Held, Pass, Spent, Turnstile};
 
-/// The reply to a call, the place in the history at which it was asked, and how long the history is then.
+/// The answer to a call, of which the bytes may still be to be judged, the place in the history at which it was asked, and how
+/// long the history is then.
 #[derive(Drop)]
 pub(crate) struct Served {
-    pub reply: Reply,
+    pub answer: Unjudged,
     pub place: u64,
     pub length: u64,
 }
@@ -36,11 +38,12 @@ pub(crate) fn ask_behind_gate<S: Shelf, R: Wait, Q: Question<S>>(
 ) -> Result<Served, Spent>
     requires ready { IsPassOf room.now.lock pass.old }
     requires known { Knows S.contents S.may_give S.texts S.faults (shown_of pass.old) }
+    requires named { Q.fits question }
     ensures ready { IsPassOf room.now.lock pass.new }
     ensures known { Knows S.contents S.may_give S.texts S.faults (shown_of pass.new) }
     ensures same { IsSameShare pass.old pass.new }
-    ensures told { IfOk result (λ served. (done : IsDone S.contents S.may_give S.texts S.faults (shown_of pass.old) served.place (Called (Q.call question) moment served.reply) (shown_of pass.new))
-        × Spares (Q.too_much question) served.reply done) }
+    ensures told { IfOk result (λ served. (done : IsDone S.contents S.may_give S.texts S.faults (shown_of pass.old) served.place (Called (Q.call question) moment (judged served.answer)) (shown_of pass.new))
+        × Spares (Q.too_much question) (judged served.answer) done) }
     ensures size { IfOk result (λ served. served.length ≡ length (seen_of pass.new)) }
     ensures err { OnErr result ((shown_of pass.new ≡ shown_of pass.old) × (drawn_of pass.new ≡ most_turns)) }
     ensures unspent { OnOk result (drawn_of pass.new < most_turns) }
@@ -62,11 +65,12 @@ fn ask_one<S: Shelf, R: Wait, Q: Question<S>>(
 ) -> Result<Served, Spent>
     requires ready { IsPassOf lock.now pass.old }
     requires known { Knows S.contents S.may_give S.texts S.faults (shown_of pass.old) }
+    requires named { Q.fits question }
     ensures ready { IsPassOf lock.now pass.new }
     ensures known { Knows S.contents S.may_give S.texts S.faults (shown_of pass.new) }
     ensures same { IsSameShare pass.old pass.new }
-    ensures told { IfOk result (λ served. (done : IsDone S.contents S.may_give S.texts S.faults (shown_of pass.old) served.place (Called (Q.call question) moment served.reply) (shown_of pass.new))
-        × Spares (Q.too_much question) served.reply done) }
+    ensures told { IfOk result (λ served. (done : IsDone S.contents S.may_give S.texts S.faults (shown_of pass.old) served.place (Called (Q.call question) moment (judged served.answer)) (shown_of pass.new))
+        × Spares (Q.too_much question) (judged served.answer) done) }
     ensures size { IfOk result (λ served. served.length ≡ length (seen_of pass.new)) }
     ensures err { OnErr result ((shown_of pass.new ≡ shown_of pass.old) × (drawn_of pass.new ≡ most_turns)) }
     ensures unspent { OnOk result (drawn_of pass.new < most_turns) }
@@ -87,11 +91,12 @@ fn serve<S: Shelf, Q: Question<S>>(
     requires ready { IsHeld held.old }
     requires fits { told_of (pass_of held.old) ≡ 0 }
     requires stands { StandsFor (ComesBy S.contents S.may_give S.texts S.faults) (view_of (pass_of held.old)) (value_of held.old) }
+    requires named { Q.fits question }
     ensures ready { IsHeld held.new × IsSameTurn held.old held.new }
     ensures stands { StandsFor (ComesBy S.contents S.may_give S.texts S.faults) (view_of (pass_of held.new)) (value_of held.new) }
     ensures told { (u : Shown S) → CatchesUp u (shown_in (view_of (pass_of held.old)))
-        → (done : IsDone S.contents S.may_give S.texts S.faults u result.place (Called (Q.call question) moment result.reply) (shown_in (view_of (pass_of held.new))))
-        × Spares (Q.too_much question) result.reply done }
+        → (done : IsDone S.contents S.may_give S.texts S.faults u result.place (Called (Q.call question) moment (judged result.answer)) (shown_in (view_of (pass_of held.new))))
+        × Spares (Q.too_much question) (judged result.answer) done }
     ensures size { result.length ≡ length (seen_of (pass_of held.new)) }
     ensures known { (u : Shown S) → CatchesUp u (shown_in (view_of (pass_of held.old)))
         → Knows S.contents S.may_give S.texts S.faults u → Knows S.contents S.may_give S.texts S.faults (shown_in (view_of (pass_of held.new))) }
@@ -99,19 +104,20 @@ fn serve<S: Shelf, Q: Question<S>>(
 {
     let before = Snapshot::of(&*held.value());
     let asked = question.asked();
-    let (reply, changed) = question.tell(held.value(), moment);
+    let (answer, changed) = question.tell(held.value(), moment);
     let place = held.place();
     if !changed {
         return Served {
-            reply,
+            answer,
             place,
             length: place,
         };
     }
+    let reply = judged(answer);
     let entry = entry_of(before, asked, moment, &reply, &*held.value());
     held.publish(entry);
     Served {
-        reply,
+        answer: Unjudged::Told(reply),
         place,
         length: held.place(),
     }

@@ -24,6 +24,7 @@ ask_at-requires g c =
     record {
       ready = ready_at g.S.Shelf.contents g.S.Shelf.may_give g.S.Shelf.texts g.S.Shelf.faults c.args.hall.now c.args.pass.now c.requires.ready c.in-Some.place c.index.result.now c.index_mut.result.now
           within c.index.ensures c.index_mut.ensures.value;
+      named = c.requires.named;
     }
 
 pub returns-clause-ready : goal.returns-clause-ready

@@ -1,5 +1,6 @@
 -- What the pass knows as the turn ends is what it knew in it, and what was done in it stays.
 use Rattle.std.proofs.Common.{◌≡◌, None, false, rules, subst, sym}
+use Rattle.depot.specs.Unjudged.{judged}
 use Rattle.turnstile.specs.HeldTurn.{pass_of}
 use Rattle.turnstile.specs.PassView.{drawn_of, view_of}
 use Rattle.turnstile.specs.Rule.{most_turns}
@@ -22,7 +23,7 @@ returns-clause-told g c =
     let up : CatchesUp (shown_of c.args.pass.now) (shown_in (view_of (pass_of c.in_ok-held.held))) = search rules in
     let same : view_of c.pass-2-1.given.0 ≡ record (view_of (pass_of c.serve-served.new.held)) { ticket = None; turn = false; told = 0 } = search rules in
     subst (λ (v : LibraryView g.row.S.Denot). (done : IsDone g.S.Shelf.contents g.S.Shelf.may_give g.S.Shelf.texts g.S.Shelf.faults (shown_of c.args.pass.now) c.serve-served.result.place
-    (Called (g.Q.Question.call c.args.question) c.args.moment c.serve-served.result.reply) (shown_in v)) × Spares (g.Q.Question.too_much c.args.question) c.serve-served.result.reply done)
+    (Called (g.Q.Question.call c.args.question) c.args.moment (judged c.serve-served.result.answer)) (shown_in v)) × Spares (g.Q.Question.too_much c.args.question) (judged c.serve-served.result.answer) done)
     (sym same) (c.serve-served.ensures.told (shown_of c.args.pass.now) up)
 
 -- a turn isn't drawn behind the last one

@@ -1,44 +1,24 @@
--- One who may not ask is denied.
-use Rattle.std.proofs.Common.{◌∙◌, ap, subst, sym}
-use Rattle.std.specs.Prelude.{List}
-use Rattle.library_rules.specs.Calls.{token_of}
-use Rattle.library_state.specs.declared.refusal.Refusal.TheVariants as refusal
-use Rattle.library_state.specs.declared.reply.Reply.TheVariants as reply
-use Rattle.library_state.specs.declared.token.Token.{Token}
-use Rattle.depot.specs.Answering.{Serves, permits}
-use Rattle.depot.specs.DepotView.{DepotView, IsGood, depot_of}
-use Rattle.depot.proofs.AnswerLawLemmas.{answered_files, answered_safe}
-use Rattle.depot.proofs.HeldLemmas.{index_refused}
-use Rattle.depot.proofs.StopsLemmas.{denied_beside}
+-- The answer is judged, and all holds of what it is.
+use Rattle.std.proofs.Common.{◌∙◌, subst, sym}
+use Rattle.library_rules.specs.LateUpdates.{TakesUploaded}
+use Rattle.library_rules.specs.Uploads.{KeepsSafe, TellsSafe}
+use Rattle.library_state.specs.declared.reply.Reply.{Reply}
+use Rattle.depot.specs.Answering.{Serves}
+use Rattle.depot.specs.Held.{IndexSo}
 use Rattle.depot.proofs.depot.Depot.answer_own.Goals as goal
 
-pub returns-in-None-clause-serves : goal.returns-in-None-clause-serves
-returns-in-None-clause-serves g c =
-    let inside : DepotView g.row.S.Denot = depot_of c.self.inside.parts.store c.self.inside.parts.state c.self.inside.parts.unsettled c.self.inside.running in
-    subst (λ (d : DepotView g.row.S.Denot). Serves g.S.Shelf.contents g.S.Shelf.may_give g.S.Shelf.texts g.S.Shelf.faults d c.args.call c.args.moment (reply.Refused refusal.Denied) d)
-    c.self.view_is
-    (denied_beside g.S.Shelf.contents g.S.Shelf.faults g.S.Shelf.may_give g.S.Shelf.texts inside c.args.call c.args.moment
-    (ap (λ (tokens : List Token). permits (token_of tokens c.args.call.secret) c.args.call.act) (sym c.slice.ensures.value) ∙ c.in-None.ensures.absent))
+pub returns-clause-serves : goal.returns-clause-serves
+returns-clause-serves g c =
+    subst (λ (r : Reply). Serves g.S.Shelf.contents g.S.Shelf.may_give g.S.Shelf.texts g.S.Shelf.faults c.args.self.now c.args.call c.args.moment r c.answer_unjudged-answer.new.self)
+    (sym c.judged.ensures) c.answer_unjudged-answer.ensures.serves
 
-pub returns-in-None-clause-files : goal.returns-in-None-clause-files
-returns-in-None-clause-files g c =
-    answered_files g.S.Shelf.contents g.S.Shelf.faults c.args.self.now c.args.self.now c.args.call c.args.moment (reply.Refused refusal.Denied)
-    (subst (IsGood g.S.Shelf.contents g.S.Shelf.faults) c.self.view_is c.self.invariant.good) (returns-in-None-clause-serves g c).told
+pub returns-clause-held : goal.returns-clause-held
+returns-clause-held g c =
+    subst (λ (r : Reply). IndexSo c.args.call.act r c.args.self.now.store.index c.answer_unjudged-answer.new.self.store.index) (sym c.judged.ensures) c.answer_unjudged-answer.ensures.held
 
-pub returns-in-None-clause-safe : goal.returns-in-None-clause-safe
-returns-in-None-clause-safe g c =
-    answered_safe g.S.Shelf.contents g.S.Shelf.faults c.args.self.now c.args.self.now c.args.call c.args.moment (reply.Refused refusal.Denied)
-    (subst (IsGood g.S.Shelf.contents g.S.Shelf.faults) c.self.view_is c.self.invariant.good) (returns-in-None-clause-serves g c).told
+pub returns-clause-safe : goal.returns-clause-safe
+returns-clause-safe g c = λ s t before after.
+    subst (λ (r : Reply). KeepsSafe s t × TellsSafe c.args.call.act r t × TakesUploaded s c.args.call r) (sym c.judged.ensures) (c.answer_unjudged-answer.ensures.safe s t before after)
 
-pub returns-in-Some-clause-files : goal.returns-in-Some-clause-files
-returns-in-Some-clause-files g c =
-    answered_files g.S.Shelf.contents g.S.Shelf.faults c.args.self.now c.answer_own_permitted-reply.new.self c.args.call c.args.moment c.answer_own_permitted-reply.result
-    (subst (IsGood g.S.Shelf.contents g.S.Shelf.faults) c.self.view_is c.self.invariant.good) c.answer_own_permitted-reply.ensures.value.told
-
-pub returns-in-Some-clause-safe : goal.returns-in-Some-clause-safe
-returns-in-Some-clause-safe g c =
-    answered_safe g.S.Shelf.contents g.S.Shelf.faults c.args.self.now c.answer_own_permitted-reply.new.self c.args.call c.args.moment c.answer_own_permitted-reply.result
-    (subst (IsGood g.S.Shelf.contents g.S.Shelf.faults) c.self.view_is c.self.invariant.good) c.answer_own_permitted-reply.ensures.value.told
-
-pub returns-in-None-clause-held : goal.returns-in-None-clause-held
-returns-in-None-clause-held g c = index_refused c.args.call.act refusal.Denied c.args.self.now.store.index
+pub returns-clause-denied : goal.returns-clause-denied
+returns-clause-denied g c = λ is. c.judged.ensures ∙ c.answer_unjudged-answer.ensures.denied is

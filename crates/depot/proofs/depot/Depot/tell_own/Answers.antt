@@ -1,20 +1,10 @@
--- The figures before and after tell whether the call changed the library.
-use Rattle.depot.proofs.TellingLemmas.{is_other, stays_same}
+-- The answer is judged, and all holds of what it is.
+use Rattle.std.proofs.Common.{subst, sym}
+use Rattle.library_state.specs.declared.reply.Reply.{Reply}
+use Rattle.depot.specs.Story.{IsAnswered}
 use Rattle.depot.proofs.depot.Depot.tell_own.Goals as goal
 
 pub returns-clause-answered : goal.returns-clause-answered
 returns-clause-answered g c =
-    let said = c.answer_own-reply.ensures in
-    record { serves = said.serves; denied = said.denied; good = said.stands; gives = said.gives; index = said.held }
-
-pub returns-clause-same : goal.returns-clause-same
-returns-clause-same g c = λ is.
-    let served = c.answer_own-reply.ensures.serves in
-    stays_same g.S.Shelf.contents g.S.Shelf.faults c.args.self.now c.answer_own-reply.new.self c.checked_secret-secret.result c.figures-before.result c.figures-after.result
-    c.figures-before.ensures.value c.figures-after.ensures.value c.figures-before.ensures.shown c.figures-after.ensures.shown (c.differ-changed.ensures.same is)
-    c.args.call c.args.moment c.answer_own-reply.result c.checked_secret-secret.ensures.value served.told served.left _ served.fresh c.answer_own-reply.ensures.held
-
-pub returns-clause-other : goal.returns-clause-other
-returns-clause-other g c = λ is.
-    is_other g.S.Shelf.contents g.S.Shelf.faults c.args.self.now c.answer_own-reply.new.self c.checked_secret-secret.result c.figures-before.result c.figures-after.result
-    c.figures-before.ensures.value c.figures-after.ensures.value c.figures-before.ensures.shown c.figures-after.ensures.shown (c.differ-changed.ensures.other is)
+    subst (λ (r : Reply). IsAnswered g.S.Shelf.contents g.S.Shelf.may_give g.S.Shelf.texts g.S.Shelf.faults c.args.self.now c.args.call c.args.moment r c.tell_unjudged-answer.new.self)
+    (sym c.judged.ensures) c.tell_unjudged-answer.ensures.answered
