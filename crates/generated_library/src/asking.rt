@@ -20,7 +20,7 @@ use sync_calls::{Hall, HallPass};
 pub enum NotFilled {
     /// The library refused a call.
     Refused(Refusal),
-    /// Two directories of the tree have one name, or one has forty zeros.
+    /// Two directories of the tree have one name, or one has forty zeros; or an update to this commit told another head.
     Taken(ObjId),
     /// There was no memory.
     NoMemory,

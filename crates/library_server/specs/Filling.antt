@@ -159,7 +159,7 @@ pub record IsFilledFrom {S : Type 0} (contents : S → Option Contents) (faults 
   pub sum : stored ≡ count_sum (map.len t.objects) what.removed
 
 module _ {S : Type 0} (contents : S → Option Contents) (may_give : S → Slot → Option (List ℕ) → Type 0) (texts faults : S → ℕ) (shows : ℕ → Type 0) (count number : ℕ) where
-  -- it was filled by the calls of this secret, as the numbers tell, with a collection at the end, and so it is where it is told and no collection ran;
+  -- it was filled, as the numbers tell, with a collection at the end, and so it is where it is told and no collection ran;
   -- or something stopped that; or there was no memory to begin, and no call was made
   pub data Fills (secret : List ℕ) (depot after : DepotView S) (stored : ℕ) (filled : Result Filled Fault) : Type 0 where
     whole : (pass : LibraryPass S) → LeadsOut contents may_give texts faults depot pass after → (what : Filled) → filled ≡ Ok what → IsNumbered shows count number what

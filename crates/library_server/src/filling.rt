@@ -31,7 +31,7 @@ pub(crate) struct Files {
     pub number: u64,
 }
 
-/// Opens a library, fills it where it has no more than its first commit, and gives the line. What was handed out is back.
+/// Opens a library, fills it where it has one object and its first token is an owner's, and gives the line. What was handed out is back.
 pub(crate) fn make_files<G: Ground, C: Clock, R: Wait>(
     rt: &R,
     alloc: Global,

@@ -44,15 +44,15 @@ use std::thread::Threads;
 /// library alone or with several through a hall, where it may wait, and puts nothing.
 /// `serve FOLDER PORT WORKERS CONNECTIONS LIB [LIB..]` opens a port of `net` and lets so many workers serve its connections beside
 /// each other, each so many, where it may wait, and puts how many were served.
-/// `make FOLDER LIB COUNT NUMBER` fills a library that has no more than its first commit with so many generated files, and puts what came
-/// of it.
+/// `make FOLDER LIB COUNT NUMBER` fills a library that has one object, and whose first token is an owner's, with so many generated files,
+/// and puts what came of it.
 /// `--help` and `--version`, alone, put their texts. Other words put the usage line. Where FOLDER is `:memory:`, `token`, `inetd`,
 /// `serve` and `make` first make a library that is not there, of the name `memory`, the user `me` and a secret of forty `a`. What `libraries` and
 /// `net` handed out is back.
 ///
 /// The status is 0 where the command was done, for `inetd` where the connection ended well or met its limit; 1 after a
-/// fault, and where the sink failed; 2 for words that are no command; 3 for want of memory and nothing else, without a
-/// line where there was none for the words.
+/// fault, and where the sink failed; 2 for words that are no command; 3 for want of memory, without a line where
+/// there was none for the words, and for a refusal that no filling meets.
 pub fn run<G: Ground, L: Link, N: Net, C: Clock + Sync, O: Sink, R: Threads + Wait + Sync>(
     rt: &R,
     alloc: Global,
