@@ -158,7 +158,7 @@ over_by parent id moment lib root files s a b c at (grew, stored) (grew_dirs, tr
 pub filled_by : (shows : ℕ → Type 0) (count number moment : ℕ) (first mid head : List ℕ) (filled : Filled) (s a b c d t : State) → shows moment → IsSound d → IsNew first s → Grows s a
     → Pushes mid first moment (files_from count number) a b → Pushes head mid moment (changed_from 0 (files_from count number)) b c → Limits c d → Collects filled.removed d t
     → filled.paths ≡ map.len (tree_of moment (changed_from 0 (files_from count number))) → filled.bytes ≡ bytes_made count number
-    → IsFilled shows count number first filled t
+    → IsFilled shows count number first filled s t
 filled_by shows count number moment first mid head filled s a b c d t shown sound new grew one two (grew_on, days, same) collects paths bytes =
     let at : head_of d.state.kept ≡ head = ap head_of grew_on.kept ∙ two.head in
     let here : head_of t.state.kept ≡ head = collects.head ∙ at in
@@ -169,6 +169,7 @@ filled_by shows count number moment first mid head filled s a b c d t shown soun
       moment = moment;
       shown = shown;
       before = d.objects;
+      since = keeps_then grew.keeps (keeps_then one.keeps (keeps_then two.keeps grew_on.keeps));
       mid = mid;
       one = one.push d.objects (keeps_then two.keeps grew_on.keeps);
       two = subst (λ id. IsPush d.objects id mid moment (changed_from 0 (files_from count number))) (sym collects.head) before;

@@ -255,7 +255,7 @@ module _ {S : Type 0} (contents : S → Option Contents) (may_give : S → Slot 
       → Leads contents faults ys zs (IsBeside true mid (files_from count number)) (Pushes head mid moment (changed_from 0 (files_from count number)))
       → Leads contents faults zs ws Any Limits → Leads contents faults ws vs IsResting (Collects filled.removed)
       → filled.paths ≡ map.len (tree_of moment (changed_from 0 (files_from count number))) → filled.bytes ≡ bytes_made count number
-      → Leads contents faults us vs (IsNew first) (λ s t. IsFilled shows count number first filled t)
+      → Leads contents faults us vs (IsNew first) (λ s t. IsFilled shows count number first filled s t)
   fill_led us xs ys zs ws vs shows count number moment first mid head filled shown check one two limit collect paths bytes =
       let files : List (List ℕ) = files_from count number in
       let changed : List (List ℕ) = changed_from 0 files in
@@ -271,6 +271,6 @@ module _ {S : Type 0} (contents : S → Option Contents) (may_give : S → Slot 
       leads_then contents may_give texts faults us zs ws (IsNew first) Any (SecondSo first mid head moment files changed) Limits (LimitSo first mid head moment files changed) again limit
       (λ s c sound new so. tt) (λ s c d sound new so limits. record { c = c; so = so; limits = limits }) in
       leads_then contents may_give texts faults us ws vs (IsNew first) IsResting (LimitSo first mid head moment files changed) (Collects filled.removed)
-      (λ s t. IsFilled shows count number first filled t) limited collect
+      (λ s t. IsFilled shows count number first filled s t) limited collect
       (λ s d sound new so. (so.limits.0.idle (so.so.two.idle (so.so.so.one.idle (so.so.so.grew.idle new.0))), so.limits.1))
       (λ s d t sound new so collects. filled_by shows count number moment first mid head filled s so.so.so.a so.so.b so.c d t shown sound new so.so.so.grew so.so.so.one so.so.two so.limits collects paths bytes)

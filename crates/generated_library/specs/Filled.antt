@@ -35,12 +35,13 @@ pub record IsPush (objects : Objects) (id parent : List ℕ) (moment : ℕ) (fil
   pub tree : IsTreeOf objects commit.root (tree_of moment files)
 
 -- at a moment that the clock shows the files were pushed over the first commit, and then every tenth with one byte more over that; so the
--- library stood as its collection began. What is left stood there then; one update is kept, and a kept commit needs all that is left.
+-- library stood as its collection began, with all that was stored before it was filled. What is left stood there then; one update is kept, and a kept commit needs all that is left.
 -- The numbers are those of the head's tree, of the objects that were stored as the collection began, and of those that left
-pub record IsFilled (shows : ℕ → Type 0) (count number : ℕ) (first : List ℕ) (filled : Filled) (t : State) : Type 0 where
+pub record IsFilled (shows : ℕ → Type 0) (count number : ℕ) (first : List ℕ) (filled : Filled) (s t : State) : Type 0 where
   pub moment : ℕ
   pub shown : shows moment
   pub before : Objects
+  pub since : Keeps s.objects before
   pub mid : List ℕ
   pub one : IsPush before mid first moment (files_from count number)
   pub two : IsPush before (head_of t.state.kept) mid moment (changed_from 0 (files_from count number))

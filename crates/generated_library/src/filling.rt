@@ -54,7 +54,7 @@ pub fn fill<S: Shelf, C: Clock, R: Wait>(
     ensures ready { AreReady S.contents S.may_give S.texts S.faults hall.now pass.new }
     ensures size { (shares_of pass.new ≡ shares_of pass.old) × (made_with pass.new ≡ made_with pass.old) }
     ensures leads { IfOk result (λ filled. Leads S.contents S.faults (shown_by pass.old) (shown_by pass.new) (IsNew plan.now.head)
-        (λ s t. IsFilled (C.shows clock.now) plan.now.count plan.now.number plan.now.head filled t)) }
+        (λ s t. IsFilled (C.shows clock.now) plan.now.count plan.now.number plan.now.head filled s t)) }
     ensures numbers { IfOk result (λ filled. (moment : ℕ) × C.shows clock.now moment
         × (filled.paths ≡ map.len (tree_of moment (changed_from 0 (files_from plan.now.count plan.now.number)))) × (filled.bytes ≡ bytes_made plan.now.count plan.now.number)) }
 

@@ -166,9 +166,9 @@ module _ {S : Type 0} (contents : S → Option Contents) (may_give : S → Slot 
 
   module _ (shows : ℕ → Type 0) (count number : ℕ) where
     filled_from : (head : List ℕ) (depot after : DepotView S) (what : Filled) (left : ℕ) (s : State) → head ≡ head_of depot.state.kept → IsLeft contents faults after left
-        → LedOut after (λ s t. IsFilled shows count number head what t) s → IsFilledFrom contents faults shows count number depot after what (count_sum left what.removed)
+        → LedOut after (λ s t. IsFilled shows count number head what s t) s → IsFilledFrom contents faults shows count number s depot after what (count_sum left what.removed)
     filled_from head depot after what left s is counts led =
-        let filled : IsFilled shows count number (head_of depot.state.kept) what led.t = subst (λ (h : List ℕ). IsFilled shows count number h what led.t) is led.stands in
+        let filled : IsFilled shows count number (head_of depot.state.kept) what s led.t = subst (λ (h : List ℕ). IsFilled shows count number h what s led.t) is led.stands in
         record {
           t = led.t;
           told = led.told;
@@ -179,12 +179,12 @@ module _ {S : Type 0} (contents : S → Option Contents) (may_give : S → Slot 
 
     pub fills_by : (lib secret head : List ℕ) (depot after : DepotView S) (us : List (Shown S)) (pass : PassOf S) (result : Result Filled NotFilled) (left : ℕ)
         → lib ≡ depot.state.lib → IsOwnedBy depot.state.tokens secret → head ≡ head_of depot.state.kept → IsGood contents faults depot → us ≡ new_shown depot ∷ [] → ComesOut depot pass after
-        → IfOk result (λ what. Leads contents faults us (shown_by pass) (IsNew head) (λ s t. IsFilled shows count number head what t))
+        → IfOk result (λ what. Leads contents faults us (shown_by pass) (IsNew head) (λ s t. IsFilled shows count number head what s t))
         → IfOk result (IsNumbered shows count number) → IfOk result (λ what. WasCollected contents may_give texts faults lib secret shows what.removed pass) → IfErr result (EndsFor contents may_give texts faults lib secret shows pass) → IsLeft contents faults after left
         → Fills contents may_give texts faults shows count number secret depot after (stored_by (told_of result) left) (told_of result)
     fills_by lib secret head depot after us pass (Ok what) left named owned is good begins out leads numbers last stops counts =
         whole out.to (leads_out depot pass after out) what refl numbers (collected_by contents may_give texts faults shows lib secret depot pass out.to out.is out.starts named owned what.removed last) (λ s told idle. filled_from head depot after what left s is counts
-        (led_out depot after us pass (IsNew head) (λ s t. IsFilled shows count number head what t) s begins out leads told (good.sound s told) (idle, ap (λ (z : LibState). head_of z.kept) (state_told contents faults depot s told) ∙ sym is)))
+        (led_out depot after us pass (IsNew head) (λ s t. IsFilled shows count number head what s t) s begins out leads told (good.sound s told) (idle, ap (λ (z : LibState). head_of z.kept) (state_told contents faults depot s told) ∙ sym is)))
     fills_by lib secret head depot after us pass (Err why) left named owned is good begins out leads numbers last stops counts =
         stopped out.to (leads_out depot pass after out) why refl
         (stopped_by contents may_give texts faults shows lib secret depot pass out.to out.is out.starts named owned why stops)

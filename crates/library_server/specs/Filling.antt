@@ -151,10 +151,10 @@ pub record LeadsOut {S : Type 0} (contents : S → Option Contents) (may_give : 
 
 -- what a library is that was filled where it stood; and how many objects were stored as its collection began: those that are left, and those that left
 pub record IsFilledFrom {S : Type 0} (contents : S → Option Contents) (faults : S → ℕ) (shows : ℕ → Type 0) (count number : ℕ)
-    (depot after : DepotView S) (what : Filled) (stored : ℕ) : Type 0 where
+    (s : State) (depot after : DepotView S) (what : Filled) (stored : ℕ) : Type 0 where
   pub t : State
   pub told : state_of contents faults after ≡ Some t
-  pub filled : IsFilled shows count number (head_of depot.state.kept) what t
+  pub filled : IsFilled shows count number (head_of depot.state.kept) what s t
   pub size : stored ≡ told_number (map.len filled.before)
   pub sum : stored ≡ count_sum (map.len t.objects) what.removed
 
@@ -164,7 +164,7 @@ module _ {S : Type 0} (contents : S → Option Contents) (may_give : S → Slot 
   pub data Fills (secret : List ℕ) (depot after : DepotView S) (stored : ℕ) (filled : Result Filled Fault) : Type 0 where
     whole : (pass : LibraryPass S) → LeadsOut contents may_give texts faults depot pass after → (what : Filled) → filled ≡ Ok what → IsNumbered shows count number what
         → IsLastCollection contents may_give texts faults shows secret what.removed pass
-        → ((s : State) → state_of contents faults depot ≡ Some s → s.running ≡ None → IsFilledFrom contents faults shows count number depot after what stored)
+        → ((s : State) → state_of contents faults depot ≡ Some s → s.running ≡ None → IsFilledFrom contents faults shows count number s depot after what stored)
         → Fills secret depot after stored filled
     stopped : (pass : LibraryPass S) → LeadsOut contents may_give texts faults depot pass after → (why : NotFilled) → filled ≡ Err (fault_of_not_filled why)
         → IsStopped contents may_give texts faults shows secret why pass → Fills secret depot after stored filled
