@@ -1,5 +1,5 @@
 -- Why a step of a filling stops is why what it asked stopped. The key lemmas are stopped, wants_memory, asked_stops, ends_for and was_collected.
-use Rattle.std.proofs.Common.{◌≡◌, ◌≢◌, inl, inr, ◌↔◌, ℕ, Bool, true, false, List, Option, Some, Result, Ok, Err, ap, ◌∙◌, subst, sym, true≢false}
+use Rattle.std.proofs.Common.{◌≡◌, inl, inr, ℕ, false, List, Option, Some, Result, Ok, Err, refl, subst, sym}
 use Rattle.std.specs.Prelude.{IfErr, IfOk}
 use Rattle.std.specs.Result.{IsErrAnd}
 use Rattle.library_rules.specs.Changes.{is_refused}
@@ -17,14 +17,16 @@ use Rattle.sync_calls.specs.Shown.{Shown}
 use Rattle.sync_calls.specs.declared.asking.Answer.{Answer}
 use Rattle.sync_calls.specs.declared.collecting.Collected.{Collected}
 use Rattle.sync_calls.specs.declared.collecting.Collected.TheVariants as collected
-use Rattle.library_state.specs.declared.call.Act.TheVariants as act
-use Rattle.tree_merge.specs.TreeBuilding.{IsCausedInBuild}
+use Rattle.tree_merge.specs.Sides.{Entries}
+use Rattle.tree_merge.specs.TreeBuilding.{IsClash, IsSound}
 use Rattle.tree_merge.specs.declared.tree_builder.BuildFault.{BuildFault}
 use Rattle.tree_merge.specs.declared.tree_builder.BuildFault.TheVariants as unmade
+use Rattle.generated_library.specs.Filled.{entries_of}
 use Rattle.generated_library.specs.Leading.{call_of}
 use Rattle.generated_library.specs.Stopping.{EndsFor, IsOfFilling, IsRefusalOf, StopsAsBuilt, StopsFor, WasAsked, WasCollected}
 use Rattle.generated_library.specs.declared.asking.NotFilled.{NotFilled}
 use Rattle.generated_library.specs.declared.asking.NotFilled.TheVariants as not_filled
+use Rattle.generated_library.proofs.TreeLemmas.{sound_files}
 
 module _ {S : Type 0} (contents : S → Option Contents) (may_give : S → Slot → Option (List ℕ) → Type 0) (texts faults : S → ℕ) (lib secret : List ℕ) where
   -- ---- a step, at a moment
@@ -44,9 +46,12 @@ module _ {S : Type 0} (contents : S → Option Contents) (may_give : S → Slot 
     wants_memory pass (Err told) is = subst (Stops pass) (sym is) tt
 
     -- a clash of names as directories were made
-    pub unbuilt : (pass : PassOf S) (fault : BuildFault) (now : NotFilled) → IsCausedInBuild fault → StopsAsBuilt fault now → StopsFor contents may_give texts faults lib secret moment pass now
-    unbuilt pass (unmade.Taken id) now clash is = subst (Stops pass) (sym is) (inr clash)
-    unbuilt pass unmade.NoMemory now free is = subst (Stops pass) (sym is) tt
+    pub unbuilt : (pass : PassOf S) (files : List (List ℕ)) (entries : Entries) → entries ≡ entries_of moment files → (fault : BuildFault) (now : NotFilled)
+        → ((id : List ℕ) → fault ≡ unmade.Taken id → IsSound entries → IsClash entries id) → StopsAsBuilt fault now → StopsFor contents may_give texts faults lib secret moment pass now
+    unbuilt pass files entries are (unmade.Taken id) now clash is =
+        let sound : IsSound entries = subst IsSound (sym are) (sound_files moment files) in
+        subst (Stops pass) (sym is) (files, subst (λ (e : Entries). IsClash e id) are (clash id refl sound))
+    unbuilt pass files entries are unmade.NoMemory now clash is = subst (Stops pass) (sym is) tt
 
     module _ (us : List (Shown S)) (pass : PassOf S) (a : Act) (answer : Answer) (turn : (lines : List Line) × AsksSo contents may_give texts faults us lib (call_of (Some secret) a) moment answer lines (shown_by pass) (drawn_by pass)) where
       was_asked : WasAsked contents may_give texts faults lib secret moment a answer pass
@@ -65,13 +70,6 @@ module _ {S : Type 0} (contents : S → Option Contents) (may_give : S → Slot 
       asked_done (Ok said) is = (answer, was_asked, sym is.0)
       asked_done (Err why) is = tt
 
-    -- an update that tells another head
-    pub taken_stops : (pass : PassOf S) (id : List ℕ) (said : Reply) (is_head : Bool) → is_refused said ≡ false
-        → (answer : Answer) × WasAsked contents may_give texts faults lib secret moment (act.Update id) answer pass × (answer.reply ≡ said)
-        → (is_head ≡ true) ↔ (said ≡ reply.Updated id) → is_head ≡ false → StopsFor contents may_give texts faults lib secret moment pass (not_filled.Taken id)
-    taken_stops pass id said is_head done (answer, asked, is) told other =
-        inl (record { answer = answer; asked = asked; done = ap is_refused is ∙ done; other = λ same. true≢false (sym (told.1 (sym is ∙ same)) ∙ other) })
-
   -- ---- a whole filling
 
   module _ (shows : ℕ → Type 0) where
@@ -80,8 +78,7 @@ module _ {S : Type 0} (contents : S → Option Contents) (may_give : S → Slot 
 
     ends_by : (moment : ℕ) → shows moment → (pass : PassOf S) (was : NotFilled) → StopsFor contents may_give texts faults lib secret moment pass was → Ends pass was
     ends_by moment shown pass (not_filled.Refused why) refused = inl (moment, shown, refused)
-    ends_by moment shown pass (not_filled.Taken id) (inl taken) = inl (moment, shown, taken)
-    ends_by moment shown pass (not_filled.Taken id) (inr clash) = inr clash
+    ends_by moment shown pass (not_filled.Taken id) clash = (moment, shown, clash)
     ends_by moment shown pass not_filled.NoMemory stops = tt
 
     pub ended_for : {T : Type 0} (pass : PassOf S) (was : NotFilled) (r : Result T NotFilled) → IsErrAnd r (λ told. told ≡ was)

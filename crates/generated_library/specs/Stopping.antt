@@ -1,6 +1,5 @@
--- Why a filling stops, and the collection with which one ends. Our own. Read EndsFor, then WasRefused and WasTaken; and WasCollected.
-use Rattle.std.specs.Prelude.{◌≡◌, ◌≢◌, ◌⊎◌, ℕ, false, List, Option, Some, pos, ⊤}
-use Rattle.library_rules.specs.Changes.{is_refused}
+-- Why a filling stops, and the collection with which one ends. Our own. Read EndsFor, then WasRefused and IsOfOneName; and WasCollected.
+use Rattle.std.specs.Prelude.{◌≡◌, ◌⊎◌, ℕ, List, Option, Some, pos, ⊤}
 use Rattle.library_state.specs.declared.call.Act.{Act}
 use Rattle.library_state.specs.declared.call.Act.TheVariants as act
 use Rattle.library_state.specs.declared.call.Op.TheVariants as op
@@ -16,9 +15,10 @@ use Rattle.sync_calls.specs.Operations.{Line}
 use Rattle.sync_calls.specs.Shown.{Shown}
 use Rattle.sync_calls.specs.declared.asking.Answer.{Answer}
 use Rattle.sync_calls.specs.declared.collecting.Collected.TheVariants as collected
-use Rattle.tree_merge.specs.TreeBuilding.{IsCollision}
+use Rattle.tree_merge.specs.TreeBuilding.{IsClash}
 use Rattle.tree_merge.specs.declared.tree_builder.BuildFault.{BuildFault}
 use Rattle.tree_merge.specs.declared.tree_builder.BuildFault.TheVariants as unmade
+use Rattle.generated_library.specs.Filled.{entries_of}
 use Rattle.generated_library.specs.Leading.{call_of}
 use Rattle.generated_library.specs.declared.asking.NotFilled.{NotFilled}
 use Rattle.generated_library.specs.declared.asking.NotFilled.TheVariants as not_filled
@@ -42,6 +42,10 @@ abbrev pub StopsAsBuilt : BuildFault → NotFilled → Type 0
 StopsAsBuilt (unmade.Taken id) why = why ≡ not_filled.Taken id
 StopsAsBuilt unmade.NoMemory why = why ≡ not_filled.NoMemory
 
+-- two directories of the tree of generated files have this name, or one has, and it is forty zeros
+abbrev pub IsOfOneName : ℕ → List ℕ → Type 0
+IsOfOneName moment id = (files : List (List ℕ)) × IsClash (entries_of moment files) id
+
 module _ {S : Type 0} (contents : S → Option Contents) (may_give : S → Slot → Option (List ℕ) → Type 0) (texts faults : S → ℕ) (lib secret : List ℕ) where
   -- this was asked of the hall through a pass, which is so since it was answered so
   pub record WasAsked (moment : ℕ) (a : Act) (answer : Answer) (pass : PassOf S) : Type 0 where
@@ -57,13 +61,6 @@ module _ {S : Type 0} (contents : S → Option Contents) (may_give : S → Slot 
     pub asked : WasAsked moment a answer pass
     pub is : answer.reply ≡ reply.Refused why
 
-  -- an update to this commit told another one as the head, or anything else that is no refusal
-  pub record WasTaken (moment : ℕ) (id : List ℕ) (pass : PassOf S) : Type 0 where
-    pub answer : Answer
-    pub asked : WasAsked moment (act.Update id) answer pass
-    pub done : is_refused answer.reply ≡ false
-    pub other : answer.reply ≢ reply.Updated id
-
   -- a collection was refused so
   pub record WasNotCollected (shows : ℕ → Type 0) (why : Refusal) (pass : PassOf S) : Type 0 where
     pub us : List (Shown S)
@@ -78,14 +75,14 @@ module _ {S : Type 0} (contents : S → Option Contents) (may_give : S → Slot 
     pub turns : ℕ
     pub collects : CollectsSo contents may_give texts faults shows us lib (Some secret) (collected.Done number removed turns) lines (shown_by pass) (drawn_by pass)
 
-  -- a step stops for the last thing that was asked, at this moment; or two things have one name
+  -- a step stops for the last thing that was asked, at this moment; or for a clash of names
   abbrev pub StopsFor : ℕ → PassOf S → NotFilled → Type 0
   StopsFor moment pass (not_filled.Refused why) = WasRefused moment why pass
-  StopsFor moment pass (not_filled.Taken id) = WasTaken moment id pass ⊎ IsCollision id
+  StopsFor moment pass (not_filled.Taken id) = IsOfOneName moment id
   StopsFor moment pass not_filled.NoMemory = ⊤
 
   -- so does a whole filling, at a moment that the clock shows
   abbrev pub EndsFor : (ℕ → Type 0) → PassOf S → NotFilled → Type 0
   EndsFor shows pass (not_filled.Refused why) = ((moment : ℕ) × shows moment × WasRefused moment why pass) ⊎ WasNotCollected shows why pass
-  EndsFor shows pass (not_filled.Taken id) = ((moment : ℕ) × shows moment × WasTaken moment id pass) ⊎ IsCollision id
+  EndsFor shows pass (not_filled.Taken id) = (moment : ℕ) × shows moment × IsOfOneName moment id
   EndsFor shows pass not_filled.NoMemory = ⊤

@@ -20,7 +20,7 @@ use sync_calls::{Hall, HallPass};
 pub enum NotFilled {
     /// The library refused a call.
     Refused(Refusal),
-    /// Two directories of the tree have one name, or one has forty zeros; or an update to this commit told another head.
+    /// Two directories of the tree have one name, or one has forty zeros.
     Taken(ObjId),
     /// There was no memory.
     NoMemory,
@@ -100,7 +100,8 @@ pub(crate) fn put<S: Shelf, R: Wait>(
     Ok(())
 }
 
-/// Makes a commit the head. One that was kept already, under which another is the head, is told as taken.
+/// Makes a commit the head. That another is the head afterwards, since it was kept already, is told as want of memory: none that a
+/// filling makes was.
 pub(crate) fn update<S: Shelf, R: Wait>(
     rt: &R,
     hall: &Hall<S>,
@@ -116,7 +117,7 @@ pub(crate) fn update<S: Shelf, R: Wait>(
 {
     let reply = ask(rt, hall, pass, asker, Act::Update(commit))?;
     if !is_updated(&reply, commit) {
-        return Err(NotFilled::Taken(commit));
+        return Err(NotFilled::NoMemory);
     }
     Ok(())
 }

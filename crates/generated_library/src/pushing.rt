@@ -1,5 +1,5 @@
 //! A push of the generated files: their blocks and objects, the directories, a commit, and the update.
-ghost use Rattle.std.specs.Prelude.{◌≡◌, ◌≢◌, ◌<◌, ◌≤◌, ◌||◌, IfErr, IfOk, None, Ok, OnOk, Some, codes, false, length, not};
+ghost use Rattle.std.specs.Prelude.{◌≡◌, ◌≢◌, ◌<◌, ◌≤◌, ◌||◌, ℕ, IfErr, IfOk, List, None, Ok, OnOk, Some, codes, false, length, not};
 ghost use Rattle.std.specs.FinMap as map;
 ghost use Rattle.ids.specs.ObjectId.{nil};
 ghost use Rattle.sha1.specs.Sha1.{sha1};
@@ -302,6 +302,7 @@ fn put_directories<S: Shelf, R: Wait>(
     entries: PathTable<Entry>,
 ) -> Result<ObjId, NotFilled>
     requires ready { AreReady S.contents S.may_give S.texts S.faults hall.now pass.old }
+    requires entries { (files : List (List ℕ)) × (entries ≡ entries_of asker.now.moment files) }
     ensures ready { AreReady S.contents S.may_give S.texts S.faults hall.now pass.new }
     ensures size { (shares_of pass.new ≡ shares_of pass.old) × (made_with pass.new ≡ made_with pass.old) }
     ensures leads { IfOk result (λ root. Leads S.contents S.faults (shown_by pass.old) (shown_by pass.new) Any (HasTree entries root)) }

@@ -10,10 +10,8 @@ use Rattle.ids.specs.FaultCount.{Rose}
 use Rattle.ids.specs.declared.key.Key.{Key}
 use Rattle.ids.proofs.BasicLemmas.{same_from_some}
 use Rattle.library_rules.specs.Calls.{right_for, token_of}
-use Rattle.library_rules.specs.Changes.{is_refused}
 use Rattle.library_state.specs.Rights.{right_number}
 use Rattle.library_state.specs.declared.call.Act.{Act}
-use Rattle.library_state.specs.declared.call.Act.TheVariants as act
 use Rattle.library_state.specs.declared.call.Call.{Call}
 use Rattle.library_state.specs.declared.refusal.Refusal.{Refusal}
 use Rattle.library_state.specs.declared.refusal.Refusal.TheVariants as refusal
@@ -48,7 +46,7 @@ use Rattle.turnstile.specs.PassView.{drawn_of, seen_of, start_of}
 use Rattle.turnstile.specs.Rule.{most_turns}
 use Rattle.hall_server.proofs.LaterLemmas.{none_some}
 use Rattle.generated_library.specs.Leading.{call_of}
-use Rattle.generated_library.specs.Stopping.{EndsFor, WasCollected, WasNotCollected, WasRefused, WasTaken}
+use Rattle.generated_library.specs.Stopping.{EndsFor, WasCollected, WasNotCollected, WasRefused}
 use Rattle.generated_library.specs.declared.asking.NotFilled.{NotFilled}
 use Rattle.generated_library.specs.declared.asking.NotFilled.TheVariants as unfilled
 use Rattle.generated_library.specs.declared.filling.Filled.{Filled}
@@ -56,7 +54,7 @@ use Rattle.generated_library.proofs.OwnLemmas.{alone_set}
 use Rattle.server_words.specs.declared.fault.Fault.{Fault}
 use Rattle.server_words.specs.declared.fault.Fault.TheVariants as fault
 use Rattle.library_server.specs.Answering.{NamesIn, NeverFails, is_of_storage}
-use Rattle.library_server.specs.Filling.{ComesOf, IsLastAnswer, IsLastCollection, IsLastRefused, IsLastTaken, IsOwnedBy, IsStopped, LeadsOut, exists, fault_of_not_filled, fault_of_refusal, filled_line, is_unfilled_counted, new, no_room, of_call, of_lock, of_turn, stopped, whole}
+use Rattle.library_server.specs.Filling.{ComesOf, IsLastAnswer, IsLastCollection, IsLastRefused, IsOwnedBy, IsStopped, LeadsOut, exists, fault_of_not_filled, fault_of_refusal, filled_line, is_unfilled_counted, new, no_room, of_call, of_lock, of_turn, stopped, whole}
 use Rattle.library_server.specs.Lines.{is_storage_fault}
 use Rattle.library_server.specs.WholeRuns.{is_storage_line}
 use Rattle.library_server.proofs.CollectingWholeLemmas.{is_storage_turn}
@@ -171,15 +169,6 @@ module _ {S : Type 0} (contents : S → Option Contents) (may_give : S → Slot 
       by (inl last) = of_call refused.a refused.kind (subst (λ (r : Reply). IsLastAnswer contents may_give texts faults shows secret refused.a r to) refused.is last)
       by (inr spent) = of_lock spent.0 (refused_same why refusal.Spent (sym refused.is ∙ spent.1))
 
-  update_stops : (moment : ℕ) (id : List ℕ) → shows moment → WasTaken contents may_give texts faults lib secret moment id pass
-      → IsLastTaken contents may_give texts faults shows secret id to
-  update_stops moment id shown taken = by (asked_last taken.asked.us (act.Update id) moment taken.answer taken.asked.lines shown taken.asked.asks)
-    where
-      by : IsLastAnswer contents may_give texts faults shows secret (act.Update id) taken.answer.reply to ⊎ ((drawn_of to ≡ most_turns) × (taken.answer.reply ≡ reply.Refused refusal.Spent))
-          → IsLastTaken contents may_give texts faults shows secret id to
-      by (inl last) = record { said = taken.answer.reply; last = last; done = taken.done; other = taken.other }
-      by (inr spent) = absurd (true≢false (sym (ap is_refused spent.1) ∙ taken.done))
-
   -- the turns of a collection, whatever it tells
   record WentSo (ends : Collected) : Type 0 where
     pub u : Shown S
@@ -223,8 +212,7 @@ module _ {S : Type 0} (contents : S → Option Contents) (may_give : S → Slot 
   pub stopped_by : (why : NotFilled) → EndsFor contents may_give texts faults lib secret shows pass why → IsStopped contents may_give texts faults shows secret why to
   stopped_by (unfilled.Refused why) (inl (moment, shown, refused)) = call_stops moment why shown refused
   stopped_by (unfilled.Refused why) (inr stops) = collection_stops why stops
-  stopped_by (unfilled.Taken id) (inl (moment, shown, taken)) = inl (update_stops moment id shown taken)
-  stopped_by (unfilled.Taken id) (inr clash) = inr clash
+  stopped_by (unfilled.Taken id) clash = clash
   stopped_by unfilled.NoMemory free = tt
 
 -- ---- the count of the storage

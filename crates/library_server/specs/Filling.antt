@@ -12,14 +12,12 @@ use Rattle.folder_storage.specs.Ground.{MayGive, Standing, Standings, count_sum}
 use Rattle.generated_library.specs.Filled.{IsFilled}
 use Rattle.generated_library.specs.Generated.{bytes_made, changed_from, files_from, tree_of}
 use Rattle.generated_library.specs.Leading.{call_of}
-use Rattle.generated_library.specs.Stopping.{IsOfFilling}
+use Rattle.generated_library.specs.Stopping.{IsOfFilling, IsOfOneName}
 use Rattle.generated_library.specs.declared.asking.NotFilled.{NotFilled}
 use Rattle.generated_library.specs.declared.asking.NotFilled.TheVariants as unfilled
 use Rattle.generated_library.specs.declared.filling.Filled.{Filled}
-use Rattle.library_rules.specs.Changes.{is_refused}
 use Rattle.library_rules.specs.LibraryState.{State, head_of}
 use Rattle.library_state.specs.declared.call.Act.{Act}
-use Rattle.library_state.specs.declared.call.Act.TheVariants as act
 use Rattle.library_state.specs.declared.refusal.Refusal.{Refusal}
 use Rattle.library_state.specs.declared.refusal.Refusal.TheVariants as refusal
 use Rattle.library_state.specs.declared.reply.Reply.{Reply}
@@ -38,7 +36,6 @@ use Rattle.sync_calls.specs.Collecting.{EndsSo, IsTaken, OneTurn, told as told_n
 use Rattle.sync_calls.specs.Operations.{Called, IsDone}
 use Rattle.sync_calls.specs.Shown.{LibraryPass, Shown, shown_of}
 use Rattle.sync_calls.specs.declared.collecting.Collected.TheVariants as collected
-use Rattle.tree_merge.specs.TreeBuilding.{IsCollision}
 use Rattle.turnstile.specs.Lists.{Has}
 use Rattle.turnstile.specs.PassView.{book_of, drawn_of, seen_of, start_of}
 use Rattle.turnstile.specs.Rule.{most_turns}
@@ -107,13 +104,6 @@ module _ {S : Type 0} (contents : S → Option Contents) (may_give : S → Slot 
     of_turn : IsLastTurn why pass → IsLastRefused why pass
     of_lock : drawn_of pass ≡ most_turns → why ≡ refusal.Spent → IsLastRefused why pass
 
-  -- the last call was an update to this commit, which was answered with another head, or with anything else that is no refusal
-  pub record IsLastTaken (id : List ℕ) (pass : LibraryPass S) : Type 0 where
-    pub said : Reply
-    pub last : IsLastAnswer (act.Update id) said pass
-    pub done : is_refused said ≡ false
-    pub other : said ≢ reply.Updated id
-
   -- a collection was taken to its end, as the last thing, in these turns; it told that so many objects left, which are those of its turns
   pub record IsLastCollection (removed : ℕ) (pass : LibraryPass S) : Type 0 where
     pub before : Shown S
@@ -122,10 +112,10 @@ module _ {S : Type 0} (contents : S → Option Contents) (may_give : S → Slot 
     pub taken : ℕ
     pub ends : EndsSo contents may_give texts faults shows before (collected.Done number removed taken) turns (shown_of pass) (drawn_of pass)
 
-  -- a filling stops for what was asked of the library last; or two things have one name; or there is no memory
+  -- a filling stops for what was asked of the library last; or for a clash of names of its tree; or there is no memory
   abbrev pub IsStopped : NotFilled → LibraryPass S → Type 0
   IsStopped (unfilled.Refused why) pass = IsLastRefused why pass
-  IsStopped (unfilled.Taken id) pass = IsLastTaken id pass ⊎ IsCollision id
+  IsStopped (unfilled.Taken id) pass = (moment : ℕ) × shows moment × IsOfOneName moment id
   IsStopped unfilled.NoMemory pass = ⊤
 
 -- ---- the library that is filled

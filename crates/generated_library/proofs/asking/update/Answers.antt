@@ -2,7 +2,7 @@
 use Rattle.std.proofs.Common.{Some}
 use Rattle.sync_calls.specs.Hall.{shown_by}
 use Rattle.generated_library.proofs.LedLemmas.{update_led}
-use Rattle.generated_library.proofs.StoppingLemmas.{stopped, taken_stops}
+use Rattle.generated_library.proofs.StoppingLemmas.{stopped}
 use Rattle.generated_library.proofs.asking.update.Goals as goal
 
 pub returns-clause-leads : goal.returns-clause-leads
@@ -13,7 +13,3 @@ returns-clause-leads g c =
 pub returns-in_err-reply-clause-stops : goal.returns-in_err-reply-clause-stops
 returns-in_err-reply-clause-stops g c =
     stopped g.S.Shelf.contents g.S.Shelf.may_give g.S.Shelf.texts g.S.Shelf.faults c.args.asker.now.lib c.args.asker.now.secret c.args.asker.now.moment c.ask.new.pass c.in_err-reply.field-0.0 c.from_residual.result c.from_residual.ensures.1 c.in_err-reply.ensures.stops
-
-pub returns-then-not-is_updated-clause-stops : goal.returns-then-not-is_updated-clause-stops
-returns-then-not-is_updated-clause-stops g c =
-    taken_stops g.S.Shelf.contents g.S.Shelf.may_give g.S.Shelf.texts g.S.Shelf.faults c.args.asker.now.lib c.args.asker.now.secret c.args.asker.now.moment c.ask.new.pass c.args.commit c.in_ok-reply.reply c.is_updated.result c.in_ok-reply.ensures.done c.in_ok-reply.ensures.asked c.is_updated.ensures.told c.if-not-is_updated.true

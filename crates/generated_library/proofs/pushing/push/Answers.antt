@@ -17,6 +17,11 @@ returns-clause-paths g c =
     let files = pushed_files round.is_second 0 (files_from round.count round.number) in
     c.len-paths.ensures.value ∙ (ap map.len c.in_ok-bytes.ensures.entries ∙ sym (tree_len c.args.asker.now.moment files))
 
+-- what was added is what the directories are made of
+pub put_directories-requires-clause-entries : goal.put_directories-requires-clause-entries
+put_directories-requires-clause-entries g c =
+    (pushed_files c.args.round.is_second 0 (files_from c.args.round.count c.args.round.number), c.in_ok-bytes.ensures.entries)
+
 pub returns-clause-leads : goal.returns-clause-leads
 returns-clause-leads g c =
     let round = c.args.round in

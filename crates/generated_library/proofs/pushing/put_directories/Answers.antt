@@ -1,5 +1,7 @@
 -- What is stored of the directories is the tree.
+use Rattle.std.proofs.Common.{ℕ, List, Err, ap, ◌∙◌}
 use Rattle.sync_calls.specs.Hall.{shown_by}
+use Rattle.tree_merge.specs.declared.tree_builder.BuildFault.{BuildFault}
 use Rattle.generated_library.proofs.LedLemmas.{tree_led}
 use Rattle.generated_library.proofs.StoppingLemmas.{stopped, unbuilt}
 use Rattle.generated_library.proofs.pushing.put_directories.Goals as goal
@@ -9,7 +11,9 @@ returns-clause-leads g c =
     tree_led g.S.Shelf.contents g.S.Shelf.may_give g.S.Shelf.texts g.S.Shelf.faults (shown_by c.args.pass.now) (shown_by c.put_all.new.pass) c.in-Ok.built.made c.args.entries c.in-Ok.built.root c.in-Ok.ensures.value c.in_ok-put_all.ensures.leads
 
 pub returns-in-Err-clause-stops : goal.returns-in-Err-clause-stops
-returns-in-Err-clause-stops g c = unbuilt g.S.Shelf.contents g.S.Shelf.may_give g.S.Shelf.texts g.S.Shelf.faults c.args.asker.now.lib c.args.asker.now.secret c.args.asker.now.moment c.args.pass.now c.in-Err.fault c.not_built.result c.in-Err.ensures.cause c.not_built.ensures.value
+returns-in-Err-clause-stops g c =
+    unbuilt g.S.Shelf.contents g.S.Shelf.may_give g.S.Shelf.texts g.S.Shelf.faults c.args.asker.now.lib c.args.asker.now.secret c.args.asker.now.moment c.args.pass.now c.requires.entries.0 c.args.entries
+    c.requires.entries.1 c.in-Err.fault c.not_built.result (λ (id : List ℕ) same. c.build.ensures.taken id (c.in-Err.is ∙ ap (λ (f : BuildFault). Err f) same)) c.not_built.ensures.value
 
 pub returns-in_err-put_all-clause-stops : goal.returns-in_err-put_all-clause-stops
 returns-in_err-put_all-clause-stops g c =
