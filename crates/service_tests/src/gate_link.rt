@@ -3,35 +3,71 @@ ghost use Rattle.std.specs.Prelude.{◌≡◌, ◌<◌, ◌≤◌, length};
 
 use http_front::{Link, LinkFailed};
 use object_store::Gate;
-use std::alloc::Global;
+use std::alloc::{AllocError, Global};
 use std::sync::Arc;
 
 /// How often a link looks whether a put is held.
 const LOOKS: u64 = 200_000_000;
 
 /// What a link does at the gate.
-#[derive(Clone, Copy, Debug, PartialEq, Eq)]
+#[derive(Clone, Copy)]
 pub(crate) enum Role {
     /// It closes the gate as it begins.
     Closes,
     /// It gives nothing until a put is held, and opens the gate once so many bytes were given to it.
     Opens(usize),
+    /// It leaves the gate alone.
+    Passes,
 }
 
 /// A link that takes these bytes, one at a time, and does this at a gate. It tells nothing.
 #[derive(Drop)]
 pub(crate) struct GateLink {
-    pub gate: Arc<Gate, Global>,
-    pub role: Role,
-    pub asked: &'static [u8],
-    pub taken: usize,
-    pub given: Vec<u8>,
+    gate: Arc<Gate, Global>,
+    role: Role,
+    asked: &'static [u8],
+    taken: usize,
+    given: Vec<u8>,
     /// Whether no put was held as often as it looked.
-    pub is_limit_met: bool,
-    pub faults: u64,
+    is_limit_met: bool,
+    faults: u64,
 }
 
 impl GateLink {
+    /// A link that was given nothing yet.
+    pub(crate) fn new(
+        alloc: Global,
+        gate: &Arc<Gate, Global>,
+        role: Role,
+        asked: &'static [u8],
+    ) -> Result<GateLink, AllocError> {
+        Ok(GateLink {
+            gate: Arc::try_clone(gate)?,
+            role,
+            asked,
+            taken: 0,
+            given: Vec::new(alloc),
+            is_limit_met: false,
+            faults: 0,
+        })
+    }
+
+    /// Whether it was given just these replies, and never waited too long.
+    pub(crate) fn is_given(&self, replies: &[u8]) -> bool {
+        !self.is_limit_met && self.given.as_slice() == replies
+    }
+
+    /// Does what it does at the gate before it gives its first byte.
+    fn begin(&mut self)
+        ensures faults { self.new.faults ≡ self.old.faults }
+    {
+        match self.role {
+            Role::Closes => self.gate.close(),
+            Role::Opens(_) => self.wait(),
+            Role::Passes => {}
+        }
+    }
+
     /// Waits until a put is held, as long as it may.
     fn wait(&mut self)
         ensures faults { self.new.faults ≡ self.old.faults }
@@ -70,11 +106,8 @@ impl Link for GateLink {
     ghost faults = { λ link. link.faults };
 
     fn take(&mut self, into: &mut [u8]) -> Result<usize, LinkFailed> {
-        match self.role {
-            Role::Closes => if self.taken == 0 {
-                self.gate.close();
-            }
-            Role::Opens(_) => self.wait(),
+        if self.taken == 0 {
+            self.begin();
         }
         let Some(byte) = self.asked.get(self.taken) else {
             return Ok(0);

@@ -2,9 +2,10 @@
 ghost use Rattle.std.specs.Prelude.{IfOk};
 ghost use Rattle.sync_calls.specs.Hall.{AreReady};
 
+use crate::standing_clock::Stands;
 use depot::Depot;
 use ids::{Items, Key, Kind, LibId, ObjId};
-use library_state::{Act, Call, ListClock, Refusal, Reply, Secret};
+use library_state::{Act, Call, Refusal, Reply, Secret};
 use object_store::Shelf;
 use std::alloc::{AllocError, Global};
 use std::sync::Wait;
@@ -129,7 +130,7 @@ pub(crate) fn is_stored(told: &Told, place: u64) -> bool {
 }
 
 /// A collection that ended: its number, how many objects left in it, and how many turns it took.
-#[derive(Clone, Copy, PartialEq)]
+#[derive(Clone, Copy)]
 pub(crate) struct Ended {
     pub(crate) number: u64,
     pub(crate) removed: u64,
@@ -142,12 +143,11 @@ pub(crate) fn collect<S: Shelf, R: Wait>(
     hall: &Hall<S>,
     pass: &mut HallPass<S>,
     secret: &Option<Secret>,
-    clock: &ListClock,
 ) -> Option<Ended>
     requires ready { AreReady S.contents S.may_give S.texts S.faults hall.now pass.old }
     ensures ready { AreReady S.contents S.may_give S.texts S.faults hall.now pass.new }
 {
-    match hall.collect(rt, pass, docs(), secret, clock) {
+    match hall.collect(rt, pass, docs(), secret, &Stands) {
         Collected::Done {
             number,
             removed,

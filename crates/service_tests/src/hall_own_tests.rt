@@ -1,13 +1,13 @@
 //! Calls that are handed over to a hall, and the first of several that are asked for.
 ghost use Rattle.sync_calls.specs.Hall.{AreReady};
 
-use crate::hall::{Said, Told, asked, docs, is_stored, owner, told_by, two_passes};
-use crate::library::library_on;
+use crate::hall::{Said, Told, asked, docs, is_stored, owner, told_by};
+use crate::hall_scenes::{Scene, shows};
 use ids::{Items, Key, Kind, ObjId};
 use library_state::{Act, Call};
 use object_store::Shelf;
+use std::alloc::{AllocError, Global};
 use std::sync::Wait;
-use std::test::Fail;
 use sync_calls::{Hall, HallPass};
 
 /// A file with no bytes.
@@ -53,25 +53,24 @@ fn is_spared(told: &Told) -> bool {
 }
 
 /// Whether a file is put, and given to who asks for no less.
-fn is_put_and_given<S: Shelf, R: Wait>(
+pub(crate) fn is_put_and_given<S: Shelf, R: Wait>(
     rt: &R,
+    alloc: Global,
     hall: &Hall<S>,
     pass: &mut HallPass<S>,
-    call: Call,
-) -> bool
+) -> Result<bool, AllocError>
     requires ready { AreReady S.contents S.may_give S.texts S.faults hall.now pass.old }
+    ensures ready { AreReady S.contents S.may_give S.texts S.faults hall.now pass.new }
 {
+    let call = asked(Act::Put(file(), Items::copy(alloc, FILE)?));
     let put = ask_own(rt, hall, pass, call);
     let spared = ask_first(rt, hall, pass, 45);
     let given = ask_first(rt, hall, pass, 46);
-    is_stored(&put, 1) && is_spared(&spared) && is_given(&given)
+    Ok(is_stored(&put, 1) && is_spared(&spared) && is_given(&given))
 }
 
 #[test]
-fn a_file_is_put_and_given_to_who_asks_for_no_less(rt: HostRuntime) -> Result<(), Fail> {
-    let call = asked(Act::Put(file(), Items::copy(rt.alloc(), FILE)?));
-    let depot = library_on(rt.alloc(), &[])?;
-    let (hall, mut first, _second) = two_passes(rt.alloc(), depot)?;
-    assert!(rt; is_put_and_given(&rt, &hall, &mut first, call));
+fn a_file_is_put_and_given_to_who_asks_for_no_less(rt: HostRuntime) -> Result<(), AllocError> {
+    assert!(rt; shows(&rt, rt.alloc(), Scene::HandedOver)?);
     Ok(())
 }

@@ -1,16 +1,13 @@
 //! A hall over one library in memory, by one thread.
 ghost use Rattle.sync_calls.specs.Hall.{AreReady};
 
-use crate::hall::{
-    Ended, Said, Told, ask, ask_at, asked, closed_late, collect, docs, is_stored, owner, put_of,
-    two_passes,
-};
-use crate::library::library_on;
-use ids::{Items, LibId};
-use library_state::{Act, Call, ListClock, Secret, Tag};
+use crate::hall::{Ended, Said, Told, ask, ask_at, collect, docs, is_stored, owner, put_of};
+use crate::hall_scenes::{Scene, shows};
+use ids::LibId;
+use library_state::{Act, Call, Secret, Tag};
 use object_store::Shelf;
+use std::alloc::{AllocError, Global};
 use std::sync::Wait;
-use std::test::Fail;
 use sync_calls::{Glance, Hall, HallPass};
 
 /// What a look tells, of this library and one who shows this secret, against a tag of the first opening.
@@ -44,21 +41,24 @@ fn is_looked_at<S: Shelf>(hall: &Hall<S>, pass: &mut HallPass<S>) -> bool
 }
 
 /// Whether a put is the first change, and looks tell of it.
-fn is_first<S: Shelf, R: Wait>(rt: &R, hall: &Hall<S>, pass: &mut HallPass<S>, call: &Call) -> bool
+pub(crate) fn is_first<S: Shelf, R: Wait>(
+    rt: &R,
+    alloc: Global,
+    hall: &Hall<S>,
+    pass: &mut HallPass<S>,
+) -> Result<bool, AllocError>
     requires ready { AreReady S.contents S.may_give S.texts S.faults hall.now pass.old }
     ensures ready { AreReady S.contents S.may_give S.texts S.faults hall.now pass.new }
 {
-    let put = ask(rt, hall, pass, call);
-    is_stored(&put, 1) && is_looked_at(hall, pass)
+    let call = put_of(alloc, b"one")?;
+    let put = ask(rt, hall, pass, &call);
+    let looked = is_looked_at(hall, pass);
+    Ok(is_stored(&put, 1) && looked)
 }
 
 #[test]
-fn a_hall_is_asked_looked_at_and_closed(rt: HostRuntime) -> Result<(), Fail> {
-    let one = put_of(rt.alloc(), b"one")?;
-    let depot = library_on(rt.alloc(), &[])?;
-    let (hall, mut first, second) = two_passes(rt.alloc(), depot)?;
-    assert!(rt; is_first(&rt, &hall, &mut first, &one));
-    assert!(rt; closed_late(hall, first, second) == Some((2, 1)));
+fn a_hall_is_asked_looked_at_and_closed(rt: HostRuntime) -> Result<(), AllocError> {
+    assert!(rt; shows(&rt, rt.alloc(), Scene::First)?);
     Ok(())
 }
 
@@ -77,8 +77,13 @@ fn is_denied(told: &Told) -> bool {
 }
 
 /// Whether one who shows no secret is refused without a turn, first for a library that isn't there.
-fn are_turned_away<S: Shelf, R: Wait>(rt: &R, hall: &Hall<S>, pass: &mut HallPass<S>) -> bool
+pub(crate) fn are_turned_away<S: Shelf, R: Wait>(
+    rt: &R,
+    hall: &Hall<S>,
+    pass: &mut HallPass<S>,
+) -> bool
     requires ready { AreReady S.contents S.may_give S.texts S.faults hall.now pass.old }
+    ensures ready { AreReady S.contents S.may_give S.texts S.faults hall.now pass.new }
 {
     let call = Call {
         secret: None,
@@ -90,51 +95,47 @@ fn are_turned_away<S: Shelf, R: Wait>(rt: &R, hall: &Hall<S>, pass: &mut HallPas
 }
 
 #[test]
-fn who_may_not_ask_a_hall_is_turned_away(rt: HostRuntime) -> Result<(), Fail> {
-    let depot = library_on(rt.alloc(), &[])?;
-    let (hall, mut first, _second) = two_passes(rt.alloc(), depot)?;
-    assert!(rt; are_turned_away(&rt, &hall, &mut first));
+fn who_may_not_ask_a_hall_is_turned_away(rt: HostRuntime) -> Result<(), AllocError> {
+    assert!(rt; shows(&rt, rt.alloc(), Scene::TurnedAway)?);
     Ok(())
 }
 
+/// Whether a collection had this number, took this many objects, and ended in this many turns.
+fn has_ended(told: &Option<Ended>, number: u64, removed: u64, turns: u64) -> bool {
+    match told {
+        Some(ended) => ended.number == number && ended.removed == removed && ended.turns == turns,
+        None => false,
+    }
+}
+
 /// Whether a block that no commit needs is put through one pass, and leaves in a collection through the other one.
-fn leaves<S: Shelf, R: Wait>(
+pub(crate) fn leaves<S: Shelf, R: Wait>(
     rt: &R,
+    alloc: Global,
     hall: &Hall<S>,
     first: &mut HallPass<S>,
     second: &mut HallPass<S>,
-    call: &Call,
-    clock: &ListClock,
-) -> bool
+) -> Result<bool, AllocError>
     requires first { AreReady S.contents S.may_give S.texts S.faults hall.now first.old }
     requires second { AreReady S.contents S.may_give S.texts S.faults hall.now second.old }
+    ensures first { AreReady S.contents S.may_give S.texts S.faults hall.now first.new }
+    ensures second { AreReady S.contents S.may_give S.texts S.faults hall.now second.new }
 {
-    let put = ask(rt, hall, first, call);
-    let denied = collect(rt, hall, second, &None, clock);
-    let swept = collect(rt, hall, second, &owner(), clock);
-    let empty = collect(rt, hall, first, &owner(), clock);
-    is_stored(&put, 1)
-        && denied.is_none()
-        && swept
-            == Some(Ended {
-                number: 1,
-                removed: 1,
-                turns: 4,
-            })
-        && empty
-            == Some(Ended {
-                number: 2,
-                removed: 0,
-                turns: 3,
-            })
+    let call = put_of(alloc, b"one")?;
+    let put = ask(rt, hall, first, &call);
+    let denied = collect(rt, hall, second, &None);
+    let swept = collect(rt, hall, second, &owner());
+    let empty = collect(rt, hall, first, &owner());
+    Ok(
+        is_stored(&put, 1)
+            && denied.is_none()
+            && has_ended(&swept, 1, 1, 4)
+            && has_ended(&empty, 2, 0, 3),
+    )
 }
 
 #[test]
-fn a_hall_is_collected_in_turns(rt: HostRuntime) -> Result<(), Fail> {
-    let one = put_of(rt.alloc(), b"one")?;
-    let clock = ListClock::new(Items::copy(rt.alloc(), &[9])?);
-    let depot = library_on(rt.alloc(), &[])?;
-    let (hall, mut first, mut second) = two_passes(rt.alloc(), depot)?;
-    assert!(rt; leaves(&rt, &hall, &mut first, &mut second, &one, &clock));
+fn a_hall_is_collected_in_turns(rt: HostRuntime) -> Result<(), AllocError> {
+    assert!(rt; shows(&rt, rt.alloc(), Scene::Collections)?);
     Ok(())
 }

@@ -17,6 +17,8 @@ mod hall_connection_tests;
 #[cfg(test)]
 mod hall_own_tests;
 #[cfg(test)]
+mod hall_scenes;
+#[cfg(test)]
 mod hall_tests;
 #[cfg(test)]
 mod hall_threads_tests;
@@ -26,5 +28,7 @@ mod library;
 mod library_server_tests;
 #[cfg(test)]
 mod port_tests;
+#[cfg(test)]
+mod standing_clock;
 #[cfg(test)]
 mod turnstile_tests;

@@ -2,10 +2,10 @@
 ghost use Rattle.std.specs.Prelude.{◌≤◌};
 
 use crate::library::library_on;
+use crate::standing_clock::Stands;
 use http_front::MemoryLink;
 use ids::{Bytes, Items};
 use library_server::{Counted, serve_link};
-use library_state::ListClock;
 use std::alloc::{AllocError, Global};
 use worker_server::Served;
 
@@ -84,11 +84,11 @@ const ENDINGS: &[Ending] = &[
 ];
 
 /// A block is put.
-const PUT: &[u8] =
+pub(crate) const PUT: &[u8] =
     b"PUT /repo/11111111-2222-4333-8444-555555555555/block/a9993e364706816aba3e25717850c26c9cd0d89d HTTP/1.1\r\nHost: x\r\nSeafile-Repo-Token: aaaaaaaaaaaaaaaaaaaaaaaaaaaaaaaaaaaaaaaa\r\nContent-Length: 3\r\n\r\nabc";
 
 /// It is stored.
-const STORED: &[u8] = b"HTTP/1.1 200 OK\r\nContent-Length: 0\r\n\r\n";
+pub(crate) const STORED: &[u8] = b"HTTP/1.1 200 OK\r\nContent-Length: 0\r\n\r\n";
 
 /// A block is put, and this is left of the input.
 pub(crate) fn put_and(alloc: Global, left: &[u8]) -> Result<Vec<u8>, AllocError> {
@@ -112,10 +112,9 @@ pub(crate) fn link_of(
 
 /// How a connection with a new library ends.
 fn end_of(alloc: Global, link: &mut MemoryLink) -> Result<Served, AllocError> {
-    let clock = ListClock::new(Items::copy(alloc, &[1_700_000_000])?);
     let depot = library_on(alloc, &[])?;
     let mut library = Counted { depot, changes: 0 };
-    Ok(serve_link(alloc, &mut library, link, &clock))
+    Ok(serve_link(alloc, &mut library, link, &Stands))
 }
 
 /// Whether this was given after the block's reply.
