@@ -98,6 +98,7 @@ pub record Cut (s0 s : State) (gone : ℕ) : Type 0 where
   pub left : Keeps s.objects s0.objects
   pub cut : IsCut s0.state.kept s.state.kept
   pub agree : AgreeOn (needs s0.objects (head_of s0.state.kept)) s0.objects s.objects
+  pub days : s.state.days ≡ s0.state.days
 
 pub record Runs (s : State) : Type 0 where
   pub running : Running
@@ -155,6 +156,7 @@ cut_begun s t moment es takes sound days =
         left = subst (λ (A : Objects). Keeps A s.objects) (sym objects) (keeps_itself s.objects);
         cut = subst (IsCut s.state.kept) (sym kept) (cut_zero e.moment s.state.kept some);
         agree = subst (λ (A : Objects). AgreeOn (needs s.objects (head_of s.state.kept)) s.objects A) (sym objects) (agrees_itself (needs s.objects (head_of s.state.kept)) s.objects);
+        days = ap (λ (u : State). u.state.days) now;
       },
       record { running = _; is = ap (λ (u : State). u.running) now; none_fresh = λ key. set.contains-empty key_cmp key },
       subst IsSound (sym step_of.is) (sound_apply s e step_of.permits sound),
@@ -181,6 +183,7 @@ cut_swept s0 s t gone moment keys es takes sound0 sound so runs =
         left = subst (λ (A : Objects). Keeps A s0.objects) (sym objects) (keeps_then (keeps_without s.objects keys) so.left);
         cut = subst (λ (l : List Install). IsCut s0.state.kept l) (sym (ap (λ (x : LibState). x.kept) state)) so.cut;
         agree = agrees_then s0.objects s.objects t.objects (head_of s0.state.kept) so.agree after;
+        days = ap (λ (x : LibState). x.days) state ∙ so.days;
       },
       still_runs e now sweeping.1,
       subst IsSound (sym step_of.is) (sound_apply s e step_of.permits sound),
@@ -210,6 +213,7 @@ cut_ended s0 s t gone moment es takes clean sound so runs =
         left = subst (λ (A : Objects). Keeps A s0.objects) (sym objects) so.left;
         cut = subst (λ (l : List Install). IsCut s0.state.kept l) (sym (ap (λ (x : LibState). x.kept) state)) so.cut;
         agree = subst (λ (A : Objects). AgreeOn (needs s0.objects (head_of s0.state.kept)) s0.objects A) (sym objects) so.agree;
+        days = ap (λ (x : LibState). x.days) state ∙ so.days;
       },
       subst IsSound (sym step_of.is) (sound_apply s e step_of.permits sound),
       λ key stored. subst (λ (A : Objects). is_needed A t.state.kept key ≡ true) (sym objects)
@@ -462,5 +466,6 @@ module _ {S : Type 0} (contents : S → Option Contents) (may_give : S → Slot 
               head = ap head_of well.collects.cut.cut.is ∙ well.collects.cut.cut.head;
               agree = well.collects.cut.agree;
               clean = well.collects.clean;
+              days = well.collects.cut.days;
             },
           )

@@ -37,7 +37,8 @@ use Rattle.generated_library.specs.Filled.{AreStored, AreThere, Collects, HasCom
 use Rattle.generated_library.specs.Generated.{bytes_made, changed_from, dir_name, file_name, files_from, tree_of, with_file, with_files}
 use Rattle.generated_library.specs.Leading.{Grows}
 use Rattle.generated_library.specs.declared.filling.Filled.{Filled}
-use Rattle.generated_library.proofs.TreeLemmas.{seen_files, sound_files, stored_keeps}
+use Rattle.generated_library.proofs.DirectoriesLemmas.{times_stay}
+use Rattle.generated_library.proofs.TreeLemmas.{seen_files, stored_keeps}
 
 -- ---- libraries that grow
 
@@ -120,7 +121,7 @@ commit_stays id commit A B keeps read = by (map.get A (commit_key id)) refl
 
 -- what was put of a push, and the update
 pub pushes_by : (is_second : Bool) (parent id : List ℕ) (moment : ℕ) (files : List (List ℕ)) (lib root : List ℕ) (s a b c t : State) → head_of s.state.kept ≡ parent
-    → Stores files s a → HasTree (entries_of moment files) root a b → HasCommit id (made lib root (Some parent) None (codes "make") (codes "make") moment false) b c → Updates id c t
+    → Stores files s a → HasTree moment (entries_of moment files) root a b → HasCommit id (made lib root (Some parent) None (codes "make") (codes "make") moment false) b c → Updates id c t
     → Pushes id parent moment files s t
 pushes_by is_second parent id moment files lib root s a b c t at (grew, stored) (grew_dirs, tree) (grew_commit, named, read, some) updates = record {
   keeps = keeps_then (keeps_then grew.keeps grew_dirs.keeps) (keeps_then grew_commit.keeps still);
@@ -132,6 +133,7 @@ pushes_by is_second parent id moment files lib root s a b c t at (grew, stored) 
     over = (refl, refl);
     by = (refl, refl);
     tree = tree_there objects keeps;
+    times = (tree objects (keeps_then (keeps_then grew_commit.keeps still) keeps)).1;
   };
   stored = stored_keeps a.objects t.objects files (keeps_then grew_dirs.keeps (keeps_then grew_commit.keeps still)) stored;
 }
@@ -143,11 +145,11 @@ pushes_by is_second parent id moment files lib root s a b c t at (grew, stored) 
     tree_there objects keeps path =
         let from : Keeps b.objects objects = keeps_then (keeps_then grew_commit.keeps still) keeps in
         let here : AreStored objects files = stored_keeps a.objects objects files (keeps_then grew_dirs.keeps from) stored in
-        seen_files objects moment files here path ∙ ap (option_map (node_of objects)) (tree (sound_files moment files) objects from path)
+        seen_files objects moment files here path ∙ ap (option_map (node_of objects)) ((tree objects from).0 path)
 
 -- what comes before an update: the commit that was put is over the head
 pub over_by : (parent id : List ℕ) (moment : ℕ) (lib root : List ℕ) (files : List (List ℕ)) (s a b c : State) → head_of s.state.kept ≡ parent → Stores files s a
-    → HasTree (entries_of moment files) root a b → HasCommit id (made lib root (Some parent) None (codes "make") (codes "make") moment false) b c → IsOver id c
+    → HasTree moment (entries_of moment files) root a b → HasCommit id (made lib root (Some parent) None (codes "make") (codes "make") moment false) b c → IsOver id c
 over_by parent id moment lib root files s a b c at (grew, stored) (grew_dirs, tree) (grew_commit, named, read, some) =
     let same : head_of c.state.kept ≡ parent = ap head_of (grew_commit.kept ∙ (grew_dirs.kept ∙ grew.kept)) ∙ at in
     (made lib root (Some parent) None (codes "make") (codes "make") moment false, read, ap Some (sym same))
@@ -178,6 +180,7 @@ filled_by shows count number moment first mid head filled s a b c d t shown soun
       left = collects.left;
       alone = collects.alone;
       clean = collects.clean;
+      days = collects.days ∙ days;
       paths = paths;
       bytes = bytes;
       gone = collects.gone;
@@ -195,4 +198,5 @@ filled_by shows count number moment first mid head filled s a b c d t shown soun
           over = push.over;
           by = push.by;
           tree = subst (λ r. RootTree B r (tree_of moment files)) read (same_tree A B id complete agree (tree_of moment files) tree);
+          times = times_stay A B id push.commit moment complete push.at agree push.times;
         }

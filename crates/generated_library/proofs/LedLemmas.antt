@@ -22,13 +22,13 @@ use Rattle.library_state.specs.declared.call.Act.TheVariants as act
 use Rattle.library_state.specs.declared.call.Op.TheVariants as op
 use Rattle.library_state.specs.declared.reply.Reply.{Reply}
 use Rattle.library_state.specs.declared.reply.Reply.TheVariants as reply
-use Rattle.object_graph.specs.Objects.{AreEntriesOf, block_key, commit_key, fs_key}
+use Rattle.object_graph.specs.Objects.{block_key, commit_key, fs_key}
 use Rattle.object_graph.specs.Unchanged.{Keeps}
 use Rattle.object_store.specs.Shelf.{Contents}
 use Rattle.object_store.specs.declared.shelf.Slot.{Slot}
 use Rattle.sync_calls.specs.Shown.{Shown}
 use Rattle.tree_merge.specs.Sides.{Entries}
-use Rattle.tree_merge.specs.TreeBuilding.{IsSound as IsSoundTable}
+use Rattle.generated_library.specs.Directories.{IsRootOf}
 use Rattle.generated_library.specs.Filled.{AreStored, AreThere, Collects, HasCommit, HasFiles, HasTree, IsBeside, IsFileStored, IsFilled, IsNew, IsOver, IsResting, Limits, Pushes, Puts, PutsAll, PutsBoth, PutsFile, Stores, Updates, entries_of, file_object, file_text, is_put, pushed_bytes, pushed_files}
 use Rattle.generated_library.specs.Generated.{after_file, bytes_made, changed_from, file_bytes, files_from, tree_of}
 use Rattle.generated_library.specs.Leading.{Any, Grows, IsAnswered, Leads, call_of}
@@ -135,11 +135,11 @@ module _ {S : Type 0} (contents : S → Option Contents) (may_give : S → Slot 
       none key bytes is = cc
 
   -- the tree of the root whose directories were put
-  pub tree_led : (made : Objects) (entries : Entries) (root : List ℕ) → (IsSoundTable entries → (objects : Objects) → Keeps made objects → AreEntriesOf objects root entries)
-      → Leads contents faults us vs Any (PutsAll made) → Leads contents faults us vs Any (HasTree entries root)
-  tree_led made entries root value leads =
-      leads_more contents may_give texts faults us vs Any Any (PutsAll made) (HasTree entries root) leads (λ s any. tt)
-      (λ s t sound any so. (so.0, λ is_sound objects keeps. value is_sound objects (so.1 objects keeps)))
+  pub tree_led : (moment : ℕ) (made : Objects) (entries : Entries) (root : List ℕ) → IsRootOf moment entries made root
+      → Leads contents faults us vs Any (PutsAll made) → Leads contents faults us vs Any (HasTree moment entries root)
+  tree_led moment made entries root is leads =
+      leads_more contents may_give texts faults us vs Any Any (PutsAll made) (HasTree moment entries root) leads (λ s any. tt)
+      (λ s t sound any so. (so.0, λ objects keeps. is objects (so.1 objects keeps)))
 
   -- a file that isn't put
   pub unput_led : (is_new : Bool) (bytes : List ℕ) → is_new ≡ false → vs ≡ us → Leads contents faults us vs Any (PutsFile is_new bytes)
@@ -205,7 +205,7 @@ record FilesSo (parent : List ℕ) (files : List (List ℕ)) (s a : State) : Typ
 record DirsSo (parent : List ℕ) (moment : ℕ) (files : List (List ℕ)) (root : List ℕ) (s b : State) : Type 0 where
   a : State
   so : FilesSo parent files s a
-  tree : HasTree (entries_of moment files) root a b
+  tree : HasTree moment (entries_of moment files) root a b
 
 record CommitSo (parent id : List ℕ) (moment : ℕ) (files : List (List ℕ)) (lib root : List ℕ) (s c : State) : Type 0 where
   b : State
@@ -231,7 +231,7 @@ record LimitSo (first mid head : List ℕ) (moment : ℕ) (files changed : List 
 module _ {S : Type 0} (contents : S → Option Contents) (may_give : S → Slot → Option (List ℕ) → Type 0) (texts faults : S → ℕ) where
   -- a push
   pub push_led : (us xs ys zs vs : List (Shown S)) (is_second : Bool) (parent id : List ℕ) (moment : ℕ) (first files : List (List ℕ)) (lib root : List ℕ)
-      → Leads contents faults us xs (HasFiles is_second first) (Stores files) → Leads contents faults xs ys Any (HasTree (entries_of moment files) root)
+      → Leads contents faults us xs (HasFiles is_second first) (Stores files) → Leads contents faults xs ys Any (HasTree moment (entries_of moment files) root)
       → Leads contents faults ys zs (λ s. parent ≢ nil) (HasCommit id (made lib root (Some parent) None (codes "make") (codes "make") moment false))
       → Leads contents faults zs vs (IsOver id) (Updates id) → Leads contents faults us vs (IsBeside is_second parent first) (Pushes id parent moment files)
   push_led us xs ys zs vs is_second parent id moment first files lib root one two three four =
@@ -239,7 +239,7 @@ module _ {S : Type 0} (contents : S → Option Contents) (may_give : S → Slot 
       leads_more contents may_give texts faults us xs (HasFiles is_second first) (IsBeside is_second parent first) (Stores files) (FilesSo parent files) one (λ s beside. beside.1)
       (λ s a sound beside so. record { at = beside.0; stored = so }) in
       let dirs : Leads contents faults us ys (IsBeside is_second parent first) (DirsSo parent moment files root) =
-      leads_then contents may_give texts faults us xs ys (IsBeside is_second parent first) Any (FilesSo parent files) (HasTree (entries_of moment files) root) (DirsSo parent moment files root) begun two
+      leads_then contents may_give texts faults us xs ys (IsBeside is_second parent first) Any (FilesSo parent files) (HasTree moment (entries_of moment files) root) (DirsSo parent moment files root) begun two
       (λ s a sound beside so. tt) (λ s a b sound beside so tree. record { a = a; so = so; tree = tree }) in
       let put : Leads contents faults us zs (IsBeside is_second parent first) (CommitSo parent id moment files lib root) =
       leads_then contents may_give texts faults us ys zs (IsBeside is_second parent first) (λ s. parent ≢ nil) (DirsSo parent moment files root)

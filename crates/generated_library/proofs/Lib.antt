@@ -1,4 +1,5 @@
 pub mod CollectLemmas
+pub mod DirectoriesLemmas
 pub mod FillLemmas
 pub mod LedLemmas
 pub mod NumberLemmas

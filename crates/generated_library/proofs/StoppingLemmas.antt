@@ -1,5 +1,5 @@
 -- Why a step of a filling stops is why what it asked stopped. The key lemmas are stopped, wants_memory, asked_stops, ends_for and was_collected.
-use Rattle.std.proofs.Common.{◌≡◌, inl, inr, ℕ, false, List, Option, Some, Result, Ok, Err, refl, subst, sym}
+use Rattle.std.proofs.Common.{◌≡◌, inl, inr, ℕ, false, List, Option, Some, Result, Ok, Err, subst, sym}
 use Rattle.std.specs.Prelude.{IfErr, IfOk}
 use Rattle.std.specs.Result.{IsErrAnd}
 use Rattle.library_rules.specs.Changes.{is_refused}
@@ -18,15 +18,15 @@ use Rattle.sync_calls.specs.declared.asking.Answer.{Answer}
 use Rattle.sync_calls.specs.declared.collecting.Collected.{Collected}
 use Rattle.sync_calls.specs.declared.collecting.Collected.TheVariants as collected
 use Rattle.tree_merge.specs.Sides.{Entries}
-use Rattle.tree_merge.specs.TreeBuilding.{IsClash, IsSound}
+use Rattle.tree_merge.specs.TreeBuilding.{IsClash}
 use Rattle.tree_merge.specs.declared.tree_builder.BuildFault.{BuildFault}
 use Rattle.tree_merge.specs.declared.tree_builder.BuildFault.TheVariants as unmade
+use Rattle.generated_library.specs.Directories.{IsTakenFor}
 use Rattle.generated_library.specs.Filled.{entries_of}
 use Rattle.generated_library.specs.Leading.{call_of}
 use Rattle.generated_library.specs.Stopping.{EndsFor, IsOfFilling, IsRefusalOf, StopsAsBuilt, StopsFor, WasAsked, WasCollected}
 use Rattle.generated_library.specs.declared.asking.NotFilled.{NotFilled}
 use Rattle.generated_library.specs.declared.asking.NotFilled.TheVariants as not_filled
-use Rattle.generated_library.proofs.TreeLemmas.{sound_files}
 
 module _ {S : Type 0} (contents : S → Option Contents) (may_give : S → Slot → Option (List ℕ) → Type 0) (texts faults : S → ℕ) (lib secret : List ℕ) where
   -- ---- a step, at a moment
@@ -46,11 +46,9 @@ module _ {S : Type 0} (contents : S → Option Contents) (may_give : S → Slot 
     wants_memory pass (Err told) is = subst (Stops pass) (sym is) tt
 
     -- a clash of names as directories were made
-    pub unbuilt : (pass : PassOf S) (files : List (List ℕ)) (entries : Entries) → entries ≡ entries_of moment files → (fault : BuildFault) (now : NotFilled)
-        → ((id : List ℕ) → fault ≡ unmade.Taken id → IsSound entries → IsClash entries id) → StopsAsBuilt fault now → StopsFor contents may_give texts faults lib secret moment pass now
-    unbuilt pass files entries are (unmade.Taken id) now clash is =
-        let sound : IsSound entries = subst IsSound (sym are) (sound_files moment files) in
-        subst (Stops pass) (sym is) (files, subst (λ (e : Entries). IsClash e id) are (clash id refl sound))
+    pub unbuilt : (pass : PassOf S) (files : List (List ℕ)) (entries : Entries) → entries ≡ entries_of moment files → (fault : BuildFault) (now : NotFilled) → IsTakenFor (IsClash entries) fault
+        → StopsAsBuilt fault now → StopsFor contents may_give texts faults lib secret moment pass now
+    unbuilt pass files entries are (unmade.Taken id) now clash is = subst (Stops pass) (sym is) (files, subst (λ (e : Entries). IsClash e id) are clash)
     unbuilt pass files entries are unmade.NoMemory now clash is = subst (Stops pass) (sym is) tt
 
     module _ (us : List (Shown S)) (pass : PassOf S) (a : Act) (answer : Answer) (turn : (lines : List Line) × AsksSo contents may_give texts faults us lib (call_of (Some secret) a) moment answer lines (shown_by pass) (drawn_by pass)) where

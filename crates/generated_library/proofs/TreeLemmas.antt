@@ -1,5 +1,5 @@
--- The tree of the files of a push: what its entries stand for, and that they are sound. The key lemmas are seen_files, sound_files and
--- stored_keeps.
+-- The tree of the files of a push: what its entries stand for, and that the root alone lists directories. The key lemmas are seen_files,
+-- flat_files, flat_sound and stored_keeps.
 use Rattle.std.proofs.Common.{◌≡◌, ◌≢◌, ℕ, ◌+◌, Bool, true, false, cond, if◌then◌else◌, List, [], ◌∷◌, ◌++◌, append-nil, refl, sym, ap, ap₂, ◌∙◌, subst, Option, None, Some, is_some, IsSome, Ok, true≢false}
 use Rattle.std.specs.Prelude.{All, codes, length, min, option_map, pos, unwrap_or, ⊤}
 use Rattle.std.specs.FinMap as map
@@ -23,6 +23,7 @@ use Rattle.tree_model.specs.Path.{PathV, path_cmp}
 use Rattle.tree_model.specs.Tree.{Tree}
 use Rattle.tree_model.specs.declared.node.Node.{Node}
 use Rattle.tree_model.specs.declared.node.Node.TheVariants as node
+use Rattle.generated_library.specs.Directories.{FlatAt, HasFileMode, IsFlat}
 use Rattle.generated_library.specs.Filled.{AreStored, IsFileStored, entries_of, file_entry, file_id, file_object, file_text, with_entries, with_entry}
 use Rattle.generated_library.specs.Generated.{dir_name, file_name, tree_of, with_file, with_files}
 
@@ -96,22 +97,7 @@ pub seen_files : (objects : Objects) (moment : ℕ) (files : List (List ℕ)) �
 seen_files objects moment files stored = seen_more objects moment 0 files map.empty map.empty stored
     (λ path. map.get-empty {X = Node} path_cmp path ∙ ap (option_map (node_of objects)) (sym (map.get-empty {X = Entry} path_cmp path)))
 
--- ---- the entries are sound
-
--- it is a file's, with the mode of each file of a push
-abbrev pub HasFileMode : Entry → Type 0
-HasFileMode entry.Dir = ⊥
-HasFileMode (entry.File id mode mtime modifier size) = mode ≡ 33188
-
--- directories stand at the top, and files in them
-abbrev pub FlatAt : Entries → PathV → Entry → Type 0
-FlatAt entries [] e = ⊥
-FlatAt entries (d ∷ []) e = e ≡ entry.Dir
-FlatAt entries (d ∷ f ∷ []) e = (map.get entries (d ∷ []) ≡ Some entry.Dir) × HasFileMode e
-FlatAt entries (d ∷ f ∷ g ∷ path) e = ⊥
-
-pub record IsFlat (entries : Entries) : Type 0 where
-  pub at : (path : PathV) (e : Entry) → map.get entries path ≡ Some e → FlatAt entries path e
+-- ---- the root alone lists directories, and so the entries are sound
 
 flat_empty : IsFlat map.empty
 flat_empty = record { at = λ path e is. absurd (none e (sym (map.get-empty {X = Entry} path_cmp path) ∙ is)) }
@@ -189,7 +175,7 @@ flat_more moment number [] entries flat = flat
 flat_more moment number (bytes ∷ files) entries flat = flat_more moment (number + 1) files (with_entry moment number bytes entries) (flat_entry moment number bytes entries flat)
 
 -- what is flat is sound
-flat_sound : (entries : Entries) → IsFlat entries → IsSound entries
+pub flat_sound : (entries : Entries) → IsFlat entries → IsSound entries
 flat_sound entries flat = record {
   no_root = top (map.get entries []) refl;
   in_dirs = λ dir name other there. below dir name other (map.get entries (dir ++ name ∷ [])) refl there;
@@ -229,5 +215,5 @@ flat_sound entries flat = record {
     mode (d ∷ f ∷ []) e at = right e at.1
     mode (d ∷ f ∷ g ∷ path) e at = absurd at
 
-pub sound_files : (moment : ℕ) (files : List (List ℕ)) → IsSound (entries_of moment files)
-sound_files moment files = flat_sound (entries_of moment files) (flat_more moment 0 files map.empty flat_empty)
+pub flat_files : (moment : ℕ) (files : List (List ℕ)) → IsFlat (entries_of moment files)
+flat_files moment files = flat_more moment 0 files map.empty flat_empty

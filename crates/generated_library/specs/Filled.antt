@@ -12,31 +12,33 @@ use Rattle.ids.specs.Key.{Objects, key_cmp}
 use Rattle.ids.specs.ObjectId.{nil}
 use Rattle.ids.specs.declared.key.Key.{Key}
 use Rattle.library_rules.specs.LibraryState.{State, head_of, is_needed, is_stored}
-use Rattle.object_graph.specs.Objects.{AreEntriesOf, IsTreeOf, block_key, commit_at, fs_key}
+use Rattle.object_graph.specs.Objects.{IsTreeOf, block_key, commit_at, fs_key}
 use Rattle.object_graph.specs.Traversal.{needs}
 use Rattle.object_graph.specs.Unchanged.{AgreeOn, Keeps}
 use Rattle.object_graph.specs.declared.entry.Entry.{Entry}
 use Rattle.object_graph.specs.declared.entry.Entry.TheVariants as entry
 use Rattle.sync_calls.specs.Collecting.{told}
 use Rattle.tree_merge.specs.Sides.{Entries}
-use Rattle.tree_merge.specs.TreeBuilding.{IsSound}
+use Rattle.generated_library.specs.Directories.{HasTimes, IsRootOf}
 use Rattle.generated_library.specs.Generated.{bytes_made, changed_from, dir_name, file_bytes, file_name, files_from, tree_of, with_mark}
 use Rattle.generated_library.specs.Leading.{Grows}
 use Rattle.generated_library.specs.declared.filling.Filled.{Filled}
 
 -- ---- what was pushed
 
--- a commit that `make` made at a moment, over one other, has the tree of these files
+-- a commit that `make` made at a moment, over one other, has the tree of these files, whose directories have the time of the files
 pub record IsPush (objects : Objects) (id parent : List ℕ) (moment : ℕ) (files : List (List ℕ)) : Type 0 where
   pub commit : Commit
   pub at : commit_at objects id ≡ Ok commit
   pub over : (commit.parent ≡ Some parent) × (commit.second_parent ≡ None)
   pub by : (commit.creator_name ≡ codes "make") × (commit.ctime ≡ moment)
   pub tree : IsTreeOf objects commit.root (tree_of moment files)
+  pub times : HasTimes objects commit.root moment
 
 -- at a moment that the clock shows the files were pushed over the first commit, and then every tenth with one byte more over that; so the
--- library stood as its collection began, with all that was stored before it was filled. What is left stood there then; one update is kept, and a kept commit needs all that is left.
--- The numbers are those of the head's tree, of the objects that were stored as the collection began, and of those that left
+-- library stood as its collection began, with all that was stored before it was filled. What is left stood there then; one update is kept,
+-- no history is to be kept, and a kept commit needs all that is left. The numbers are those of the head's tree, of the objects that were
+-- stored as the collection began, and of those that left
 pub record IsFilled (shows : ℕ → Type 0) (count number : ℕ) (first : List ℕ) (filled : Filled) (s t : State) : Type 0 where
   pub moment : ℕ
   pub shown : shows moment
@@ -49,6 +51,7 @@ pub record IsFilled (shows : ℕ → Type 0) (count number : ℕ) (first : List 
   pub left : Keeps t.objects before
   pub alone : length t.state.kept ≡ 1
   pub clean : (key : Key) → is_stored t.objects key ≡ true → is_needed t.objects t.state.kept key ≡ true
+  pub days : t.state.days ≡ pos 0
   pub paths : filled.paths ≡ map.len (tree_of moment (changed_from 0 (files_from count number)))
   pub bytes : filled.bytes ≡ bytes_made count number
   pub gone : ℕ
@@ -147,9 +150,9 @@ HasFiles is_second files s = AreThere is_second s.objects files
 abbrev pub Stores : List (List ℕ) → State → State → Type 0
 Stores files s t = Grows s t × AreStored t.objects files
 
--- the root stands for the entries, and so it does as long as what is stored stays
-abbrev pub HasTree : Entries → List ℕ → State → State → Type 0
-HasTree entries root s t = Grows s t × (IsSound entries → (objects : Objects) → Keeps t.objects objects → AreEntriesOf objects root entries)
+-- the root stands for the entries, with directories of this moment, and so it does as long as what is stored stays
+abbrev pub HasTree : ℕ → Entries → List ℕ → State → State → Type 0
+HasTree moment entries root s t = Grows s t × IsRootOf moment entries t.objects root
 
 abbrev pub HasCommit : List ℕ → Commit → State → State → Type 0
 HasCommit id commit s t = Grows s t × (commit.id ≡ id) × (commit_at t.objects id ≡ Ok commit) × (id ≢ nil)
@@ -184,7 +187,7 @@ Limits s t = Grows s t × (t.state.days ≡ pos 0) × (t.objects ≡ s.objects)
 abbrev pub IsResting : State → Type 0
 IsResting s = (s.running ≡ None) × (s.state.days ≡ pos 0)
 
--- the head alone is kept, what it needs is as it was, and so many objects left, all that it doesn't need
+-- the head alone is kept, what it needs is as it was, and so is the limit of days; so many objects left, all that it doesn't need
 pub record Collects (removed : ℕ) (s t : State) : Type 0 where
   pub gone : ℕ
   pub size : map.len s.objects ≡ map.len t.objects + gone
@@ -194,6 +197,7 @@ pub record Collects (removed : ℕ) (s t : State) : Type 0 where
   pub head : head_of t.state.kept ≡ head_of s.state.kept
   pub agree : AgreeOn (needs s.objects (head_of s.state.kept)) s.objects t.objects
   pub clean : (key : Key) → is_stored t.objects key ≡ true → is_needed t.objects t.state.kept key ≡ true
+  pub days : t.state.days ≡ s.state.days
 
 -- no collection runs, and the library stands at this commit
 abbrev pub IsNew : List ℕ → State → Type 0

@@ -1,5 +1,5 @@
 -- The generated library: what its files hold and where they stand. Our own. Read files_from and changed_from first, then tree_of.
-use Rattle.std.specs.Prelude.{◌≡◌, ◌≢◌, ◌⊎◌, ℕ, zero, suc, pos, ◌+◌, ◌-◌, ◌*◌, ◌/◌, ◌%◌, ◌^◌, ◌<◌, ◌==◌, min, Bool, true, false, if◌then◌else◌, List, [], ◌∷◌, ◌++◌, length, sum_by, None, Some, codes}
+use Rattle.std.specs.Prelude.{◌≡◌, ◌≢◌, ◌⊎◌, ℕ, ℤ, zero, suc, pos, ◌+◌, ◌-◌, ◌*◌, ◌/◌, ◌%◌, ◌^◌, ◌<◌, ◌==◌, min, Bool, true, false, if◌then◌else◌, List, [], ◌∷◌, ◌++◌, length, sum_by, None, Some, codes}
 use Rattle.std.specs.FinMap as map
 use Rattle.std.specs.List.{slice_get}
 use Rattle.tree_model.specs.Path.{PathV}
@@ -64,11 +64,15 @@ dir_name number = 100 ∷ digit (number % 40 / 10) ∷ digit (number % 40) ∷ [
 abbrev pub file_name : ℕ → List ℕ
 file_name number = 102 ∷ digit (number / 10000) ∷ digit (number / 1000) ∷ digit (number / 100) ∷ digit (number / 10) ∷ digit number ∷ []
 
+-- when something was changed that `make` wrote at a moment
+abbrev pub time_of : ℕ → ℤ
+time_of moment = pos (min moment (2 ^ 63 - 1))
+
 -- the tree with one file more, the one of this number, in its directory; `make` wrote it at this moment
 abbrev pub with_file : ℕ → ℕ → List ℕ → Tree → Tree
 with_file moment number bytes tree =
     map.insert (map.insert tree (dir_name number ∷ []) Dir) (dir_name number ∷ file_name number ∷ [])
-    (File (record { mode = 33188; mtime = pos (min moment (2 ^ 63 - 1)); modifier = codes "make"; bytes = bytes }))
+    (File (record { mode = 33188; mtime = time_of moment; modifier = codes "make"; bytes = bytes }))
 
 -- with these files more, of which the first has this number
 abbrev pub with_files : ℕ → ℕ → List (List ℕ) → Tree → Tree

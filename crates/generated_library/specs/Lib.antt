@@ -1,3 +1,4 @@
+pub mod Directories
 pub mod Filled
 pub mod Generated
 pub mod Leading

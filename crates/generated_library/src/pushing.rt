@@ -13,6 +13,7 @@ ghost use Rattle.generated_library.specs.Leading.{Any, Leads};
 ghost use Rattle.generated_library.specs.Stopping.{StopsAsBuilt, StopsFor};
 
 use crate::asking::{Asker, NotFilled, put, update};
+use crate::directories::{build_at, time_of};
 use crate::numbers::Numbers;
 use crate::paths::{dir_of, path_of};
 use commit_objects::Commit;
@@ -23,7 +24,7 @@ use object_store::Shelf;
 use std::alloc::{AllocError, Global};
 use std::sync::Wait;
 use sync_calls::{Hall, HallPass};
-use tree_merge::{BuildFault, build};
+use tree_merge::BuildFault;
 use tree_model::{Path, PathTable};
 
 /// The mode of each file, as Unix has it: a plain file that its owner writes and all read.
@@ -218,7 +219,7 @@ fn entry_of(alloc: Global, moment: u64, id: ObjId, size: u64) -> Result<Entry, A
     Ok(Entry::File {
         id,
         mode: MODE,
-        mtime: moment.min(9_223_372_036_854_775_807) as i64,
+        mtime: time_of(moment),
         modifier: Text::copy(alloc, "make")?,
         size,
     })
@@ -305,10 +306,10 @@ fn put_directories<S: Shelf, R: Wait>(
     requires entries { (files : List (List ℕ)) × (entries ≡ entries_of asker.now.moment files) }
     ensures ready { AreReady S.contents S.may_give S.texts S.faults hall.now pass.new }
     ensures size { (shares_of pass.new ≡ shares_of pass.old) × (made_with pass.new ≡ made_with pass.old) }
-    ensures leads { IfOk result (λ root. Leads S.contents S.faults (shown_by pass.old) (shown_by pass.new) Any (HasTree entries root)) }
+    ensures leads { IfOk result (λ root. Leads S.contents S.faults (shown_by pass.old) (shown_by pass.new) Any (HasTree asker.now.moment entries root)) }
     ensures stops { IfErr result (StopsFor S.contents S.may_give S.texts S.faults asker.now.lib asker.now.secret asker.now.moment pass.new) }
 {
-    let built = match build(alloc, entries) {
+    let built = match build_at(alloc, asker.moment, entries) {
         Ok(built) => built,
         Err(fault) => return Err(not_built(&fault)),
     };

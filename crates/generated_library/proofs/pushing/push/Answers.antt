@@ -27,7 +27,7 @@ returns-clause-leads g c =
     let round = c.args.round in
     let first = files_from round.count round.number in
     let files = pushed_files round.is_second 0 first in
-    let dirs = subst (λ (e : Entries). Leads g.S.Shelf.contents g.S.Shelf.faults (shown_by c.put_files.new.pass) (shown_by c.put_directories.new.pass) Any (HasTree e c.in_ok-root.root))
+    let dirs = subst (λ (e : Entries). Leads g.S.Shelf.contents g.S.Shelf.faults (shown_by c.put_files.new.pass) (shown_by c.put_directories.new.pass) Any (HasTree c.args.asker.now.moment e c.in_ok-root.root))
     c.in_ok-bytes.ensures.entries c.in_ok-root.ensures.leads in
     push_led g.S.Shelf.contents g.S.Shelf.may_give g.S.Shelf.texts g.S.Shelf.faults (shown_by c.args.pass.now) (shown_by c.put_files.new.pass) (shown_by c.put_directories.new.pass) (shown_by c.put_commit.new.pass)
     (shown_by c.update.new.pass) round.is_second c.args.parent c.in_ok-commit.commit c.args.asker.now.moment first files c.args.asker.now.lib c.in_ok-root.root
