@@ -25,13 +25,12 @@ pub(crate) fn clock(alloc: Global) -> Result<ListClock, AllocError> {
     Ok(ListClock::new(moments))
 }
 
-/// An empty folder that was never synced, of `me` at the moment 9, whose calls of these numbers fail.
-pub(crate) fn empty_worktree(alloc: Global, fails: &[u64]) -> Result<Worktree, AllocError> {
-    let fails = Items::copy(alloc, fails)?;
+/// An empty folder that was never synced, of `me` at the moment 9.
+pub(crate) fn empty_worktree(alloc: Global) -> Result<Worktree, AllocError> {
     let user = Text::copy(alloc, "me")?;
     let clock = clock(alloc)?;
     Ok(Worktree {
-        folder: MemoryFolder::new(alloc, fails),
+        folder: empty_tree(alloc),
         index: Index::empty(alloc, LibId::from_bytes(LIB)),
         user,
         clock,
@@ -46,14 +45,10 @@ pub(crate) struct House<R> {
     pub(crate) remote: R,
 }
 
-/// Both folders are empty; calls of these numbers fail, of the second folder and of the library.
-pub(crate) fn empty_house(
-    alloc: Global,
-    folder: &[u64],
-    orders: &[u64],
-) -> Result<House<DeskRemote>, AllocError> {
-    let here = empty_worktree(alloc, &[])?;
-    let there = empty_worktree(alloc, folder)?;
+/// Both folders are empty; orders of these numbers fail.
+pub(crate) fn empty_house(alloc: Global, orders: &[u64]) -> Result<House<DeskRemote>, AllocError> {
+    let here = empty_worktree(alloc)?;
+    let there = empty_worktree(alloc)?;
     let remote = desk(alloc, orders)?;
     Ok(House {
         here,
@@ -134,22 +129,43 @@ pub(crate) fn came_to(synced: &Result<Synced, SyncFault>) -> Came {
 }
 
 /// Syncs a folder with a library, with this secret.
+pub(crate) fn sync_folder<F: Folder, R: Remote>(
+    alloc: Global,
+    folder: &mut F,
+    index: &mut Index,
+    remote: &mut R,
+    secret: [u8; 20],
+    user: &Text,
+    clock: &ListClock,
+) -> Came {
+    let synced = sync_once(
+        alloc,
+        folder,
+        index,
+        remote,
+        Secret::from_bytes(secret),
+        user,
+        clock,
+    );
+    came_to(&synced)
+}
+
+/// The same of a folder that has its index.
 pub(crate) fn sync_with<R: Remote>(
     alloc: Global,
     tree: &mut Worktree,
     remote: &mut R,
     secret: [u8; 20],
 ) -> Came {
-    let synced = sync_once(
+    sync_folder(
         alloc,
         &mut tree.folder,
         &mut tree.index,
         remote,
-        Secret::from_bytes(secret),
+        secret,
         &tree.user,
         &tree.clock,
-    );
-    came_to(&synced)
+    )
 }
 
 /// Syncs the first folder, with the owner's secret.
@@ -213,9 +229,14 @@ pub(crate) fn forget_base(tree: &mut Worktree) {
     tree.index.base = None;
 }
 
+/// A folder with nothing in it, of which no call fails.
+pub(crate) fn empty_tree(alloc: Global) -> MemoryFolder {
+    MemoryFolder::new(alloc, Items::new(alloc))
+}
+
 /// Empties a folder, and keeps its index.
 pub(crate) fn empty_folder(alloc: Global, tree: &mut Worktree) {
-    tree.folder = MemoryFolder::new(alloc, Items::new(alloc));
+    tree.folder = empty_tree(alloc);
 }
 
 /// How many paths a folder has.
@@ -243,7 +264,7 @@ fn is_same(here: &Holding, there: &Holding) -> bool {
     }
 }
 
-fn has(tree: &Worktree, path: &Path, holding: &Holding) -> bool {
+pub(crate) fn has(tree: &Worktree, path: &Path, holding: &Holding) -> bool {
     match tree.folder.paths().get(path) {
         Some(found) => is_same(holding, found),
         None => false,

@@ -15,3 +15,7 @@ mod meddled_syncs;
 mod meddling;
 #[cfg(test)]
 mod two_folders;
+#[cfg(test)]
+mod uneven_folder;
+#[cfg(test)]
+mod uneven_syncs;

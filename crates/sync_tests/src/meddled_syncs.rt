@@ -3,7 +3,7 @@ use crate::household::{Came, House, add_small, count, done, sync_here, sync_ther
 use crate::meddling::{MeddledRemote, Meddling, meddled_house};
 use std::alloc::{AllocError, Global};
 
-/// Whether a folder that was synced, and changed since, is refused by the third update that comes too late.
+/// Whether a folder that was synced, and changed since, is refused where a collection ends before each of three updates.
 fn is_stale(alloc: Global, house: &mut House<MeddledRemote>) -> Result<bool, AllocError> {
     let begun = sync_here(alloc, house);
     add_small(alloc, &mut house.here)?;
@@ -13,7 +13,7 @@ fn is_stale(alloc: Global, house: &mut House<MeddledRemote>) -> Result<bool, All
 
 /// The same of two empty folders and such a library.
 fn is_stale_anew(alloc: Global) -> Result<bool, AllocError> {
-    let mut house = meddled_house(alloc, Meddling::Delays)?;
+    let mut house = meddled_house(alloc, Meddling::Collects)?;
     is_stale(alloc, &mut house)
 }
 

@@ -1,22 +1,23 @@
 //! A library in memory as a remote that meddles with what it is asked.
 ghost use Rattle.std.specs.Prelude.{ℕ, List, [], Err};
 ghost use Rattle.http_client.specs.OrderOutcome.{CanAnswer, CanHave};
-ghost use Rattle.remote_calls.specs.Sends.{SendsOne};
+ghost use Rattle.http_front.specs.declared.outcome.Outcome.{Outcome};
+ghost use Rattle.remote_calls.specs.Sends.{CountsSend, SendsOne};
 
-use crate::household::{House, empty_worktree};
-use crate::library::desk;
+use crate::household::{House, empty_house};
+use crate::library::{LIB, OWNER};
 use http_front::{Order, Outcome, What};
 use http_server::Log;
-use ids::{Items, Kind};
-use library_state::{Refusal, Reply};
+use ids::{Items, Kind, LibId};
+use library_state::{Reply, Secret};
 use remote_calls::{DeskRemote, Ending, Remote, RemoteFault};
 use std::alloc::{AllocError, Global};
 
 /// How a remote meddles.
 #[derive(Clone, Copy)]
 pub(crate) enum Meddling {
-    /// Each update is taken in, and told to have come too late: the first behind collection 1, the next behind 2.
-    Delays,
+    /// A collection begins and ends before each update.
+    Collects,
     /// Each block that is got comes empty.
     Empties,
 }
@@ -26,7 +27,7 @@ pub(crate) enum Meddling {
 pub(crate) struct MeddledRemote {
     desk: DeskRemote,
     meddling: Meddling,
-    late: u64,
+    faults: u64,
     sends: Log<Order, Ending>,
 }
 
@@ -35,19 +36,26 @@ pub(crate) fn meddled_house(
     alloc: Global,
     meddling: Meddling,
 ) -> Result<House<MeddledRemote>, AllocError> {
-    let here = empty_worktree(alloc, &[])?;
-    let there = empty_worktree(alloc, &[])?;
-    let desk = desk(alloc, &[])?;
+    let House {
+        here,
+        there,
+        remote,
+    } = empty_house(alloc, &[])?;
     Ok(House {
         here,
         there,
-        remote: MeddledRemote {
-            desk,
-            meddling,
-            late: 0,
-            sends: Log::new(),
-        },
+        remote: meddled(remote, meddling),
     })
+}
+
+/// A library in memory with which somebody meddles so.
+fn meddled(desk: DeskRemote, meddling: Meddling) -> MeddledRemote {
+    MeddledRemote {
+        desk,
+        meddling,
+        faults: 0,
+        sends: Log::new(),
+    }
 }
 
 impl Remote for MeddledRemote {
@@ -57,20 +65,33 @@ impl Remote for MeddledRemote {
 
     ghost sends = { λ remote. remote.sends.items };
 
-    ghost faults = { λ remote. remote.desk.faults };
+    ghost faults = { λ remote. remote.faults };
 
     fn send(&mut self, alloc: Global, order: &Order) -> Result<Outcome, RemoteFault> {
+        if !is_ready(alloc, &mut self.desk, self.meddling, &order.what) {
+            return Err(RemoteFault::NoMemory);
+        }
         let outcome = match self.desk.send(alloc, order) {
             Ok(outcome) => outcome,
             Err(fault) => {
+                count_fault(&mut self.faults, fault);
                 list_fault(&mut self.sends, order, fault);
                 return Err(fault);
             }
         };
-        self.late = next_late(self.late, &order.what);
-        let ending = Ok(told(alloc, self.meddling, self.late, &order.what, outcome));
+        let ending = Ok(told(alloc, self.meddling, &order.what, outcome));
         self.sends = self.sends.and(order, &ending);
         ending
+    }
+}
+
+/// Counts a failure of the link.
+fn count_fault(faults: &mut u64, fault: RemoteFault)
+    ensures faults { CountsSend {T = Outcome} faults.old faults.new (Err fault) }
+{
+    match fault {
+        RemoteFault::Link => *faults = faults.saturating_add(1),
+        _ => {}
     }
 }
 
@@ -87,16 +108,37 @@ fn list_fault(sends: &mut Log<Order, Ending>, order: &Order, fault: RemoteFault)
     }
 }
 
-/// One more where an update came.
-fn next_late(late: u64, what: &What) -> u64 {
-    if is_update(what) {
-        return late.saturating_add(1);
+/// Lets a collection go before an update, where that is the meddling; false where it failed.
+fn is_ready(alloc: Global, desk: &mut DeskRemote, meddling: Meddling, what: &What) -> bool {
+    if !collects(meddling, what) {
+        return true;
     }
-    late
+    let collection = Order {
+        lib: Some(LibId::from_bytes(LIB)),
+        secret: Some(Secret::from_bytes(OWNER)),
+        what: What::Collect,
+    };
+    is_collected(&desk.send(alloc, &collection))
 }
 
-fn is_update(what: &What) -> bool {
-    matches!(what, What::Update(_))
+/// Whether a collection began and ended.
+fn is_collected(ending: &Ending) -> bool {
+    matches!(ending, Ok(Outcome::Collected { .. }))
+}
+
+fn collects(meddling: Meddling, what: &What) -> bool {
+    match meddling {
+        Meddling::Collects => matches!(what, What::Update(_)),
+        Meddling::Empties => false,
+    }
+}
+
+/// Whether the outcome of an order is told otherwise.
+fn meddles(meddling: Meddling, what: &What) -> bool {
+    match meddling {
+        Meddling::Collects => false,
+        Meddling::Empties => gets_block(what),
+    }
 }
 
 fn gets_block(what: &What) -> bool {
@@ -106,29 +148,21 @@ fn gets_block(what: &What) -> bool {
     }
 }
 
-/// Whether the outcome of an order is told otherwise.
-fn meddles(meddling: Meddling, what: &What) -> bool {
-    match meddling {
-        Meddling::Delays => is_update(what),
-        Meddling::Empties => gets_block(what),
-    }
-}
-
 /// What an order came to, as it is told.
-fn told(alloc: Global, meddling: Meddling, late: u64, what: &What, outcome: Outcome) -> Outcome
+fn told(alloc: Global, meddling: Meddling, what: &What, outcome: Outcome) -> Outcome
     ensures told { CanHave what.now outcome → CanHave what.now result }
 {
     if !meddles(meddling, what) {
         return outcome;
     }
     match outcome {
-        Outcome::Plain(reply, tag) => Outcome::Plain(other_reply(alloc, late, what, reply), tag),
+        Outcome::Plain(reply, tag) => Outcome::Plain(emptied(alloc, what, reply), tag),
         other => other,
     }
 }
 
-/// No bytes in place of those that came, and in place of an update that it came too late.
-fn other_reply(alloc: Global, late: u64, what: &What, reply: Reply) -> Reply
+/// No bytes in place of those that came.
+fn emptied(alloc: Global, what: &What, reply: Reply) -> Reply
     ensures told { CanAnswer what.now reply → CanAnswer what.now result }
 {
     match reply {
@@ -136,7 +170,6 @@ fn other_reply(alloc: Global, late: u64, what: &What, reply: Reply) -> Reply
             drop(bytes);
             Reply::Got(Items::new(alloc))
         }
-        Reply::Updated(_) => Reply::Refused(Refusal::Stale { last: 0, now: late }),
         other => other,
     }
 }

@@ -40,7 +40,7 @@ fn holds(alloc: Global, house: &mut House<DeskRemote>, case: Case) -> Result<boo
 
 /// The same of two empty folders and an empty library.
 fn holds_anew(alloc: Global, case: Case) -> Result<bool, AllocError> {
-    let mut house = empty_house(alloc, &[], &[])?;
+    let mut house = empty_house(alloc, &[])?;
     holds(alloc, &mut house, case)
 }
 
@@ -235,7 +235,7 @@ fn what_an_index_without_a_base_lists_is_not_removed(rt: HostRuntime) -> Result<
 
 /// A folder that was never synced, with a directory and two files.
 fn small_worktree(alloc: Global) -> Result<Worktree, AllocError> {
-    let mut tree = empty_worktree(alloc, &[])?;
+    let mut tree = empty_worktree(alloc)?;
     add_small(alloc, &mut tree)?;
     Ok(tree)
 }
