@@ -39,6 +39,46 @@ synced() {
     client_ended 0 "$1 $2 written $3 removed $4 conflict $5"
 }
 
+# reads FILE LEAST: whether the client whose number is in $number has the file open, and read more bytes than these.
+reads() {
+    for opened in "/proc/$number/fd"/*; do
+        [ "$opened" -ef "$1" ] || continue
+        [ "$(sed -n 's/^rchar: //p' "/proc/$number/io")" -gt "$2" ] && return
+    done
+    return 1
+}
+
+# client_stops_within FILE LEAST MOST CONF: the client syncs its jobs once, and is stopped with the file open, with more bytes read than
+# LEAST and fewer than MOST.
+client_stops_within() {
+    rm -f number
+    timeout -k 5 "$SECONDS_EACH" sh -c 'echo "$$" > number && exec "$@"' _ "$CLIENT" start -c "$4" -n 1 > got 2> complaint < /dev/null &
+    running=$!
+    until [ -s number ]; do
+        sleep 0.01
+    done
+    number=$(cat number)
+    tries=0
+    until reads "$1" "$2"; do
+        tries=$((tries + 1))
+        [ "$tries" -lt 2000 ] || fail 'the file was not seen open'
+        sleep 0.01
+    done
+    kill -s STOP "$number"
+    until grep -q '^State:.T' "/proc/$number/status"; do
+        sleep 0.01
+    done
+    reads "$1" "$2" || fail 'the file was read before the client stopped'
+    [ "$(sed -n 's/^rchar: //p' "/proc/$number/io")" -lt "$3" ] || fail 'the file was read to its end'
+}
+
+# client_goes_on: the client that was stopped goes on and ends.
+client_goes_on() {
+    kill -s CONT "$number"
+    ran='start' status=0
+    wait "$running" || status=$?
+}
+
 # head: the commit at which the library of `folder` stands by its state text.
 head_of_folder() {
     sed 's/.*"head":"\([0-9a-f]*\)".*/\1/' "folder/$LIB/status"

@@ -1,10 +1,10 @@
 -- Chunks that are met with their names in front, and blocks that are put and noted no more. The key lemmas are off_join, off_put,
--- taking_more, taking_stop, taking_last, taking_end, putting_more, putting_next, passed_more, passed_next and passed_end.
+-- taking_more, taking_stop, taking_last, taking_end, putting_more, putting_next, passed_more, passed_next, passed_end and passed_all.
 use Rattle.std.proofs.Common.{◌≡◌, ◌==◌, ◌||◌, ◌+◌, ◌≤◌, inl, inr, ℕ, Bool, true, false, cond, List, [], ◌∷◌, ◌++◌, length, take, drop, map, reverse, Option, None, Some, is_some, Result, Ok, Err, refl, sym, ap, ap₂, ◌∙◌, subst, append_assoc, arith, true≢false}
 use Rattle.std.proofs.Math.Seq.{take-add}
 use Rattle.std.proofs.lemmas.Bool.{eqb-true}
-use Rattle.std.proofs.lemmas.List.{append-nil, append_cancel_left, map-append, nil_from_length, reverse-append, take-append-drop, take_all}
-use Rattle.std.specs.Prelude.{⊤, ◌&&◌, not, IfErr}
+use Rattle.std.proofs.lemmas.List.{append-nil, append_cancel_left, length-drop, map-append, nil_from_length, reverse-append, take-append-drop, take_all}
+use Rattle.std.specs.Prelude.{⊤, ◌&&◌, not, IfErr, option_and_then}
 use Rattle.std.specs.Bool.{MatchBool}
 use Rattle.std.specs.Option.{option_to_list}
 use Rattle.std.specs.FinMap as fin
@@ -17,7 +17,11 @@ use Rattle.block_chunker.specs.declared.cuts.Cuts.{Cuts}
 use Rattle.block_chunker.specs.ChunkBoundaries.{begun_after, chunks_of, finished_chunks, last_chunk, unfinished_of}
 use Rattle.block_chunker.specs.ChunkerProgress.{Progress, after_piece, finished_by, start_of}
 use Rattle.block_chunker.proofs.ChunkListLemmas.{begun_after-append, finished_chunks-append}
-use Rattle.folder_side.specs.Folder.{IsPart}
+use Rattle.folder_side.specs.Folder.{IsPart, PartAt}
+use Rattle.folder_side.specs.ScanReport.{seen_of}
+use Rattle.folder_side.specs.declared.holding.Holding.{Holding}
+use Rattle.folder_side.specs.declared.holding.Holding.TheVariants.{Dir, File, Other}
+use Rattle.folder_side.specs.declared.scan_report.Seen.TheVariants as seen
 use Rattle.object_graph.specs.Objects.{block_key}
 use Rattle.object_graph.specs.Reached.{block_keys}
 use Rattle.object_graph.specs.Traversal.{is_in}
@@ -254,12 +258,13 @@ putting_next chunks names more left rest x is all =
 
 -- the chunker stands behind the first bytes of the file, and the names of the chunks that ended in these are in front
 pub record IsPassed (cuts : Cuts) (bytes : List ℕ) (names : List (List ℕ)) (place : ℕ) (chunker : Progress) (left : List (List ℕ)) : Type 0 where
+  pub within : place ≤ length bytes
   pub begun : chunker ≡ after_piece (start_of cuts) (take place bytes)
   pub named : names ≡ map sha1 (finished_by (start_of cuts) (take place bytes)) ++ left
 
 pub passed_start : (cuts : Cuts) (bytes : List ℕ) (names : List (List ℕ)) (chunker : Progress) → chunker ≡ start_of cuts → IsPassed cuts bytes names 0 chunker names
 unfolding finished_chunks begun_after
-passed_start cuts bytes names chunker is = record { begun = is; named = refl }
+passed_start cuts bytes names chunker is = record { within = omega arith; begun = is; named = refl }
 
 module _ (cuts : Cuts) (bytes into : List ℕ) (names : List (List ℕ)) (place count : ℕ) (before : Progress) (left : List (List ℕ)) (is : IsPassed cuts bytes names place before left)
     (part : IsPart bytes place count into) where
@@ -274,6 +279,7 @@ module _ (cuts : Cuts) (bytes into : List ℕ) (names : List (List ℕ)) (place 
   passed_more after rest on first =
       let joined : take (place + count) bytes ≡ front ++ piece = take-add place count bytes in
       record {
+        within = omega (arith, is.within, part.inside, length-drop place bytes);
         begun =
             on ∙ ap (after_piece before) part.same ∙ ap (λ (p : Progress). after_piece p piece) is.begun
             ∙ ap (λ (b : List ℕ). record (start_of cuts) { begun = b }) (sym (begun_after-append cuts [] front piece))
@@ -323,6 +329,25 @@ passed_end cuts bytes names place chunker left is end all =
     append_cancel_left (map sha1 first) left (map sha1 (last_chunk chunker.begun))
     (ap (λ (x : List ℕ). map sha1 (finished_chunks cuts [] x) ++ left) (sym whole) ∙ sym is.named ∙ all ∙ map-append sha1 first last
     ∙ ap (λ (x : List ℕ). map sha1 first ++ map sha1 (last_chunk (begun_after cuts [] x))) (sym whole) ∙ ap (λ (p : Progress). map sha1 first ++ map sha1 (last_chunk p.begun)) (sym is.begun))
+
+-- a file that ends here is as it was seen, where the last chunk's name was all that was left
+pub passed_all : (cuts : Cuts) (o : Option Holding) (names : List (List ℕ)) (place size : ℕ) (chunker : Progress) (left : List (List ℕ)) (into : List ℕ) → PartAt o place 0 into
+    → ((bytes : List ℕ) → o ≡ Some (File bytes) → IsPassed cuts bytes names place chunker left) → left ≡ map sha1 (last_chunk chunker.begun) → place ≡ size
+    → Some (seen.File names size) ≡ option_and_then (seen_of cuts) o
+unfolding chunks_of
+passed_all cuts None names place size chunker left into ends passed last same = absurd ends
+passed_all cuts (Some Dir) names place size chunker left into ends passed last same = absurd ends
+passed_all cuts (Some Other) names place size chunker left into ends passed last same = absurd ends
+passed_all cuts (Some (File bytes)) names place size chunker left into ends passed last same =
+    let is = passed bytes refl in
+    let none : length (drop place bytes) ≡ 0 = ap length (ends.ends.0 refl) in
+    let end : place ≡ length bytes = omega (arith, is.within, none, length-drop place bytes) in
+    let whole : take place bytes ≡ bytes = take_all place bytes (omega (arith, end)) in
+    let first = finished_chunks cuts [] (take place bytes) in
+    let named : names ≡ map sha1 (chunks_of cuts bytes)
+    = is.named ∙ ap (λ (l : List (List ℕ)). map sha1 first ++ l) (last ∙ ap (λ (p : Progress). map sha1 (last_chunk p.begun)) is.begun)
+    ∙ sym (map-append sha1 first (last_chunk (begun_after cuts [] (take place bytes)))) ∙ ap (λ (x : List ℕ). map sha1 (chunks_of cuts x)) whole in
+    ap₂ (λ (n : List (List ℕ)) (s : ℕ). Some (seen.File n s)) named (sym same ∙ end)
 
 -- ---- what is left to put of some chunks
 

@@ -1,5 +1,5 @@
--- What comes of a push at each of its ways out. The key lemmas are stopped_push and stood_push.
-use Rattle.std.proofs.Common.{◌≡◌, ℕ, List, [], ◌∷◌, ◌++◌, Option, Some, option_map, Result, Ok, Err, sym, ap, subst, ◌∙◌, append_assoc}
+-- What comes of a push at each of its ways out. The key lemmas are owned_stand, stopped_push and stood_push.
+use Rattle.std.proofs.Common.{◌≡◌, ℕ, List, [], ◌∷◌, ◌++◌, Option, Some, is_some, option_map, Result, Ok, Err, sym, ap, subst, ◌∙◌, append_assoc}
 use Rattle.std.specs.Prelude.{⊤, IfErr}
 use Rattle.std.specs.FinMap as fin
 use Rattle.ids.specs.Key.{Objects}
@@ -9,16 +9,19 @@ use Rattle.object_graph.specs.Objects.{entry_below}
 use Rattle.object_graph.specs.Unchanged.{Keeps}
 use Rattle.folder_side.specs.Folder.{Contents}
 use Rattle.folder_side.specs.declared.scan_report.Scan.{Scan}
+use Rattle.folder_side.specs.declared.scan_report.Seen.TheVariants as seen
+use Rattle.local_index.specs.OwnIds.{own_id}
 use Rattle.local_index.specs.declared.index.Index.{Index}
 use Rattle.remote_calls.specs.Sends.{Ending, Sent}
 use Rattle.sync_rules.specs.declared.fault.SyncFault.{SyncFault}
 use Rattle.tree_push.specs.Asking.{IsOrderFault}
 use Rattle.tree_push.specs.BlockUpload.{NotChanged}
+use Rattle.tree_push.specs.ChangedOwns.{AreChangedOwns, Owns, changed_own, own_unless}
 use Rattle.tree_push.specs.OfferedEntries.{IsSeenFolder, offered_entry}
 use Rattle.tree_push.specs.OfferedTree.{IsMadeOf}
-use Rattle.tree_push.specs.Pushing.{HoldsOffer, PushesSo}
+use Rattle.tree_push.specs.Pushing.{HoldsOffer, PushesSo, StandAsSeen}
 use Rattle.tree_push.specs.Standing.{StandsSo}
-use Rattle.tree_push.specs.Upload.{SeesFolder, UploadsSo, any_key}
+use Rattle.tree_push.specs.Upload.{OwnedStand, SeesFolder, UploadsSo, any_key}
 use Rattle.tree_push.specs.Wanted.{AreChangedBlocks, AreOwnNamed, HasFiles}
 use Rattle.tree_push.specs.declared.asking.Library.{Library}
 use Rattle.tree_push.specs.declared.standing.Pushed.{Pushed}
@@ -29,6 +32,14 @@ use Rattle.tree_push.proofs.PushLemmas.{NoUpdate, no_change_of, no_updates, push
 use Rattle.tree_push.proofs.RoundLemmas.{ordered_sends}
 use Rattle.tree_push.proofs.StoodLemmas.{put_of, stands_by}
 use Rattle.tree_push.proofs.TraceLemmas.{all_append}
+
+-- where each file with an own id is what the folder has, so is each that is new or changed
+pub owned_stand : (cuts : Cuts) (c : Contents) (index : Index) (scan : Scan) (owns : Owns) → AreChangedOwns index.entries scan.paths owns → OwnedStand cuts c scan.paths owns
+    → StandAsSeen cuts c index scan
+owned_stand cuts c index scan owns are stand = λ path blocks size is changed.
+    let own : fin.get owns path ≡ Some (own_id blocks size)
+    = are path ∙ ap (λ s. changed_own s (fin.get index.entries path)) is ∙ ap (λ kept. own_unless kept (own_id blocks size)) changed in
+    sym (stand path (seen.File blocks size) is (ap is_some own))
 
 module _ (library : Library) (user : List ℕ) (moment : ℕ) (parent : List ℕ) (told : Option Contents) (cuts : Cuts) (index : Index) (scan : Scan) where
   -- the list grew by a push's sends
@@ -46,9 +57,10 @@ module _ (library : Library) (user : List ℕ) (moment : ℕ) (parent : List ℕ
       → (IsSeenFolder index.entries scan.paths → (objects : Objects) → Keeps wanted.made objects → (path : PathV)
       → entry_below objects path root ≡ option_map (offered_entry moment user (fin.get index.entries path)) (fin.get scan.paths path))
       → (IsSeenFolder index.entries scan.paths → IsMadeOf moment user index.entries scan.paths root wanted.made) → library.lib ≡ index.lib
+      → ((c : Contents) → told ≡ Some c → StandAsSeen cuts c index scan)
       → (old mid new : List Sent) → UploadsSo library wanted old mid (Ok tt) → (result : Result Pushed SyncFault) → StandsSo library root parent user moment mid new result
       → IfErr result IsOrderFault → Pushes old new result
-  stood_push root wanted files changed named gives tree lib old mid new up result stands orders =
+  stood_push root wanted files changed named gives tree lib stand old mid new up result stands orders =
       let stood = stands_by library root parent user moment mid new result stands in
       let are = ordered_sends library any_key up.more up.ends.0 in (
         up.more ++ stood.later,
@@ -60,5 +72,5 @@ module _ (library : Library) (user : List ℕ) (moment : ℕ) (parent : List ℕ
             (λ id text ending last own at.
             subst (λ (l : List Sent). HoldsOffer library user moment parent index scan (up.more ++ l) id) (sym at)
             (holds_offer library root parent user moment id text own index scan wanted named gives up.more up.ends.1 ending last))
-            (no_change_of result orders),
+            stand (no_change_of result orders),
       )

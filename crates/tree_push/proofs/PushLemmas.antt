@@ -32,7 +32,7 @@ use Rattle.sync_rules.specs.declared.fault.SyncFault.TheVariants as fault
 use Rattle.sync_rules.proofs.WentLemmas.{goes_well, went_then}
 use Rattle.tree_push.specs.Asking.{ArePuts, IsOrderFault, IsSend, Replies, is_put, order_for}
 use Rattle.tree_push.specs.BlockUpload.{IsNoChange, NotChanged}
-use Rattle.tree_push.specs.Pushing.{EndsPush, HoldsOffer, HoldsSo, OffersOnce, PushesSo, is_change}
+use Rattle.tree_push.specs.Pushing.{EndsPush, HoldsOffer, HoldsSo, OffersOnce, PushesSo, StandAsSeen, is_change}
 use Rattle.tree_push.specs.Standing.{IsOwnCommit, IsStored, offered_commit}
 use Rattle.tree_push.specs.Upload.{SeesFolder, UploadsAll, UploadsSo, any_key}
 use Rattle.tree_push.specs.declared.asking.Library.{Library}
@@ -97,6 +97,7 @@ module _ (library : Library) (user : List ℕ) (moment : ℕ) (parent : List ℕ
     ends = (tt, tt, (λ other. All-nil WentWell), refl);
     holds = tt;
     offers = λ c is folder seen first sent later id at update. absurd (none_split first sent later at);
+    looks = λ c is first sent later id at update. absurd (none_split first sent later at);
     no_change = λ c is folder seen within. refl;
   }
 
@@ -117,6 +118,7 @@ module _ (library : Library) (user : List ℕ) (moment : ℕ) (parent : List ℕ
         ends = (stops_well library any_key f up.more up.ends, caused_by f up.more last, (λ other. ordered_went f up.more other last), stops_fresh library any_key f up.more up.ends);
         holds = tt;
         offers = λ c is folder seen first sent later id at update. absurd (none_updates up.more (no_updates library up.more are) first sent later id at update);
+        looks = λ c is first sent later id at update. absurd (none_updates up.more (no_updates library up.more are) first sent later id at update);
         no_change = λ c is folder seen within. no_change f (cause c is seen.paths);
       }
 
@@ -318,8 +320,9 @@ module _ (library : Library) (user : List ℕ) (moment : ℕ) (parent : List ℕ
         → (c : Contents) → told ≡ Some c → IsFolder c → IsScan cuts c scan → OffersOnce cuts c index user moment parent (more ++ later))
         → ((id text : List ℕ) (ending last : Ending) → IsOwnCommit library root parent user moment id text → later ≡ put_of library id text ending ∷ update_of library id last ∷ []
         → HoldsOffer library user moment parent index scan (more ++ later) id)
-        → IsNotChanged result → PushesSo library user moment parent told cuts index scan (more ++ later) result
-    push_stood root later result (inl none) offers held quiet =
+        → ((c : Contents) → told ≡ Some c → StandAsSeen cuts c index scan) → IsNotChanged result
+        → PushesSo library user moment parent told cuts index scan (more ++ later) result
+    push_stood root later result (inl none) offers held stand quiet =
         subst (λ (l : List Sent). PushesSo library user moment parent told cuts index scan (more ++ l) result) (sym none.0)
         (subst (λ (l : List Sent). PushesSo library user moment parent told cuts index scan l result) (sym (append-nil more))
         (subst (λ (r : Result Pushed SyncFault). PushesSo library user moment parent told cuts index scan more r) (sym none.1) (record {
@@ -332,9 +335,10 @@ module _ (library : Library) (user : List ℕ) (moment : ℕ) (parent : List ℕ
           ends = (goes_well more well, tt, (λ other. absurd (true≢false other)), sends_fresh library any_key more went);
           holds = tt;
           offers = λ c is folder seen first sent after id at update. absurd (none_updates more (no_updates library more are) first sent after id at update);
+          looks = λ c is first sent after id at update. stand c is;
           no_change = λ c is folder seen within. refl;
         })))
-    push_stood root later result (inr (inl only)) offers held quiet =
+    push_stood root later result (inr (inl only)) offers held stand quiet =
         let put = put_of library only.id only.text only.ending in
         subst (λ (l : List Sent). PushesSo library user moment parent told cuts index scan (more ++ l) result) (sym only.is) (record {
           asks = All-append (IsSyncOrder library.lib library.secret) more (put ∷ []) (asks_all library more are)
@@ -348,13 +352,14 @@ module _ (library : Library) (user : List ℕ) (moment : ℕ) (parent : List ℕ
           holds = holds_none (more ++ put ∷ []) only.id only.text only.ending result only.ends;
           offers = λ c is folder seen first sent after id at update.
               absurd (none_updates (more ++ put ∷ []) (no_updates_put only.id only.text only.ending) first sent after id at update);
+          looks = λ c is first sent after id at update. stand c is;
           no_change = λ c is folder seen within. quiet;
         })
       where
         no_updates_put : (id text : List ℕ) (ending : Ending) → AllByRecursion NoUpdate (more ++ put_of library id text ending ∷ [])
         no_updates_put id text ending =
             all_append NoUpdate more (put_of library id text ending ∷ []) (no_updates library more are) ((λ other is. absurd (cc)), tt)
-    push_stood root later result (inr (inr both)) offers held quiet =
+    push_stood root later result (inr (inr both)) offers held stand quiet =
         let put = put_of library both.id both.text both.ending in
         let update = update_of library both.id both.last in
         record {
@@ -374,6 +379,7 @@ module _ (library : Library) (user : List ℕ) (moment : ℕ) (parent : List ℕ
           ends = subst (λ (l : List Sent). EndsPush (more ++ l) result) (sym both.is) (ends_update both.id both.text both.ending both.last both.told both.replied both.stored result both.ends);
           holds = holds_by (more ++ later) both.id both.last result both.ends (held both.id both.text both.ending both.last both.own both.is);
           offers = λ c is folder seen. offers both.id both.text both.ending both.last both.own both.is c is folder seen;
+          looks = λ c is first sent after id at update. stand c is;
           no_change = λ c is folder seen within. quiet;
         }
 

@@ -1,8 +1,8 @@
--- What is lacking of what is wanted is put, and nothing else. The key lemmas are off_unlisted, seen_file, passed_start, passed_more,
+-- What is lacking of what is wanted is put, and nothing else. The key lemmas are off_unlisted, holds_more, seen_file, passed_start, passed_more,
 -- passed_stop and uploads_all.
 use Rattle.std.proofs.Common.{◌≡◌, ◌||◌, inl, inr, ℕ, Bool, true, false, cond, List, [], ◌∷◌, ◌++◌, length, map, Option, None, Some, IsSome, is_some, Result, Ok, Err, refl, sym, ap, ap₂, ◌∙◌, subst, append_assoc, true≢false}
 use Rattle.std.proofs.lemmas.Bool.{or_left, or_right}
-use Rattle.std.specs.Prelude.{⊤, ◌&&◌, not, IfErr, option_and_then}
+use Rattle.std.specs.Prelude.{⊤, ◌⊎◌, ◌&&◌, not, IfErr, option_and_then}
 use Rattle.std.specs.FinMap as fin
 use Rattle.std.specs.List.{AllByRecursion, filter, list_any}
 use Rattle.std.specs.Str.{bytes_eq}
@@ -12,7 +12,7 @@ use Rattle.ids.specs.declared.key.Kind.{Kind}
 use Rattle.ids.specs.declared.key.Kind.TheVariants as kind
 use Rattle.ids.proofs.BasicLemmas.{same_from_bytes_eq}
 use Rattle.tree_model.specs.Path.{PathV, path_cmp}
-use Rattle.tree_model.proofs.ListedLemmas.{same_path}
+use Rattle.tree_model.proofs.ListedLemmas.{same_path, same_path-true}
 use Rattle.block_chunker.specs.declared.cuts.Cuts.{Cuts}
 use Rattle.object_graph.specs.Objects.{block_key, fs_key}
 use Rattle.object_graph.specs.Reached.{block_keys}
@@ -75,6 +75,36 @@ off_unlisted old ids none = record {
     by true true is = is
     by true false is = refl
     by false x is = refl
+
+-- ---- files that are read again, one after another
+
+-- of each file that was seen this holds, or it is among those that are left
+abbrev pub HoldsOrLeft : (Q : PathV → Seen → Type 0) → SeenPaths → List (PathV × Seen) → Type 0
+HoldsOrLeft Q seens left = (path : PathV) (s : Seen) → fin.get seens path ≡ Some s → (fin.find path_cmp path left ≡ Some s) ⊎ Q path s
+
+module _ (Q : PathV → Seen → Type 0) (seens : SeenPaths) where
+  pub holds_start : HoldsOrLeft Q seens (fin.entries seens)
+  holds_start = λ path s is. inl (sym (fin.get-entries seens path) ∙ is)
+
+  pub holds_more : (e : PathV × Seen) (es : List (PathV × Seen)) → HoldsOrLeft Q seens (e ∷ es) → Q e.0 e.1 → HoldsOrLeft Q seens es
+  holds_more e es before here = λ path s is. by path s (before path s is) (same_path path e.0) refl
+    where
+      by : (path : PathV) (s : Seen) → (fin.find path_cmp path (e ∷ es) ≡ Some s) ⊎ Q path s → (b : Bool) → same_path path e.0 ≡ b → (fin.find path_cmp path es ≡ Some s) ⊎ Q path s
+      by path s (inr holds) b is = inr holds
+      by path s (inl found) true same =
+          let one : e.1 ≡ s = some_one (ap (λ b. cond b (Some e.1) (fin.find path_cmp path es)) (sym same) ∙ found) in
+          inr (subst (λ (p : PathV). Q p s) (sym (same_path-true path e.0 same)) (subst (Q e.0) one here))
+        where
+          some_one : {x y : Seen} → Some x ≡ Some y → x ≡ y
+          some_one e = cc
+      by path s (inl found) false apart = inl (sym (skip_first path e es apart) ∙ found)
+
+  pub holds_end : HoldsOrLeft Q seens [] → (path : PathV) (s : Seen) → fin.get seens path ≡ Some s → Q path s
+  holds_end all path s is = by (all path s is)
+    where
+      by : (fin.find path_cmp path [] ≡ Some s) ⊎ Q path s → Q path s
+      by (inl found) = absurd (cc)
+      by (inr holds) = holds
 
 -- what was seen of a file is what the folder has there
 pub seen_file : (cuts : Cuts) (o : Option Holding) (blocks : List (List ℕ)) (size : ℕ) → Some (seen.File blocks size) ≡ option_and_then (seen_of cuts) o

@@ -1,5 +1,5 @@
--- The blocks of a file that are read again and put. Our own. Read PutsOff and NotChanged, then IsPutting.
-use Rattle.std.specs.Prelude.{ℕ, ◌≡◌, ◌⊎◌, ◌&&◌, not, List, ◌++◌, map, Result, Ok, Err, ⊤}
+-- The blocks of a file that are read again and put. Our own. Read PutsOff, StandsThere and NotChanged, then IsPutting.
+use Rattle.std.specs.Prelude.{ℕ, ◌≡◌, ◌⊎◌, ◌&&◌, not, List, ◌++◌, map, Some, option_and_then, Result, Ok, Err, ⊤}
 use Rattle.ids.specs.declared.key.Key.{Key}
 use Rattle.object_graph.specs.Reached.{block_keys}
 use Rattle.object_graph.specs.Traversal.{is_in}
@@ -9,6 +9,11 @@ use Rattle.tree_push.specs.Asking.{ArePuts, IsOrderFault}
 use Rattle.tree_push.specs.Lacking.{Keys, has_key}
 use Rattle.sha1.specs.Sha1.{sha1}
 use Rattle.tree_model.specs.Path.{PathV}
+use Rattle.block_chunker.specs.declared.cuts.Cuts.{Cuts}
+use Rattle.folder_side.specs.Folder.{Contents, at}
+use Rattle.folder_side.specs.ScanReport.{seen_of}
+use Rattle.folder_side.specs.declared.scan_report.Seen.{Seen}
+use Rattle.folder_side.specs.declared.scan_report.Seen.TheVariants as seen
 use Rattle.folder_side.specs.declared.error.FolderFault.{FolderFault}
 use Rattle.folder_side.specs.declared.error.FolderFault.TheVariants as folder
 use Rattle.sync_rules.specs.declared.fault.SyncFault.{SyncFault}
@@ -29,6 +34,11 @@ IsNoChange _ = ⊤
 abbrev pub NotChanged : {T : Type 0} → Result T SyncFault → Type 0
 NotChanged (Ok x) = ⊤
 NotChanged (Err f) = IsNoChange f
+
+-- a file that was seen at a path is what the folder has there: it has these chunks and this size, and no byte more
+abbrev pub StandsThere : Cuts → Contents → PathV → Seen → Type 0
+StandsThere cuts c path seen.Dir = ⊤
+StandsThere cuts c path (seen.File blocks size) = Some (seen.File blocks size) ≡ option_and_then (seen_of cuts) (at c path)
 
 -- that this file was changed, or a fault of an order
 abbrev pub IsPutFault : PathV → SyncFault → Type 0

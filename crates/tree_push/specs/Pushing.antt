@@ -1,14 +1,16 @@
--- What the push of one round sends, and what comes of it. Our own. Read PushesSo, at the end, then OffersOnce and HoldsOffer.
-use Rattle.std.specs.Prelude.{ℕ, ◌≡◌, Bool, true, false, All, List, [], ◌∷◌, ◌++◌, Option, None, Some, option_map, Result, Ok, Err, IfErr, ⊤}
+-- What the push of one round sends, and what comes of it. Our own. Read PushesSo, at the end, then OffersOnce, StandAsSeen and HoldsOffer.
+use Rattle.std.specs.Prelude.{ℕ, ◌≡◌, Bool, true, false, All, List, [], ◌∷◌, ◌++◌, Option, None, Some, option_and_then, option_map, Result, Ok, Err, IfErr, ⊤}
 use Rattle.std.specs.FinMap as fin
 use Rattle.ids.specs.Key.{Objects}
 use Rattle.ids.specs.declared.key.Key.{Key}
 use Rattle.tree_model.specs.Path.{PathV}
 use Rattle.tree_model.specs.Tree.{Tree}
 use Rattle.block_chunker.specs.declared.cuts.Cuts.{Cuts}
-use Rattle.folder_side.specs.Folder.{Contents, IsFolder}
-use Rattle.folder_side.specs.ScanReport.{IsScan, IsWithinLimits}
+use Rattle.folder_side.specs.Folder.{Contents, IsFolder, at}
+use Rattle.folder_side.specs.ScanReport.{IsScan, IsWithinLimits, seen_of}
 use Rattle.folder_side.specs.declared.scan_report.Scan.{Scan}
+use Rattle.folder_side.specs.declared.scan_report.Seen.TheVariants as seen
+use Rattle.local_index.specs.OwnIds.{own_id}
 use Rattle.local_index.specs.declared.index.Index.{Index}
 use Rattle.object_graph.specs.Objects.{commit_key, entry_below}
 use Rattle.object_graph.specs.Unchanged.{Keeps}
@@ -28,7 +30,7 @@ use Rattle.sync_rules.specs.Premises.{Over}
 use Rattle.sync_rules.specs.Uploads.{IsUploadOf}
 use Rattle.sync_rules.specs.declared.fault.SyncFault.{SyncFault}
 use Rattle.sync_rules.specs.declared.fault.SyncFault.TheVariants as fault
-use Rattle.tree_push.specs.OfferedEntries.{IsSeenFolder, offered_entry}
+use Rattle.tree_push.specs.OfferedEntries.{IsSeenFolder, is_kept, offered_entry}
 use Rattle.tree_push.specs.Standing.{IsOwnCommit}
 use Rattle.tree_push.specs.declared.asking.Library.{Library}
 use Rattle.tree_push.specs.declared.standing.Pushed.{Pushed}
@@ -58,6 +60,16 @@ OffersOnce cuts c index user moment parent more = (first : List Sent) (sent : Se
     → (had : List (Key × List ℕ)) × IsHad first had × ((objects : Objects) (base : Tree) → Over objects cuts c index base had
     → IsOffer objects cuts c index moment user (Some parent) id × IsUploadOf objects index first id)
 
+-- each file that is new or changed is what the folder has at its path: it has the chunks and the size that were seen
+abbrev pub StandAsSeen : Cuts → Contents → Index → Scan → Type 0
+StandAsSeen cuts c index scan = (path : PathV) (blocks : List (List ℕ)) (size : ℕ) → fin.get scan.paths path ≡ Some (seen.File blocks size)
+    → is_kept (fin.get index.entries path) (own_id blocks size) ≡ false → option_and_then (seen_of cuts) (at c path) ≡ Some (seen.File blocks size)
+
+-- wherever a library is asked to stand at a commit, they are; the scan needn't have seen this folder
+abbrev pub LooksTwice : Cuts → Contents → Index → Scan → List Sent → Type 0
+LooksTwice cuts c index scan more =
+    (first : List Sent) (sent : Sent) (later : List Sent) (id : List ℕ) → more ≡ first ++ sent ∷ later → sent.0.what ≡ what.Update id → StandAsSeen cuts c index scan
+
 -- of which texts the commit is at which a library stands, over every folder: its own was sent, the others were asked about, and over any
 -- objects that have them just those entries stand below its root that are offered, where what was seen is what stands in a folder
 pub record HoldsOffer (library : Library) (user : List ℕ) (moment : ℕ) (parent : List ℕ) (index : Index) (scan : Scan) (more : List Sent) (id : List ℕ) : Type 0 where
@@ -85,4 +97,5 @@ pub record PushesSo (library : Library) (user : List ℕ) (moment : ℕ) (parent
   pub ends : EndsPush more result
   pub holds : HoldsSo library user moment parent index scan more result
   pub offers : (c : Contents) → told ≡ Some c → IsFolder c → IsScan cuts c scan → OffersOnce cuts c index user moment parent more
+  pub looks : (c : Contents) → told ≡ Some c → LooksTwice cuts c index scan more
   pub no_change : (c : Contents) → told ≡ Some c → IsFolder c → IsScan cuts c scan → IsWithinLimits c → IfErr result (λ f. is_change f ≡ false)

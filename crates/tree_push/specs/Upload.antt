@@ -1,5 +1,5 @@
 -- All that a library lacks of what is wanted is put. Our own. Read UploadsAll and UploadsSo.
-use Rattle.std.specs.Prelude.{ℕ, ◌≡◌, Bool, true, List, [], ◌∷◌, ◌++◌, Result, Ok, Err, ⊤, option_and_then}
+use Rattle.std.specs.Prelude.{ℕ, ◌≡◌, Bool, true, List, [], ◌∷◌, ◌++◌, Some, IsSome, Result, Ok, Err, ⊤, option_and_then}
 use Rattle.std.specs.FinMap as fin
 use Rattle.std.specs.List.{AllByRecursion}
 use Rattle.ids.specs.declared.key.Key.{Key}
@@ -17,6 +17,8 @@ use Rattle.sync_rules.specs.Orders.{PutsLacked}
 use Rattle.sync_rules.specs.declared.fault.SyncFault.{SyncFault}
 use Rattle.sync_rules.specs.declared.fault.SyncFault.TheVariants as fault
 use Rattle.tree_push.specs.Asking.{ArePuts, AsksIds, IsOrderFault, IsSend, Stops}
+use Rattle.tree_push.specs.BlockUpload.{StandsThere}
+use Rattle.tree_push.specs.ChangedOwns.{Owns}
 use Rattle.tree_push.specs.OfferedEntries.{SeenPaths}
 use Rattle.tree_push.specs.Wanted.{ids_in}
 use Rattle.tree_push.specs.declared.asking.Library.{Library}
@@ -51,6 +53,10 @@ pub record UploadsSo (library : Library) (wanted : Wanted) (old new : List Sent)
 -- what was seen is what the folder has
 abbrev pub SeesFolder : Cuts → Contents → SeenPaths → Type 0
 SeesFolder cuts c seens = (path : PathV) → fin.get seens path ≡ option_and_then (seen_of cuts) (at c path)
+
+-- each file of which there is an own id is what the folder has at its path
+abbrev pub OwnedStand : Cuts → Contents → SeenPaths → Owns → Type 0
+OwnedStand cuts c seens owns = (path : PathV) (s : Seen) → fin.get seens path ≡ Some s → IsSome (fin.get owns path) → StandsThere cuts c path s
 
 -- the names of all blocks of the files in a list
 abbrev pub blocks_of : Seen → List (List ℕ)

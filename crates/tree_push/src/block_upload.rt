@@ -6,13 +6,14 @@ ghost use Rattle.ids.specs.FaultCount.{FailsBy};
 ghost use Rattle.sha1.specs.Sha1.{sha1};
 ghost use Rattle.block_chunker.specs.ChunkBoundaries.{last_chunk};
 ghost use Rattle.block_chunker.specs.ChunkerProgress.{after_piece, finished_by};
-ghost use Rattle.folder_side.specs.Folder.{Contents, IsPart, at};
+ghost use Rattle.folder_side.specs.Folder.{Contents, IsPart, PartAt, at};
 ghost use Rattle.folder_side.specs.ScanReport.{block_names};
 ghost use Rattle.folder_side.specs.declared.holding.Holding.TheVariants.{File};
+ghost use Rattle.folder_side.specs.declared.scan_report.Seen.TheVariants as seen;
 ghost use Rattle.sync_rules.specs.Causes.{is_folder_fault};
 ghost use Rattle.tree_push.specs.Asking.{IsOrderFault, Went};
 ghost use Rattle.tree_push.specs.Lacking.{has_key};
-ghost use Rattle.tree_push.specs.BlockUpload.{IsChange, IsFileFault, IsPutFault, IsReadFault, NotChanged, PutsOff, folder_fault};
+ghost use Rattle.tree_push.specs.BlockUpload.{IsChange, IsFileFault, IsPutFault, IsReadFault, NotChanged, PutsOff, StandsThere, folder_fault};
 
 use crate::asking::Library;
 use crate::puts::put_block;
@@ -27,8 +28,8 @@ use tree_model::Path;
 /// Reads a file of this size again, and puts each of its chunks that is lacking, as it comes. None of these names is lacking
 /// afterwards.
 ///
-/// `Folder` where the folder failed, `Remote` and `Refused` by the last order, and `Changed` where the file is shorter or has other
-/// chunks than those of these names. No more of it is in memory than one chunk and two pieces. After an error some may be put.
+/// `Folder` where the folder failed, `Remote` and `Refused` by the last order, and `Changed` where the file is shorter or longer or has
+/// other chunks than those of these names. No more of it is in memory than one chunk and two pieces. After an error some may be put.
 pub fn put_blocks<F: Folder, R: Remote>(
     alloc: Global,
     folder: &mut F,
@@ -43,6 +44,7 @@ pub fn put_blocks<F: Folder, R: Remote>(
 ) -> Result<(), SyncFault>
     requires some { 0 < length buffer.old }
     ensures value { Went library.now (has_key lacking.old) (PutsOff blocks.now lacking.old lacking.new) (R.sends remote.old) (R.sends remote.new) result }
+    ensures same { (c : Contents) → F.told folder.old ≡ Some c → OnOk result (StandsThere cuts c path.now (seen.File blocks.now size)) }
     ensures cause { (c : Contents) (bytes : List ℕ) → F.told folder.old ≡ Some c → at c path.now ≡ Some (File bytes) → blocks.now ≡ block_names cuts bytes
         → size ≡ length bytes → NotChanged result }
     ensures stays { (F.told folder.new ≡ F.told folder.old) × (F.spare folder.new ≡ F.spare folder.old) × (R.peer remote.new ≡ R.peer remote.old) }
@@ -73,10 +75,14 @@ pub fn put_blocks<F: Folder, R: Remote>(
         }
         place += count as u64;
     }
+    match meet_end(alloc, folder, path, place, buffer) {
+        Ok(()) => {}
+        Err(fault) => return Err(fault),
+    }
     put_last(alloc, remote, library, path, chunker, left, lacking)
 }
 
-/// Reads bytes of a file from a place on: 1 to `most`, of which it has had at least one.
+/// Reads bytes of a file from a place on: 1 to `most`, of which it has had at least one. Where it has more, it was changed.
 fn read_piece<F: Folder>(
     alloc: Global,
     folder: &mut F,
@@ -88,7 +94,7 @@ fn read_piece<F: Folder>(
     requires some { 0 < length buffer.old }
     requires left { 0 < most }
     ensures bound { IfOk result (λ count. (0 < count) × (count ≤ length buffer.new) × (count ≤ most)) }
-    ensures ok { (c : Contents) (bytes : List ℕ) → F.told folder.old ≡ Some c → at c path.now ≡ Some (File bytes) → most ≡ length (drop place bytes)
+    ensures ok { (c : Contents) (bytes : List ℕ) → F.told folder.old ≡ Some c → at c path.now ≡ Some (File bytes)
         → IfOk result (λ count. IsPart bytes place count buffer.new) }
     ensures cause { (c : Contents) (bytes : List ℕ) → F.told folder.old ≡ Some c → at c path.now ≡ Some (File bytes) → most ≡ length (drop place bytes) → NotChanged result }
     ensures stays { (F.told folder.new ≡ F.told folder.old) × (F.spare folder.new ≡ F.spare folder.old) }
@@ -99,10 +105,32 @@ fn read_piece<F: Folder>(
         Ok(count) => count,
         Err(fault) => return Err(folder_fault(fault)),
     };
-    if count == 0 {
+    if count == 0 || count as u64 > most {
         return Err(changed(alloc, path));
     }
-    Ok((count as u64).min(most) as usize)
+    Ok(count)
+}
+
+/// That a file ends at this place: it has no byte from there on. Where it has one, it was changed.
+fn meet_end<F: Folder>(
+    alloc: Global,
+    folder: &mut F,
+    path: &Path,
+    place: u64,
+    buffer: &mut [u8],
+) -> Result<(), SyncFault>
+    requires some { 0 < length buffer.old }
+    ensures ok { (c : Contents) → F.told folder.old ≡ Some c → OnOk result (PartAt (at c path.now) place 0 buffer.new) }
+    ensures cause { (c : Contents) (bytes : List ℕ) → F.told folder.old ≡ Some c → at c path.now ≡ Some (File bytes) → place ≡ length bytes → NotChanged result }
+    ensures stays { (F.told folder.new ≡ F.told folder.old) × (F.spare folder.new ≡ F.spare folder.old) }
+    ensures faults { FailsBy is_folder_fault (F.faults folder.old) (F.faults folder.new) result }
+    ensures bad { IfErr result (IsFileFault path.now) }
+{
+    match folder.read(path, place, buffer) {
+        Ok(0) => Ok(()),
+        Ok(_) => Err(changed(alloc, path)),
+        Err(fault) => Err(folder_fault(fault)),
+    }
 }
 
 /// Feeds a piece of a file to its chunker, and puts those chunks that end in it and are lacking. What is left of the names is
@@ -172,6 +200,7 @@ fn put_last<R: Remote>(
 ) -> Result<(), SyncFault>
     requires ready { chunker.failed ≡ false }
     ensures value { Went library.now (has_key lacking.old) (PutsOff left.now lacking.old lacking.new) (R.sends remote.old) (R.sends remote.new) result }
+    ensures rest { OnOk result (left.now ≡ list_map sha1 (last_chunk chunker.begun)) }
     ensures cause { left.now ≡ list_map sha1 (last_chunk chunker.begun) → NotChanged result }
     ensures faults { IfErr result (IsPutFault path.now) }
     ensures stays { R.peer remote.new ≡ R.peer remote.old }

@@ -24,12 +24,13 @@ use tree_model::PathTable;
 const PIECE: usize = 65_536;
 
 /// Pushes what a folder offers, by what a scan saw of it and an index knows: asks what the library lacks of it, puts that, and asks the
-/// library to stand at its commit on this parent. `owns` are the own ids of the files that are new or changed.
+/// library to stand at its commit on this parent. `owns` are the own ids of the files that are new or changed, each of which is read once
+/// more before the library is asked.
 ///
 /// Behind an upload check that was allowed. The folder is read and never changed; no more of a file is in memory than one chunk and two
-/// pieces. `Folder` where the folder failed, `Changed` where a file of which a block was lacking was changed since the scan, `Remote` and
-/// `Refused` by the last order. That the update came too late is no fault. Two directories of one name, and a commit whose name is forty
-/// zeros, as no texts are known to have, are told as want of memory.
+/// pieces. `Folder` where the folder failed, `Changed` where a file that is new or changed, or of which a block was lacking, isn't as the
+/// scan saw it, `Remote` and `Refused` by the last order. That the update came too late is no fault. Two directories of one name, and a
+/// commit whose name is forty zeros, as no texts are known to have, are told as want of memory.
 pub fn push<F: Folder, R: Remote>(
     alloc: Global,
     folder: &mut F,
@@ -64,6 +65,7 @@ pub fn push<F: Folder, R: Remote>(
         remote,
         library,
         &scan.paths,
+        owns,
         &offered.wanted,
         cuts,
         buffer.as_mut_slice(),

@@ -1,5 +1,5 @@
 //! All that a library lacks of what is offered, put.
-ghost use Rattle.std.specs.Prelude.{◌≡◌, ◌<◌, Some, IfErr, length, option_and_then, true};
+ghost use Rattle.std.specs.Prelude.{◌≡◌, ◌<◌, ◌||◌, Some, IfErr, OnOk, length, option_and_then, true};
 ghost use Rattle.std.specs.FinMap as map;
 ghost use Rattle.std.specs.List.{list_any};
 ghost use Rattle.ids.specs.FaultCount.{FailsBy};
@@ -10,9 +10,9 @@ ghost use Rattle.folder_side.specs.declared.scan_report.Seen.TheVariants as seen
 ghost use Rattle.object_graph.specs.Objects.{block_key};
 ghost use Rattle.sync_rules.specs.Causes.{is_folder_fault};
 ghost use Rattle.tree_push.specs.Asking.{IsOrderFault, Went, is_listed, no_key};
-ghost use Rattle.tree_push.specs.BlockUpload.{NotChanged, PutsOff};
+ghost use Rattle.tree_push.specs.BlockUpload.{NotChanged, PutsOff, StandsThere};
 ghost use Rattle.tree_push.specs.Lacking.{AsksNoting, has_key};
-ghost use Rattle.tree_push.specs.Upload.{IsUploadFault, SeesFolder, UploadsSo, blocks_in, blocks_of};
+ghost use Rattle.tree_push.specs.Upload.{IsUploadFault, OwnedStand, SeesFolder, UploadsSo, blocks_in, blocks_of};
 ghost use Rattle.tree_push.specs.Wanted.{AreOwnNamed, AreSeenBlocks, ids_in};
 
 use crate::asking::Library;
@@ -28,7 +28,8 @@ use std::alloc::{AllocError, Global};
 use sync_rules::SyncFault;
 use tree_model::{Path, PathTable};
 
-/// Asks what is lacking of what is wanted, and puts it: each file of which a block is lacking is read again.
+/// Asks what is lacking of what is wanted, and puts it: each file that is new or changed, which has an own id in `owns`, is read again,
+/// and each of which a block is lacking.
 ///
 /// `Folder` where the folder failed, `Changed` where a file was changed since the scan, `Remote` and `Refused` by the last order.
 pub(crate) fn upload<F: Folder, R: Remote>(
@@ -37,6 +38,7 @@ pub(crate) fn upload<F: Folder, R: Remote>(
     remote: &mut R,
     library: &Library,
     paths: &PathTable<Seen>,
+    owns: &PathTable<ObjId>,
     wanted: &Wanted,
     cuts: Cuts,
     buffer: &mut [u8],
@@ -45,6 +47,7 @@ pub(crate) fn upload<F: Folder, R: Remote>(
     requires named { AreOwnNamed wanted.now.made }
     requires seen { AreSeenBlocks paths.now wanted.now }
     ensures value { UploadsSo library.now wanted.now (R.sends remote.old) (R.sends remote.new) result }
+    ensures same { (c : Contents) → F.told folder.old ≡ Some c → OnOk result (OwnedStand cuts c paths.now owns.now) }
     ensures cause { (c : Contents) → F.told folder.old ≡ Some c → SeesFolder cuts c paths.now → NotChanged result }
     ensures stays { (F.told folder.new ≡ F.told folder.old) × (F.spare folder.new ≡ F.spare folder.old) × (R.peer remote.new ≡ R.peer remote.old) }
     ensures faults { FailsBy is_folder_fault (F.faults folder.old) (F.faults folder.new) result }
@@ -66,6 +69,7 @@ pub(crate) fn upload<F: Folder, R: Remote>(
         remote,
         library,
         paths,
+        owns,
         cuts,
         buffer,
         &mut blocks,
@@ -127,27 +131,31 @@ fn ask_wanted<V, R: Remote>(
     }
 }
 
-/// Goes over all files that were seen, and reads those again of which a block is lacking. Afterwards none is.
+/// Goes over all files that were seen, and reads those again that have an own id here, and those of which a block is lacking. Afterwards
+/// none is.
 fn put_files<F: Folder, R: Remote>(
     alloc: Global,
     folder: &mut F,
     remote: &mut R,
     library: &Library,
     paths: &PathTable<Seen>,
+    owns: &PathTable<ObjId>,
     cuts: Cuts,
     buffer: &mut [u8],
     lacking: &mut KeyTable<()>,
 ) -> Result<(), SyncFault>
     requires some { 0 < length buffer.old }
     ensures value { Went library.now (has_key lacking.old) (PutsOff (blocks_in (map.entries paths.now)) lacking.old lacking.new) (R.sends remote.old) (R.sends remote.new) result }
+    ensures same { (c : Contents) → F.told folder.old ≡ Some c → OnOk result (OwnedStand cuts c paths.now owns.now) }
     ensures cause { (c : Contents) → F.told folder.old ≡ Some c → SeesFolder cuts c paths.now → NotChanged result }
     ensures stays { (F.told folder.new ≡ F.told folder.old) × (F.spare folder.new ≡ F.spare folder.old) × (R.peer remote.new ≡ R.peer remote.old) }
     ensures faults { FailsBy is_folder_fault (F.faults folder.old) (F.faults folder.new) result }
     ensures bad { IfErr result IsUploadFault }
 {
     for (path, seen) in paths.iter() {
+        let changed = owns.has(path);
         match put_seen(
-            alloc, folder, remote, library, path, seen, cuts, buffer, lacking,
+            alloc, folder, remote, library, path, seen, changed, cuts, buffer, lacking,
         ) {
             Ok(()) => {}
             Err(fault) => return Err(fault),
@@ -156,7 +164,7 @@ fn put_files<F: Folder, R: Remote>(
     Ok(())
 }
 
-/// Reads a file again, if a block of it is lacking, and puts its blocks that are.
+/// Reads a file again, if it is new or changed or a block of it is lacking, and puts its blocks that are.
 fn put_seen<F: Folder, R: Remote>(
     alloc: Global,
     folder: &mut F,
@@ -164,12 +172,14 @@ fn put_seen<F: Folder, R: Remote>(
     library: &Library,
     path: &Path,
     seen: &Seen,
+    changed: bool,
     cuts: Cuts,
     buffer: &mut [u8],
     lacking: &mut KeyTable<()>,
 ) -> Result<(), SyncFault>
     requires some { 0 < length buffer.old }
     ensures value { Went library.now (has_key lacking.old) (PutsOff (blocks_of seen.now) lacking.old lacking.new) (R.sends remote.old) (R.sends remote.new) result }
+    ensures same { (c : Contents) → F.told folder.old ≡ Some c → changed ≡ true → OnOk result (StandsThere cuts c path.now seen.now) }
     ensures cause { (c : Contents) → F.told folder.old ≡ Some c → Some seen.now ≡ option_and_then (seen_of cuts) (at c path.now) → NotChanged result }
     ensures stays { (F.told folder.new ≡ F.told folder.old) × (F.spare folder.new ≡ F.spare folder.old) × (R.peer remote.new ≡ R.peer remote.old) }
     ensures faults { FailsBy is_folder_fault (F.faults folder.old) (F.faults folder.new) result }
@@ -185,6 +195,7 @@ fn put_seen<F: Folder, R: Remote>(
             path,
             blocks.slice(),
             *size,
+            changed,
             cuts,
             buffer,
             lacking,
@@ -200,23 +211,32 @@ fn put_lacking_of<F: Folder, R: Remote>(
     path: &Path,
     blocks: &[ObjId],
     size: u64,
+    changed: bool,
     cuts: Cuts,
     buffer: &mut [u8],
     lacking: &mut KeyTable<()>,
 ) -> Result<(), SyncFault>
     requires some { 0 < length buffer.old }
     ensures value { Went library.now (has_key lacking.old) (PutsOff blocks.now lacking.old lacking.new) (R.sends remote.old) (R.sends remote.new) result }
+    ensures same { (c : Contents) → F.told folder.old ≡ Some c → changed ≡ true → OnOk result (StandsThere cuts c path.now (seen.File blocks.now size)) }
     ensures cause { (c : Contents) → F.told folder.old ≡ Some c → Some (seen.File blocks.now size) ≡ option_and_then (seen_of cuts) (at c path.now) → NotChanged result }
     ensures stays { (F.told folder.new ≡ F.told folder.old) × (F.spare folder.new ≡ F.spare folder.old) × (R.peer remote.new ≡ R.peer remote.old) }
     ensures faults { FailsBy is_folder_fault (F.faults folder.old) (F.faults folder.new) result }
     ensures bad { IfErr result IsUploadFault }
 {
-    if !is_lacking(blocks, lacking) {
+    if !is_read_again(blocks, changed, lacking) {
         return Ok(());
     }
     put_blocks(
         alloc, folder, remote, library, path, blocks, size, cuts, buffer, lacking,
     )
+}
+
+/// Whether a file of these blocks is read again: it is new or changed, or one of them is lacking.
+fn is_read_again(blocks: &[ObjId], changed: bool, lacking: &KeyTable<()>) -> bool
+    ensures value { result ≡ (changed || list_any (λ id. has_key lacking.now (block_key id)) blocks.now) }
+{
+    changed || is_lacking(blocks, lacking)
 }
 
 /// Whether one of these blocks is lacking.

@@ -3,11 +3,13 @@ use Rattle.std.proofs.Common.{◌-◌, ◌∙◌, ℕ, Err, ap, arith, refl, sub
 use Rattle.std.specs.Prelude.{⊤}
 use Rattle.std.proofs.lemmas.List.{length-drop}
 use Rattle.ids.specs.FaultCount.{FailsBy}
+use Rattle.folder_side.specs.Folder.{at}
 use Rattle.sync_rules.specs.Causes.{is_folder_fault}
+use Rattle.tree_merge.proofs.TableLemmas.{on_ok_more}
 use Rattle.tree_push.specs.BlockUpload.{PutsOff}
 use Rattle.tree_push.specs.Lacking.{has_key}
 use Rattle.tree_push.proofs.TraceLemmas.{stopped_own}
-use Rattle.tree_push.proofs.BlockUploadLemmas.{file_own, file_read, passed_end, passed_more, passed_next, passed_start, put_read, put_reads, put_stays, taking_last, taking_more, taking_start, taking_stop}
+use Rattle.tree_push.proofs.BlockUploadLemmas.{file_own, file_read, passed_all, passed_end, passed_more, passed_next, passed_start, put_read, put_reads, put_stays, taking_last, taking_more, taking_start, taking_stop}
 use Rattle.tree_push.proofs.block_upload.put_blocks.Goals as goal
 
 pub loop-place-init : goal.loop-place-init
@@ -19,7 +21,7 @@ loop-place-init g c = record {
   alive = ap (λ p. p.failed) c.new-chunker.ensures.value;
   within = omega arith;
   taking = taking_start c.args.library.now c.args.blocks.now c.args.lacking.now (g.R.Remote.sends c.args.remote.now);
-  behind = λ c' bytes t a b n. passed_start c.args.cuts bytes c.args.blocks.now c.new-chunker.result c.new-chunker.ensures.value;
+  behind = λ c' bytes t a. passed_start c.args.cuts bytes c.args.blocks.now c.new-chunker.result c.new-chunker.ensures.value;
 }
 
 pub loop-place-preserved : goal.loop-place-preserved
@@ -32,10 +34,10 @@ loop-place-preserved g c = record {
   within = omega (arith, c.in-Ok.ensures.bound.2, c.loop-place.invariant.within);
   taking = taking_more c.args.library.now c.args.blocks.now c.loop-place.left.now c.args.lacking.now c.loop-place.lacking (g.R.Remote.sends c.args.remote.now) (g.R.Remote.sends c.loop-place.remote)
       c.loop-place.invariant.taking _ c.in-Ok-put_piece.rest.now c.put_piece.new.lacking (g.R.Remote.sends c.put_piece.new.remote) c.in-Ok-put_piece.ensures.rest c.in-Ok-put_piece.ensures.value;
-  behind = λ c' bytes t a b n.
-      let part = c.in-Ok.ensures.ok c' bytes (c.loop-place.invariant.told ∙ t) a (ap (λ (m : ℕ). m - c.loop-place.place) n ∙ sym (length-drop c.loop-place.place bytes)) in
+  behind = λ c' bytes t a.
+      let part = c.in-Ok.ensures.ok c' bytes (c.loop-place.invariant.told ∙ t) a in
       passed_more c.args.cuts bytes c.read_piece.new.buffer c.args.blocks.now c.loop-place.place c.in-Ok.count c.loop-place.chunker c.loop-place.left.now
-      (c.loop-place.invariant.behind c' bytes t a b n) part c.put_piece.new.chunker c.in-Ok-put_piece.rest.now c.in-Ok-put_piece.ensures.ok c.in-Ok-put_piece.ensures.rest;
+      (c.loop-place.invariant.behind c' bytes t a) part c.put_piece.new.chunker c.in-Ok-put_piece.rest.now c.in-Ok-put_piece.ensures.ok c.in-Ok-put_piece.ensures.rest;
 }
 
 pub returns-clause-value : goal.returns-clause-value
@@ -46,11 +48,19 @@ returns-clause-value g c =
 pub returns-clause-cause : goal.returns-clause-cause
 returns-clause-cause g c = λ c' bytes t a b n.
     c.put_last.ensures.cause
-    (passed_end c.args.cuts bytes c.args.blocks.now c.loop-place.place c.loop-place.chunker c.loop-place.left.now (c.loop-place.invariant.behind c' bytes t a b n)
+    (passed_end c.args.cuts bytes c.args.blocks.now c.loop-place.place c.loop-place.chunker c.loop-place.left.now (c.loop-place.invariant.behind c' bytes t a)
     (omega (arith, n, c.loop-place.invariant.within)) b)
 
+pub returns-clause-same : goal.returns-clause-same
+returns-clause-same g c = λ c' t.
+    on_ok_more c.put_last.result
+    (λ last.
+    passed_all c.args.cuts (at c' c.args.path.now) c.args.blocks.now c.loop-place.place c.args.size c.loop-place.chunker c.loop-place.left.now c.meet_end.new.buffer
+    (c.in-Ok-meet_end.ensures.ok c' (c.loop-place.invariant.told ∙ t)) (λ bytes a. c.loop-place.invariant.behind c' bytes t a) last (omega (arith, c.loop-place.invariant.within)))
+    c.put_last.ensures.rest
+
 pub returns-clause-faults : goal.returns-clause-faults
-returns-clause-faults g c = put_stays c.args.path.now _ _ c.put_last.result c.loop-place.invariant.faults c.put_last.ensures.faults
+returns-clause-faults g c = put_stays c.args.path.now _ _ c.put_last.result (c.in-Ok-meet_end.ensures.faults ∙ c.loop-place.invariant.faults) c.put_last.ensures.faults
 
 pub returns-clause-bad : goal.returns-clause-bad
 returns-clause-bad g c = put_reads c.args.path.now c.put_last.result c.put_last.ensures.faults
@@ -73,6 +83,25 @@ returns-in-Err-clause-faults g c =
 pub returns-in-Err-clause-bad : goal.returns-in-Err-clause-bad
 returns-in-Err-clause-bad g c = file_read c.args.path.now c.in-Err.fault c.in-Err.ensures.bad
 
+-- ---- it goes on behind its last chunk
+
+pub returns-in-Err-meet_end-clause-value : goal.returns-in-Err-meet_end-clause-value
+returns-in-Err-meet_end-clause-value g c =
+    stopped_own c.args.library.now (has_key c.args.lacking.now) (PutsOff c.loop-place.invariant.taking.done c.args.lacking.now c.loop-place.lacking) _ _ c.in-Err-meet_end.fault
+    c.loop-place.invariant.taking.ran (file_own c.args.path.now c.in-Err-meet_end.fault c.in-Err-meet_end.ensures.bad)
+
+pub returns-in-Err-meet_end-clause-cause : goal.returns-in-Err-meet_end-clause-cause
+returns-in-Err-meet_end-clause-cause g c = λ c' bytes t a b n.
+    c.in-Err-meet_end.ensures.cause c' bytes (c.loop-place.invariant.told ∙ t) a (omega (arith, n, c.loop-place.invariant.within))
+
+pub returns-in-Err-meet_end-clause-faults : goal.returns-in-Err-meet_end-clause-faults
+returns-in-Err-meet_end-clause-faults g c =
+    subst (λ (before : ℕ). FailsBy {T = ⊤} is_folder_fault before (g.F.Folder.faults c.meet_end.new.folder) (Err c.in-Err-meet_end.fault)) c.loop-place.invariant.faults
+    c.in-Err-meet_end.ensures.faults
+
+pub returns-in-Err-meet_end-clause-bad : goal.returns-in-Err-meet_end-clause-bad
+returns-in-Err-meet_end-clause-bad g c = file_read c.args.path.now c.in-Err-meet_end.fault c.in-Err-meet_end.ensures.bad
+
 -- ---- an order came to nothing, or the file was changed
 
 pub returns-in-Err-put_piece-clause-value : goal.returns-in-Err-put_piece-clause-value
@@ -82,9 +111,9 @@ returns-in-Err-put_piece-clause-value g c =
 
 pub returns-in-Err-put_piece-clause-cause : goal.returns-in-Err-put_piece-clause-cause
 returns-in-Err-put_piece-clause-cause g c = λ c' bytes t a b n.
-    let part = c.in-Ok.ensures.ok c' bytes (c.loop-place.invariant.told ∙ t) a (ap (λ (m : ℕ). m - c.loop-place.place) n ∙ sym (length-drop c.loop-place.place bytes)) in
+    let part = c.in-Ok.ensures.ok c' bytes (c.loop-place.invariant.told ∙ t) a in
     let next = passed_next c.args.cuts bytes c.read_piece.new.buffer c.args.blocks.now c.loop-place.place c.in-Ok.count c.loop-place.chunker c.loop-place.left.now
-    (c.loop-place.invariant.behind c' bytes t a b n) part b in
+    (c.loop-place.invariant.behind c' bytes t a) part b in
     c.in-Err-put_piece.ensures.cause next.0 next.1
 
 pub returns-in-Err-put_piece-clause-faults : goal.returns-in-Err-put_piece-clause-faults

@@ -1,7 +1,6 @@
 -- The chunks so far were met.
-use Rattle.std.proofs.Common.{◌≡◌, ◌≤◌, ◌-◌, ℕ, List, Some, false, length}
+use Rattle.std.proofs.Common.{◌≡◌, ◌≤◌, ◌-◌, ℕ, List, Some, false}
 use Rattle.folder_side.specs.Folder.{Contents, at}
-use Rattle.folder_side.specs.ScanReport.{block_names}
 use Rattle.folder_side.specs.declared.holding.Holding.TheVariants.{File}
 use Rattle.tree_push.proofs.BlockUploadLemmas.{IsPassed, IsTaking}
 use Rattle.tree_push.proofs.block_upload.put_blocks.Given as goal
@@ -15,7 +14,7 @@ invariant-loop-place g l = record {
   alive : l.chunker.failed ≡ false;
   within : l.place ≤ l.size;
   taking : IsTaking l.library l.blocks l.left l.fn.lacking l.lacking (g.R.Remote.sends l.fn.remote) (g.R.Remote.sends l.remote);
-  behind : (c : Contents) (bytes : List ℕ) → g.F.Folder.told l.fn.folder ≡ Some c → at c l.path ≡ Some (File bytes) → l.blocks ≡ block_names l.fn.cuts bytes → l.size ≡ length bytes → IsPassed l.fn.cuts bytes l.blocks l.place l.chunker l.left;
+  behind : (c : Contents) (bytes : List ℕ) → g.F.Folder.told l.fn.folder ≡ Some c → at c l.path ≡ Some (File bytes) → IsPassed l.fn.cuts bytes l.blocks l.place l.chunker l.left;
 }
 
 abbrev pub decreases-loop-place : goal.decreases-loop-place

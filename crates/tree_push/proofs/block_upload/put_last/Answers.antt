@@ -35,3 +35,8 @@ returns-clause-value g c =
     (λ (ids : List (List ℕ)). Ran c.args.library.now (has_key c.args.lacking.now) (PutsOff ids c.args.lacking.now c.put_if.new.lacking) (g.R.Remote.sends c.args.remote.now)
     (g.R.Remote.sends c.put_if.new.remote))
     (last_all c.args.left.now c.in-Ok-put_if.rest.now c.in-Ok.last c.in-Ok-put_if.ensures.rest (sym c.is_empty.ensures ∙ c.if-not-is_empty.false)) c.in-Ok-put_if.ensures.value
+
+pub returns-clause-rest : goal.returns-clause-rest
+returns-clause-rest g c =
+    sym (last_all c.args.left.now c.in-Ok-put_if.rest.now c.in-Ok.last c.in-Ok-put_if.ensures.rest (sym c.is_empty.ensures ∙ c.if-not-is_empty.false))
+    ∙ ap (λ o. map sha1 (option_to_list o)) (last_of c.finish.result c.in-Ok.last c.args.chunker.begun (c.finish.ensures.value c.requires.ready) c.in-Ok.is)

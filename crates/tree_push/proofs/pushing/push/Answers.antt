@@ -1,7 +1,7 @@
 -- The offer, what was uploaded of it, and the commit at which the library is asked to stand.
 use Rattle.std.proofs.Common.{[], sym}
 use Rattle.std.proofs.lemmas.List.{append-nil}
-use Rattle.tree_push.proofs.PushEndLemmas.{stood_push, stopped_push}
+use Rattle.tree_push.proofs.PushEndLemmas.{owned_stand, stood_push, stopped_push}
 use Rattle.tree_push.proofs.PushLemmas.{push_none}
 use Rattle.tree_push.proofs.UploadEndLemmas.{orders_stay}
 use Rattle.tree_push.proofs.pushing.push.Goals as goal
@@ -28,7 +28,8 @@ returns-in-Err-upload-clause-value g c =
 pub returns-clause-value : goal.returns-clause-value
 returns-clause-value g c =
     stood_push c.args.library.now c.args.user.now c.args.moment c.args.parent (g.F.Folder.told c.args.folder.now) c.args.cuts c.args.index.now c.args.scan.now c.in-Ok.offered.root
-    c.in-Ok.offered.wanted c.in-Ok.ensures.ok c.in-Ok.ensures.within c.in-Ok.ensures.named c.in-Ok.ensures.value c.in-Ok.ensures.tree c.requires.library _ _ _ c.in-Ok-upload.ensures.value
+    c.in-Ok.offered.wanted c.in-Ok.ensures.ok c.in-Ok.ensures.within c.in-Ok.ensures.named c.in-Ok.ensures.value c.in-Ok.ensures.tree c.requires.library
+    (λ c' told. owned_stand c.args.cuts c' c.args.index.now c.args.scan.now c.args.owns.now c.requires.ids (c.in-Ok-upload.ensures.same c' told)) _ _ _ c.in-Ok-upload.ensures.value
     c.stand_at.result c.stand_at.ensures.value c.stand_at.ensures.faults
 
 pub returns-clause-faults : goal.returns-clause-faults

@@ -1,5 +1,5 @@
 -- One file more is put.
-use Rattle.std.proofs.Common.{◌≡◌, ◌∷◌, ◌∙◌, ℕ, List, Some, Err, ap, refl, subst, sym}
+use Rattle.std.proofs.Common.{◌≡◌, ◌∷◌, ◌∙◌, ℕ, List, Some, IsSome, Err, ap, refl, subst, sym}
 use Rattle.std.specs.Prelude.{⊤}
 use Rattle.std.specs.FinMap as fin
 use Rattle.std.specs.List.{AllByRecursion}
@@ -9,8 +9,10 @@ use Rattle.ids.specs.FaultCount.{FailsBy}
 use Rattle.tree_model.specs.Path.{PathV}
 use Rattle.folder_side.specs.declared.scan_report.Seen.{Seen}
 use Rattle.sync_rules.specs.Causes.{is_folder_fault}
+use Rattle.tree_push.specs.BlockUpload.{StandsThere}
 use Rattle.tree_push.specs.Upload.{blocks_in, blocks_of}
 use Rattle.tree_push.proofs.BlockUploadLemmas.{IsTaking, taking_end, taking_more, taking_start, taking_stop}
+use Rattle.tree_push.proofs.UploadLemmas.{HoldsOrLeft, holds_end, holds_more, holds_start}
 use Rattle.tree_push.proofs.WantedLemmas.{entries_are}
 use Rattle.tree_push.proofs.upload.put_files.Goals as goal
 
@@ -26,6 +28,9 @@ loop-path-init g c =
           (λ (left : List (PathV × Seen)). IsTaking c.args.library.now (blocks_in (fin.entries c.args.paths.now)) (blocks_in left) c.args.lacking.now c.args.lacking.now
           (g.R.Remote.sends c.args.remote.now) (g.R.Remote.sends c.args.remote.now))
           all (taking_start c.args.library.now (blocks_in (fin.entries c.args.paths.now)) c.args.lacking.now (g.R.Remote.sends c.args.remote.now));
+      holds = λ c' told.
+          subst (λ (left : List (PathV × Seen)). HoldsOrLeft (λ path s. IsSome (fin.get c.args.owns.now path) → StandsThere c.args.cuts c' path s) c.args.paths.now left) all
+          (holds_start (λ path s. IsSome (fin.get c.args.owns.now path) → StandsThere c.args.cuts c' path s) c.args.paths.now);
       are = subst (λ (left : List (PathV × Seen)). AllByRecursion (λ e. fin.get c.args.paths.now e.0 ≡ Some e.1) left) all (entries_are c.args.paths.now);
     }
 
@@ -41,6 +46,11 @@ loop-path-preserved g c =
       taking = taking_more c.args.library.now (blocks_in (fin.entries c.args.paths.now)) (blocks_in c.loop-path.path-iterator) c.args.lacking.now c.loop-path.lacking (g.R.Remote.sends c.args.remote.now)
           (g.R.Remote.sends c.loop-path.remote) c.loop-path.invariant.taking (blocks_of c.in-Some.seen.now) (blocks_in c.next.new.self) c.put_seen.new.lacking (g.R.Remote.sends c.put_seen.new.remote)
           (ap blocks_in next) c.in-Ok.ensures.value;
+      holds = λ c' told.
+          holds_more (λ path s. IsSome (fin.get c.args.owns.now path) → StandsThere c.args.cuts c' path s) c.args.paths.now (c.in-Some.path.now, c.in-Some.seen.now) c.next.new.self
+          (subst (λ (left : List (PathV × Seen)). HoldsOrLeft (λ path s. IsSome (fin.get c.args.owns.now path) → StandsThere c.args.cuts c' path s) c.args.paths.now left) next
+          (c.loop-path.invariant.holds c' told))
+          (λ some. c.in-Ok.ensures.same c' (c.loop-path.invariant.told ∙ told) (c.has-changed.ensures.value ∙ some));
       are = (subst (λ (left : List (PathV × Seen)). AllByRecursion (λ e. fin.get c.args.paths.now e.0 ≡ Some e.1) left) next c.loop-path.invariant.are).1;
     }
 
@@ -64,3 +74,9 @@ pub returns-clause-value : goal.returns-clause-value
 returns-clause-value g c =
     taking_end c.args.library.now (blocks_in (fin.entries c.args.paths.now)) (blocks_in c.loop-path.path-iterator) c.args.lacking.now c.loop-path.lacking _ _ c.loop-path.invariant.taking
     (ap blocks_in c.in-None.ensures.steps.0)
+
+pub returns-clause-same : goal.returns-clause-same
+returns-clause-same g c = λ c' told.
+    holds_end (λ path s. IsSome (fin.get c.args.owns.now path) → StandsThere c.args.cuts c' path s) c.args.paths.now
+    (subst (λ (left : List (PathV × Seen)). HoldsOrLeft (λ path s. IsSome (fin.get c.args.owns.now path) → StandsThere c.args.cuts c' path s) c.args.paths.now left) c.in-None.ensures.steps.0
+    (c.loop-path.invariant.holds c' told))

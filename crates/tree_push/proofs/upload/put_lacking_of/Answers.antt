@@ -1,15 +1,23 @@
--- Nothing of the file is lacking, or it is read again.
-use Rattle.std.proofs.Common.{◌∙◌, refl, sym}
+-- The file is known and nothing of it is lacking, or it is read again.
+use Rattle.std.proofs.Common.{◌∙◌, refl, sym, true≢false}
+use Rattle.std.proofs.lemmas.Bool.{or_parts}
 use Rattle.tree_push.specs.BlockUpload.{PutsOff}
 use Rattle.tree_push.specs.Lacking.{has_key}
 use Rattle.tree_push.proofs.TraceLemmas.{ran_none}
 use Rattle.tree_push.proofs.UploadLemmas.{off_unlisted, reads_upload, seen_file}
 use Rattle.tree_push.proofs.upload.put_lacking_of.Goals as goal
 
-pub returns-then-not-is_lacking-clause-value : goal.returns-then-not-is_lacking-clause-value
-returns-then-not-is_lacking-clause-value g c =
+pub returns-then-not-is_read_again-clause-value : goal.returns-then-not-is_read_again-clause-value
+returns-then-not-is_read_again-clause-value g c =
     ran_none c.args.library.now (has_key c.args.lacking.now) (PutsOff c.args.blocks.now c.args.lacking.now c.args.lacking.now) _ _ refl
-    (off_unlisted c.args.lacking.now c.args.blocks.now (sym c.is_lacking.ensures.value ∙ c.if-not-is_lacking.true))
+    (off_unlisted c.args.lacking.now c.args.blocks.now (or_parts c.args.changed _ (sym c.is_read_again.ensures.value ∙ c.if-not-is_read_again.true)).1)
+
+pub returns-then-not-is_read_again-clause-same : goal.returns-then-not-is_read_again-clause-same
+returns-then-not-is_read_again-clause-same g c = λ c' told is.
+    absurd (true≢false (sym is ∙ (or_parts c.args.changed _ (sym c.is_read_again.ensures.value ∙ c.if-not-is_read_again.true)).0))
+
+pub returns-clause-same : goal.returns-clause-same
+returns-clause-same g c = λ c' told is. c.put_blocks.ensures.same c' told
 
 pub returns-clause-cause : goal.returns-clause-cause
 returns-clause-cause g c = λ c' told there.

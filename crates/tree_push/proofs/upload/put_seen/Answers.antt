@@ -3,7 +3,7 @@ use Rattle.std.proofs.Common.{[], refl, subst, sym}
 use Rattle.folder_side.specs.declared.scan_report.Seen.{Seen}
 use Rattle.tree_push.specs.Asking.{Ran}
 use Rattle.tree_push.specs.Upload.{blocks_of}
-use Rattle.tree_push.specs.BlockUpload.{PutsOff}
+use Rattle.tree_push.specs.BlockUpload.{PutsOff, StandsThere}
 use Rattle.tree_push.specs.Lacking.{has_key}
 use Rattle.tree_push.proofs.BlockUploadLemmas.{off_none}
 use Rattle.tree_push.proofs.TraceLemmas.{ran_none}
@@ -17,3 +17,6 @@ returns-in-Dir-clause-value g c =
     (sym c.in-Dir.is)
     (ran_none c.args.library.now (has_key c.args.lacking.now) (PutsOff [] c.args.lacking.now c.args.lacking.now) (g.R.Remote.sends c.args.remote.now) (g.R.Remote.sends c.args.remote.now) refl
     (off_none c.args.lacking.now))
+
+pub returns-in-Dir-clause-same : goal.returns-in-Dir-clause-same
+returns-in-Dir-clause-same g c = λ c' told is. subst (λ (s : Seen). StandsThere c.args.cuts c' c.args.path.now s) (sym c.in-Dir.is) tt

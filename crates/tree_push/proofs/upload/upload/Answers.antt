@@ -1,4 +1,5 @@
 -- What was asked about, and then put.
+use Rattle.tree_merge.proofs.TableLemmas.{on_ok_of}
 use Rattle.tree_push.proofs.BlockUploadLemmas.{order_no_change}
 use Rattle.tree_push.proofs.UploadEndLemmas.{all_uploaded, blocks_stop, files_stop, objects_stop, orders_no_change, orders_stay}
 use Rattle.tree_push.proofs.UploadLemmas.{order_upload, orders_upload}
@@ -34,6 +35,9 @@ returns-clause-value g c =
     all_uploaded c.args.library.now c.args.wanted.now c.args.paths.now c.requires.named c.requires.seen c.new-objects.result c.ask_objects.new.lacking c.new-blocks.result
     c.ask_blocks.new.lacking c.put_files.new.lacking c.new-objects.ensures.value c.new-blocks.ensures.value _ _ _ _ _ c.in-Ok.ensures.value c.in-Ok-ask_blocks.ensures.value
     c.in-Ok-put_files.ensures.value c.put_objects.result c.put_objects.ensures.value
+
+pub returns-clause-same : goal.returns-clause-same
+returns-clause-same g c = λ c' told. on_ok_of c.put_objects.result (c.in-Ok-put_files.ensures.same c' told)
 
 pub returns-clause-cause : goal.returns-clause-cause
 returns-clause-cause g c = λ c' told sees. orders_no_change c.put_objects.result c.put_objects.ensures.faults
