@@ -7,3 +7,5 @@ pub mod ShortSyncLemmas
 pub mod StopLemmas
 pub mod WentLemmas
 pub mod ProperLemmas
+pub mod OneEntryLemmas
+pub mod OneFileLemmas

@@ -1,4 +1,4 @@
--- Two short syncs meet all clauses. The key lemmas are unchanged_syncs, unchanged_orders, unchanged_ends and unchanged_index, and
+-- Two short syncs meet all clauses. The key lemmas are unchanged_synced, unchanged_syncs, unchanged_orders, unchanged_ends and unchanged_index, and
 -- denied_syncs, denied_orders and denied_ends.
 use Rattle.std.proofs.Common.{◌≡◌, ◌<◌, ◌≤◌, ℕ, false, All, List, [], ◌∷◌, Option, None, Some, Ok, Err, refl, sym, ap, subst, ◌∙◌, is_some, unwrap_or, inl, inr, true≢false, arith}
 use Rattle.std.specs.List.{Contains}
@@ -27,7 +27,7 @@ use Rattle.sync_rules.specs.declared.fault.SyncFault.{SyncFault}
 use Rattle.sync_rules.specs.declared.fault.SyncFault.TheVariants as fault
 use Rattle.sync_rules.proofs.AgreedLemmas.{agreed_held, agreed_left, agreed_plan}
 
-none_contained : {X : Type 0} (x : X) → Contains [] x → ⊥
+pub none_contained : {X : Type 0} (x : X) → Contains [] x → ⊥
 none_contained x there = All-contains (λ y. ⊥) [] x (All-nil (λ y. ⊥)) there
 
 module _ (lib secret id : List ℕ) (first later : Tag) where
@@ -68,9 +68,9 @@ module _ (lib secret id : List ℕ) (first later : Tag) where
       offers = (tt, (tt, tt));
     }
 
-    synced : (objects : Objects) (base : Tree) (moment : ℕ) → Over objects cuts c index base []
+    pub unchanged_synced : (objects : Objects) (base : Tree) (moment : ℕ) → Over objects cuts c index base []
         → IsSynced objects cuts c c index index base moment user (two_sent lib secret id first later) (none_done c id)
-    synced objects base moment over =
+    unchanged_synced objects base moment over =
         let of_base : IsBase objects (Some id) base = subst (λ (o : Option (List ℕ)). IsBase objects o base) is over.base_is in
         let knows : KnowsRoot objects of_base.0.root index = subst (λ (o : Option (List ℕ)). KnowsBase objects o index) is over.knows of_base.0 of_base.1 in
         record {
@@ -114,7 +114,7 @@ module _ (lib secret id : List ℕ) (first later : Tag) where
       },
       [],
       tt,
-      λ objects base over. (base, moment, shown, synced objects base moment over),
+      λ objects base over. (base, moment, shown, unchanged_synced objects base moment over),
     )
 
 -- ---- one who may only read, with a changed folder

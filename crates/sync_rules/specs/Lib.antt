@@ -8,3 +8,4 @@ pub mod Uploads
 pub mod Orders
 pub mod OneSync
 pub mod ShortSyncs
+pub mod OneFile

@@ -2,7 +2,12 @@
 ghost use Rattle.std.specs.Prelude.{ℕ, ◌≡◌, ◌⊎◌, ◌++◌, ◌∷◌, Bool, true, All, List, [], map, None, Some, IsSome, Ok, Err};
 ghost use Rattle.ids.specs.Key.{Objects};
 ghost use Rattle.ids.specs.declared.key.Key.{Key};
+ghost use Rattle.ids.specs.ObjectId.{nil};
 ghost use Rattle.block_chunker.specs.declared.cuts.Cuts.{Cuts};
+ghost use Rattle.commit_objects.specs.Commit.{commit_of};
+ghost use Rattle.commit_objects.specs.Spelling.{text_of as commit_text};
+ghost use Rattle.commit_objects.specs.declared.commit.Commit.{Commit};
+ghost use Rattle.fs_objects.specs.declared.dirent.Dirent.{Dirent};
 ghost use Rattle.std.specs.FinMap as fin;
 ghost use Rattle.folder_side.specs.Folder.{Contents, at};
 ghost use Rattle.folder_side.specs.declared.holding.Holding.TheVariants as holding;
@@ -27,6 +32,8 @@ ghost use Rattle.sync_rules.specs.OneSync.{LeavesIndex, SyncsSo};
 ghost use Rattle.sync_rules.specs.Orders.{OrdersSo};
 ghost use Rattle.sync_rules.specs.ShortSyncs.{none_done, two_checks, two_sent};
 ghost use Rattle.sync_rules.specs.Named.{HasAll, HasGot, IsHad, is_get};
+ghost use Rattle.sync_rules.specs.OneFile.{IsOneFile, commit_alone, empty_index, folder_of, index_of, no_contents, objects_of, stored, tree_of, unsynced};
+ghost use Rattle.sync_rules.specs.Synced.{IsSynced};
 ghost use Rattle.sync_rules.specs.Premises.{Over};
 
 /// Whoever does all steps of a plan leaves the tree with the stuck directories beside it.
@@ -105,6 +112,25 @@ pub fn a_changed_folder_of_a_reader_is_told_as_denied()
         → SyncsSo cuts c (Some c) index index user (two_checks lib secret first later) (λ other. other ≡ moment) (Err (fault.Refused refusal.Denied))
         × OrdersSo lib secret user (λ other. other ≡ moment) index.base (two_checks lib secret first later)
         × EndsSo (IsSoHere cuts (Some c) index (two_checks lib secret first later)) (two_checks lib secret first later) (Err (fault.Refused refusal.Denied)) }
+{}
+
+/// The premise of what is said of trees can be met (`Over`): by a folder that holds one file, and the objects of a library that holds it
+/// too. By the index of their sync, by which a sync that finds nothing changed leaves the file's tree; and by one that was never synced.
+/// Both over all four objects, as had in the call.
+pub fn the_premise_is_met_by_a_folder_with_a_file()
+    ensures { (lib secret : List ℕ) (first later : Tag) (cuts : Cuts) (commit : Commit) (entry : Dirent) (bytes user : List ℕ) (moment : ℕ) → IsOneFile cuts commit entry bytes
+        → Over (stored (objects_of cuts commit entry bytes)) cuts (folder_of entry bytes) (index_of cuts commit entry bytes) (tree_of entry bytes) (objects_of cuts commit entry bytes)
+        × Over (stored (objects_of cuts commit entry bytes)) cuts (folder_of entry bytes) (unsynced commit.lib) fin.empty (objects_of cuts commit entry bytes)
+        × Agrees cuts (folder_of entry bytes) (index_of cuts commit entry bytes)
+        × IsSynced (stored (objects_of cuts commit entry bytes)) cuts (folder_of entry bytes) (folder_of entry bytes) (index_of cuts commit entry bytes) (index_of cuts commit entry bytes) (tree_of entry bytes) moment user (two_sent lib secret commit.id first later) (none_done (folder_of entry bytes) commit.id) }
+{}
+
+/// It is met by an empty folder too, with a commit whose root is forty zeros: nothing is asked of any SHA-1 then.
+pub fn the_premise_is_met_by_an_empty_folder()
+    ensures { (lib secret : List ℕ) (first later : Tag) (cuts : Cuts) (commit : Commit) (user : List ℕ) (moment : ℕ) → commit_of (commit_text commit) ≡ Ok commit → commit.root ≡ nil
+        → Over (stored (commit_alone commit)) cuts no_contents (empty_index commit) fin.empty []
+        × Agrees cuts no_contents (empty_index commit)
+        × IsSynced (stored (commit_alone commit)) cuts no_contents no_contents (empty_index commit) (empty_index commit) fin.empty moment user (two_sent lib secret commit.id first later) (none_done no_contents commit.id) }
 {}
 
 /// A file of the folder with the own id of a file of the index has its bytes.
