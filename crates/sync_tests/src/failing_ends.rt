@@ -1,7 +1,7 @@
 //! What a sync leaves where the folder or the library fails.
 use crate::household::{
     Came, House, Worktree, add_dir, add_file, add_small, are_equal, done, empty_house,
-    empty_worktree, has, holds_all, is_unsynced, sync_here, sync_there,
+    empty_worktree, has, holds_all, is_shared, is_unsynced, sync_here, sync_there,
 };
 use folder_side::{Holding, MemoryFolder};
 use ids::Items;
@@ -43,6 +43,7 @@ fn add_row(
 }
 
 /// Has a folder hold just these, each file with this second byte. Its calls of these numbers fail from now on; its index stays.
+/// A path that can't be added is told as want of memory.
 fn fill(
     alloc: Global,
     tree: &mut Worktree,
@@ -54,7 +55,9 @@ fn fill(
     tree.folder = MemoryFolder::new(alloc, fails);
     for place in 0..rows.len() {
         let (path, first) = rows[place];
-        let _ = add_row(alloc, tree, path, first, second)?;
+        if !add_row(alloc, tree, path, first, second)? {
+            return Err(AllocError);
+        }
     }
     Ok(())
 }
@@ -330,5 +333,35 @@ fn first_changed(alloc: Global) -> Result<u64, AllocError> {
 fn a_remote_that_fails_at_any_order_leaves_the_index(rt: HostRuntime) -> Result<(), AllocError> {
     let changed = first_changed(rt.alloc())?;
     assert!(rt; changed == 40);
+    Ok(())
+}
+
+/// Whether a small folder is pushed and cloned where that order fails, so that it isn't sent.
+fn is_spare(alloc: Global, house: &mut House<DeskRemote>) -> Result<bool, AllocError> {
+    add_small(alloc, &mut house.here)?;
+    Ok(is_shared(alloc, house, 2))
+}
+
+fn is_spare_anew(alloc: Global, number: u64) -> Result<bool, AllocError> {
+    let mut house = empty_house(alloc, &[number])?;
+    is_spare(alloc, &mut house)
+}
+
+/// How many orders a push and a clone of a small folder send, or 40.
+fn orders_sent(alloc: Global) -> Result<u64, AllocError> {
+    for number in 0..40u64 {
+        if is_spare_anew(alloc, number)? {
+            return Ok(number);
+        }
+    }
+    Ok(40)
+}
+
+/// The push: a check, the head, its commit, what is lacking of blocks, both of them, what is lacking of files and directories, all of
+/// them at once, the commit, the update. The clone: a check, the head, its commit, three levels of the tree, and both blocks.
+#[test]
+fn a_push_and_a_clone_send_eighteen_orders(rt: HostRuntime) -> Result<(), AllocError> {
+    let sent = orders_sent(rt.alloc())?;
+    assert!(rt; sent == 18);
     Ok(())
 }

@@ -210,6 +210,31 @@ pub(crate) fn add_file(
     tree.folder.add(path, Holding::File(held))
 }
 
+/// Puts other bytes into a file; false where there is none.
+pub(crate) fn change_file(
+    alloc: Global,
+    tree: &mut Worktree,
+    text: &str,
+    bytes: &[u8],
+) -> Result<bool, AllocError> {
+    let is_removed = remove(alloc, tree, text)?;
+    Ok(is_removed && add_file(alloc, tree, text, bytes)?)
+}
+
+/// Whether a file of these bytes stands there.
+pub(crate) fn has_file(
+    alloc: Global,
+    tree: &Worktree,
+    text: &str,
+    bytes: &[u8],
+) -> Result<bool, AllocError> {
+    let path = path(alloc, text)?;
+    Ok(match tree.folder.paths().get(&path) {
+        Some(found) => has_bytes(found, bytes),
+        None => false,
+    })
+}
+
 /// Removes a file or an empty directory; false where that fails.
 pub(crate) fn remove(alloc: Global, tree: &mut Worktree, text: &str) -> Result<bool, AllocError> {
     let path = path(alloc, text)?;

@@ -1,5 +1,5 @@
 //! What a sync comes to where the library tells something else than it has.
-use crate::household::{Came, House, add_small, count, done, sync_here, sync_there};
+use crate::household::{Came, House, add_small, are_equal, count, done, sync_here, sync_there};
 use crate::meddling::{MeddledRemote, Meddling, meddled_house};
 use std::alloc::{AllocError, Global};
 
@@ -23,7 +23,7 @@ fn three_updates_that_come_too_late_end_a_sync(rt: HostRuntime) -> Result<(), Al
     Ok(())
 }
 
-/// Whether an empty folder stays so where each block comes empty.
+/// Whether an empty folder stays so where something comes empty.
 fn is_damaged(alloc: Global, house: &mut House<MeddledRemote>) -> Result<bool, AllocError> {
     add_small(alloc, &mut house.here)?;
     let pushed = sync_here(alloc, house);
@@ -32,13 +32,42 @@ fn is_damaged(alloc: Global, house: &mut House<MeddledRemote>) -> Result<bool, A
 }
 
 /// The same of two empty folders and such a library.
-fn is_damaged_anew(alloc: Global) -> Result<bool, AllocError> {
-    let mut house = meddled_house(alloc, Meddling::Empties)?;
+fn is_damaged_anew(alloc: Global, meddling: Meddling) -> Result<bool, AllocError> {
+    let mut house = meddled_house(alloc, meddling)?;
     is_damaged(alloc, &mut house)
 }
 
 #[test]
 fn a_block_with_other_bytes_is_told_as_damaged(rt: HostRuntime) -> Result<(), AllocError> {
-    assert!(rt; is_damaged_anew(rt.alloc())?);
+    assert!(rt; is_damaged_anew(rt.alloc(), Meddling::Empties)?);
+    Ok(())
+}
+
+#[test]
+fn a_directory_with_other_bytes_is_told_as_damaged(rt: HostRuntime) -> Result<(), AllocError> {
+    assert!(rt; is_damaged_anew(rt.alloc(), Meddling::EmptiesObjects)?);
+    Ok(())
+}
+
+/// Whether an empty folder gets all where each list of two or more files and directories is refused, and one was.
+fn is_halved(alloc: Global, house: &mut House<MeddledRemote>) -> Result<bool, AllocError> {
+    add_small(alloc, &mut house.here)?;
+    let pushed = sync_here(alloc, house);
+    let got = sync_there(alloc, house);
+    let is_got = got == done(false, 2, 0) && are_equal(&house.here, &house.there);
+    Ok(pushed == done(true, 0, 0) && is_got && house.remote.meddled > 0)
+}
+
+/// The same of two empty folders and such a library.
+fn is_halved_anew(alloc: Global) -> Result<bool, AllocError> {
+    let mut house = meddled_house(alloc, Meddling::RefusesLists)?;
+    is_halved(alloc, &mut house)
+}
+
+#[test]
+fn a_list_that_is_refused_for_want_of_memory_is_asked_for_by_halves(
+    rt: HostRuntime,
+) -> Result<(), AllocError> {
+    assert!(rt; is_halved_anew(rt.alloc())?);
     Ok(())
 }

@@ -1,15 +1,15 @@
 //! A library in memory as a remote that meddles with what it is asked.
-ghost use Rattle.std.specs.Prelude.{ℕ, List, [], Err};
-ghost use Rattle.http_client.specs.OrderOutcome.{CanAnswer, CanHave};
+ghost use Rattle.std.specs.Prelude.{ℕ, ◌≡◌, List, [], ◌∷◌, Err, IfOk, IfSome, map as list_map};
+ghost use Rattle.http_client.specs.OrderOutcome.{CanAnswer, CanHave, CanPack, row_id};
 ghost use Rattle.http_front.specs.declared.outcome.Outcome.{Outcome};
 ghost use Rattle.remote_calls.specs.Sends.{CountsSend, SendsOne};
 
 use crate::household::{House, empty_house};
 use crate::library::{LIB, OWNER};
-use http_front::{Order, Outcome, What};
+use http_front::{Order, Outcome, Row, What};
 use http_server::Log;
-use ids::{Items, Kind, LibId};
-use library_state::{Reply, Secret};
+use ids::{Items, Kind, LibId, ObjId};
+use library_state::{Refusal, Reply, Secret};
 use remote_calls::{DeskRemote, Ending, Remote, RemoteFault};
 use std::alloc::{AllocError, Global};
 
@@ -20,6 +20,10 @@ pub(crate) enum Meddling {
     Collects,
     /// Each block that is got comes empty.
     Empties,
+    /// Each file or directory that is got alone comes empty.
+    EmptiesObjects,
+    /// A list of two or more files and directories is refused for want of memory, as by a server that can't pack them.
+    RefusesLists,
 }
 
 /// A library in memory with which somebody meddles.
@@ -27,6 +31,8 @@ pub(crate) enum Meddling {
 pub(crate) struct MeddledRemote {
     desk: DeskRemote,
     meddling: Meddling,
+    /// How many orders had their outcome told otherwise.
+    pub(crate) meddled: u64,
     faults: u64,
     sends: Log<Order, Ending>,
 }
@@ -53,6 +59,7 @@ fn meddled(desk: DeskRemote, meddling: Meddling) -> MeddledRemote {
     MeddledRemote {
         desk,
         meddling,
+        meddled: 0,
         faults: 0,
         sends: Log::new(),
     }
@@ -79,6 +86,7 @@ impl Remote for MeddledRemote {
                 return Err(fault);
             }
         };
+        count_meddled(&mut self.meddled, self.meddling, &order.what);
         let ending = Ok(told(alloc, self.meddling, &order.what, outcome));
         self.sends = self.sends.and(order, &ending);
         ending
@@ -92,6 +100,13 @@ fn count_fault(faults: &mut u64, fault: RemoteFault)
     match fault {
         RemoteFault::Link => *faults = faults.saturating_add(1),
         _ => {}
+    }
+}
+
+/// Counts an outcome that is told otherwise.
+fn count_meddled(meddled: &mut u64, meddling: Meddling, what: &What) {
+    if meddles(meddling, what) {
+        *meddled = meddled.saturating_add(1);
     }
 }
 
@@ -129,7 +144,7 @@ fn is_collected(ending: &Ending) -> bool {
 fn collects(meddling: Meddling, what: &What) -> bool {
     match meddling {
         Meddling::Collects => matches!(what, What::Update(_)),
-        Meddling::Empties => false,
+        _ => false,
     }
 }
 
@@ -138,6 +153,16 @@ fn meddles(meddling: Meddling, what: &What) -> bool {
     match meddling {
         Meddling::Collects => false,
         Meddling::Empties => gets_block(what),
+        Meddling::EmptiesObjects => objects_got(what) == 1,
+        Meddling::RefusesLists => objects_got(what) > 1,
+    }
+}
+
+/// How many files and directories an order asks for.
+fn objects_got(what: &What) -> usize {
+    match what {
+        What::GetFs(ids) => ids.len(),
+        _ => 0,
     }
 }
 
@@ -157,8 +182,69 @@ fn told(alloc: Global, meddling: Meddling, what: &What, outcome: Outcome) -> Out
     }
     match outcome {
         Outcome::Plain(reply, tag) => Outcome::Plain(emptied(alloc, what, reply), tag),
+        Outcome::Packed(rows) => packed(alloc, meddling, what, rows),
         other => other,
     }
+}
+
+/// A refusal in place of the rows that came, or rows without bytes.
+fn packed(alloc: Global, meddling: Meddling, what: &What, rows: Items<Row>) -> Outcome
+    ensures told { CanPack what.now rows → CanHave what.now result }
+{
+    if !refuses_lists(meddling) {
+        return Outcome::Packed(emptied_rows(alloc, what, rows));
+    }
+    drop(rows);
+    Outcome::Refused(Refusal::NoMemory)
+}
+
+fn refuses_lists(meddling: Meddling) -> bool {
+    matches!(meddling, Meddling::RefusesLists)
+}
+
+/// A row without bytes in place of a row that came alone.
+fn emptied_rows(alloc: Global, what: &What, rows: Items<Row>) -> Items<Row>
+    ensures told { CanPack what.now rows → CanPack what.now result }
+{
+    match what {
+        What::GetFs(_) => emptied_row(alloc, rows),
+        _ => rows,
+    }
+}
+
+fn emptied_row(alloc: Global, rows: Items<Row>) -> Items<Row>
+    ensures same { list_map row_id result ≡ list_map row_id rows }
+{
+    let id = match sole_id(rows.slice()) {
+        Some(id) => id,
+        None => return rows,
+    };
+    let emptied = match empty_row(alloc, id) {
+        Ok(emptied) => emptied,
+        Err(_) => return rows,
+    };
+    drop(rows);
+    emptied
+}
+
+/// The id of a row that stands alone.
+fn sole_id(rows: &[Row]) -> Option<ObjId>
+    ensures value { IfSome result (λ id. list_map row_id rows.now ≡ id ∷ []) }
+{
+    match rows {
+        [row] => Some(row.id),
+        _ => None,
+    }
+}
+
+/// One row of this id, without bytes.
+fn empty_row(alloc: Global, id: ObjId) -> Result<Items<Row>, AllocError>
+    ensures value { IfOk result (λ rows. list_map row_id rows ≡ id ∷ []) }
+{
+    let mut rows = Items::new(alloc);
+    let bytes = Items::new(alloc);
+    rows.push(Row { id, bytes })?;
+    Ok(rows)
 }
 
 /// No bytes in place of those that came.

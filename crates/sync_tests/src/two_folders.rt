@@ -1,8 +1,8 @@
 //! What syncs leave in two folders and their library.
 use crate::household::{
-    Came, House, Worktree, add_dir, add_file, add_link, add_small, are_equal, came_to, clock,
-    count, done, empty_folder, empty_house, empty_worktree, forget_base, is_shared, remove,
-    sync_here, sync_there, sync_with,
+    Came, House, Worktree, add_dir, add_file, add_link, add_small, are_equal, came_to, change_file,
+    clock, count, done, empty_folder, empty_house, empty_worktree, forget_base, has_file,
+    is_shared, remove, sync_here, sync_there, sync_with,
 };
 use crate::library::{OWNER, READER, desk};
 use folder_side::MemoryFolder;
@@ -18,6 +18,7 @@ enum Case {
     ManyFiles,
     LargeFile,
     Meeting,
+    Conflict,
     Link,
     Blocking,
     Reader,
@@ -30,6 +31,7 @@ fn holds(alloc: Global, house: &mut House<DeskRemote>, case: Case) -> Result<boo
         Case::ManyFiles => is_cloned(alloc, house),
         Case::LargeFile => is_large_one_cloned(alloc, house),
         Case::Meeting => do_meet(alloc, house),
+        Case::Conflict => is_conflict(alloc, house),
         Case::Link => is_apart(alloc, house),
         Case::Blocking => is_blocked(alloc, house),
         Case::Reader => is_denied(alloc, house),
@@ -129,10 +131,55 @@ fn a_directory_renamed_here_and_a_file_added_there_meet(rt: HostRuntime) -> Resu
     Ok(())
 }
 
-/// A file was pushed, and a link passed over.
-fn linked() -> Came {
+/// A push met another change of a file, so two files were written.
+fn conflicting() -> Came {
     Came::Done {
         is_pushed: true,
+        conflict: true,
+        written: 2,
+        removed: 0,
+        skipped: 0,
+    }
+}
+
+/// Whether the conflict is told where the second change is pushed, and nowhere else.
+fn tells_conflict(alloc: Global, house: &mut House<DeskRemote>) -> bool {
+    let first = sync_here(alloc, house);
+    let second = sync_there(alloc, house);
+    let third = sync_here(alloc, house);
+    first == done(true, 0, 0) && second == conflicting() && third == done(false, 1, 0)
+}
+
+/// Whether both changes of a file stand in both folders.
+fn keep_both(alloc: Global, house: &House<DeskRemote>) -> Result<bool, AllocError> {
+    let copy = "b (SFConflict me 1970-01-01-00-00-09)";
+    let is_kept = has_file(alloc, &house.here, "b", b"here")?;
+    let is_copied = has_file(alloc, &house.here, copy, b"there")?;
+    let are_alike = count(&house.here) == 4 && are_equal(&house.here, &house.there);
+    Ok(is_kept && is_copied && are_alike)
+}
+
+fn is_conflict(alloc: Global, house: &mut House<DeskRemote>) -> Result<bool, AllocError> {
+    add_small(alloc, &mut house.here)?;
+    let is_begun = is_shared(alloc, house, 2);
+    let is_changed = change_file(alloc, &mut house.here, "b", b"here")?;
+    let is_other = change_file(alloc, &mut house.there, "b", b"there")?;
+    let is_told = is_begun && is_changed && is_other && tells_conflict(alloc, house);
+    Ok(is_told && keep_both(alloc, house)?)
+}
+
+#[test]
+fn two_changes_of_a_file_are_told_as_a_conflict_and_kept(
+    rt: HostRuntime,
+) -> Result<(), AllocError> {
+    assert!(rt; holds_anew(rt.alloc(), Case::Conflict)?);
+    Ok(())
+}
+
+/// A link was passed over, and a file may have been pushed.
+fn passed_over(is_pushed: bool) -> Came {
+    Came::Done {
+        is_pushed,
         conflict: false,
         written: 0,
         removed: 0,
@@ -145,7 +192,7 @@ fn is_apart(alloc: Global, house: &mut House<DeskRemote>) -> Result<bool, AllocE
     let _ = add_file(alloc, &mut house.here, "a", b"abc")?;
     let _ = add_link(alloc, &mut house.here, "link")?;
     let _ = add_file(alloc, &mut house.there, "b", b"abc")?;
-    Ok(sync_here(alloc, house) == linked() && sync_there(alloc, house) == Came::NotEmpty)
+    Ok(sync_here(alloc, house) == passed_over(true) && sync_there(alloc, house) == Came::NotEmpty)
 }
 
 #[test]
@@ -281,5 +328,61 @@ fn has_two_turns(
 fn a_job_is_synced_once_a_turn(rt: HostRuntime) -> Result<(), AllocError> {
     let mut jobs = jobs(rt.alloc())?;
     assert!(rt; has_two_turns(rt.alloc(), &mut jobs)?);
+    Ok(())
+}
+
+/// A folder that was never synced, with a link.
+fn linked_worktree(alloc: Global) -> Result<Worktree, AllocError> {
+    let mut tree = empty_worktree(alloc)?;
+    let _ = add_link(alloc, &mut tree, "link")?;
+    Ok(tree)
+}
+
+/// Another folder, with a library of its own.
+fn add_linked(
+    alloc: Global,
+    jobs: &mut Vec<Job<MemoryFolder, DeskRemote>>,
+) -> Result<(), AllocError> {
+    let remote = desk(alloc, &[])?;
+    let tree = linked_worktree(alloc)?;
+    jobs.push(job_of(tree, remote))?;
+    Ok(())
+}
+
+/// Whether the first folder was pushed, and of the second a link passed over, and the same once more with nothing to do.
+fn are_four(results: &[Result<Synced, SyncFault>]) -> bool {
+    match results {
+        [first, second, third, fourth] => {
+            came_to(first) == done(true, 0, 0)
+                && came_to(second) == passed_over(false)
+                && came_to(third) == done(false, 0, 0)
+                && came_to(fourth) == passed_over(false)
+        }
+        _ => false,
+    }
+}
+
+/// Whether each folder's index has a base.
+fn are_synced(jobs: &[Job<MemoryFolder, DeskRemote>]) -> bool {
+    match jobs {
+        [first, second] => first.index.base.is_some() && second.index.base.is_some(),
+        _ => false,
+    }
+}
+
+fn have_two_turns(
+    alloc: Global,
+    jobs: &mut Vec<Job<MemoryFolder, DeskRemote>>,
+) -> Result<bool, AllocError> {
+    add_linked(alloc, jobs)?;
+    let clock = clock(alloc)?;
+    let results = run_turns(alloc, jobs, 2, &clock)?;
+    Ok(are_four(results.as_slice()) && are_synced(jobs.as_slice()))
+}
+
+#[test]
+fn two_jobs_are_synced_in_order_each_in_its_own_folder(rt: HostRuntime) -> Result<(), AllocError> {
+    let mut jobs = jobs(rt.alloc())?;
+    assert!(rt; have_two_turns(rt.alloc(), &mut jobs)?);
     Ok(())
 }
