@@ -108,7 +108,7 @@ class Load:
             raise Odd(f"the tree of {self.head} is not the one that was pushed")
 
     def check_kept(self, connection):
-        """Every update that was answered is reached from the head, and the trees of all that are reached are whole."""
+        """Every update that was answered is reached from the head, and the trees of all that are reached are whole. The commits that are."""
         reached, ways = {}, [self.head]
         while ways:
             name = ways.pop()
@@ -130,6 +130,7 @@ class Load:
         for name in sorted(blocks):
             if name_of(connection.block(name)) != name:
                 raise Odd(f"the block {name} is not its own")
+        return reached
 
     def given(self, connection, names):
         for at in range(0, len(names), 500):
