@@ -4,6 +4,7 @@ pub mod CheckingOutLemmas
 pub mod GotLemmas
 pub mod HadLemmas
 pub mod HeldLemmas
+pub mod HindrancesLemmas
 pub mod PlanLooksLemmas
 pub mod PlanningLemmas
 pub mod RemovalLemmas

@@ -1,9 +1,9 @@
 -- A plan over the report of a scan is a plan of the folder. The key lemmas are blocked_told,
--- plan_told, doomed_told, within_under and within_same.
-use Rattle.std.proofs.Common.{◌≡◌, ℕ, ◌&&◌, ◌||◌, not, Bool, true, false, cond, if◌then◌else◌, List, [], ◌∷◌, ◌++◌, map, reverse, nat_eq, Option, None, Some, option_map, option_and_then, Ordering, Less, refl, sym, ap, ap₂, subst, ◌∙◌, inl, inr}
+-- plan_told and doomed_told.
+use Rattle.std.proofs.Common.{◌≡◌, ℕ, ◌&&◌, ◌||◌, not, Bool, true, false, cond, if◌then◌else◌, List, [], ◌∷◌, ◌++◌, map, reverse, Option, None, Some, option_map, option_and_then, Ordering, Less, refl, sym, ap, ap₂, subst, ◌∙◌, inl, inr}
 use Rattle.std.specs.FinMap as fin
 use Rattle.std.specs.FinMap.Entries.{below_all}
-use Rattle.std.specs.Cmp.Lexicographic.{pointwise, slice_cmp, nat_list_cmp_total}
+use Rattle.std.specs.Cmp.Lexicographic.{slice_cmp, nat_list_cmp_total}
 use Rattle.std.specs.List.{AllByRecursion, IsDistinct, cons_option, filter_map, flat_map, list_any}
 use Rattle.std.specs.Ordering.{eq_by_cmp, is_lt, nat_cmp, ordering_then, ordering_reverse}
 use Rattle.std.specs.Cmp.{nat_cmp_total, tied_itself}
@@ -42,26 +42,6 @@ use Rattle.tree_checkout.specs.Planning.{AreAlike, StandsFor, alone_at, blocks_i
 use Rattle.tree_checkout.specs.SecondLook.{is_dir_of}
 use Rattle.tree_checkout.specs.declared.planning.DueNode.TheVariants as due
 use Rattle.tree_checkout.specs.declared.planning.Plan.{Plan}
-
--- ---- below a directory, or at it
-
-pub within_told : (dir path : PathV) → (is_under dir path || pointwise (pointwise nat_eq) dir path) ≡ is_within dir path
-within_told [] [] = refl
-within_told [] (name ∷ path) = refl
-within_told (name ∷ dir) [] = refl
-within_told (name ∷ dir) (first ∷ path) = joined_and (pointwise nat_eq name first) (is_under dir path) (pointwise (pointwise nat_eq) dir path) ∙ ap (λ (b : Bool). pointwise nat_eq name first && b) (within_told dir path)
-  where
-    joined_and : (b u e : Bool) → ((b && u) || (b && e)) ≡ (b && (u || e))
-    joined_and true u e = refl
-    joined_and false u e = refl
-
-pub within_under : (dir path : PathV) (told : Bool) → told ≡ is_under dir path → told ≡ true → told ≡ is_within dir path
-within_under dir path told is under =
-    under ∙ sym (ap (λ (b : Bool). b || pointwise (pointwise nat_eq) dir path) (sym is ∙ under)) ∙ within_told dir path
-
-pub within_same : (dir path : PathV) (told same : Bool) → told ≡ is_under dir path → told ≡ false → same ≡ pointwise (pointwise nat_eq) dir path → same ≡ is_within dir path
-within_same dir path told same is apart equal =
-    equal ∙ sym (ap (λ (b : Bool). b || pointwise (pointwise nat_eq) dir path) (sym is ∙ apart)) ∙ within_told dir path
 
 -- ---- the entries of a tree
 

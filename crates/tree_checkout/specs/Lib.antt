@@ -1,5 +1,6 @@
 pub mod BlockGets
 pub mod CheckingOut
+pub mod Hindrances
 pub mod Planning
 pub mod SecondLook
 pub mod Steps

@@ -1,11 +1,13 @@
 //! What stands in the way of a tree: directories that can't be removed, and what is neither a file nor a directory.
-ghost use Rattle.std.specs.Prelude.{◌≡◌, IfOk, option_copied};
+ghost use Rattle.std.specs.Prelude.{◌≡◌, ◌&&◌, IfOk, option_copied};
 ghost use Rattle.std.specs.List.{list_any};
 ghost use Rattle.std.specs.FinMap as fin;
-ghost use Rattle.tree_model.specs.DirectorySurvival.{is_under, is_within};
-ghost use Rattle.tree_checkout.specs.Planning.{blocks_in, first_blocked_in, hides_in, is_dir_seen, is_file_entry, is_stuck_in};
+ghost use Rattle.tree_model.specs.DirectorySurvival.{is_within};
+ghost use Rattle.tree_checkout.specs.Hindrances.{TellsOf};
+ghost use Rattle.tree_checkout.specs.Planning.{blocks_in, first_blocked_in, is_dir_seen, is_file_entry, is_stuck_in};
 ghost use Rattle.tree_checkout.specs.SecondLook.{is_dir_of};
 
+use crate::hindrances::{Hindrances, has_at_or_above};
 use folder_side::{Scan, Seen};
 use object_graph::Entry;
 use std::alloc::{AllocError, Global};
@@ -16,12 +18,14 @@ use tree_model::{Path, PathTable};
 pub(crate) fn first_blocked(
     alloc: Global,
     scan: &Scan,
+    hindrances: &Hindrances,
     entries: &PathTable<Entry>,
 ) -> Result<Option<Path>, AllocError>
+    requires told { TellsOf scan.now hindrances.now }
     ensures value { IfOk result (λ told. told ≡ first_blocked_in scan.now (fin.entries entries.now)) }
 {
     for (path, entry) in entries.iter() {
-        if is_blocked(scan, path, entry) {
+        if is_blocked(alloc, scan, hindrances, path, entry)? {
             return Ok(Some(path.copy(alloc)?));
         }
     }
@@ -29,10 +33,28 @@ pub(crate) fn first_blocked(
 }
 
 /// Whether a path of a tree is blocked.
-fn is_blocked(scan: &Scan, path: &Path, entry: &Entry) -> bool
-    ensures value { result ≡ blocks_in scan.now path.now entry.now }
+fn is_blocked(
+    alloc: Global,
+    scan: &Scan,
+    hindrances: &Hindrances,
+    path: &Path,
+    entry: &Entry,
+) -> Result<bool, AllocError>
+    requires told { TellsOf scan.now hindrances.now }
+    ensures value { IfOk result (λ told. told ≡ blocks_in scan.now path.now entry.now) }
 {
-    (is_file(entry) && is_stuck(scan, path)) || is_below_skipped(scan, path)
+    if has_file_at_stuck(scan, hindrances, path, entry) {
+        return Ok(true);
+    }
+    Ok(is_below_skipped(alloc, scan, hindrances, path)?)
+}
+
+/// Whether the tree has a file where a directory stands that can't be removed.
+fn has_file_at_stuck(scan: &Scan, hindrances: &Hindrances, path: &Path, entry: &Entry) -> bool
+    requires told { TellsOf scan.now hindrances.now }
+    ensures value { result ≡ (is_file_entry entry.now && is_stuck_in scan.now path.now) }
+{
+    is_file(entry) && is_stuck(scan, hindrances, path)
 }
 
 /// Whether the tree has a file there.
@@ -46,10 +68,11 @@ fn is_file(entry: &Entry) -> bool
 }
 
 /// Whether a directory stands there that can't be removed.
-pub(crate) fn is_stuck(scan: &Scan, path: &Path) -> bool
+fn is_stuck(scan: &Scan, hindrances: &Hindrances, path: &Path) -> bool
+    requires told { TellsOf scan.now hindrances.now }
     ensures value { result ≡ is_stuck_in scan.now path.now }
 {
-    is_dir_seen(scan.paths.get(path)) && hides(scan, path)
+    is_dir_seen(scan.paths.get(path)) && hindrances.hides(path)
 }
 
 /// Whether a directory was seen, if anything was.
@@ -72,46 +95,18 @@ pub(crate) fn is_dir(seen: &Seen) -> bool
     }
 }
 
-/// Whether below a path, or in a directory there, is what can't be removed.
-pub(crate) fn hides(scan: &Scan, path: &Path) -> bool
-    ensures value { result ≡ hides_in scan.now path.now }
-{
-    has_skipped(scan, path) || has_nameless(scan, path)
-}
-
-/// Whether what was skipped lies below a path.
-fn has_skipped(scan: &Scan, path: &Path) -> bool
-    ensures value { result ≡ list_any (is_under path.now) scan.now.skipped }
-{
-    scan.skipped
-        .slice()
-        .iter()
-        .any(|other| other.is_under(path))
-}
-
-/// Whether a directory with nameless entries stands at a path or below it.
-fn has_nameless(scan: &Scan, path: &Path) -> bool
-    ensures value { result ≡ list_any (is_within path.now) scan.now.nameless }
-{
-    scan.nameless
-        .slice()
-        .iter()
-        .any(|other| lies_within(other, path))
-}
-
 /// Whether what was skipped stands at a path or above it.
-fn is_below_skipped(scan: &Scan, path: &Path) -> bool
-    ensures value { result ≡ list_any (λ other. is_within other path.now) scan.now.skipped }
+fn is_below_skipped(
+    alloc: Global,
+    scan: &Scan,
+    hindrances: &Hindrances,
+    path: &Path,
+) -> Result<bool, AllocError>
+    requires told { TellsOf scan.now hindrances.now }
+    ensures value { IfOk result (λ told. told ≡ list_any (λ other. is_within other path.now) scan.now.skipped) }
 {
-    scan.skipped
-        .slice()
-        .iter()
-        .any(|other| lies_within(path, other))
-}
-
-/// Whether a path is a directory's or lies below it.
-fn lies_within(path: &Path, dir: &Path) -> bool
-    ensures value { result ≡ is_within dir.now path.now }
-{
-    path.is_under(dir) || *dir == *path
+    if scan.skipped.is_empty() {
+        return Ok(false);
+    }
+    Ok(has_at_or_above(&hindrances.skipped, path.copy(alloc)?))
 }

@@ -9,6 +9,7 @@ mod block_gets;
 mod checking_out;
 mod fault;
 mod hidden;
+mod hindrances;
 pub mod laws;
 mod planning;
 mod second_look;

@@ -6,9 +6,11 @@ ghost use Rattle.block_chunker.specs.declared.cuts.Cuts.{Cuts};
 ghost use Rattle.folder_side.specs.Folder.{Contents};
 ghost use Rattle.folder_side.specs.ScanReport.{IsScan, IsWithinLimits};
 ghost use Rattle.sync_rules.specs.Checkout.{own_has};
+ghost use Rattle.tree_checkout.specs.Hindrances.{TellsOf};
 ghost use Rattle.tree_checkout.specs.Planning.{IsPlanFault, LooksScanned, PlansSo, dir_due, doomed_path, dooms, dues_at, held_path, is_alone_in, is_lacked_in, keeps_in, stays_in};
 
-use crate::hidden::{first_blocked, hides, is_dir};
+use crate::hidden::{first_blocked, is_dir};
+use crate::hindrances::{Hindrances, hindrances_of};
 use folder_side::{Scan, Seen};
 use ids::{Items, ObjId};
 use local_index::{Index, Known, own_id};
@@ -56,7 +58,29 @@ pub fn plan_of(
     ensures written { IfOk result (λ plan. plan.writes ≡ flat_map (dues_at scan.now index.now pushed) (fin.entries entries.now)) }
     ensures cause { IfErr result IsPlanFault }
 {
-    let blocked = match first_blocked(alloc, scan, entries) {
+    let hindrances = match hindrances_of(alloc, scan) {
+        Ok(hindrances) => hindrances,
+        Err(AllocError) => return Err(SyncFault::NoMemory),
+    };
+    plan_over(alloc, scan, &hindrances, index, entries, pushed)
+}
+
+/// The same, by the tables of what stands in the way.
+fn plan_over(
+    alloc: Global,
+    scan: &Scan,
+    hindrances: &Hindrances,
+    index: &Index,
+    entries: &PathTable<Entry>,
+    pushed: bool,
+) -> Result<Plan, SyncFault>
+    requires told { TellsOf scan.now hindrances.now }
+    ensures value { (cuts : Cuts) (c : Contents) → IsScan cuts c scan.now → PlansSo cuts c index.now entries.now pushed result }
+    ensures same { (cuts : Cuts) (c : Contents) → IsScan cuts c scan.now → IsWithinLimits c → IfOk result (LooksScanned cuts c scan.now) }
+    ensures written { IfOk result (λ plan. plan.writes ≡ flat_map (dues_at scan.now index.now pushed) (fin.entries entries.now)) }
+    ensures cause { IfErr result IsPlanFault }
+{
+    let blocked = match first_blocked(alloc, scan, hindrances, entries) {
         Ok(blocked) => blocked,
         Err(AllocError) => return Err(SyncFault::NoMemory),
     };
@@ -64,7 +88,7 @@ pub fn plan_of(
         Some(path) => return Err(SyncFault::Blocked(path)),
         None => {}
     }
-    match steps_of(alloc, scan, index, entries, pushed) {
+    match steps_of(alloc, scan, hindrances, index, entries, pushed) {
         Ok(plan) => Ok(plan),
         Err(AllocError) => Err(SyncFault::NoMemory),
     }
@@ -74,17 +98,19 @@ pub fn plan_of(
 fn steps_of(
     alloc: Global,
     scan: &Scan,
+    hindrances: &Hindrances,
     index: &Index,
     entries: &PathTable<Entry>,
     pushed: bool,
 ) -> Result<Plan, AllocError>
+    requires told { TellsOf scan.now hindrances.now }
     ensures gone { IfOk result (λ plan. plan.doomed ≡ reverse (filter_map (doomed_path scan.now entries.now) (fin.entries scan.now.paths))) }
     ensures written { IfOk result (λ plan. plan.writes ≡ flat_map (dues_at scan.now index.now pushed) (fin.entries entries.now)) }
     ensures held { IfOk result (λ plan. plan.held ≡ filter_map (held_path scan.now entries.now) (fin.entries scan.now.paths)) }
 {
-    let doomed = doomed_of(alloc, scan, entries)?;
+    let doomed = doomed_of(alloc, scan, hindrances, entries)?;
     let writes = writes_of(alloc, scan, index, entries, pushed)?;
-    let held = held_of(alloc, scan, entries)?;
+    let held = held_of(alloc, scan, hindrances, entries)?;
     Ok(Plan {
         doomed: Items::from_vec(turned(doomed)),
         writes,
@@ -105,13 +131,15 @@ fn turned(paths: Vec<Path>) -> Vec<Path>
 fn doomed_of(
     alloc: Global,
     scan: &Scan,
+    hindrances: &Hindrances,
     entries: &PathTable<Entry>,
 ) -> Result<Vec<Path>, AllocError>
+    requires told { TellsOf scan.now hindrances.now }
     ensures value { IfOk result (λ doomed. doomed.items ≡ filter_map (doomed_path scan.now entries.now) (fin.entries scan.now.paths)) }
 {
     let mut doomed = Vec::new(alloc);
     for (path, seen) in scan.paths.iter() {
-        if is_doomed(scan, entries, path, seen) {
+        if is_doomed(scan, hindrances, entries, path, seen) {
             doomed.push(path.copy(alloc)?)?;
         }
     }
@@ -119,10 +147,17 @@ fn doomed_of(
 }
 
 /// Whether what was seen at a path is to go.
-fn is_doomed(scan: &Scan, entries: &PathTable<Entry>, path: &Path, seen: &Seen) -> bool
+fn is_doomed(
+    scan: &Scan,
+    hindrances: &Hindrances,
+    entries: &PathTable<Entry>,
+    path: &Path,
+    seen: &Seen,
+) -> bool
+    requires told { TellsOf scan.now hindrances.now }
     ensures value { result ≡ dooms scan.now entries.now path.now seen.now }
 {
-    !keeps(entries.get(path), seen) && !(is_dir(seen) && hides(scan, path))
+    !keeps(entries.get(path), seen) && !(is_dir(seen) && hindrances.hides(path))
 }
 
 /// Whether the tree has there what is of the kind that was seen.
@@ -140,13 +175,15 @@ fn keeps(entry: Option<&Entry>, seen: &Seen) -> bool
 fn held_of(
     alloc: Global,
     scan: &Scan,
+    hindrances: &Hindrances,
     entries: &PathTable<Entry>,
 ) -> Result<Items<Path>, AllocError>
+    requires told { TellsOf scan.now hindrances.now }
     ensures value { IfOk result (λ held. held ≡ filter_map (held_path scan.now entries.now) (fin.entries scan.now.paths)) }
 {
     let mut held = Items::new(alloc);
     for (path, seen) in scan.paths.iter() {
-        if is_held(scan, entries, path, seen) {
+        if is_held(scan, hindrances, entries, path, seen) {
             held.push(path.copy(alloc)?)?;
         }
     }
@@ -154,10 +191,17 @@ fn held_of(
 }
 
 /// Whether what was seen at a path is a directory that can't be removed, and the tree lacks it.
-fn is_held(scan: &Scan, entries: &PathTable<Entry>, path: &Path, seen: &Seen) -> bool
+fn is_held(
+    scan: &Scan,
+    hindrances: &Hindrances,
+    entries: &PathTable<Entry>,
+    path: &Path,
+    seen: &Seen,
+) -> bool
+    requires told { TellsOf scan.now hindrances.now }
     ensures value { result ≡ stays_in scan.now entries.now path.now seen.now }
 {
-    is_dir(seen) && hides(scan, path) && is_lacked(entries.get(path))
+    is_dir(seen) && hindrances.hides(path) && is_lacked(entries.get(path))
 }
 
 /// Whether the tree has nothing there.

@@ -2,7 +2,7 @@ use Rattle.std.proofs.Common.{◌∙◌, sym}
 use Rattle.tree_checkout.proofs.HeldLemmas.{held_told}
 use Rattle.tree_checkout.proofs.PlanLooksLemmas.{looks_scanned}
 use Rattle.tree_checkout.proofs.PlanningLemmas.{blocked_told, plan_told}
-use Rattle.tree_checkout.proofs.planning.plan_of.Goals as goal
+use Rattle.tree_checkout.proofs.planning.plan_over.Goals as goal
 
 pub returns-in-Some-clause-value : goal.returns-in-Some-clause-value
 returns-in-Some-clause-value c = λ cuts c' is objects tree stands.
