@@ -1,6 +1,6 @@
 -- A root whose directories got another time stands for the same entries. The key lemmas are timed_root, text_timed, placed_by, taken_clash,
--- timed_more and times_stay.
-use Rattle.std.proofs.Common.{◌≡◌, ◌≢◌, ◌⊎◌, inl, inr, ℕ, Bool, not, true, false, if◌then◌else◌, cond, List, [], ◌∷◌, ◌++◌, append_assoc, length, arith, reverse, refl, sym, ap, ap₂, ◌∙◌, subst, Option, None, Some, option_map, option_and_then, Result, Ok, Err, true≢false}
+-- timed_more, timed_of, entries_stay and times_stay.
+use Rattle.std.proofs.Common.{◌≡◌, ◌≢◌, ◌⊎◌, inl, inr, ℕ, Bool, not, true, false, if◌then◌else◌, cond, List, [], ◌∷◌, ◌++◌, append_assoc, length, arith, reverse, refl, sym, ap, ap₂, ◌∙◌, subst, Option, None, Some, option_map, option_and_then, is_some, Result, Ok, Err, true≢false}
 use Rattle.std.specs.Prelude.{◌↔◌, ℤ, All, IfErr, IfOk, IsSome, IsTrue, map as list_map}
 use Rattle.std.specs.FinMap as map
 use Rattle.std.specs.List.{IsDistinct}
@@ -24,30 +24,37 @@ use Rattle.fs_objects.specs.declared.fs_object.FsObject.TheVariants as fs
 use Rattle.ids.specs.Key.{Objects}
 use Rattle.ids.specs.ObjectId.{nil}
 use Rattle.ids.specs.declared.key.Key.{Key}
+use Rattle.ids.specs.declared.key.Kind.{Kind}
 use Rattle.ids.proofs.KeyOrderLemmas.{key_cmp_total}
+use Rattle.library_rules.specs.LibraryState.{is_stored}
+use Rattle.library_rules.proofs.KeepingLemmas.{keeps_itself}
 use Rattle.object_graph.specs.Objects.{AreEntriesOf, as_read, commit_at, commit_key, directory_in, dirents_at, entries_of, entry_in, entry_named, entry_of, fs_in, fs_key, is_nil, name_cmp}
-use Rattle.object_graph.specs.Traversal.{IsComplete, Walk, needs, start, visited, walk_root}
+use Rattle.object_graph.specs.Traversal.{IsComplete, Walk, needs, start, visited, walk_below, walk_object, walk_root}
 use Rattle.object_graph.specs.Unchanged.{AgreeOn, Keeps}
 use Rattle.object_graph.specs.declared.entry.Entry.TheVariants as entry
+use Rattle.object_graph.proofs.BelowLemmas.{Ran}
 use Rattle.object_graph.proofs.CommitLemmas.{root_ran}
 use Rattle.object_graph.proofs.KeyLemmas.{same_key, same_key-itself, same_key-true}
 use Rattle.object_graph.proofs.LocalityLemmas.{agree_needs}
-use Rattle.object_graph.proofs.SameBelowLemmas.{ran_root, same_dirents}
+use Rattle.object_graph.proofs.SameBelowLemmas.{ran_root, same_dirents, same_entry as same_found}
 use Rattle.tree_model.specs.Path.{PathV}
 use Rattle.tree_model.specs.declared.limits.TheConstants.{MAX_NAMES}
 use Rattle.tree_merge.specs.Sides.{Entries}
-use Rattle.tree_merge.specs.TreeBuilding.{AreDirectories, AreNamed, IsClash, IsDirectoryText, IsNilOrMade, IsNilWhereEmpty, IsRefused}
+use Rattle.tree_merge.specs.TreeBuilding.{AreDirectories, AreNamed, HasMade, IsClash, IsDirectoryOf, IsDirectoryText, IsNilOrMade, IsNilWhereEmpty, IsRefused, directory_id_in}
 use Rattle.tree_merge.specs.declared.tree_builder.BuildFault.{BuildFault}
 use Rattle.tree_merge.specs.declared.tree_builder.BuildFault.TheVariants.{NoMemory, Taken}
 use Rattle.tree_merge.proofs.BuildingLemmas.{no_directory}
 use Rattle.tree_merge.proofs.DirentLemmas.{same_name-itself, written_listing}
 use Rattle.tree_merge.proofs.LevelLemmas.{nil_dirents}
 use Rattle.tree_merge.proofs.MadeLemmas.{not_nil}
-use Rattle.generated_library.specs.Directories.{HasTimes, IsFlat, IsListedAs, IsPlaced, IsReplaced, IsRootOf, IsRootRefused, IsTakenFor, IsTextAt, IsTimed, entry_at, is_other}
+use Rattle.generated_library.specs.Directories.{AreOfRoot, HasTimes, IsFlat, IsListedAs, IsOfRoot, IsPlaced, IsReplaced, IsRootOf, IsRootRefused, IsTakenFor, IsTextAt, IsTimed, entry_at, is_other}
 use Rattle.generated_library.specs.Generated.{time_of}
 
 none_some : (e : Dirent) → None ≡ Some e → ⊥
 none_some e is = cc
+
+none_id : (id : List ℕ) → None ≡ Some id → ⊥
+none_id id is = cc
 
 -- ---- entries of another time
 
@@ -55,19 +62,19 @@ none_some e is = cc
 abbrev told_at : ℤ → Dirent → Bool → Dirent
 told_at time e b = if b then record e { mode = 16384; mtime = time } else e
 
-name_at : (time : ℤ) (e : Dirent) → (entry_at time e).name ≡ e.name
-name_at time e = by (is_directory_mode e.mode)
+-- what neither changes is the same
+same_at : {A : Type 0} (part : Dirent → A) (time : ℤ) (e : Dirent) → part (record e { mode = 16384; mtime = time }) ≡ part e → part (entry_at time e) ≡ part e
+same_at part time e same = by (is_directory_mode e.mode)
   where
-    by : (b : Bool) → (told_at time e b).name ≡ e.name
-    by true = refl
+    by : (b : Bool) → part (told_at time e b) ≡ part e
+    by true = same
     by false = refl
 
+name_at : (time : ℤ) (e : Dirent) → (entry_at time e).name ≡ e.name
+name_at time e = same_at (λ (x : Dirent). x.name) time e refl
+
 id_at : (time : ℤ) (e : Dirent) → (entry_at time e).id ≡ e.id
-id_at time e = by (is_directory_mode e.mode)
-  where
-    by : (b : Bool) → (told_at time e b).id ≡ e.id
-    by true = refl
-    by false = refl
+id_at time e = same_at (λ (x : Dirent). x.id) time e refl
 
 kind_at : (time : ℤ) (e : Dirent) → is_directory_mode (entry_at time e).mode ≡ is_directory_mode e.mode
 kind_at time e = by (is_directory_mode e.mode) refl
@@ -421,6 +428,29 @@ module _ (moment : ℕ) (entries : Entries) (made new : Objects) (root id : List
             ap (option_and_then (λ i. entry_in before (dirents_at before i) (next ∷ path))) is
             ∙ (deeper name next path i is ∙ sym (ap (option_and_then (λ i. entry_in objects (dirents_at objects i) (next ∷ path))) is))
 
+    -- a directory below the root of before is below this one
+    below_now : (q : PathV) (i : List ℕ) → directory_id_in before so.dirents q ≡ Some i → directory_id_in objects so.text.listed q ≡ Some i
+    below_now [] i is = is
+    below_now (name ∷ []) i is = ap directory_in (so.text.told name) ∙ (same_directory (time_of moment) (entry_named name so.dirents) ∙ is)
+    below_now (name ∷ next ∷ q) i is = absurd (nowhere (directory_in (entry_named name so.dirents)) refl is)
+      where
+        nothing : (path : PathV) (j : List ℕ) → directory_in (entry_named name so.dirents) ≡ Some j → directory_id_in before (dirents_at before j) (next ∷ path) ≡ None
+        nothing [] j there = none_below name next j there (entry_named next (dirents_at before j)) refl
+        nothing (third ∷ path) j there =
+            ap (option_and_then (λ k. directory_id_in before (dirents_at before k) (third ∷ path))) (none_below name next j there (entry_named next (dirents_at before j)) refl)
+
+        nowhere : (o : Option (List ℕ)) → directory_in (entry_named name so.dirents) ≡ o → option_and_then (λ j. directory_id_in before (dirents_at before j) (next ∷ q)) o ≡ Some i → ⊥
+        nowhere None there none = none_id i none
+        nowhere (Some j) there own = none_id i (sym (nothing q j there) ∙ own)
+
+    -- and so is the key of each
+    of_root_now : (key : Key) → key ≡ fs_key key.id → same_key key (fs_key root) ≡ false → IsDirectoryOf before root key.id → IsDirectoryOf objects id key.id
+    of_root_now key is other (inl top) =
+        absurd (true≢false (sym (ap (λ (k : Key). same_key k (fs_key root)) (is ∙ ap fs_key top) ∙ same_key-itself (fs_key root)) ∙ other))
+    of_root_now key is other (inr (q, at)) =
+        let was : directory_id_in before so.dirents q ≡ Some key.id = sym (ap (λ (es : List Dirent). directory_id_in before es q) listed_before) ∙ at in
+        inr (q, ap (λ (es : List Dirent). directory_id_in objects es q) listed_now ∙ below_now q key.id was)
+
     times_now : HasTimes objects id moment
     times_now name e found is = by (entry_named name so.dirents) (sym (so.text.told name) ∙ (ap (entry_named name) (sym listed_now) ∙ found))
       where
@@ -439,15 +469,65 @@ module _ (moment : ℕ) (entries : Entries) (made new : Objects) (root id : List
   timed_root (inl (zeros, none, same)) = zeros_root zeros none same
   timed_root (inr so) = λ objects keeps. replaced_root so objects keeps
 
--- ---- times stay where what a commit needs does
+  -- each key of what was made is the root's, or that of a directory below it
+  module _ (named : AreNamed made) (needed : (i : List ℕ) → HasMade made i → (objects : Objects) → Keeps made objects → IsDirectoryOf objects root i) where
+    of_name : (key : Key) (o : Option (List ℕ)) → map.get made key ≡ o → is_some o ≡ true → (key ≡ fs_key key.id) × (key.id ≢ nil)
+    of_name key None at is = absurd (false≢true is)
+    of_name key (Some bytes) at is =
+        let own = named key bytes at in
+        let same : key ≡ fs_key key.id = ap (λ (k : Kind). record { kind = k; id = key.id }) own.is_fs in
+        (same, own.some)
+
+    made_of : AreOfRoot made root
+    made_of key there =
+        let own = of_name key (map.get made key) refl there in
+        record { is_fs = own.0; some = own.1; reached = needed key.id (subst (λ (k : Key). is_stored made k ≡ true) own.0 there) }
+
+    replaced_of : IsReplaced (time_of moment) made root new id → AreOfRoot new id
+    replaced_of so key there = by (same_key key (fs_key id)) refl (same_key key (fs_key root)) refl (sym (ap is_some (new_at so new (keeps_itself new) key)) ∙ there)
+      where
+        by : (own : Bool) → same_key key (fs_key id) ≡ own → (top : Bool) → same_key key (fs_key root) ≡ top
+            → is_some (cond own (Some so.bytes) (cond top None (map.get made key))) ≡ true → IsOfRoot new id key
+        by true own top is stored =
+            let same : key ≡ fs_key id = same_key-true key (fs_key id) own in
+            subst (IsOfRoot new id) (sym same) (record { is_fs = refl; some = so.placed.some; reached = λ objects keeps. inl refl })
+        by false own true is stored = absurd (false≢true stored)
+        by false own false is stored =
+            let was = made_of key stored in
+            record { is_fs = was.is_fs; some = was.some; reached = λ objects keeps. of_root_now so objects keeps key was.is_fs is (was.reached (before so objects keeps) (before_keeps so objects keeps)) }
+
+    pub timed_of : IsTimed (time_of moment) made root new id → AreOfRoot new id
+    timed_of (inl (zeros, none, same)) =
+        let one : root ≡ id = zeros ∙ sym none in
+        subst (λ (m : Objects). AreOfRoot m id) (sym same) (subst (AreOfRoot made) one made_of)
+    timed_of (inr so) = replaced_of so
+
+-- ---- what a commit lists stays where what it needs does
+
+-- the traversal of a complete commit reaches its root, and what it met there is alike in both
+record RootAlike (A B : Objects) (commit : Commit) : Type 0 where
+  visits : List Key
+  ran : Ran (walk_object true A (walk_below true A MAX_NAMES) true [] commit.root) visits
+  agree : AgreeOn visits A B
+
+root_alike : (A B : Objects) (id : List ℕ) (commit : Commit) → IsComplete A id → commit_at A id ≡ Ok commit → AgreeOn (needs A id) A B → RootAlike A B commit
+root_alike A B id commit complete read agree =
+    let own = root_ran A id complete in
+    let one : own.commit ≡ commit = cc (own.read, read) in
+    subst (RootAlike A B) one (record {
+      visits = (walk_root true A own.commit.root (visited (commit_key id) start)).visits;
+      ran = ran_root true A own.commit.root (visited (commit_key id) start) own.none;
+      agree = subst (λ (w : Walk). AgreeOn w.visits A B) own.is (agree_needs A B id agree);
+    })
+
+pub entries_stay : (A B : Objects) (id : List ℕ) (commit : Commit) (entries : Entries) → IsComplete A id → commit_at A id ≡ Ok commit → AgreeOn (needs A id) A B
+    → AreEntriesOf A commit.root entries → AreEntriesOf B commit.root entries
+entries_stay A B id commit entries complete read agree are path =
+    let alike = root_alike A B id commit complete read agree in
+    are path ∙ sym (same_found true A B path MAX_NAMES [] commit.root alike.visits alike.ran alike.agree)
 
 pub times_stay : (A B : Objects) (id : List ℕ) (commit : Commit) (moment : ℕ) → IsComplete A id → commit_at A id ≡ Ok commit → AgreeOn (needs A id) A B → HasTimes A commit.root moment
     → HasTimes B commit.root moment
 times_stay A B id commit moment complete read agree times name e found is =
-    let own = root_ran A id complete in
-    let one : own.commit ≡ commit = cc (own.read, read) in
-    let on : AgreeOn (walk_root true A own.commit.root (visited (commit_key id) start)).visits A B = subst (λ (w : Walk). AgreeOn w.visits A B) own.is (agree_needs A B id agree) in
-    let ran = ran_root true A own.commit.root (visited (commit_key id) start) own.none in
-    let same : dirents_at B own.commit.root ≡ dirents_at A own.commit.root =
-    same_dirents true A B MAX_NAMES [] own.commit.root (walk_root true A own.commit.root (visited (commit_key id) start)).visits ran on in
-    times name e (sym (ap (entry_named name) (subst (λ (c : Commit). dirents_at B c.root ≡ dirents_at A c.root) one same)) ∙ found) is
+    let alike = root_alike A B id commit complete read agree in
+    times name e (sym (ap (entry_named name) (same_dirents true A B MAX_NAMES [] commit.root alike.visits alike.ran alike.agree)) ∙ found) is

@@ -1,5 +1,5 @@
 -- What the calls of a filling lead a library to, step by step. The key lemmas are put_led, update_led, files_led, dirs_led, push_led and fill_led.
-use Rattle.std.proofs.Common.{◌≡◌, ◌≢◌, ◌+◌, ℕ, zero, suc, Bool, true, false, List, [], ◌∷◌, refl, sym, ap, ◌∙◌, subst, Option, None, Some, Ok, true≢false}
+use Rattle.std.proofs.Common.{◌≡◌, ◌≢◌, ◌≤◌, inl, inr, ◌+◌, ℕ, suc, Bool, true, false, List, [], ◌∷◌, length, refl, sym, ap, ◌∙◌, subst, Option, None, Some, is_some, Ok, true≢false}
 use Rattle.std.specs.Prelude.{IfSome, codes, pos}
 use Rattle.std.specs.FinMap as map
 use Rattle.std.proofs.lemmas.List.Elements.{All-cons, All-nil, All-tail}
@@ -14,7 +14,7 @@ use Rattle.ids.specs.Key.{Objects}
 use Rattle.ids.specs.ObjectId.{nil}
 use Rattle.ids.specs.declared.key.Key.{Key}
 use Rattle.library_rules.specs.Changes.{is_refused}
-use Rattle.library_rules.specs.LibraryState.{IsSound, State, head_of}
+use Rattle.library_rules.specs.LibraryState.{IsSound, State, head_of, is_stored}
 use Rattle.library_rules.proofs.HeadTreeLemmas.{head_kept}
 use Rattle.library_rules.proofs.KeepingLemmas.{keeps_itself, keeps_then}
 use Rattle.library_rules.proofs.ProperTextLemmas.{complete_not_zeros}
@@ -23,17 +23,18 @@ use Rattle.library_state.specs.declared.call.Op.TheVariants as op
 use Rattle.library_state.specs.declared.reply.Reply.{Reply}
 use Rattle.library_state.specs.declared.reply.Reply.TheVariants as reply
 use Rattle.object_graph.specs.Objects.{block_key, commit_key, fs_key}
+use Rattle.object_graph.specs.Traversal.{IsComplete}
 use Rattle.object_graph.specs.Unchanged.{Keeps}
 use Rattle.object_store.specs.Shelf.{Contents}
 use Rattle.object_store.specs.declared.shelf.Slot.{Slot}
 use Rattle.sync_calls.specs.Shown.{Shown}
 use Rattle.tree_merge.specs.Sides.{Entries}
-use Rattle.generated_library.specs.Directories.{IsRootOf}
-use Rattle.generated_library.specs.Filled.{AreStored, AreThere, Collects, HasCommit, HasFiles, HasTree, IsBeside, IsFileStored, IsFilled, IsNew, IsOver, IsResting, Limits, Pushes, Puts, PutsAll, PutsBoth, PutsFile, Stores, Updates, entries_of, file_object, file_text, is_put, pushed_bytes, pushed_files}
+use Rattle.generated_library.specs.Directories.{AreOfRoot, IsOfRoot, IsRootOf}
+use Rattle.generated_library.specs.Filled.{AreStored, AreThere, Checks, Collects, HasCommit, HasFiles, HasTree, IsBeside, IsFileStored, IsFilled, IsNew, IsOfFile, IsOfFiles, IsOver, IsResting, Limits, Pushes, Puts, PutsAll, PutsBoth, PutsFile, Stores, Updates, entries_of, file_object, file_text, is_put, pushed_bytes, pushed_files}
 use Rattle.generated_library.specs.Generated.{after_file, bytes_made, changed_from, file_bytes, files_from, tree_of}
-use Rattle.generated_library.specs.Leading.{Any, Grows, IsAnswered, Leads, call_of}
+use Rattle.generated_library.specs.Leading.{Adds, Any, Grows, IsAnswered, Leads, call_of}
 use Rattle.generated_library.specs.declared.filling.Filled.{Filled}
-use Rattle.generated_library.proofs.FillLemmas.{file_put, filled_by, grows_none, grows_then, keeps_one_more, over_by, pushes_by}
+use Rattle.generated_library.proofs.FillLemmas.{adds_none, adds_then, file_put, filled_by, grows_none, grows_then, keeps_one_more, over_by, pushes_by, removed_within}
 use Rattle.generated_library.proofs.OwnLemmas.{leads_more, leads_none, leads_then}
 use Rattle.generated_library.proofs.PushingLemmas.{file_there, pushed_cons}
 use Rattle.generated_library.proofs.RuleLemmas.{check_leaves, commit_put, limit_leaves, put_leaves, update_leaves}
@@ -67,10 +68,13 @@ abbrev pub PutSoFar : Bool → List (List ℕ) → (number left x : ℕ) → Sta
 PutSoFar is_second all number left x s t =
     Grows s t × HasFiles is_second (files_from left x) s
     × ((objects : Objects) → Keeps t.objects objects → AreStored objects (pushed_files is_second number (files_from left x)) → AreStored objects all)
+    × ((key : Key) → IsOfFiles (pushed_files is_second number (files_from left x)) key → IsOfFiles all key) × Adds (IsOfFiles all) s t
 
 -- and as these directories are left
 abbrev pub MadeSoFar : (made left : Objects) → State → State → Type 0
-MadeSoFar made left s t = Grows s t × ((objects : Objects) → Keeps t.objects objects → Keeps left objects → Keeps made objects)
+MadeSoFar made left s t =
+    Grows s t × ((objects : Objects) → Keeps t.objects objects → Keeps left objects → Keeps made objects)
+    × ((key : Key) → is_stored left key ≡ true → is_stored made key ≡ true) × Adds (λ (k : Key). is_stored made k ≡ true) s t
 
 module _ {S : Type 0} (contents : S → Option Contents) (may_give : S → Slot → Option (List ℕ) → Type 0) (texts faults : S → ℕ) (us vs : List (Shown S)) where
   -- ---- one call
@@ -82,9 +86,9 @@ module _ {S : Type 0} (contents : S → Option Contents) (may_give : S → Slot 
       (λ s t sound any answered. put_leaves secret moment s t r goes key bytes answered)
 
   pub check_led : (secret : Option (List ℕ)) (moment : ℕ) (r : Reply) → is_refused r ≡ false
-      → Leads contents faults us vs Any (IsAnswered (call_of secret (act.Check op.Upload)) moment r) → Leads contents faults us vs Any Grows
+      → Leads contents faults us vs Any (IsAnswered (call_of secret (act.Check op.Upload)) moment r) → Leads contents faults us vs Any Checks
   check_led secret moment r goes leads =
-      leads_more contents may_give texts faults us vs Any Any (IsAnswered (call_of secret (act.Check op.Upload)) moment r) Grows leads (λ s any. tt)
+      leads_more contents may_give texts faults us vs Any Any (IsAnswered (call_of secret (act.Check op.Upload)) moment r) Checks leads (λ s any. tt)
       (λ s t sound any answered. check_leaves secret moment s t r goes answered)
 
   pub limit_led : (secret : Option (List ℕ)) (moment : ℕ) (r : Reply) → is_refused r ≡ false
@@ -111,6 +115,8 @@ module _ {S : Type 0} (contents : S → Option Contents) (may_give : S → Slot 
         grows_none s,
         subst (λ (files : List (List ℕ)). HasFiles is_second files s) (sym is) there,
         λ objects keeps stored. subst (λ (files : List (List ℕ)). AreStored objects (pushed_files is_second 0 files)) is stored,
+        λ key own. subst (λ (files : List (List ℕ)). IsOfFiles (pushed_files is_second 0 files) key) is own,
+        adds_none (IsOfFiles (pushed_files is_second 0 first)) s,
       ))
 
   -- all of them
@@ -118,33 +124,39 @@ module _ {S : Type 0} (contents : S → Option Contents) (may_give : S → Slot 
       → Leads contents faults us vs (HasFiles is_second first) (Stores all)
   files_all is_second first all number x leads =
       leads_more contents may_give texts faults us vs (HasFiles is_second first) (HasFiles is_second first) (PutSoFar is_second all number 0 x) (Stores all) leads (λ s there. there)
-      (λ s t sound there so. (so.0, so.2 t.objects (keeps_itself t.objects) (none_stored is_second number t.objects)))
+      (λ s t sound there so. (so.0, so.2 t.objects (keeps_itself t.objects) (none_stored is_second number t.objects), so.4))
 
   -- ---- directories
 
   pub dirs_none : (made : Objects) → vs ≡ us → Leads contents faults us vs Any (MadeSoFar made made)
-  dirs_none made same = leads_none contents may_give texts faults us vs Any (MadeSoFar made made) same (λ s any. (grows_none s, λ objects keeps all. all))
+  dirs_none made same = leads_none contents may_give texts faults us vs Any (MadeSoFar made made) same (λ s any. (grows_none s, λ objects keeps all. all, λ key there. there, adds_none (λ (k : Key). is_stored made k ≡ true) s))
 
   pub dirs_all : (made left : Objects) → ((key : Key) → map.get left key ≡ None) → Leads contents faults us vs Any (MadeSoFar made left)
       → Leads contents faults us vs Any (PutsAll made)
   dirs_all made left empty leads =
       leads_more contents may_give texts faults us vs Any Any (MadeSoFar made left) (PutsAll made) leads (λ s any. tt)
-      (λ s t sound any so. (so.0, λ objects keeps. so.1 objects keeps (record { kept = λ key bytes is. absurd (none key bytes (sym (empty key) ∙ is)) })))
+      (λ s t sound any so. (so.0, λ objects keeps. so.1 objects keeps (record { kept = λ key bytes is. absurd (none key bytes (sym (empty key) ∙ is)) }), so.3))
     where
       none : (key : Key) (bytes : List ℕ) → None ≡ Some bytes → ⊥
       none key bytes is = cc
 
   -- the tree of the root whose directories were put
-  pub tree_led : (moment : ℕ) (made : Objects) (entries : Entries) (root : List ℕ) → IsRootOf moment entries made root
+  pub tree_led : (moment : ℕ) (made : Objects) (entries : Entries) (root : List ℕ) → IsRootOf moment entries made root → AreOfRoot made root
       → Leads contents faults us vs Any (PutsAll made) → Leads contents faults us vs Any (HasTree moment entries root)
-  tree_led moment made entries root is leads =
+  tree_led moment made entries root is below leads =
       leads_more contents may_give texts faults us vs Any Any (PutsAll made) (HasTree moment entries root) leads (λ s any. tt)
-      (λ s t sound any so. (so.0, λ objects keeps. is objects (so.1 objects keeps)))
+      (λ s t sound any so. (
+        so.0,
+        λ objects keeps. is objects (so.1 objects keeps),
+        adds_then (λ (k : Key). is_stored made k ≡ true) (IsOfRoot t.objects root) (IsOfRoot t.objects root) s t t
+            (λ key there. let own = below key there in record { is_fs = own.is_fs; some = own.some; reached = λ objects keeps. own.reached objects (so.1 objects keeps) }) (λ key own. own) so.2
+            (adds_none (IsOfRoot t.objects root) t),
+      ))
 
   -- a file that isn't put
   pub unput_led : (is_new : Bool) (bytes : List ℕ) → is_new ≡ false → vs ≡ us → Leads contents faults us vs Any (PutsFile is_new bytes)
   unput_led is_new bytes old same =
-      leads_none contents may_give texts faults us vs Any (PutsFile is_new bytes) same (λ s any. (grows_none s, λ is. absurd (true≢false (sym is ∙ old))))
+      leads_none contents may_give texts faults us vs Any (PutsFile is_new bytes) same (λ s any. (grows_none s, λ is. absurd (true≢false (sym is ∙ old)), adds_none (IsOfFile bytes) s))
 
   -- and one that is
   pub file_led : (is_new : Bool) (bytes text : List ℕ) → text ≡ file_text bytes → (sha1 bytes ≢ nil → fs_of (file_text bytes) ≡ Ok (fs.File (file_object bytes)))
@@ -152,14 +164,14 @@ module _ {S : Type 0} (contents : S → Option Contents) (may_give : S → Slot 
   file_led is_new bytes text is reads leads =
       leads_more contents may_give texts faults us vs Any Any (PutsBoth bytes (file_text bytes)) (PutsFile is_new bytes)
       (subst (λ (x : List ℕ). Leads contents faults us vs Any (PutsBoth bytes x)) is leads) (λ s any. tt)
-      (λ s t sound any both. let put = file_put s t bytes reads both in (put.0, λ new. put.1 refl))
+      (λ s t sound any both. let put = file_put s t bytes reads both in (put.0, λ new. put.1 refl, put.2))
 
   -- a commit that was put
   pub commit_led : (commit : Commit) (bytes : List ℕ) (parent : List ℕ) → (commit.id ≢ nil → parent ≢ nil → commit_of bytes ≡ Ok commit)
       → Leads contents faults us vs Any (Puts (commit_key commit.id) bytes) → Leads contents faults us vs (λ s. parent ≢ nil) (HasCommit commit.id commit)
   commit_led commit bytes parent reads leads =
       leads_more contents may_give texts faults us vs Any (λ s. parent ≢ nil) (Puts (commit_key commit.id) bytes) (HasCommit commit.id commit) leads (λ s some. tt)
-      (λ s t sound some puts. (puts.0, refl, commit_put t.objects commit bytes puts.1 (reads puts.2 some), puts.2))
+      (λ s t sound some puts. (puts.0, refl, commit_put t.objects commit bytes puts.1 (reads puts.2 some), puts.2, puts.3))
 
 module _ {S : Type 0} (contents : S → Option Contents) (may_give : S → Slot → Option (List ℕ) → Type 0) (texts faults : S → ℕ) (us ms vs : List (Shown S)) where
   -- one file more
@@ -176,7 +188,15 @@ module _ {S : Type 0} (contents : S → Option Contents) (may_give : S → Slot 
             (subst (AreStored objects) (sym (pushed_cons is_second number (file_bytes x) (files_from left (after_file x))))
             (All-cons (IsFileStored objects) (pushed_bytes is_second number (file_bytes x)) (pushed_files is_second (number + 1) (files_from left (after_file x)))
             (file_keeps t.objects objects (pushed_bytes is_second number (file_bytes x)) keeps (file_there is_second number (file_bytes x) (files_from left (after_file x)) s m t so.0 so.1 puts)) stored)),
+        λ key own. so.3 key (later key own),
+        adds_then (IsOfFiles all) (IsOfFile (pushed_bytes is_second number (file_bytes x))) (IsOfFiles all) s m t (λ key own. own) (λ key own. so.3 key (here key own)) so.4 puts.2,
       ))
+    where
+      later : (key : Key) → IsOfFiles (pushed_files is_second (number + 1) (files_from left (after_file x))) key → IsOfFiles (pushed_files is_second number (files_from (suc left) x)) key
+      later key own = subst (λ (files : List (List ℕ)). IsOfFiles files key) (sym (pushed_cons is_second number (file_bytes x) (files_from left (after_file x)))) (inr own)
+
+      here : (key : Key) → IsOfFile (pushed_bytes is_second number (file_bytes x)) key → IsOfFiles (pushed_files is_second number (files_from (suc left) x)) key
+      here key own = subst (λ (files : List (List ℕ)). IsOfFiles files key) (sym (pushed_cons is_second number (file_bytes x) (files_from left (after_file x)))) (inl own)
 
   -- one directory more
   pub dirs_led : (made left less : Objects) (key : Key) (bytes : List ℕ) → map.get left key ≡ Some bytes → less ≡ map.remove left key → Leads contents faults us ms Any (MadeSoFar made left)
@@ -186,6 +206,9 @@ module _ {S : Type 0} (contents : S → Option Contents) (may_give : S → Slot 
       (λ s m t sound any so puts. (
         grows_then s m t so.0 puts.0,
         λ objects keeps others. so.1 objects (keeps_then puts.0.keeps keeps) (keeps_one_more left less key bytes objects was is (keeps.kept key bytes puts.1) others),
+        λ k there. so.2 k (removed_within left less key is k there),
+        adds_then (λ (k : Key). is_stored made k ≡ true) (λ (k : Key). k ≡ key) (λ (k : Key). is_stored made k ≡ true) s m t (λ k own. own)
+            (λ k own. subst (λ (j : Key). is_stored made j ≡ true) (sym own) (so.2 key (ap is_some was))) so.3 puts.3,
       ))
 
   -- a file's block and its object, each under its own name
@@ -215,13 +238,14 @@ record CommitSo (parent id : List ℕ) (moment : ℕ) (files : List (List ℕ)) 
 -- and to the one of before a filling, as the files are pushed, and pushed again, and history is given up
 record FirstSo (first mid : List ℕ) (moment : ℕ) (files : List (List ℕ)) (s b : State) : Type 0 where
   a : State
-  grew : Grows s a
+  checks : Checks s a
   one : Pushes mid first moment files a b
 
 record SecondSo (first mid head : List ℕ) (moment : ℕ) (files changed : List (List ℕ)) (s c : State) : Type 0 where
   b : State
   so : FirstSo first mid moment files s b
   two : Pushes head mid moment changed b c
+  complete : IsComplete b.objects mid
 
 record LimitSo (first mid head : List ℕ) (moment : ℕ) (files changed : List (List ℕ)) (s d : State) : Type 0 where
   c : State
@@ -230,11 +254,11 @@ record LimitSo (first mid head : List ℕ) (moment : ℕ) (files changed : List 
 
 module _ {S : Type 0} (contents : S → Option Contents) (may_give : S → Slot → Option (List ℕ) → Type 0) (texts faults : S → ℕ) where
   -- a push
-  pub push_led : (us xs ys zs vs : List (Shown S)) (is_second : Bool) (parent id : List ℕ) (moment : ℕ) (first files : List (List ℕ)) (lib root : List ℕ)
+  pub push_led : (us xs ys zs vs : List (Shown S)) (is_second : Bool) (parent id : List ℕ) (moment : ℕ) (first files : List (List ℕ)) (lib root : List ℕ) → length files ≤ 10000
       → Leads contents faults us xs (HasFiles is_second first) (Stores files) → Leads contents faults xs ys Any (HasTree moment (entries_of moment files) root)
       → Leads contents faults ys zs (λ s. parent ≢ nil) (HasCommit id (made lib root (Some parent) None (codes "make") (codes "make") moment false))
       → Leads contents faults zs vs (IsOver id) (Updates id) → Leads contents faults us vs (IsBeside is_second parent first) (Pushes id parent moment files)
-  push_led us xs ys zs vs is_second parent id moment first files lib root one two three four =
+  push_led us xs ys zs vs is_second parent id moment first files lib root few one two three four =
       let begun : Leads contents faults us xs (IsBeside is_second parent first) (FilesSo parent files) =
       leads_more contents may_give texts faults us xs (HasFiles is_second first) (IsBeside is_second parent first) (Stores files) (FilesSo parent files) one (λ s beside. beside.1)
       (λ s a sound beside so. record { at = beside.0; stored = so }) in
@@ -247,11 +271,11 @@ module _ {S : Type 0} (contents : S → Option Contents) (may_give : S → Slot 
       (λ s b sound beside so. parent_some s parent sound beside.0) (λ s b c sound beside so commit. record { b = b; so = so; put = commit }) in
       leads_then contents may_give texts faults us zs vs (IsBeside is_second parent first) (IsOver id) (CommitSo parent id moment files lib root) (Updates id) (Pushes id parent moment files) put four
       (λ s c sound beside so. over_by parent id moment lib root files s so.so.a so.b c so.so.so.at so.so.so.stored so.so.tree so.put)
-      (λ s c t sound beside so updates. pushes_by is_second parent id moment files lib root s so.so.a so.b c t so.so.so.at so.so.so.stored so.so.tree so.put updates)
+      (λ s c t sound beside so updates. pushes_by is_second parent id moment files lib root s so.so.a so.b c t few so.so.so.at so.so.so.stored so.so.tree so.put updates)
 
   -- all of it
   pub fill_led : (us xs ys zs ws vs : List (Shown S)) (shows : ℕ → Type 0) (count number moment : ℕ) (first mid head : List ℕ) (filled : Filled) → shows moment
-      → Leads contents faults us xs Any Grows → Leads contents faults xs ys (IsBeside false first (files_from count number)) (Pushes mid first moment (files_from count number))
+      → Leads contents faults us xs Any Checks → Leads contents faults xs ys (IsBeside false first (files_from count number)) (Pushes mid first moment (files_from count number))
       → Leads contents faults ys zs (IsBeside true mid (files_from count number)) (Pushes head mid moment (changed_from 0 (files_from count number)))
       → Leads contents faults zs ws Any Limits → Leads contents faults ws vs IsResting (Collects filled.removed)
       → filled.paths ≡ map.len (tree_of moment (changed_from 0 (files_from count number))) → filled.bytes ≡ bytes_made count number
@@ -259,18 +283,23 @@ module _ {S : Type 0} (contents : S → Option Contents) (may_give : S → Slot 
   fill_led us xs ys zs ws vs shows count number moment first mid head filled shown check one two limit collect paths bytes =
       let files : List (List ℕ) = files_from count number in
       let changed : List (List ℕ) = changed_from 0 files in
-      let checked : Leads contents faults us xs (IsNew first) Grows =
-      leads_more contents may_give texts faults us xs Any (IsNew first) Grows Grows check (λ s new. tt) (λ s a sound new grew. grew) in
+      let checked : Leads contents faults us xs (IsNew first) Checks =
+      leads_more contents may_give texts faults us xs Any (IsNew first) Checks Checks check (λ s new. tt) (λ s a sound new checks. checks) in
       let pushed : Leads contents faults us ys (IsNew first) (FirstSo first mid moment files) =
-      leads_then contents may_give texts faults us xs ys (IsNew first) (IsBeside false first files) Grows (Pushes mid first moment files) (FirstSo first mid moment files) checked one
-      (λ s a sound new grew. (ap head_of grew.kept ∙ new.1, tt)) (λ s a b sound new grew pushes. record { a = a; grew = grew; one = pushes }) in
+      leads_then contents may_give texts faults us xs ys (IsNew first) (IsBeside false first files) Checks (Pushes mid first moment files) (FirstSo first mid moment files) checked one
+      (λ s a sound new checks. (ap head_of checks.0.kept ∙ new.1, tt)) (λ s a b sound new checks pushes. record { a = a; checks = checks; one = pushes }) in
       let again : Leads contents faults us zs (IsNew first) (SecondSo first mid head moment files changed) =
       leads_then contents may_give texts faults us ys zs (IsNew first) (IsBeside true mid files) (FirstSo first mid moment files) (Pushes head mid moment changed)
-      (SecondSo first mid head moment files changed) pushed two (λ s b sound new so. (so.one.head, so.one.stored)) (λ s b c sound new so pushes. record { b = b; so = so; two = pushes }) in
+      (SecondSo first mid head moment files changed) pushed two (λ s b sound new so. (so.one.head, so.one.stored)) (λ s b c sound new so pushes. record {
+        b = b;
+        so = so;
+        two = pushes;
+        complete = subst (λ (id : List ℕ). IsComplete b.objects id) so.one.head (sound.kept.complete (head_of b.state.kept) (head_kept b.state.kept sound.kept.some_kept));
+      }) in
       let limited : Leads contents faults us ws (IsNew first) (LimitSo first mid head moment files changed) =
       leads_then contents may_give texts faults us zs ws (IsNew first) Any (SecondSo first mid head moment files changed) Limits (LimitSo first mid head moment files changed) again limit
       (λ s c sound new so. tt) (λ s c d sound new so limits. record { c = c; so = so; limits = limits }) in
       leads_then contents may_give texts faults us ws vs (IsNew first) IsResting (LimitSo first mid head moment files changed) (Collects filled.removed)
       (λ s t. IsFilled shows count number first filled s t) limited collect
-      (λ s d sound new so. (so.limits.0.idle (so.so.two.idle (so.so.so.one.idle (so.so.so.grew.idle new.0))), so.limits.1))
-      (λ s d t sound new so collects. filled_by shows count number moment first mid head filled s so.so.so.a so.so.b so.c d t shown sound new so.so.so.grew so.so.so.one so.so.two so.limits collects paths bytes)
+      (λ s d sound new so. (so.limits.0.idle (so.so.two.idle (so.so.so.one.idle (so.so.so.checks.0.idle new.0))), so.limits.1))
+      (λ s d t sound new so collects. filled_by shows count number moment first mid head filled s so.so.so.a so.so.b so.c d t shown sound so.so.complete new so.so.so.checks so.so.so.one so.so.two so.limits collects paths bytes)

@@ -2,8 +2,10 @@ pub mod CollectLemmas
 pub mod DirectoriesLemmas
 pub mod FillLemmas
 pub mod LedLemmas
+pub mod NeededLemmas
 pub mod NumberLemmas
 pub mod OwnLemmas
+pub mod PathLemmas
 pub mod PushingLemmas
 pub mod ReadyLemmas
 pub mod RuleLemmas

@@ -23,8 +23,8 @@ bytes_step true from n x = sum_by-cons (λ bytes. length bytes) (with_mark from 
 -- a file that isn't put again was there
 pub file_there : (is_second : Bool) (number : ℕ) (bytes : List ℕ) (rest : List (List ℕ)) (s m t : State) → Grows s m → HasFiles is_second (bytes ∷ rest) s
     → PutsFile (is_put is_second number) (pushed_bytes is_second number bytes) m t → IsFileStored t.objects (pushed_bytes is_second number bytes)
-file_there false number bytes rest s m t grew there (grew_on, put) = put refl
-file_there true number bytes rest s m t grew there (grew_on, put) = by (number % 10 == 0) put
+file_there false number bytes rest s m t grew there (grew_on, put, came) = put refl
+file_there true number bytes rest s m t grew there (grew_on, put, came) = by (number % 10 == 0) put
   where
     by : (b : Bool) → ((b || false) ≡ true → IsFileStored t.objects (marked b bytes)) → IsFileStored t.objects (marked b bytes)
     by true put = put refl

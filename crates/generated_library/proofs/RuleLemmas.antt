@@ -1,10 +1,9 @@
 -- What the calls of a push leave that aren't refused. The key lemmas are put_leaves, check_leaves, update_leaves and limit_leaves.
-use Rattle.std.proofs.Common.{◌≡◌, ◌≢◌, ◌⊎◌, inl, inr, ◌||◌, ℕ, ℤ, Bool, true, false, not, cond, if◌then◌else◌, List, [], ◌∷◌, ◌++◌, refl, sym, ap, ◌∙◌, subst, true≢false, Option, None, Some, is_some, option_map, Ok, Err, nat_lt}
-use Rattle.std.specs.Prelude.{pos, ⊤}
+use Rattle.std.proofs.Common.{◌≡◌, ◌≢◌, ◌⊎◌, inl, inr, ◌||◌, ℕ, ℤ, Bool, true, false, not, cond, if◌then◌else◌, List, [], ◌∷◌, ◌++◌, refl, sym, ap, ◌∙◌, subst, true≢false, Option, None, Some, is_some, Ok, Err, nat_lt}
+use Rattle.std.specs.Prelude.{⊤}
 use Rattle.std.specs.Bool.{then_some}
 use Rattle.std.specs.FinMap as map
 use Rattle.std.specs.Str.{bytes_eq}
-use Rattle.std.proofs.lemmas.Bool.{or_cases}
 use Rattle.commit_objects.specs.Commit.{commit_of}
 use Rattle.commit_objects.specs.declared.commit.Commit.{Commit}
 use Rattle.ids.specs.Key.{Objects}
@@ -22,13 +21,13 @@ use Rattle.library_state.specs.declared.refusal.Refusal.TheVariants as refusal
 use Rattle.library_state.specs.declared.reply.Reply.{Reply}
 use Rattle.library_state.specs.declared.reply.Reply.TheVariants as reply
 use Rattle.library_state.specs.declared.token.Token.{Token}
-use Rattle.object_graph.specs.Objects.{commit_at, commit_in, commit_key, is_nil, of_name, same_id}
-use Rattle.object_graph.specs.Traversal.{walk_commit}
+use Rattle.object_graph.specs.Objects.{commit_at, commit_in, commit_key, is_nil, of_name}
+use Rattle.object_graph.specs.Traversal.{is_in, walk_commit}
 use Rattle.object_graph.specs.Unchanged.{Keeps}
 use Rattle.object_graph.specs.declared.fault.TreeFault.{TreeFault}
 use Rattle.object_graph.specs.declared.fault.TreeFault.TheVariants as fault
-use Rattle.object_graph.proofs.KeyLemmas.{same_key-itself}
-use Rattle.library_rules.specs.Answered.{Fails, OrFails, Plain}
+use Rattle.object_graph.proofs.KeyLemmas.{in_pushed, same_key-itself}
+use Rattle.library_rules.specs.Answered.{Fails}
 use Rattle.library_rules.specs.Calls.{Denies, Due, Installs, Merges, Says, Stores, base_due, complete_due, due, first_refusal, may, other_bytes, put_due, put_refusals, token_due, token_of, update_due}
 use Rattle.library_rules.specs.Changes.{act_changes, apply, counted, head_in, is_refused, moved, put_new, step_changes, with_added, without}
 use Rattle.library_rules.specs.History.{Permits, StepPermits}
@@ -39,16 +38,17 @@ use Rattle.library_rules.specs.declared.entry.Entry.{Entry}
 use Rattle.library_rules.specs.declared.entry.Step.{Step}
 use Rattle.library_rules.specs.declared.entry.Step.TheVariants as step
 use Rattle.library_rules.specs.declared.entry.Stored.{Stored}
+use Rattle.library_rules.proofs.AddedLemmas.{stored_cases}
 use Rattle.library_rules.proofs.BearsLemmas.{refused_not}
 use Rattle.library_rules.proofs.BesideStepLemmas.{rest_after}
 use Rattle.library_rules.proofs.CallsLemmas.{put_by, put_due-is, taken, update_due-is}
 use Rattle.library_rules.proofs.HeadTreeLemmas.{head_kept}
 use Rattle.library_rules.proofs.HeadsLemmas.{head_push}
-use Rattle.library_rules.proofs.KeepingLemmas.{grown, keeps_itself}
+use Rattle.library_rules.proofs.KeepingLemmas.{grown}
 use Rattle.library_rules.proofs.MemberLemmas.{same_id-itself}
 use Rattle.library_rules.proofs.StepLemmas.{objects_after}
 use Rattle.std.proofs.lemmas.Slice.Eq.{bytes_eq-Decides}
-use Rattle.generated_library.specs.Leading.{Grows, IsAnswered, call_of}
+use Rattle.generated_library.specs.Leading.{Adds, Grows, IsAnswered, call_of}
 
 -- ---- an entry that isn't refused
 
@@ -147,9 +147,20 @@ module _ (secret : Option (List ℕ)) (moment : ℕ) (s t : State) (r : Reply) (
   entry_goes : (e : Entry) → e.reply ≡ r → is_refused e.reply ≡ false
   entry_goes e is = ap is_refused is ∙ goes
 
+  -- nothing came, or that one
+  none_more : (key : Key) → t.objects ≡ s.objects → Adds (λ (k : Key). k ≡ key) s t
+  none_more key same = record { each = λ k there. inl (subst (λ (A : Objects). is_stored A k ≡ true) same there) }
+
+  one_more : (key : Key) (x : Stored) → x.key ≡ key → t.objects ≡ with_added s.objects (x ∷ []) → Adds (λ (k : Key). k ≡ key) s t
+  one_more key x own one = record { each = λ k there. by k (stored_cases s.objects (x ∷ []) k (subst (λ (A : Objects). is_stored A k ≡ true) one there)) }
+    where
+      by : (k : Key) → (is_stored s.objects k ≡ true) ⊎ (is_in (x.key ∷ []) k ≡ true) → (is_stored s.objects k ≡ true) ⊎ (k ≡ key)
+      by k (inl old) = inl old
+      by k (inr new) = elim (in_pushed [] x.key k new) as (λ _. (is_stored s.objects k ≡ true) ⊎ (k ≡ key)) [ inl none ↦ absurd (true≢false (sym none)) | inr same ↦ inr (same ∙ own) ]
+
   -- the object that was put is there, under a name that isn't forty zeros, and nothing else is otherwise
   pub put_leaves : (key : Key) (bytes : List ℕ) → IsAnswered (call_of secret (act.Put key bytes)) moment r s t
-      → Grows s t × (map.get t.objects key ≡ Some bytes) × (key.id ≢ nil)
+      → Grows s t × (map.get t.objects key ≡ Some bytes) × (key.id ≢ nil) × Adds (λ (k : Key). k ≡ key) s t
   put_leaves key bytes answered =
       let e = answered.entry in
       let call = call_of secret (act.Put key bytes) in
@@ -159,6 +170,12 @@ module _ (secret : Option (List ℕ)) (moment : ℕ) (s t : State) (r : Reply) (
       elim there.1 as (λ _. map.get (apply s e).objects key ≡ Some bytes) [
         | inl was ↦ ap (λ (A : Objects). map.get A key) (objects_now s e goes_on call answered.is_step answered.permits [] was.0) ∙ was.1
         | inr new ↦ ap (λ (A : Objects). map.get A key) (objects_now s e goes_on call answered.is_step answered.permits (record { key = key; bytes = bytes } ∷ []) new.0) ∙ put_there new.1
+      ] in
+      let only : Adds (λ (k : Key). k ≡ key) s t =
+      elim there.1 as (λ _. Adds (λ (k : Key). k ≡ key) s t) [
+        | inl was ↦ none_more key (ap (λ (u : State). u.objects) answered.is ∙ objects_now s e goes_on call answered.is_step answered.permits [] was.0)
+        | inr new ↦ one_more key (record { key = key; bytes = bytes }) refl
+            (ap (λ (u : State). u.objects) answered.is ∙ objects_now s e goes_on call answered.is_step answered.permits (record { key = key; bytes = bytes } ∷ []) new.0)
       ] in (
         record {
           keeps = subst (λ (u : State). Keeps s.objects u.objects) (sym answered.is) (keeps_now s e goes_on call answered.is_step answered.permits);
@@ -167,6 +184,7 @@ module _ (secret : Option (List ℕ)) (moment : ℕ) (s t : State) (r : Reply) (
         },
         ap (λ (u : State). map.get u.objects key) answered.is ∙ now,
         λ is. true≢false (sym (ap is_nil is ∙ same_id-itself nil) ∙ there.0),
+        only,
       )
     where
       put_there : is_stored s.objects key ≡ false → map.get (put_new s.objects (record { key = key; bytes = bytes })) key ≡ Some bytes
@@ -185,16 +203,19 @@ module _ (secret : Option (List ℕ)) (moment : ℕ) (s t : State) (r : Reply) (
       by true told = told.1
       by false told = absurd told
 
-  pub check_leaves : IsAnswered (call_of secret (act.Check op.Upload)) moment r s t → Grows s t
+  pub check_leaves : IsAnswered (call_of secret (act.Check op.Upload)) moment r s t → Grows s t × (t.objects ≡ s.objects)
   check_leaves answered =
       let e = answered.entry in
       let call = call_of secret (act.Check op.Upload) in
       let goes_on = entry_goes e answered.answers in
-      record {
-        keeps = subst (λ (u : State). Keeps s.objects u.objects) (sym answered.is) (keeps_now s e goes_on call answered.is_step answered.permits);
-        kept = ap (λ (u : State). u.state.kept) (answered.is ∙ asked_apply s e goes_on call answered.is_step);
-        idle = λ idle. ap (λ (u : State). u.running) answered.is ∙ idle_now s e goes_on call answered.is_step answered.permits idle;
-      }
+      let none = none_came (act.Check op.Upload) e reply.Checked goes_on (λ token. refl) (token_of s.state.tokens secret) (due_goes s e goes_on call answered.is_step answered.permits) in (
+        record {
+          keeps = subst (λ (u : State). Keeps s.objects u.objects) (sym answered.is) (keeps_now s e goes_on call answered.is_step answered.permits);
+          kept = ap (λ (u : State). u.state.kept) (answered.is ∙ asked_apply s e goes_on call answered.is_step);
+          idle = λ idle. ap (λ (u : State). u.running) answered.is ∙ idle_now s e goes_on call answered.is_step answered.permits idle;
+        },
+        ap (λ (u : State). u.objects) answered.is ∙ objects_now s e goes_on call answered.is_step answered.permits [] none,
+      )
 
   -- history is kept for so many days, and no object comes
   pub limit_leaves : (days : ℤ) → IsAnswered (call_of secret (act.Limit days)) moment r s t → Grows s t × (t.state.days ≡ days) × (t.objects ≡ s.objects)

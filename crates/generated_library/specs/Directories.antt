@@ -9,13 +9,15 @@ use Rattle.fs_objects.specs.declared.dirent.Dirent.{Dirent}
 use Rattle.fs_objects.specs.declared.fs_object.FsObject.TheVariants as fs
 use Rattle.ids.specs.Key.{Objects}
 use Rattle.ids.specs.ObjectId.{nil}
+use Rattle.ids.specs.declared.key.Key.{Key}
+use Rattle.library_rules.specs.LibraryState.{is_stored}
 use Rattle.object_graph.specs.Objects.{AreEntriesOf, dirents_at, entry_named, fs_key}
 use Rattle.object_graph.specs.Unchanged.{Keeps}
 use Rattle.object_graph.specs.declared.entry.Entry.{Entry}
 use Rattle.object_graph.specs.declared.entry.Entry.TheVariants as entry
 use Rattle.tree_model.specs.Path.{PathV}
 use Rattle.tree_merge.specs.Sides.{Entries}
-use Rattle.tree_merge.specs.TreeBuilding.{IsRefused}
+use Rattle.tree_merge.specs.TreeBuilding.{IsDirectoryOf, IsRefused}
 use Rattle.tree_merge.specs.declared.tree_builder.BuildFault.{BuildFault}
 use Rattle.tree_merge.specs.declared.tree_builder.BuildFault.TheVariants.{NoMemory, Taken}
 use Rattle.generated_library.specs.Generated.{time_of}
@@ -44,6 +46,16 @@ pub record IsFlat (entries : Entries) : Type 0 where
   pub at : (path : PathV) (e : Entry) → map.get entries path ≡ Some e → FlatAt entries path e
 
 -- ---- for private clauses: the root that is made anew
+
+-- it is the key of the root, or of a directory below it, among all objects that have these
+pub record IsOfRoot (stored : Objects) (root : List ℕ) (key : Key) : Type 0 where
+  pub is_fs : key ≡ fs_key key.id
+  pub some : key.id ≢ nil
+  pub reached : (objects : Objects) → Keeps stored objects → IsDirectoryOf objects root key.id
+
+-- and so is each key of what was made
+abbrev pub AreOfRoot : Objects → List ℕ → Type 0
+AreOfRoot made root = (key : Key) → is_stored made key ≡ true → IsOfRoot made root key
 
 -- the root stands for the entries, and its directories have the time of this moment, among all objects that have those made
 abbrev pub IsRootOf : ℕ → Entries → Objects → List ℕ → Type 0

@@ -1,9 +1,10 @@
 -- What calls lead a hall's one library to, where nobody else asks it. Our own. Read IsOwn and IsNow, then Leads.
-use Rattle.std.specs.Prelude.{◌≡◌, ℕ, ◌<◌, List, [], ◌∷◌, length, Option, None, Some, ⊤}
+use Rattle.std.specs.Prelude.{◌≡◌, ◌⊎◌, ℕ, ◌<◌, true, List, [], ◌∷◌, length, Option, None, Some, ⊤}
 use Rattle.depot.specs.DepotView.{DepotView, state_of}
+use Rattle.ids.specs.declared.key.Key.{Key}
 use Rattle.library_rules.specs.History.{Permits}
 use Rattle.library_rules.specs.Changes.{apply}
-use Rattle.library_rules.specs.LibraryState.{State, IsSound}
+use Rattle.library_rules.specs.LibraryState.{State, IsSound, is_stored}
 use Rattle.library_rules.specs.declared.entry.Entry.{Entry}
 use Rattle.library_rules.specs.declared.entry.Step.TheVariants as step
 use Rattle.library_state.specs.declared.call.Act.{Act}
@@ -55,6 +56,10 @@ pub record IsAnswered (call : Call) (moment : ℕ) (r : Reply) (s t : State) : T
   pub at : entry.moment ≡ moment
   pub answers : entry.reply ≡ r
   pub is : t ≡ apply s entry
+
+-- what is stored of such keys alone came, if anything did
+pub record Adds (IsSo : Key → Type 0) (s t : State) : Type 0 where
+  pub each : (key : Key) → is_stored t.objects key ≡ true → (is_stored s.objects key ≡ true) ⊎ IsSo key
 
 -- objects came at most; the commits that are kept are the same, and no collection began
 pub record Grows (s t : State) : Type 0 where

@@ -11,7 +11,7 @@ ghost use Rattle.fs_objects.specs.declared.dirent.Dirent.{Dirent as SpecDirent};
 ghost use Rattle.fs_objects.specs.declared.fs_object.FsObject.TheVariants as file_variants;
 ghost use Rattle.ids.specs.ObjectId.{nil};
 ghost use Rattle.tree_merge.specs.TreeBuilding.{IsClash, IsRefused};
-ghost use Rattle.generated_library.specs.Directories.{IsFlat, IsListedAs, IsPlaced, IsRootOf, IsRootRefused, IsTakenFor, IsTextAt, IsTimed, entry_at, is_other};
+ghost use Rattle.generated_library.specs.Directories.{AreOfRoot, IsFlat, IsListedAs, IsPlaced, IsRootOf, IsRootRefused, IsTakenFor, IsTextAt, IsTimed, entry_at, is_other};
 ghost use Rattle.generated_library.specs.Generated.{time_of};
 
 use fs_objects::{DIRECTORY_TYPE, DirObject, Dirent, FsObject, is_directory_mode};
@@ -37,6 +37,7 @@ pub(crate) fn build_at(
 ) -> Result<BuiltTree, BuildFault>
     requires entries { IsFlat entries }
     ensures value { IfOk result (λ built. IsRootOf moment entries built.made built.root) }
+    ensures needed { IfOk result (λ built. AreOfRoot built.made built.root) }
     ensures taken { IfErr result (IsTakenFor (IsClash entries)) }
 {
     let built = match build(alloc, entries) {

@@ -2,9 +2,9 @@
 ghost use Rattle.std.specs.Prelude.{◌≡◌, ◌≤◌, ℕ, IfErr, IfOk};
 ghost use Rattle.std.specs.FinMap as map;
 ghost use Rattle.sync_calls.specs.Hall.{AreReady, made_with, shares_of, shown_by};
-ghost use Rattle.generated_library.specs.Filled.{Collects, IsFilled, IsNew, IsResting, Limits};
+ghost use Rattle.generated_library.specs.Filled.{Checks, Collects, IsFilled, IsNew, IsResting, Limits};
 ghost use Rattle.generated_library.specs.Generated.{bytes_made, changed_from, files_from, tree_of};
-ghost use Rattle.generated_library.specs.Leading.{Any, Grows, Leads};
+ghost use Rattle.generated_library.specs.Leading.{Any, Leads};
 ghost use Rattle.generated_library.specs.Stopping.{EndsFor, StopsFor, WasCollected};
 
 use crate::asking::{Asker, NotFilled, ask};
@@ -100,7 +100,7 @@ fn check<S: Shelf, R: Wait>(
     requires ready { AreReady S.contents S.may_give S.texts S.faults hall.now pass.old }
     ensures ready { AreReady S.contents S.may_give S.texts S.faults hall.now pass.new }
     ensures size { (shares_of pass.new ≡ shares_of pass.old) × (made_with pass.new ≡ made_with pass.old) }
-    ensures leads { IfOk result (λ done. Leads S.contents S.faults (shown_by pass.old) (shown_by pass.new) Any Grows) }
+    ensures leads { IfOk result (λ done. Leads S.contents S.faults (shown_by pass.old) (shown_by pass.new) Any Checks) }
     ensures stops { IfErr result (StopsFor S.contents S.may_give S.texts S.faults asker.now.lib asker.now.secret asker.now.moment pass.new) }
 {
     let _reply = ask(rt, hall, pass, asker, Act::Check(Op::Upload))?;

@@ -1,5 +1,5 @@
 -- Files, directories, a commit and the update, one after another.
-use Rattle.std.proofs.Common.{◌≡◌, ap, subst, sym, ◌∙◌}
+use Rattle.std.proofs.Common.{ap, subst, sym, ◌∙◌}
 use Rattle.std.specs.FinMap as map
 use Rattle.sync_calls.specs.Hall.{shown_by}
 use Rattle.tree_merge.specs.Sides.{Entries}
@@ -8,6 +8,7 @@ use Rattle.generated_library.specs.Generated.{files_from}
 use Rattle.generated_library.specs.Leading.{Any, Leads}
 use Rattle.generated_library.proofs.FillLemmas.{tree_len}
 use Rattle.generated_library.proofs.LedLemmas.{push_led}
+use Rattle.generated_library.proofs.PathLemmas.{pushed_few}
 use Rattle.generated_library.proofs.StoppingLemmas.{stopped}
 use Rattle.generated_library.proofs.pushing.push.Goals as goal
 
@@ -31,6 +32,7 @@ returns-clause-leads g c =
     c.in_ok-bytes.ensures.entries c.in_ok-root.ensures.leads in
     push_led g.S.Shelf.contents g.S.Shelf.may_give g.S.Shelf.texts g.S.Shelf.faults (shown_by c.args.pass.now) (shown_by c.put_files.new.pass) (shown_by c.put_directories.new.pass) (shown_by c.put_commit.new.pass)
     (shown_by c.update.new.pass) round.is_second c.args.parent c.in_ok-commit.commit c.args.asker.now.moment first files c.args.asker.now.lib c.in_ok-root.root
+    (pushed_few round.is_second round.count round.number c.requires.few)
     c.in_ok-bytes.ensures.leads dirs c.in_ok-commit.ensures.leads c.in_ok-update.ensures.leads
 
 pub returns-in_err-bytes-clause-stops : goal.returns-in_err-bytes-clause-stops

@@ -12,7 +12,7 @@ build_at-requires g c = record { entries = subst IsFlat (sym c.requires.entries.
 
 pub returns-clause-leads : goal.returns-clause-leads
 returns-clause-leads g c =
-    tree_led g.S.Shelf.contents g.S.Shelf.may_give g.S.Shelf.texts g.S.Shelf.faults (shown_by c.args.pass.now) (shown_by c.put_all.new.pass) c.args.asker.now.moment c.in-Ok.built.made c.args.entries c.in-Ok.built.root c.in-Ok.ensures.value c.in_ok-put_all.ensures.leads
+    tree_led g.S.Shelf.contents g.S.Shelf.may_give g.S.Shelf.texts g.S.Shelf.faults (shown_by c.args.pass.now) (shown_by c.put_all.new.pass) c.args.asker.now.moment c.in-Ok.built.made c.args.entries c.in-Ok.built.root c.in-Ok.ensures.value c.in-Ok.ensures.needed c.in_ok-put_all.ensures.leads
 
 pub returns-in-Err-clause-stops : goal.returns-in-Err-clause-stops
 returns-in-Err-clause-stops g c =
