@@ -20,7 +20,9 @@ listen() {
 listens() {
     workers=$1 connections=$2
     shift 2
+    # (the complaint of a program that served before says that it listened)
     : > port_got
+    : > port_complaint
     # (the program itself has the number that is written down, and not the `timeout` around it)
     timeout -k 5 "$SECONDS_EACH" sh -c 'echo "$$" > port_number && exec "$@"' _ \
         "$PROGRAM" serve "${serves-folder}" "$port" "$workers" "$connections" "$@" < /dev/null > port_got 2> port_complaint &
