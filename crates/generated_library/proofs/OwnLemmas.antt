@@ -90,11 +90,11 @@ module _ {S : Type 0} (contents : S → Option Contents) (may_give : S → Slot 
 
   -- ---- reading
 
-  read_same : (u : Shown S) (place : ℕ) (deed : Deed) (v : Shown S) → IsReading contents may_give texts faults u place deed v → BooksSeen u → OwnsSeen v → v ≡ u
+  read_same : (u : Shown S) (place : ℕ) (deed : Deed) (v : Shown S) → IsReading contents may_give texts faults u place deed v → BooksSeen u → OwnsSeen v → v ≡ record u { turns = u.turns + 1 }
   read_same u place deed v reads books owns =
       let short : length v.seen ≤ length u.seen = by (nat_lt (length u.seen) (length v.seen)) refl in
       let whole : u.seen ≡ v.seen = prefix_whole u.seen v.seen reads.grows short in
-      reads.same ∙ ap (λ (seen : List (Change (DepotView S))). record u { seen = seen }) (sym whole)
+      reads.same ∙ ap (λ (seen : List (Change (DepotView S))). record u { seen = seen; turns = u.turns + 1 }) (sym whole)
     where
       same_book : v.book ≡ u.book
       same_book = ap (λ (w : Shown S). w.book) reads.same
@@ -106,7 +106,7 @@ module _ {S : Type 0} (contents : S → Option Contents) (may_give : S → Slot 
           absurd (omega (arith, there))
       by false less = grind (arith, nat_tests, less)
 
-  moved_reading : (u : Shown S) (place : ℕ) (deed : Deed) (v : Shown S) → IsReading contents may_give texts faults u place deed v → v ≡ u → (s : State) → StandsAt u s → Moved deed s v
+  moved_reading : (u : Shown S) (place : ℕ) (deed : Deed) (v : Shown S) → IsReading contents may_give texts faults u place deed v → v ≡ record u { turns = u.turns + 1 } → (s : State) → StandsAt u s → Moved deed s v
   moved_reading u place deed v reads same s stands =
       let read = reads.reads in
       let stood : library_at v (length v.seen) ≡ Some read.there = ap (library_at v) (sym reads.whole) ∙ read.stood in

@@ -3,6 +3,7 @@ pub mod CollectingLemmas
 pub mod RanLemmas
 pub mod ShareLemmas
 pub mod SpentLemmas
+pub mod TurnsLemmas
 pub mod NewLemmas
 pub mod LaterLemmas
 pub mod TagLemmas

@@ -1,7 +1,7 @@
 -- A hall as the host of a connection: what a pass shows, how a hall answers a call, a collection and a look, and what these leave in
 -- the histories of its libraries. Our own. Read HallShown first, then hall_rules and Goes. Read before: AsksSo, SparesReading,
 -- CollectsSo, GlancesSo and Lines of `sync_calls`, HostRules of `worker_server`.
-use Rattle.std.specs.Prelude.{ℕ, ◌≡◌, Bool, true, false, if◌then◌else◌, List, [], ◌∷◌, Option, Some, ⊤}
+use Rattle.std.specs.Prelude.{ℕ, ◌≡◌, ◌⊎◌, ◌+◌, ◌==◌, ◌≤◌, Bool, true, false, if◌then◌else◌, List, [], ◌∷◌, ◌++◌, Option, Some, ⊤}
 use Rattle.std.specs.List.{slice_get}
 use Rattle.library_state.specs.declared.call.Call.{Call}
 use Rattle.library_state.specs.declared.refusal.Refusal.TheVariants as refusal
@@ -12,11 +12,11 @@ use Rattle.sync_calls.specs.Asking.{AsksSo, IsAt, without_turn}
 use Rattle.depot.specs.FirstGet.{fs_call}
 use Rattle.depot.specs.declared.turn.Turn.{Turn}
 use Rattle.depot.specs.declared.turn.Turn.TheVariants as turn
-use Rattle.sync_calls.specs.Collecting.{CollectsSo}
+use Rattle.sync_calls.specs.Collecting.{CollectsSo, OneTurn, line_of}
 use Rattle.sync_calls.specs.FirstAsking.{AsksTooMuch, SparesReading}
 use Rattle.sync_calls.specs.Hall.{PassOf, StaySpent, drawn_by, shown_by}
 use Rattle.sync_calls.specs.Looking.{GlancesSo}
-use Rattle.sync_calls.specs.Operations.{Deed, IsNew, Line, Lines, TookTurn}
+use Rattle.sync_calls.specs.Operations.{Called, Deed, IsNew, Line, Lines, Looked, TookTurn}
 use Rattle.sync_calls.specs.Shown.{Shown}
 use Rattle.turnstile.specs.Rule.{most_turns}
 use Rattle.sync_calls.specs.declared.asking.Answer.{Answer as HallAnswer}
@@ -24,7 +24,7 @@ use Rattle.sync_calls.specs.declared.collecting.Collected.{Collected as HallColl
 use Rattle.sync_calls.specs.declared.collecting.Collected.TheVariants as hall_end
 use Rattle.sync_calls.specs.declared.looking.Glance.{Glance}
 use Rattle.sync_calls.specs.declared.looking.Glance.TheVariants as glance
-use Rattle.worker_server.specs.Calls.{HostRules, Told, call_asked, rules_at}
+use Rattle.worker_server.specs.Calls.{HostRules, Told, call_asked, collection_asked, look_asked, rules_at}
 use Rattle.worker_server.specs.declared.host.Answer.{Answer}
 use Rattle.worker_server.specs.declared.host.Collected.{Collected}
 use Rattle.worker_server.specs.declared.host.Collected.TheVariants as collected
@@ -85,10 +85,31 @@ module _ {S : Type 0} (contents : S → Option Contents) (may_give : S → Slot 
 abbrev pub IsSpentOf : {S : Type 0} → HallShown S → List ℕ → Type 0
 IsSpentOf {S} v lib = (library : ℕ) × (u : Shown S) × IsAt v.libraries lib library u × (slice_get v.drawn library ≡ Some most_turns)
 
--- where a call was told, without a turn, that the lock of its library is spent, this view shows so of that lock
+-- a turn of a collection was refused as spent: one would begin behind the greatest number
+abbrev pub IsSpentTurn : Turn → Type 0
+IsSpentTurn (turn.Refused why keys) = why ≡ refusal.Spent
+IsSpentTurn other = ⊥
+
+-- so ends what was done
+abbrev pub EndsAtLast : List Line → Type 0
+EndsAtLast lines = (before : List Line) × (library : ℕ) × (one : OneTurn) × (lines ≡ before ++ line_of library one ∷ []) × IsSpentTurn one.turn
+
+-- where a call was told, without a turn, that the lock of its library is spent, this view shows so of that lock; and so where a collection
+-- was told it, unless its last turn was refused so
 abbrev pub TellsSpentOf : {S : Type 0} → HallShown S → Told Line → Type 0
 TellsSpentOf v (call_asked lib call answer lines) = answer ≡ host_answer (without_turn refusal.Spent) → lines ≡ [] → IsSpentOf v lib
-TellsSpentOf v _ = ⊤
+TellsSpentOf v (collection_asked lib secret ends lines) = ends ≡ collected.Refused refusal.Spent → IsSpentOf v lib ⊎ EndsAtLast lines
+TellsSpentOf v (look_asked lib secret tag same lines) = ⊤
+
+-- all turns of the lock of this library were taken, as is shown
+abbrev pub AreTakenOf : {S : Type 0} → List (Shown S) → List ℕ → Type 0
+AreTakenOf {S} us lib = (library : ℕ) × (u : Shown S) × IsAt us lib library u × (most_turns ≤ u.turns)
+
+-- where it was told so all turns of that lock were taken
+abbrev pub TellsTakenOf : {S : Type 0} → List (Shown S) → Told Line → Type 0
+TellsTakenOf us (call_asked lib call answer lines) = answer ≡ host_answer (without_turn refusal.Spent) → lines ≡ [] → AreTakenOf us lib
+TellsTakenOf us (collection_asked lib secret ends lines) = ends ≡ collected.Refused refusal.Spent → AreTakenOf us lib ⊎ EndsAtLast lines
+TellsTakenOf us (look_asked lib secret tag same lines) = ⊤
 
 -- ---- operations
 
@@ -117,3 +138,14 @@ pub record Goes {S : Type 0} (contents : S → Option Contents) (may_give : S �
   pub all : List Line
   pub leads : Lines contents may_give texts faults us all vs
   pub told : lines ≡ without_over all
+
+-- an operation takes one turn, but for a look, which takes none
+abbrev pub turns_of : Deed → ℕ
+turns_of (Called call moment r) = 1
+turns_of (TookTurn goal moment most taken) = 1
+turns_of Looked = 0
+
+-- how many turns these took at this library
+abbrev pub turns_at : ℕ → List Line → ℕ
+turns_at library [] = 0
+turns_at library (line ∷ lines) = (if line.library == library then turns_of line.deed else 0) + turns_at library lines

@@ -1,17 +1,21 @@
--- The libraries that come out of a hall after a connection, and back to where they are kept. The key lemmas are pass_at, led and held_size.
+-- The libraries that come out of a hall after a connection, and back to where they are kept. The key lemmas are pass_at, stay_started, led, closed_within and held_size.
 use Rattle.std.proofs.Common.{◌≡◌, ℕ, zero, suc, ◌<◌, List, [], ◌∷◌, length, Option, Some, refl, sym, ap, subst, ◌∙◌, arith}
 use Rattle.std.specs.Prelude.{map as map_list, slice_index_or, slice_set}
 use Rattle.std.specs.List.{slice_get}
 use Rattle.std.proofs.lemmas.List.{get_or_default, length-map, length-set}
+use Rattle.std.proofs.lemmas.Option.{slice_get_within}
 use Rattle.depot.specs.DepotView.{DepotView}
 use Rattle.depot.specs.Story.{ComesBy}
 use Rattle.object_store.specs.Shelf.{Contents}
 use Rattle.object_store.specs.declared.shelf.Slot.{Slot}
+use Rattle.sync_calls.proofs.RoomLemmas.{get_map}
 use Rattle.sync_calls.specs.Closing.{AreClosed, IsClosed}
+use Rattle.sync_calls.specs.Hall.{AreWithin}
 use Rattle.sync_calls.specs.Making.{new_shown}
 use Rattle.sync_calls.specs.Operations.{Line, Lines, Moves}
 use Rattle.sync_calls.specs.Shown.{LibraryPass, Shown, all_shown, shown_of}
 use Rattle.turnstile.specs.Lists.{Has}
+use Rattle.turnstile.specs.PassView.{drawn_of, turns_of}
 use Rattle.hall_server.proofs.GoingLemmas.{done_start, from_some}
 use Rattle.hall_server.specs.Serving.{Goes}
 use Rattle.link_ears.specs.Ear.{LinkView}
@@ -54,7 +58,7 @@ module _ {S : Type 0} (contents : S → Option Contents) (may_give : S → Slot 
         set_start us line.library moves.before moves.after moves.was (done_start contents may_give texts faults moves.before line.place line.deed moves.after moves.done),
       )
 
-  stay_started : (us : List (Shown S)) (lines : List Line) (vs : List (Shown S)) → Lines contents may_give texts faults us lines vs → StayStarted us vs
+  pub stay_started : (us : List (Shown S)) (lines : List Line) (vs : List (Shown S)) → Lines contents may_give texts faults us lines vs → StayStarted us vs
   stay_started us [] vs same =
       subst (λ (ws : List (Shown S)). StayStarted us ws) (sym same) (refl, λ i v u below. ap (λ (w : Shown S). w.start) (get_or_default us i v u below))
   stay_started us (line ∷ lines) vs (mid, moves, rest) =
@@ -93,6 +97,27 @@ module _ {S : Type 0} (contents : S → Option Contents) (may_give : S → Slot 
   pub led : (depots afters : List (DepotView S)) (us : List (Shown S)) (lines : List Line) (passes : List (LibraryPass S)) → us ≡ map_list new_shown depots → Goes contents may_give texts faults us lines (all_shown passes)
       → AreClosed contents may_give texts faults passes afters → AreLedTo contents may_give texts faults depots (all_shown passes) afters
   led depots afters us lines passes begins goes closed = led_by depots afters us passes begins (stay_started us goes.all (all_shown passes) goes.leads) closed
+
+  -- ---- the numbers that were read of the locks
+
+  -- of each lock the pass read of no more turns than it took
+  pub closed_within : (passes : List (LibraryPass S)) (afters : List (DepotView S)) → AreClosed contents may_give texts faults passes afters → AreWithin (map_list drawn_of passes) (all_shown passes)
+  closed_within passes afters closed library n u at shown =
+      let inside = slice_get_within (all_shown passes) library u shown in
+      let size = length-map passes shown_of in
+      let below : library < length passes = omega (arith, inside, size) in
+      let p = (pass_at passes library u below).0 in
+      let after = some_after afters library (subst (λ (m : ℕ). library < m) (sym closed.0) below) in
+      let out = closed.1 library p after below in
+      let read : n ≡ drawn_of (slice_index_or passes library p) = from_some n (drawn_of (slice_index_or passes library p)) (sym at ∙ get_map drawn_of passes library p below) in
+      let taken : u ≡ shown_of (slice_index_or passes library p) = from_some u (shown_of (slice_index_or passes library p)) (sym shown ∙ get_map shown_of passes library p below) in
+      let turns : u.turns ≡ turns_of (slice_index_or passes library p) = ap (λ (w : Shown S). w.turns) taken in
+      let most = out.drawn in
+      omega (arith, read, turns, most)
+    where
+      some_after : (afters : List (DepotView S)) (i : ℕ) → i < length afters → DepotView S
+      some_after [] i short = absurd (omega (arith, short))
+      some_after (d ∷ ds) i short = d
 
   -- ---- all of it
 

@@ -1,18 +1,23 @@
 -- Passes of workers that are joined into one, one after another. The key lemmas are books_once, joined_shown,
--- join_none and join_more.
-use Rattle.std.proofs.Common.{◌≡◌, ℕ, ◌<◌, Bool, true, false, append_assoc, append-nil, arith, List, [], ◌∷◌, ◌++◌, length, if◌then◌else◌, nat_lt, Option, refl, sym, ap, subst, ◌∙◌}
+-- join_none, join_more, joined_drawn and read_on.
+use Rattle.std.proofs.Common.{◌≡◌, ℕ, ◌<◌, Bool, true, false, append_assoc, append-nil, arith, List, [], ◌∷◌, ◌++◌, length, if◌then◌else◌, nat_lt, Option, Some, refl, sym, ap, subst, ◌∙◌}
 use Rattle.std.specs.Prelude.{map as map_list, slice_index_or}
 use Rattle.std.proofs.lemmas.List.{get_or_default, length-map, map-append}
 use Rattle.std.proofs.lemmas.List.Elements.{All-cons, All-nil, All-push, All-weaker}
+use Rattle.std.proofs.lemmas.List.Sums.{sum_by_push}
+use Rattle.std.proofs.lemmas.Option.{slice_get_within}
+use Rattle.std.specs.List.{slice_get}
 use mathlib.Core.List.{IsPrefix}
 use Rattle.object_store.specs.Shelf.{Contents}
 use Rattle.object_store.specs.declared.shelf.Slot.{Slot}
+use Rattle.sync_calls.proofs.RoomLemmas.{get_map}
 use Rattle.sync_calls.specs.Hall.{AreReady, HallOf, PassOf, passes_in, rooms_of, shown_by}
 use Rattle.sync_calls.specs.Joining.{AreJoined, IsJoined}
 use Rattle.sync_calls.specs.Shown.{LibraryPass, Shown, all_shown, shown_of}
 use Rattle.turnstile.specs.Lists.{IsOnce, longer, shorter}
+use Rattle.turnstile.specs.PassView.{drawn_of}
 use Rattle.turnstile.proofs.ListsLemmas.{prefix_refl, prefix_trans}
-use Rattle.library_server.specs.Port.{AreJoinOf, IsJoinOf, books_of}
+use Rattle.library_server.specs.Port.{AreJoinOf, IsJoinOf, ReadNoMore, books_of}
 use Rattle.library_server.proofs.HallEndLemmas.{pass_at}
 
 -- both of two histories begin the longer one
@@ -34,6 +39,7 @@ module _ {S : Type 0} where
     seen = All-cons (λ u. IsPrefix u.seen v.seen) v [] (prefix_refl v.seen) (All-nil (λ u. IsPrefix u.seen v.seen));
     book = sym (append-nil v.book);
     once = once;
+    turns = omega arith;
   }
 
   -- one more
@@ -47,6 +53,11 @@ module _ {S : Type 0} where
             both.1;
         book = more.book ∙ (ap (λ (ys : List ℕ). ys ++ u.book) before.book ∙ (append_assoc v.book (books_of us) u.book ∙ ap (λ (ys : List ℕ). v.book ++ ys) (sym (books_more us u))));
         once = more.once;
+        turns =
+            let one = more.turns in
+            let all = before.turns in
+            let sum = sum_by_push (λ (y : Shown S). y.turns) us u in
+            omega (arith, one, all, sum);
       }
 
   -- so of each library
@@ -101,4 +112,47 @@ joined_shown {S} into from now size joined = (
         let c = pass_at now i x (subst (λ (n : ℕ). i < n) (sym joined.0) below) in
         subst (λ (v : Shown S). IsJoined v (slice_index_or (all_shown from) i u) (slice_index_or (all_shown now) i x)) (ap shown_of a.1 ∙ sym a.2)
         (subst (λ (v : Shown S). IsJoined (shown_of (slice_index_or into i a.0)) v (slice_index_or (all_shown now) i x)) (ap shown_of b.1 ∙ sym b.2)
-        (subst (λ (v : Shown S). IsJoined (shown_of (slice_index_or into i a.0)) (shown_of (slice_index_or from i b.0)) v) (ap shown_of c.1 ∙ sym c.2) (joined.1 i a.0 b.0 c.0 below)))
+        (subst (λ (v : Shown S). IsJoined (shown_of (slice_index_or into i a.0)) (shown_of (slice_index_or from i b.0)) v) (ap shown_of c.1 ∙ sym c.2) (joined.1 i a.0 b.0 c.0 below).0))
+
+-- ---- the numbers that were read of the locks
+
+-- what stands at a place of these numbers
+number_at : {S : Type 0} (passes : List (LibraryPass S)) (library n : ℕ) → slice_get (map_list drawn_of passes) library ≡ Some n
+    → (p : LibraryPass S) × (library < length passes) × (n ≡ drawn_of (slice_index_or passes library p))
+number_at {S} passes library n at =
+    let inside = slice_get_within (map_list drawn_of passes) library n at in
+    let size = length-map passes drawn_of in
+    let below : library < length passes = omega (arith, inside, size) in
+    let p = one_of passes library below in
+    (p, below, same_some n (drawn_of (slice_index_or passes library p)) (sym at ∙ get_map drawn_of passes library p below))
+  where
+    same_some : (a b : ℕ) → Some a ≡ Some b → a ≡ b
+    same_some a b e = cc
+
+-- of passes that were joined no less was read than of each
+pub joined_drawn : {S : Type 0} (into from now : List (LibraryPass S)) → length from ≡ length into → AreJoined into from now
+    → ReadNoMore (map_list drawn_of into) (map_list drawn_of now) × ReadNoMore (map_list drawn_of from) (map_list drawn_of now)
+joined_drawn {S} into from now size joined = (
+  λ library n at.
+      let one = number_at into library n at in
+      let below : library < length into = one.1 in
+      let within : library < length now = subst (λ (m : ℕ). library < m) (sym joined.0) below in
+      let most = (joined.1 library one.0 one.0 one.0 below).1 in
+      let is = one.2 in
+      (drawn_of (slice_index_or now library one.0), get_map drawn_of now library one.0 within, omega (arith, most, is)),
+  λ library n at.
+      let one = number_at from library n at in
+      let below : library < length into = subst (λ (m : ℕ). library < m) size one.1 in
+      let within : library < length now = subst (λ (m : ℕ). library < m) (sym joined.0) below in
+      let most = (joined.1 library one.0 one.0 one.0 below).1 in
+      let is = one.2 in
+      (drawn_of (slice_index_or now library one.0), get_map drawn_of now library one.0 within, omega (arith, most, is)),
+)
+
+pub read_on : (xs ys zs : List ℕ) → ReadNoMore xs ys → ReadNoMore ys zs → ReadNoMore xs zs
+read_on xs ys zs first second library n at =
+    let one = first library n at in
+    let two = second library one.0 one.1 in
+    let least = one.2 in
+    let more = two.2 in
+    (two.0, two.1, omega (arith, least, more))

@@ -21,5 +21,6 @@ pub mod PortLemmas
 pub mod WorkersLemmas
 pub mod HallWholeLemmas
 pub mod HallKeysLemmas
+pub mod SpentTurnsLemmas
 pub mod FilledLemmas
 pub mod StoppedLemmas

@@ -48,6 +48,7 @@ module _ {S E L : Type 0} (contents : S → Option Contents) (may_give : S → S
     last = serves.last;
     joined = serves.joined;
     each = serves.each;
+    within = serves.within;
     line_is = serves.line_is;
   })
   workers_heard depots afters ears ends told (not_held same still is) = not_held same still is

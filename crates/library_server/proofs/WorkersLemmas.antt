@@ -1,10 +1,10 @@
 -- The workers of a port: each has its pass and its ear, and all are joined. The key lemmas are seated_at, all_seated,
--- each_one, close_all, tally_more, turned_all, seated_more, unseated_more and led_to.
+-- each_one, close_all, tally_more, all_within, turned_all, seated_more, unseated_more and led_to.
 use Rattle.std.proofs.Common.{◌≡◌, ℕ, ◌+◌, ◌-◌, ◌^◌, ◌<◌, ◌||◌, All, Bool, List, [], ◌∷◌, ◌++◌, length, append_assoc, append-nil, reverse, Option, arith, refl, rules, subst, sym, ap, ◌∙◌}
 use Rattle.std.specs.Prelude.{map as map_list, min, slice_index_or, sum_by}
 use Rattle.std.specs.List.{list_any}
 use Rattle.std.proofs.lemmas.List.{get_or-map, length-map, map-append, nil_from_length, reverse-append, reverse-reverse}
-use Rattle.std.proofs.lemmas.List.Elements.{All-get_or, All-head, All-tail}
+use Rattle.std.proofs.lemmas.List.Elements.{All-get_or, All-head, All-tail, All-weaker}
 use Rattle.std.proofs.lemmas.List.Folds.{list_any-append}
 use Rattle.std.proofs.lemmas.List.Sums.{sum_by-cons, sum_by_push}
 use Rattle.depot.specs.DepotView.{DepotView}
@@ -16,12 +16,12 @@ use Rattle.link_ears.specs.Ear.{EarRules}
 use Rattle.object_store.specs.Shelf.{Contents}
 use Rattle.object_store.specs.declared.shelf.Slot.{Slot}
 use Rattle.sync_calls.specs.Closing.{AreClosed}
-use Rattle.sync_calls.specs.Hall.{PassOf, shares_of}
+use Rattle.sync_calls.specs.Hall.{AreWithin, PassOf, drawn_by, shares_of, shown_by}
 use Rattle.sync_calls.specs.Making.{new_shown}
 use Rattle.sync_calls.specs.Shown.{LibraryPass, Shown, all_shown}
 use Rattle.worker_server.specs.declared.served.Served.{Served}
 use Rattle.library_server.specs.HallConnections.{AreLedTo}
-use Rattle.library_server.specs.Port.{AreJoinOf, AreSeated, is_ear_fault, is_want, new_worker, tallied, tally_of}
+use Rattle.library_server.specs.Port.{AreJoinOf, AreSeated, ReadNoMore, is_ear_fault, is_want, new_worker, tallied, tally_of}
 use Rattle.library_server.specs.declared.workers.Tally.{Tally}
 use Rattle.library_server.proofs.HallEndLemmas.{led_by}
 
@@ -88,6 +88,19 @@ pub close_all : {S E : Type 0} (ends : List (Worker (PassOf S) E)) (now before m
 close_all {S} {E} ends now before made made_before count ones size sum one same all =
     let total = sum_of_ones (λ (w : Worker (PassOf S) E). shares_of w.pass) ends ones in
     omega (arith, size, sum, one, same, all, total)
+
+-- ---- the numbers that were read of the locks
+
+-- where the pass that joins all read of no more turns than were taken, no worker did
+pub all_within : {S E : Type 0} (ends : List (Worker (PassOf S) E)) (last : PassOf S) → All (λ w. ReadNoMore (drawn_by w.pass) (drawn_by last)) ends → AreWithin (drawn_by last) (shown_by last)
+    → All (λ w. AreWithin (drawn_by w.pass) (shown_by last)) ends
+all_within {S} {E} ends last read within =
+    All-weaker (λ (w : Worker (PassOf S) E). ReadNoMore (drawn_by w.pass) (drawn_by last)) (λ (w : Worker (PassOf S) E). AreWithin (drawn_by w.pass) (shown_by last))
+    (λ w so library n u at shown.
+    let more = so library n at in
+    let less = within library more.0 u more.1 shown in
+    let least = more.2 in
+    omega (arith, least, less)) ends read
 
 -- ---- the tally
 

@@ -9,7 +9,7 @@ use Rattle.object_store.specs.declared.shelf.Slot.{Slot}
 use Rattle.server_words.specs.Lines.{fault_status}
 use Rattle.server_words.specs.Spelling.{location_text}
 use Rattle.server_words.specs.declared.command.Location.{Location}
-use Rattle.sync_calls.specs.Hall.{HallOf, PassOf, shown_by}
+use Rattle.sync_calls.specs.Hall.{AreWithin, HallOf, PassOf, shown_by}
 use Rattle.sync_calls.specs.Making.{AreSame, IsNewOf}
 use Rattle.sync_calls.specs.Operations.{Line}
 use Rattle.sync_calls.specs.Shown.{Shown}
@@ -41,7 +41,7 @@ module _ {S : Type 0} (contents : S → Option Contents) (may_give : S → Slot 
       × ((p : ℕ) → p < length (slice_index_or vs i v).seen → Has p (slice_index_or vs i v).book))
 
   -- one connection with libraries that were started, through the one pass of a hall of them, which was new; they come out of the hall at its
-  -- end
+  -- end. It read of no more turns of a lock than it took
   pub record ServesHall (shows : ℕ → Type 0) (depots afters : List (DepotView S)) (before now : LinkView) (status : ℕ) : Type 0 where
     pub how : Served
     pub hall : HallOf S
@@ -52,6 +52,7 @@ module _ {S : Type 0} (contents : S → Option Contents) (may_give : S → Slot 
         → SessionInTime (hall_rules contents may_give texts faults shows) input before.tells now.tells (hall_shown pass) last how
     pub ran : (calls : List (Told Line)) × Ran (hall_rules contents may_give texts faults shows) (hall_shown pass) calls last × Goes contents may_give texts faults (shown_by pass) (operations_of calls) last.libraries
     pub each : AreLedTo depots last.libraries afters
+    pub within : AreWithin last.drawn last.libraries
     pub count : CountsEnd before.faults now.faults how
     pub ends : EndsAsked how before.tells now.tells now.left
     pub status_is : status ≡ status_of how

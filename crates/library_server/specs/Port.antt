@@ -1,14 +1,15 @@
 -- The command that serves a port: workers beside each other, all with the same libraries. Our own. Read ServesPort first, at the end, then
 -- ServesWorkers, IsJoinOf and line_by. Read before: Works and Stops of `hall_workers`, AreEars of `link_ears`, Bringing, AreLedTo of
 -- HallConnections.
-use Rattle.std.specs.Prelude.{◌≡◌, ℕ, ◌+◌, ◌-◌, ◌^◌, ◌<◌, ◌||◌, min, true, false, Bool, if◌then◌else◌, All, List, [], ◌∷◌, ◌++◌, length, slice_index_or, sum_by, map as map_list, Option, Err, ⊤}
-use Rattle.std.specs.List.{list_any}
+use Rattle.std.specs.Prelude.{◌≡◌, ℕ, ◌+◌, ◌-◌, ◌^◌, ◌<◌, ◌≤◌, ◌||◌, min, true, false, Bool, if◌then◌else◌, All, List, [], ◌∷◌, ◌++◌, length, slice_index_or, sum_by, map as map_list, Option, Err, Some, ⊤}
+use Rattle.std.specs.List.{AllByRecursion, list_any, slice_get}
 use mathlib.Core.List.{IsPrefix}
 use Rattle.ids.specs.FaultCount.{FailsBy}
 use Rattle.depot.specs.DepotView.{DepotView}
 use Rattle.folder_storage.specs.Ground.{MayGive}
 use Rattle.hall_workers.specs.Serves.{ServesLink}
-use Rattle.hall_workers.specs.Workers.{Stops, WorkerView, Works, worker_seen}
+use Rattle.hall_server.specs.Serving.{TellsTakenOf, hall_rules, hall_shown}
+use Rattle.hall_workers.specs.Workers.{Had, InTurn, Stops, WorkerView, Works, worker_seen}
 use Rattle.hall_workers.specs.declared.worker.Ending.{Ending}
 use Rattle.hall_workers.specs.declared.worker.Ending.TheVariants as ending
 use Rattle.hall_workers.specs.declared.worker.Worker.{Worker}
@@ -23,10 +24,12 @@ use Rattle.server_words.specs.declared.fault.Fault.{Fault}
 use Rattle.server_words.specs.declared.fault.Fault.TheVariants as fault
 use Rattle.server_words.specs.declared.line.Line.{Line}
 use Rattle.server_words.specs.declared.line.Line.TheVariants as line
-use Rattle.sync_calls.specs.Hall.{HallOf, PassOf, shown_by}
+use Rattle.sync_calls.specs.Hall.{AreWithin, HallOf, PassOf, drawn_by, shown_by}
 use Rattle.sync_calls.specs.Making.{AreNew, AreSame, new_shown}
+use Rattle.sync_calls.specs.Operations.{Line as Operation}
 use Rattle.sync_calls.specs.Shown.{Shown}
 use Rattle.turnstile.specs.Lists.{IsOnce}
+use Rattle.worker_server.specs.Calls.{Ran, Told}
 use Rattle.library_server.specs.Bringing.{AreBack, AreBrought, IsStoppedAt}
 use Rattle.library_server.specs.HallConnections.{AreGood, AreLedTo}
 use Rattle.library_server.specs.Lines.{fault_of_not_brought}
@@ -78,13 +81,14 @@ abbrev pub books_of : {S : Type 0} → List (Shown S) → List ℕ
 books_of [] = []
 books_of (u ∷ us) = u.book ++ books_of us
 
--- what a pass showed of one library, and what others showed that were joined into it: the history begins with what each had seen, and
--- the book has the places of all, each once
+-- what a pass showed of one library, and what others showed that were joined into it: the history begins with what each had seen, the
+-- book has the places of all, each once, and the turns are those of all
 pub record IsJoinOf {S : Type 0} (v : Shown S) (us : List (Shown S)) (w : Shown S) : Type 0 where
   pub start : w.start ≡ v.start
   pub seen : All (λ u. IsPrefix u.seen w.seen) (v ∷ us)
   pub book : w.book ≡ v.book ++ books_of us
   pub once : IsOnce w.book
+  pub turns : w.turns ≡ v.turns + sum_by (λ u. u.turns) us
 
 -- so of each library
 abbrev pub AreJoinOf : {S : Type 0} → List (Shown S) → List (List (Shown S)) → List (Shown S) → Type 0
@@ -99,7 +103,8 @@ new_worker rules pass ear = record { pass = pass; tells = rules.tells ear; back 
 
 module _ {S E L : Type 0} (contents : S → Option Contents) (may_give : S → Slot → Option (List ℕ) → Type 0) (texts faults : S → ℕ) (rules : EarRules E L) (shows : ℕ → Type 0) where
   -- each worker served the links of its ear, one after another, through a pass of a hall of these libraries, which was new; why each
-  -- stopped; the libraries come out with the history that all of them made; and the line tells it. The hall has one pass more, which joins all
+  -- stopped; the libraries come out with the history that all of them made; and the line tells it. The hall has one pass more, which joins all.
+  -- No worker read of more turns of a lock than all of them took
   pub record ServesWorkers (depots afters : List (DepotView S)) (ears ends : List E) (told : Line) : Type 0 where
     pub hall : HallOf S
     pub passes : List (PassOf S)
@@ -116,7 +121,16 @@ module _ {S E L : Type 0} (contents : S → Option Contents) (may_give : S → S
     pub last : List (Shown S)
     pub joined : AreJoinOf (map_list new_shown depots) (map_list (λ w. shown_by w.pass) workers) last
     pub each : AreLedTo contents may_give texts faults depots last afters
+    pub within : All (λ w. AreWithin (drawn_by w.pass) last) workers
     pub line_is : told ≡ line_by (tally_of workers)
+
+  -- a call that was asked on one of these links is told without a turn that the lock of its library is spent only where all turns of that lock
+  -- were taken
+  abbrev pub TellsTakenThrough : (last : List (Shown S)) (u : PassOf S) (had : List (Had L)) (v : PassOf S) → InTurn (ServesLink contents may_give texts faults shows) rules.seen u had v → Type 0
+  TellsTakenThrough last u [] v same = ⊤
+  TellsTakenThrough last u (one ∷ more) v (mid, by, rest) =
+      ((calls : List (Told Operation)) → Ran (hall_rules contents may_give texts faults shows) (hall_shown u) calls (hall_shown mid) → AllByRecursion (TellsTakenOf last) calls)
+      × TellsTakenThrough last mid more v rest
 
   -- it was served so; or there was no memory for the workers, and the libraries and the ears come back the same
   pub data HoldsWorkers (depots afters : List (DepotView S)) (ears ends : List E) (told : Line) : Type 0 where
@@ -151,6 +165,10 @@ pub data ServesPort {S E L : Type 0} (contents : S → Option Contents) (may_giv
       → new ≡ old → told ≡ line.Fault (fault_of_net why) → ServesPort contents may_give texts faults rules gives location port libs shows old new before now told
 
 -- ---- for private clauses
+
+-- what was read of each lock, another read no less of it
+abbrev pub ReadNoMore : List ℕ → List ℕ → Type 0
+ReadNoMore mine its = (library n : ℕ) → slice_get mine library ≡ Some n → (m : ℕ) × (slice_get its library ≡ Some m) × (n ≤ m)
 
 -- workers that served nothing yet, one for each ear, with the pass in its place
 pub record AreSeated {P E : Type 0} (passes : List P) (ears : List E) (workers : List (Worker P E)) : Type 0 where

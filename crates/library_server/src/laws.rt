@@ -1,6 +1,6 @@
 //! What holds of a library that is served alone, and of several on one connection: theorems on the definitions, with no code.
-ghost use Rattle.std.specs.Prelude.{◌≡◌, ◌+◌, ◌*◌, ◌≤◌, ◌<◌, ◌^◌, ◌||◌, ℕ, List, [], length, Option, None, Some, true, ⊤};
-ghost use Rattle.std.specs.List.{slice_get};
+ghost use Rattle.std.specs.Prelude.{◌≡◌, ◌+◌, ◌*◌, ◌≤◌, ◌<◌, ◌^◌, ◌||◌, ℕ, List, [], length, slice_index_or, sum_by, Option, None, Some, true, ⊤};
+ghost use Rattle.std.specs.List.{AllByRecursion, slice_get};
 ghost use Rattle.ids.specs.declared.key.Key.{Key};
 ghost use Rattle.depot.specs.DepotView.{DepotView, state_of};
 ghost use Rattle.depot.specs.Story.{IsSame, removed_through};
@@ -12,14 +12,19 @@ ghost use Rattle.http_front.specs.declared.order.What.TheVariants.{GetFs};
 ghost use Rattle.worker_server.specs.Calls.{Ran, ServedBy, Told, most_packed, rules_at};
 ghost use Rattle.library_server.specs.Answering.{AnswersOn, AsksTooMuch, IsWant, LooksOn, SparesOn};
 ghost use Rattle.library_server.specs.Collecting.{CollectsOn, IsLastOf, TakesTurns, begun_over};
-ghost use Rattle.link_ears.specs.Ear.{LinkView};
+ghost use Rattle.link_ears.specs.Ear.{LinkView, link_seen};
+ghost use Rattle.hall_workers.specs.declared.worker.Worker.{Worker};
+ghost use Rattle.server_words.specs.declared.line.Line.{Line as CommandLine};
 ghost use Rattle.library_server.specs.Counting.{OpenedView, is_current, last_count, tag_at};
-ghost use Rattle.hall_server.specs.Serving.{hall_rules, hall_shown};
+ghost use Rattle.hall_server.specs.Serving.{TellsTakenOf, hall_rules, hall_shown};
 ghost use Rattle.library_server.specs.HallConnections.{HasNoCollection, ServesHall};
+ghost use Rattle.library_server.specs.Port.{ServesWorkers, TellsTakenThrough};
+ghost use Rattle.sync_calls.specs.Hall.{PassOf, shown_by};
 ghost use Rattle.sync_calls.specs.Operations.{Line};
 ghost use Rattle.sync_calls.specs.Shown.{Shown};
 
 use library_state::Clock;
+use link_ears::Net;
 use object_store::Shelf;
 
 /// After a collection that is told as done each stored object is needed by a kept commit, or was fresh in the collection that
@@ -65,6 +70,27 @@ pub fn what_is_too_much_for_one_reply_is_not_read<S: Shelf, C: Clock>()
     ensures { (clock : C) (old new : OpenedView S) (lib : List ℕ) (secret : Option (List ℕ)) (ids : List (List ℕ)) (outcome : Outcome) (operations : List ⊤)
         → ServedBy (rules_at (C.shows clock) (AnswersOn S.contents S.may_give S.texts S.faults) SparesOn (CollectsOn S.contents S.may_give S.texts S.faults) LooksOn) lib secret (GetFs ids) old outcome operations new
         → AsksTooMuch old lib secret ids most_packed → IsWant outcome × (new ≡ old) }
+{}
+
+/// A call is told that the lock of its library is spent, without a turn, only where all its turns were taken: on a connection with several
+/// libraries through the one pass that serves it, at a port through those of all workers, whose turns are added up.
+pub fn spent_is_told_only_where_all_turns_were_taken<S: Shelf, C: Clock, N: Net>()
+    ensures hall { (clock : C) (depots afters : List (DepotView S)) (before now : LinkView) (status : ℕ)
+        → (serves : ServesHall S.contents S.may_give S.texts S.faults (C.shows clock) depots afters before now status)
+        → (calls : List (Told Line)) → Ran (hall_rules S.contents S.may_give S.texts S.faults (C.shows clock)) (hall_shown serves.pass) calls serves.last
+        → AllByRecursion (TellsTakenOf serves.last.libraries) calls }
+    ensures port { (clock : C) (depots afters : List (DepotView S)) (ears ends : List N.E) (told : CommandLine)
+        → (serves : ServesWorkers S.contents S.may_give S.texts S.faults
+        (record { hears = N.hears; tells = N.E.tells; back = N.E.back; faults = N.E.faults; seen = link_seen N.E.L.left N.E.L.taken N.E.L.given N.E.L.asked N.E.L.faults }) (C.shows clock) depots afters ears ends told)
+        → (i : ℕ) (p : PassOf S) (e : N.E) (w : Worker (PassOf S) N.E) (below : i < length ears)
+        → TellsTakenThrough S.contents S.may_give S.texts S.faults
+        (record { hears = N.hears; tells = N.E.tells; back = N.E.back; faults = N.E.faults; seen = link_seen N.E.L.left N.E.L.taken N.E.L.given N.E.L.asked N.E.L.faults }) (C.shows clock) serves.last (slice_index_or serves.passes i p)
+        (serves.works i p e w below).had (slice_index_or serves.workers i w).pass (serves.works i p e w below).through }
+    ensures turns { (clock : C) (depots afters : List (DepotView S)) (ears ends : List N.E) (told : CommandLine)
+        → (serves : ServesWorkers S.contents S.may_give S.texts S.faults
+        (record { hears = N.hears; tells = N.E.tells; back = N.E.back; faults = N.E.faults; seen = link_seen N.E.L.left N.E.L.taken N.E.L.given N.E.L.asked N.E.L.faults }) (C.shows clock) depots afters ears ends told)
+        → (library : ℕ) (u : Shown S) → slice_get serves.last library ≡ Some u
+        → u.turns ≡ sum_by (λ (w : Worker (PassOf S) N.E). (slice_index_or (shown_by w.pass) library u).turns) serves.workers }
 {}
 
 /// Through a connection with several libraries on which no collection is asked for no key of any of them leaves. So damage that is told then

@@ -1,8 +1,8 @@
 //! The workers of a port: each with an ear and a pass of one hall, and what became of them.
 ghost use Rattle.std.specs.Prelude.{◌≡◌, ◌≤◌, ◌+◌, [], All, IfOk, length, map, sum_by, vec_capacity, vec_len, ⊤};
 ghost use Rattle.link_ears.specs.Ear.{EarRules, link_seen};
-ghost use Rattle.sync_calls.specs.Hall.{AreReady, made_with, shares_of, shown_by};
-ghost use Rattle.library_server.specs.Port.{AreJoinOf, AreSeated, HoldsWorkers, line_by, tallied, tally_of};
+ghost use Rattle.sync_calls.specs.Hall.{AreReady, drawn_by, made_with, shares_of, shown_by};
+ghost use Rattle.library_server.specs.Port.{AreJoinOf, AreSeated, HoldsWorkers, ReadNoMore, line_by, tallied, tally_of};
 
 use crate::inetd_hall::close;
 use depot::Depot;
@@ -154,6 +154,7 @@ fn unseat<S: Shelf, E>(
     requires room { (ears.items ≡ []) × (vec_len workers ≤ vec_capacity ears) }
     ensures ready { AreReady S.contents S.may_give S.texts S.faults hall.now last.new }
     ensures joined { AreJoinOf (shown_by last.old) (map (λ w. shown_by w.pass) workers.items) (shown_by last.new) }
+    ensures drawn { All (λ w. ReadNoMore (drawn_by w.pass) (drawn_by last.new)) workers.items }
     ensures size { (shares_of last.new ≡ shares_of last.old + sum_by (λ w. shares_of w.pass) workers.items) × (made_with last.new ≡ made_with last.old) }
     ensures tally { result.0 ≡ tally_of workers.items }
     ensures ears { result.1.items ≡ map (λ w. w.ear) workers.items }

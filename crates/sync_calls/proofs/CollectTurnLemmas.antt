@@ -23,4 +23,4 @@ module _ {S : Type 0} (contents : S → Option Contents) (may_give : S → Slot 
       }
 
 pub share_trans : {S : Type 0} (a b c : LibraryPass S) → IsSameShare a b → IsSameShare b c → IsSameShare a c
-share_trans a b c first second = record { start = second.start ∙ first.start; parts = second.parts ∙ first.parts; passes = second.passes ∙ first.passes }
+share_trans a b c first second = record { start = second.start ∙ first.start; parts = second.parts ∙ first.parts; passes = second.passes ∙ first.passes; first = second.first ∙ first.first }

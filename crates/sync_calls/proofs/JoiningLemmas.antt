@@ -8,8 +8,8 @@ use Rattle.object_store.specs.Shelf.{Contents}
 use Rattle.object_store.specs.declared.shelf.Slot.{Slot}
 use Rattle.turnstile.specs.PassView.{IsPassOf, parts_of, passes_of, start_of}
 use Rattle.sync_calls.specs.Hall.{AreReady, ExitPass, HallOf, IsReadyAt, LibraryRoom, PassOf, made_with, passes_in, rooms_of, shares_of}
-use Rattle.sync_calls.specs.Joining.{IsJoined}
-use Rattle.sync_calls.specs.Shown.{LibraryPass, shown_of}
+use Rattle.sync_calls.specs.Joining.{IsJoinedPass}
+use Rattle.sync_calls.specs.Shown.{LibraryPass}
 use Rattle.sync_calls.proofs.BehindLemmas.{front_less, last_there, one_less}
 use Rattle.sync_calls.proofs.EnteredLemmas.{ready_at}
 
@@ -24,7 +24,7 @@ module _ {S : Type 0} (contents : S → Option Contents) (may_give : S → Slot 
     pub ready : (i : ℕ) (room : LibraryRoom S) (d : LibraryPass S) → length left ≤ i → i < length into
         → IsReadyAt contents may_give texts faults shares made (slice_index_or rooms i room) (slice_index_or now i d)
     pub told : (i : ℕ) (d e f : LibraryPass S) → length left ≤ i → i < length into
-        → IsJoined (shown_of (slice_index_or into i d)) (shown_of (slice_index_or from i e)) (shown_of (slice_index_or now i f))
+        → IsJoinedPass (slice_index_or into i d) (slice_index_or from i e) (slice_index_or now i f)
 
   pub first_joined : (shares made : ℕ) (rooms : List (LibraryRoom S)) (into from : List (LibraryPass S)) → length from ≡ length into
       → AreJoinedBehind shares made rooms into from from into
@@ -42,7 +42,7 @@ module _ {S : Type 0} (contents : S → Option Contents) (may_give : S → Slot 
   pub next_joined : (shares made : ℕ) (rooms : List (LibraryRoom S)) (into from old front now : List (LibraryPass S)) (last new : LibraryPass S) (room : LibraryRoom S)
       → AreJoinedBehind shares made rooms into from old now → old ≡ front ++ last ∷ []
       → IsReadyAt contents may_give texts faults shares made (slice_index_or rooms (length front) room) new
-      → IsJoined (shown_of (slice_index_or into (length front) last)) (shown_of last) (shown_of new)
+      → IsJoinedPass (slice_index_or into (length front) last) last new
       → length front < length rooms
       → AreJoinedBehind shares made rooms into from front (slice_set now (length front) new)
   next_joined shares made rooms into from old front now last new room so pop there joined inside =
@@ -67,11 +67,11 @@ module _ {S : Type 0} (contents : S → Option Contents) (may_give : S → Slot 
             (so.ready i r d (beyond old front i longer past ne) below))
             (cases_eq i (length front));
         told = λ i d e f past below. ⊎_elim
-            (λ (is : i ≡ length front). subst (λ n. IsJoined (shown_of (slice_index_or into n d)) (shown_of (slice_index_or from n e)) (shown_of (slice_index_or (slice_set now (length front) new) n f))) (sym is)
-            (subst (λ (p : LibraryPass S). IsJoined (shown_of (slice_index_or into (length front) d)) (shown_of (slice_index_or from (length front) e)) (shown_of p)) (sym (get_or-set_same now (length front) new f here))
-            (subst (λ (p : LibraryPass S). IsJoined (shown_of (slice_index_or into (length front) d)) (shown_of p) (shown_of new)) (sym (last_there old front last from e pop so.front))
-            (subst (λ (p : LibraryPass S). IsJoined (shown_of p) (shown_of last) (shown_of new)) (get_or_default into (length front) last d (omega arith)) joined))))
-            (λ (ne : i ≡ length front → ⊥). subst (λ (p : LibraryPass S). IsJoined (shown_of (slice_index_or into i d)) (shown_of (slice_index_or from i e)) (shown_of p)) (sym (get_or-set_other now (length front) i new f ne))
+            (λ (is : i ≡ length front). subst (λ n. IsJoinedPass (slice_index_or into n d) (slice_index_or from n e) (slice_index_or (slice_set now (length front) new) n f)) (sym is)
+            (subst (λ (p : LibraryPass S). IsJoinedPass (slice_index_or into (length front) d) (slice_index_or from (length front) e) p) (sym (get_or-set_same now (length front) new f here))
+            (subst (λ (p : LibraryPass S). IsJoinedPass (slice_index_or into (length front) d) p new) (sym (last_there old front last from e pop so.front))
+            (subst (λ (p : LibraryPass S). IsJoinedPass p last new) (get_or_default into (length front) last d (omega arith)) joined))))
+            (λ (ne : i ≡ length front → ⊥). subst (λ (p : LibraryPass S). IsJoinedPass (slice_index_or into i d) (slice_index_or from i e) p) (sym (get_or-set_other now (length front) i new f ne))
             (so.told i d e f (beyond old front i longer past ne) below))
             (cases_eq i (length front));
       }
@@ -105,7 +105,7 @@ module _ {S : Type 0} (contents : S → Option Contents) (may_give : S → Slot 
 
     pub step_joined : (room : LibraryRoom S) (to new : LibraryPass S) → shares ≡ shares_of into + shares_of from → made ≡ made_with into
         → room ≡ slice_index_or (rooms_of hall) (length front) room → to ≡ slice_index_or now (length front) to
-        → IsReadyAt contents may_give texts faults (parts_of to + parts_of last) (passes_of to) room new → IsJoined (shown_of to) (shown_of last) (shown_of new)
+        → IsReadyAt contents may_give texts faults (parts_of to + parts_of last) (passes_of to) room new → IsJoinedPass to last new
         → AreJoinedBehind shares made (rooms_of hall) (passes_in into) (passes_in from) front (slice_set now (length front) new)
     step_joined room to new sum among is at there joined =
         let longer = one_less old front last pop in
@@ -127,7 +127,7 @@ module _ {S : Type 0} (contents : S → Option Contents) (may_give : S → Slot 
         (subst (λ (r : LibraryRoom S). IsReadyAt contents may_give texts faults shares made r new) is
         (subst (λ (n : ℕ). IsReadyAt contents may_give texts faults n made room new) count
         (subst (λ (n : ℕ). IsReadyAt contents may_give texts faults (parts_of to + parts_of last) n room new) among' there)))
-        (subst (λ (p : LibraryPass S). IsJoined (shown_of p) (shown_of last) (shown_of new)) (kept ∙ get_or_default (passes_in into) (length front) to last below) joined)
+        (subst (λ (p : LibraryPass S). IsJoinedPass p last new) (kept ∙ get_or_default (passes_in into) (length front) to last below) joined)
         (omega arith)
 
   -- all are joined

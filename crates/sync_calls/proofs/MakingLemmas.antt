@@ -105,6 +105,7 @@ module _ {S : Type 0} (contents : S → Option Contents) (may_give : S → Slot 
           opens = subst (λ (d : DepotView S). IsDoorOf fresh.room.door d) (sym new.start) new.door;
           share = ap (λ (v : LibraryView S). v.parts) is.1;
           among = ap (λ (v : LibraryView S). v.passes) is.1;
+          first = ap (λ (v : LibraryView S). v.first) is.1;
         },
         shows,
         (ap (λ (v : LibraryView S). v.first) is.1, ap (λ (v : LibraryView S). v.drawn) is.1),

@@ -1,12 +1,12 @@
 -- What a hall and its passes are: for each library a room with its door and its lock, and in each pass one to each room. Our own.
--- Read IsReadyAt, then AreReady, and StaySpent.
+-- Read IsReadyAt, then AreReady, StaySpent and AreWithin.
 use Rattle.std.specs.Prelude.{◌≡◌, ℕ, ◌<◌, ◌≤◌, List, slice_index_or, map as map_list, Option, Some, vec_len, vec_capacity}
 use Rattle.std.specs.List.{slice_get}
 use Rattle.object_store.specs.Shelf.{Contents}
 use Rattle.object_store.specs.declared.shelf.Slot.{Slot}
 use Rattle.depot.specs.DepotView.{DepotView}
 use Rattle.depot.specs.declared.story.Change.{Change}
-use Rattle.turnstile.specs.PassView.{IsPassOf, drawn_of, parts_of, passes_of, start_of}
+use Rattle.turnstile.specs.PassView.{IsPassOf, drawn_of, first_of, parts_of, passes_of, start_of}
 use Rattle.turnstile.specs.Rule.{most_turns}
 use Rattle.turnstile.specs.declared.lock.Lock.{Lock}
 use Rattle.turnstile.specs.declared.rule.Turns.{Turns}
@@ -66,8 +66,13 @@ module _ {S : Type 0} where
 abbrev pub StaySpent : List ℕ → List ℕ → Type 0
 StaySpent old new = (library : ℕ) → slice_get old library ≡ Some most_turns → slice_get new library ≡ Some most_turns
 
+-- no number was read of a lock that is greater than the turns that were taken at it
+abbrev pub AreWithin : {S : Type 0} → List ℕ → List (Shown S) → Type 0
+AreWithin {S} draws us = (library drawn : ℕ) (u : Shown S) → slice_get draws library ≡ Some drawn → slice_get us library ≡ Some u → drawn ≤ u.turns
+
 module _ {S : Type 0} (contents : S → Option Contents) (may_give : S → Slot → Option (List ℕ) → Type 0) (texts faults : S → ℕ) where
-  -- the pass is one of this room, for so many of so many; it begins with the library of the room, and knows its history
+  -- the pass is one of this room, for so many of so many; it begins with the library of the room, and knows its history. The first
+  -- ticket of the lock is 0
   pub record IsReadyAt (shares made : ℕ) (room : LibraryRoom S) (pass : LibraryPass S) : Type 0 where
     pub ready : IsPassOf room.lock pass
     pub knows : Knows contents may_give texts faults (shown_of pass)
@@ -75,6 +80,7 @@ module _ {S : Type 0} (contents : S → Option Contents) (may_give : S → Slot 
     pub opens : IsDoorOf room.door room.start.value
     pub share : parts_of pass ≡ shares
     pub among : passes_of pass ≡ made
+    pub first : first_of pass ≡ 0
 
   -- the pass is one of this hall, to each of its rooms
   pub record AreReady (hall : HallOf S) (pass : PassOf S) : Type 0 where

@@ -13,7 +13,7 @@ use Rattle.sync_calls.specs.declared.making.Fresh.{Fresh}
 
 -- a pass that has seen and made nothing shows of a library how it began
 abbrev pub new_shown : {S : Type 0} → DepotView S → Shown S
-new_shown depot = record { start = Some depot; seen = []; looked = 0; looks = 0; book = [] }
+new_shown depot = record { start = Some depot; seen = []; looked = 0; looks = 0; book = []; turns = 0 }
 
 module _ {S : Type 0} (contents : S → Option Contents) (may_give : S → Slot → Option (List ℕ) → Type 0) (texts faults : S → ℕ) where
   -- a pass of a hall of these libraries, one of so many, which has seen and made nothing; the first ticket of each lock is 0, and it has read

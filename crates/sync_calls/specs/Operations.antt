@@ -39,7 +39,7 @@ IsMadeBy other at deed = ⊥
 abbrev pub IsNew : {S : Type 0} → Shown S → ℕ → Type 0
 IsNew u place = (length u.seen ≤ place) × (u.looked ≤ place)
 
--- the history had this length as it was looked at, once
+-- the history had this length as it was looked at, once, and no turn was taken
 pub record IsLooking {S : Type 0} (u : Shown S) (place : ℕ) (v : Shown S) : Type 0 where
   pub new : IsNew u place
   pub same : v ≡ record u { looked = place; looks = u.looks + 1 }
@@ -69,20 +69,20 @@ module _ {S : Type 0} (contents : S → Option Contents) (may_give : S → Slot 
     pub does : Does before deed after
     pub stays : IsSame contents faults before after
 
-  -- all changes were seen, and a deed left the library as it was after them
+  -- one turn was taken, all changes were seen, and a deed left the library as it was after them
   pub record IsReading (u : Shown S) (place : ℕ) (deed : Deed) (v : Shown S) : Type 0 where
     pub new : IsNew u place
     pub grows : IsPrefix u.seen v.seen
     pub whole : place ≡ length v.seen
-    pub same : v ≡ record u { seen = v.seen }
+    pub same : v ≡ record u { seen = v.seen; turns = u.turns + 1 }
     pub reads : IsReadAt v place deed
 
-  -- all changes were seen, and a deed made the one at this place, which is in the book now
+  -- one turn was taken, all changes were seen, and a deed made the one at this place, which is in the book now
   pub record IsChanging (u : Shown S) (place : ℕ) (deed : Deed) (v : Shown S) : Type 0 where
     pub new : IsNew u place
     pub grows : IsPrefix u.seen v.seen
     pub whole : length v.seen ≡ place + 1
-    pub same : v ≡ record u { seen = v.seen; book = u.book ++ place ∷ [] }
+    pub same : v ≡ record u { seen = v.seen; book = u.book ++ place ∷ []; turns = u.turns + 1 }
     pub change : Change (DepotView S)
     pub at : slice_get v.seen place ≡ Some change
     pub made : IsMadeBy change.made change.moment deed

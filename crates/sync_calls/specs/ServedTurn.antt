@@ -1,14 +1,14 @@
 -- For private clauses: one turn of a pass. Read CatchesUp and IsEntryOf.
-use Rattle.std.specs.Prelude.{◌≡◌, ◌≤◌, length}
+use Rattle.std.specs.Prelude.{◌≡◌, ◌+◌, ◌≤◌, length}
 use mathlib.Core.List.{IsPrefix}
 use Rattle.depot.specs.declared.story.Change.{Change}
-use Rattle.turnstile.specs.PassView.{parts_of, passes_of, start_of}
+use Rattle.turnstile.specs.PassView.{first_of, parts_of, passes_of, start_of}
 use Rattle.sync_calls.specs.Operations.{Deed, IsMadeBy}
 use Rattle.sync_calls.specs.Shown.{LibraryPass, Shown}
 
--- as a turn begins all changes are seen
+-- as a turn begins all changes are seen, and it is one more
 pub record CatchesUp {S : Type 0} (u v : Shown S) : Type 0 where
-  pub same : v ≡ record u { seen = v.seen }
+  pub same : v ≡ record u { seen = v.seen; turns = u.turns + 1 }
   pub grows : IsPrefix u.seen v.seen
   pub looked : u.looked ≤ length v.seen
 
@@ -23,3 +23,4 @@ pub record IsSameShare {S : Type 0} (old new : LibraryPass S) : Type 0 where
   pub start : start_of new ≡ start_of old
   pub parts : parts_of new ≡ parts_of old
   pub passes : passes_of new ≡ passes_of old
+  pub first : first_of new ≡ first_of old

@@ -19,17 +19,18 @@ LibraryPass S = Seated (Parcel (DepotView S) (Change (DepotView S))) (View (Depo
 abbrev pub LibraryView : Type 0 → Type 0
 LibraryView S = View (DepotView S) (Change (DepotView S))
 
--- the library as its history began, the changes seen, the number last looked at, how often one was looked at, and the places of
--- the changes that were made through this pass
+-- the library as its history began, the changes seen, the number last looked at, how often one was looked at, the places of
+-- the changes that were made through this pass, and how many turns it took
 pub record Shown (S : Type 0) : Type 0 where
   pub start : Option (DepotView S)
   pub seen : List (Change (DepotView S))
   pub looked : ℕ
   pub looks : ℕ
   pub book : List ℕ
+  pub turns : ℕ
 
 abbrev pub shown_in : {S : Type 0} → LibraryView S → Shown S
-shown_in v = record { start = v.start; seen = v.seen; looked = v.looked; looks = v.looks; book = v.book }
+shown_in v = record { start = v.start; seen = v.seen; looked = v.looked; looks = v.looks; book = v.book; turns = v.turns }
 
 abbrev pub shown_of : {S : Type 0} → LibraryPass S → Shown S
 shown_of p = shown_in (view_of p)

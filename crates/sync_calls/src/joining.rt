@@ -2,8 +2,7 @@
 ghost use Rattle.std.specs.Prelude.{◌≡◌, ◌+◌, List};
 ghost use Rattle.turnstile.specs.PassView.{parts_of, passes_of};
 ghost use Rattle.sync_calls.specs.Hall.{AreReady, IsReadyAt, made_with, passes_in, shares_of};
-ghost use Rattle.sync_calls.specs.Joining.{AreJoined, IsJoined};
-ghost use Rattle.sync_calls.specs.Shown.{shown_of};
+ghost use Rattle.sync_calls.specs.Joining.{AreJoined, IsJoinedPass};
 
 use crate::hall::{Hall, HallPass, Passes, Room};
 use depot::Depot;
@@ -13,8 +12,8 @@ use turnstile::{Pass, Turnstile};
 impl<S: Shelf> Hall<S> {
     /// Makes one pass of two. It takes no memory.
     ///
-    /// Of each library the pass has then seen the longer of both histories, which the shorter one begins, and its book has the
-    /// places of both.
+    /// Of each library the pass has then seen the longer of both histories, which the shorter one begins, its book has the places
+    /// of both, and the turns are those of both.
     pub fn join(&self, into: &mut HallPass<S>, from: HallPass<S>)
         requires ready { AreReady S.contents S.may_give S.texts S.faults self.now into.old × AreReady S.contents S.may_give S.texts S.faults self.now from }
         ensures ready { AreReady S.contents S.may_give S.texts S.faults self.now into.new }
@@ -39,7 +38,7 @@ fn join_at<S: Shelf>(
     requires ready { IsReadyAt S.contents S.may_give S.texts S.faults (parts_of into.old) (passes_of into.old) room.now into.old }
     requires second { IsReadyAt S.contents S.may_give S.texts S.faults (parts_of from) (passes_of from) room.now from }
     ensures ready { IsReadyAt S.contents S.may_give S.texts S.faults (parts_of into.old + parts_of from) (passes_of into.old) room.now into.new }
-    ensures told { IsJoined (shown_of into.old) (shown_of from) (shown_of into.new) }
+    ensures told { IsJoinedPass into.old from into.new }
 {
     room.lock.join(into, from);
 }

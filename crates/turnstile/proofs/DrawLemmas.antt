@@ -22,9 +22,9 @@ module _ {V E : Type 0} (stands : V → List E → V → Type 0) (k : About V) w
   Rule = IsLawful stands k
 
   -- draw, where the expected number was there
-  drawn_one : (s : State (Parcel V E) (View V E)) (r : Rule s) (id guess next : ℕ) (v : View V E) → guess < most_turns → next ≡ guess + 1 → v.ticket ≡ None → v.turn ≡ false → get_elem? s.views id ≡ some v → r.drawn ≡ guess
+  drawn_one : (s : State (Parcel V E) (View V E)) (r : Rule s) (id guess next : ℕ) (v : View V E) → guess < most_turns → next ≡ guess + 1 → v.ticket ≡ None → v.turn ≡ false → 0 < v.parts → get_elem? s.views id ≡ some v → r.drawn ≡ guess
       → Rule record { words = set s.words 1 next; homes = s.homes; views = set s.views id (record v { ticket = Some guess; turns = v.turns + 1; drawn = guess }) }
-  drawn_one s r id guess next v under up none_yet free at hit =
+  drawn_one s r id guess next v under up none_yet free part at hit =
       let w : View V E = record v { ticket = Some guess; turns = v.turns + 1; drawn = guess } in
       let f = r.each id v at in
       let order = r.order in
@@ -45,7 +45,7 @@ module _ {V E : Type 0} (stands : V → List E → V → Type 0) (k : About V) w
         turns = omega arith;
         each = each_set (Fits k r.history r.serving next owner r.maker) s.views id w
             (moves f r.serving next owner (Some guess) v.turn v.told (v.turns + 1) guess v.looked v.looks
-            (λ t e. let same : t ≡ guess = cc in (omega arith, omega arith, pinned-here r.owner guess id t same)) (λ e. absurd (cc)) f.looked_below (omega arith) f.spent)
+            (λ t e. let same : t ≡ guess = cc in (omega arith, omega arith, pinned-here r.owner guess id t same)) (λ e. absurd (cc)) f.looked_below (omega arith) (λ none_left. absurd (omega arith)))
             (λ j u other e. still k r.history r.history r.serving r.serving r.drawn next r.owner owner r.maker r.maker j u (prefix_refl r.history) (omega arith) (λ _. (refl, refl))
             (λ t low high own. (low, pinned-else r.owner guess id t (λ z. omega arith) ∙ own)) (λ p _ own. own) (r.each j u e));
         out = λ t low high. dite (ℕ_discrete t guess)
@@ -82,7 +82,7 @@ module _ {V E : Type 0} (stands : V → List E → V → Type 0) (k : About V) w
         keeps,
         tt,
         subst (λ (b : Bool). Rule record { words = set s.words 1 (either b next n); homes = s.homes; views = set s.views id (record me.0 { ticket = Some guess; turns = me.0.turns + 1; drawn = guess }) }) (sym (eq-eqb n guess hit))
-            (drawn_one s r id guess next me.0 under up none_yet free at (omega arith)),
+            (drawn_one s r id guess next me.0 under up none_yet free part at (omega arith)),
         (omega arith, omega arith, omega arith, (λ _. ap (λ (z : ℕ). (record me.0 { ticket = Some z; turns = me.0.turns + 1; drawn = z }, me.1)) (sym hit)), λ miss. absurd (miss hit)),
       ))
       (λ miss. (

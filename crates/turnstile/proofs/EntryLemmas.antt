@@ -17,6 +17,7 @@ use Rattle.turnstile.specs.Rule.{parts_in, turns_in, Fits, IsLawful}
 use Rattle.turnstile.specs.Rule.Place.{away}
 use Rattle.turnstile.specs.Steps.{Participant, carried_entries, Published, Counted, Glanced, Totalled}
 use Rattle.turnstile.proofs.ListsLemmas.{prefix_refl, prefix_length, prefix_between, Has-left, Has-right, Has-append, IsOnce-append}
+use Rattle.turnstile.proofs.PassLemmas.{drew_all}
 use Rattle.turnstile.proofs.RuleLemmas.{pinned, pinned-here, pinned-else, total-set, total-at, each_set, inside, made_set, out_set, still, one_turn, moves, alone, from_home}
 
 module _ {V E : Type 0} (stands : V → List E → V → Type 0) (k : About V) where
@@ -159,5 +160,6 @@ module _ {V E : Type 0} (stands : V → List E → V → Type 0) (k : About V) w
           refl,
           f.once,
           λ shorter. prefix_between me.0.other me.0.seen r.history f.other_first f.seen_first shorter,
+          λ every. let drew = drew_all stands k s r id me.0 at (every ∙ is) in let first = (f.started part).2 in omega arith,
         ),
       )

@@ -1,5 +1,5 @@
 -- The steps on passes keep the rule: makes, splits and joins are what each owes, and ends is what a last state with all parts in one view shows.
-use Rattle.std.proofs.Common.{◌≡◌, ◌≢◌, ℕ, zero, suc, ◌<◌, ◌≤◌, ⊎_elim, false, List, [], ◌∷◌, ◌++◌, length, set, refl, sym, ◌∙◌, ap, subst, arith, le_refl}
+use Rattle.std.proofs.Common.{◌≡◌, ◌≢◌, ℕ, zero, suc, ◌+◌, ◌<◌, ◌≤◌, ⊎_elim, false, List, [], ◌∷◌, ◌++◌, length, set, refl, sym, ◌∙◌, ap, subst, arith, le_refl}
 use Rattle.std.proofs.Math.Nat.{max-le}
 use Rattle.std.specs.Prelude.{Option, Some, None}
 use Rattle.std.proofs.lemmas.List.{append-nil}
@@ -18,7 +18,7 @@ use Rattle.turnstile.specs.Rule.{most_turns, parts_in, turns_in, Stands, IsFree,
 use Rattle.turnstile.specs.Rule.Place.{home, away}
 use Rattle.turnstile.specs.Steps.{newcomer, one_less, one_part, both_of, spent}
 use Rattle.turnstile.proofs.ListsLemmas.{prefix_length, prefix_whole, longer_by, shorter_by, longer-left, longer-right, Has-left, Has-right, Has-append, IsOnce-append}
-use Rattle.turnstile.proofs.RuleLemmas.{pinned, pinned-here, pinned-else, total-set, total-append, total-two, each_set, inside, one_view, made_set, out_set, still, place_set, at_home}
+use Rattle.turnstile.proofs.RuleLemmas.{pinned, pinned-here, pinned-else, total-set, total-append, total-one, total-two, each_set, inside, one_view, made_set, out_set, still, place_set, at_home}
 
 module _ {V E : Type 0} (stands : V → List E → V → Type 0) (k : About V) where
   abbrev Rule : State (Parcel V E) (View V E) → Type 0
@@ -40,7 +40,7 @@ module _ {V E : Type 0} (stands : V → List E → V → Type 0) (k : About V) w
     drawn_below = omega arith;
     booked = λ p h. absurd h;
     once = tt;
-    spent = λ _. (refl, refl);
+    spent = λ _. (refl, refl, refl);
     started = started;
   }
 
@@ -201,7 +201,7 @@ module _ {V E : Type 0} (stands : V → List E → V → Type 0) (k : About V) w
 
   -- where one participant has all the parts, no other has the turn or a book, so its list is the whole history, its book has each place, and the value is at home
   whole_of : (s : State (Parcel V E) (View V E)) (r : Rule s) (id : ℕ) (v : View V E) → get_elem? s.views id ≡ some v → v.parts ≡ k.passes
-      → (j : ℕ) (u : View V E) → j ≢ id → get_elem? s.views j ≡ some u → (u.book ≡ []) × (u.turn ≡ false)
+      → (j : ℕ) (u : View V E) → j ≢ id → get_elem? s.views j ≡ some u → (u.book ≡ []) × (u.turn ≡ false) × (u.turns ≡ 0)
   whole_of s r id v at all j u other there =
       let two = total-two parts_in s.views id j v u at there (λ e. other (sym e)) in
       let sum = r.parts in
@@ -227,6 +227,15 @@ module _ {V E : Type 0} (stands : V → List E → V → Type 0) (k : About V) w
       let f = r.each id v at in
       let book = book_of_all s r id v at all in
       (prefix_whole v.seen r.history f.seen_first (seen_all (length r.history) (length v.seen) (λ p below. (f.booked p (book p below)).0)), book)
+
+  -- no other drew a ticket, so it drew all
+  pub drew_all : (s : State (Parcel V E) (View V E)) (r : Rule s) (id : ℕ) (v : View V E) → get_elem? s.views id ≡ some v → v.parts ≡ k.passes
+      → (k.first + v.turns ≡ r.drawn) × (v.drawn ≤ k.first + v.turns)
+  drew_all s r id v at all =
+      let one = total-one turns_in s.views id v at (λ j u other there. (whole_of s r id v at all j u other there).2) in
+      let tickets = r.turns in
+      let below = (r.each id v at).drawn_below in
+      (omega arith, omega arith)
 
   pub ends : (id : ℕ) (v : View V E) (ws : List ℕ) (xs : List (Parcel V E)) (q : Parcel V E) → v.turn ≡ false → 0 < v.parts → v.parts ≡ v.passes
       → Final (Seen Rule id v) ws xs → get_elem? xs 0 ≡ some q

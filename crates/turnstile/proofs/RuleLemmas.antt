@@ -52,6 +52,19 @@ module _ {V E : Type 0} where
   total-two f (x ∷ xs) (suc i) zero v w e e' apart = let t = ap f (some-injective x w e') in let r = total-at f xs i v e in omega arith
   total-two f (x ∷ xs) (suc i) (suc j) v w e e' apart = let r = total-two f xs i j v w e e' (λ s. apart (ap suc s)) in omega arith
 
+  -- where all others have none of it, one has all
+  total-none : (f : View V E → ℕ) (views : List (View V E)) → ((j : ℕ) (u : View V E) → get_elem? views j ≡ some u → f u ≡ 0) → total f views ≡ 0
+  total-none f [] none_of = refl
+  total-none f (x ∷ xs) none_of = let h = none_of zero x refl in let t = total-none f xs (λ j u e. none_of (suc j) u e) in omega arith
+
+  pub total-one : (f : View V E → ℕ) (views : List (View V E)) (i : ℕ) (v : View V E) → get_elem? views i ≡ some v → ((j : ℕ) (u : View V E) → j ≢ i → get_elem? views j ≡ some u → f u ≡ 0) → total f views ≡ f v
+  total-one f [] i v e others = absurd (some-ne-none v (sym e))
+  total-one f (x ∷ xs) zero v e others = let h = ap f (some-injective x v e) in let t = total-none f xs (λ j u e'. others (suc j) u (λ z. absurd (omega arith)) e') in omega arith
+  total-one f (x ∷ xs) (suc i) v e others =
+      let h = others zero x (λ z. absurd (omega arith)) refl in
+      let t = total-one f xs i v e (λ j u far e'. others (suc j) u (λ z. far (omega arith)) e') in
+      omega arith
+
   -- one view changes
 
   pub each_set : (P : ℕ → View V E → Type 0) (views : List (View V E)) (i : ℕ) (w : View V E) → P i w → ((j : ℕ) (u : View V E) → j ≢ i → get_elem? views j ≡ some u → P j u)
@@ -118,7 +131,7 @@ module _ {V E : Type 0} where
       → (serving' drawn' : ℕ) (owner' : ℕ → ℕ) (ticket : Option ℕ) (turn : Bool) (told turns read looked looks : ℕ)
       → ((t : ℕ) → ticket ≡ Some t → (serving' ≤ t) × (t < drawn') × (owner' t ≡ i))
       → (turn ≡ true → (ticket ≡ Some serving') × (v.seen ≡ history))
-      → looked ≤ length history → read ≤ drawn' → (v.parts ≡ 0 → (v.book ≡ []) × (turn ≡ false))
+      → looked ≤ length history → read ≤ drawn' → (v.parts ≡ 0 → (v.book ≡ []) × (turn ≡ false) × (turns ≡ 0))
       → Fits k history serving' drawn' owner' maker i (record v { ticket = ticket; turn = turn; told = told; turns = turns; drawn = read; looked = looked; looks = looks })
   moves f serving' drawn' owner' ticket turn told turns read looked looks ticketed turning looked_below drawn_below spent = record {
     ticketed = ticketed;

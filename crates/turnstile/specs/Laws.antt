@@ -44,6 +44,10 @@ module _ {V E : Type 0} where
     abbrev pub HasSeenAll : (k : About V) (s : State (Parcel V E) (View V E)) → IsLawful stands k s → Type 0
     HasSeenAll k s r = (i : ℕ) (v : View V E) → get_elem? s.views i ≡ some v → v.parts ≡ k.passes → (v.seen ≡ r.history) × ((p : ℕ) → p < length r.history → Has p v.book)
 
+    -- who stands for all passes drew all tickets, and read no number beyond them
+    abbrev pub HasDrawnAll : (k : About V) (s : State (Parcel V E) (View V E)) → IsLawful stands k s → Type 0
+    HasDrawnAll k s r = (i : ℕ) (v : View V E) → get_elem? s.views i ≡ some v → v.parts ≡ k.passes → (k.first + v.turns ≡ r.drawn) × (v.drawn ≤ k.first + v.turns)
+
     -- the tickets drawn so far are those from the first on, and no more than the most
     abbrev pub DrawsWithinMost : (k : About V) (s : State (Parcel V E) (View V E)) → IsLawful stands k s → Type 0
     DrawsWithinMost k s r = (k.first + total turns_in s.views ≡ r.drawn) × (r.drawn ≤ most_turns)

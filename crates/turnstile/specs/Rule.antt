@@ -44,7 +44,7 @@ pub record Fits {V E : Type 0} (k : About V) (history : List E) (serving drawn :
   pub drawn_below : v.drawn ≤ drawn
   pub booked : (p : ℕ) → Has p v.book → (p < length v.seen) × (maker p ≡ i)
   pub once : IsOnce v.book
-  pub spent : v.parts ≡ 0 → (v.book ≡ []) × (v.turn ≡ false)
+  pub spent : v.parts ≡ 0 → (v.book ≡ []) × (v.turn ≡ false) × (v.turns ≡ 0)
   pub started : 0 < v.parts → (v.start ≡ Some k.start.value) × (v.passes ≡ k.passes) × (v.first ≡ k.first)
 
 module _ {V E : Type 0} (stands : V → List E → V → Type 0) where

@@ -79,9 +79,11 @@ module _ {V E : Type 0} where
   abbrev pub Glanced : Participant V E → ℕ → Participant V E → Type 0
   Glanced m n w = (m.0.looked ≤ n) × (length m.0.seen ≤ n) × (w ≡ (record m.0 { looked = n; looks = m.0.looks + 1 }, m.1))
 
-  -- a load of the passes word: how many passes were made, and what the last join taught
+  -- a load of the passes word: how many passes were made, what the last join taught, and where the participant stands for all of them, that
+  -- no more tickets were drawn than it drew
   abbrev pub Totalled : Participant V E → ℕ → Participant V E → Type 0
   Totalled m n w =
       (n ≡ m.0.passes) × (m.0.parts ≤ n) × (w ≡ m)
       × IsOnce m.0.book
       × (length m.0.other ≤ length m.0.seen → IsPrefix m.0.other m.0.seen)
+      × (m.0.parts ≡ n → m.0.drawn ≤ m.0.first + m.0.turns)

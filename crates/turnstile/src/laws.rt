@@ -1,5 +1,5 @@
 //! What holds of a turnstile at any moment: one theorem each, over every state that the rule allows.
-ghost use Rattle.turnstile.specs.Laws.{Always, HasOneTurn, KnowsBeginning, HasPlacesOnce, HasOneBook, HasEachPlace, StandsWhereFree, HasSeenAll, DrawsWithinMost};
+ghost use Rattle.turnstile.specs.Laws.{Always, HasOneTurn, KnowsBeginning, HasPlacesOnce, HasOneBook, HasEachPlace, StandsWhereFree, HasSeenAll, HasDrawnAll, DrawsWithinMost};
 
 use crate::story::Story;
 
@@ -30,6 +30,13 @@ pub fn each_entry_is_in_one_book<V: Story>()
 /// So what `close` says of the known list and the book of its pass, it says of the whole history.
 pub fn who_stands_for_all_has_seen_all<V: Story>()
     ensures { Always V.stands (HasSeenAll V.stands) }
+{}
+
+/// Who stands for all passes drew all tickets, and read of no number beyond them.
+///
+/// So what `join` and `close` say of the numbers of their pass, they say of all turns that were taken.
+pub fn who_stands_for_all_has_drawn_all<V: Story>()
+    ensures { Always V.stands (HasDrawnAll V.stands) }
 {}
 
 /// The tickets drawn are those from the first on, and never more than `TURNS`.

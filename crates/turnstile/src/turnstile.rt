@@ -4,7 +4,7 @@ ghost use mathlib.Core.List.{IsPrefix};
 ghost use Rattle.turnstile.specs.Lists.{Has, IsOnce, shorter};
 ghost use Rattle.turnstile.specs.Rule.{most_turns, Stands};
 ghost use Rattle.turnstile.specs.Steps.{newcomer, both_of};
-ghost use Rattle.turnstile.specs.PassView.{StandsFor, IsPassOf, IsNewPass, WasMadeBy, participant_of, view_of, start_of, first_of, parts_of, passes_of, seen_of, looked_of, looks_of, book_of};
+ghost use Rattle.turnstile.specs.PassView.{StandsFor, IsPassOf, IsNewPass, WasMadeBy, participant_of, view_of, start_of, first_of, parts_of, passes_of, seen_of, looked_of, looks_of, book_of, drawn_of, turns_of};
 
 use crate::lock::{Lock, Turnstile};
 use crate::seated::{Pass, Seated};
@@ -101,7 +101,8 @@ impl<V: Story> Turnstile<V> {
     /// Makes one pass of two. It takes no memory.
     ///
     /// One of the two known lists begins the other, and `into` keeps the longer one. Its book gets
-    /// the places of both passes, each once. It stands for no more passes than were made.
+    /// the places of both passes, each once. It stands for no more passes than were made, and where it
+    /// stands for all, it read of no more tickets than all of them drew.
     pub fn join(&self, into: &mut Pass<V>, from: Pass<V>)
         requires ready { IsPassOf self.now into.old × IsPassOf self.now from }
         ensures ready { IsPassOf self.now into.new }
@@ -109,6 +110,7 @@ impl<V: Story> Turnstile<V> {
         ensures seen { IsPrefix (shorter (seen_of into.old) (seen_of from)) (seen_of into.new) }
         ensures once { IsOnce (book_of into.new) }
         ensures bound { parts_of into.new ≤ passes_of into.new }
+        ensures all { parts_of into.new ≡ passes_of into.new → drawn_of into.new ≤ first_of into.new + turns_of into.new }
     {
         let (seat, parts) = from.into_seat();
         self.merge(into, seat);
@@ -118,12 +120,13 @@ impl<V: Story> Turnstile<V> {
 
     /// Takes the value out for good. It takes no memory.
     ///
-    /// Only the pass that stands for all passes closes. Any other gets the turnstile and itself back
+    /// Only the pass that stands for all passes closes; it read of no more tickets than it drew. Any other gets the turnstile and itself back
     /// as they were, with the number of passes made.
     pub fn close(self, mut pass: Pass<V>) -> Result<V, (Turnstile<V>, Pass<V>, u64)>
         requires ready { IsPassOf self pass }
         ensures value { IfOk result (StandsFor V.stands (view_of pass)) }
         ensures ok { OnOk result ((p : ℕ) → p < length (seen_of pass) → Has p (book_of pass)) }
+        ensures all { OnOk result (drawn_of pass ≤ first_of pass + turns_of pass) }
         ensures told { IsOk result ↔ (parts_of pass ≡ passes_of pass) }
         ensures err { IfErr result (λ e. (e.0 ≡ self) × IsPassOf e.0 e.1 × (view_of e.1 ≡ view_of pass)) }
         ensures refused { IfErr result (λ e. (e.2 ≡ passes_of pass) × (parts_of pass < e.2)) }

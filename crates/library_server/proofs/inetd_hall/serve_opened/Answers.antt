@@ -1,10 +1,11 @@
 -- The connection is that of serve_link of a hall with one pass, and then the libraries come out of it.
 use Rattle.std.proofs.Common.{refl, sym, ◌∙◌}
+use Rattle.sync_calls.specs.Hall.{passes_in}
 use Rattle.sync_calls.specs.Making.{IsNewOf}
 use Rattle.sync_calls.proofs.GatheredLemmas.{popped}
 use Rattle.hall_server.specs.Serving.{hall_shown}
 use Rattle.library_server.specs.HallConnections.{held, not_held}
-use Rattle.library_server.proofs.HallEndLemmas.{led}
+use Rattle.library_server.proofs.HallEndLemmas.{closed_within, led}
 use Rattle.library_server.proofs.inetd_hall.serve_opened.Goals as goal
 
 pub returns-in-Err : goal.returns-in-Err
@@ -33,6 +34,7 @@ returns g c =
       session = c.serve_link-how.ensures.session;
       ran = ran;
       each = led g.S.Shelf.contents g.S.Shelf.may_give g.S.Shelf.texts g.S.Shelf.faults c.args.depots.items c.close.result.items _ _ _ new.shows ran.2 c.close.ensures;
+      within = closed_within g.S.Shelf.contents g.S.Shelf.may_give g.S.Shelf.texts g.S.Shelf.faults (passes_in c.serve_link-how.new.pass) c.close.result.items c.close.ensures;
       count = c.serve_link-how.ensures.faults;
       ends = c.serve_link-how.ensures.last;
       status_is = c.status_of.ensures.value;

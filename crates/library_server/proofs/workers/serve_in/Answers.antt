@@ -14,7 +14,8 @@ use Rattle.sync_calls.proofs.hall.Exit.TheSendSync as exit
 use Rattle.sync_calls.specs.Hall.{AreReady, PassOf, made_with, passes_in, shares_of, shown_by}
 use Rattle.sync_calls.specs.Making.{AreNew, IsNewOf}
 use Rattle.library_server.specs.Port.{AreJoinOf, held, line_by, new_worker, not_held}
-use Rattle.library_server.proofs.WorkersLemmas.{all_seated, close_all, each_one, led_to, seated_at, seated_size}
+use Rattle.library_server.proofs.HallEndLemmas.{closed_within}
+use Rattle.library_server.proofs.WorkersLemmas.{all_seated, all_within, close_all, each_one, led_to, seated_at, seated_size}
 use Rattle.library_server.proofs.workers.serve_in.Goals as goal
 
 pub returns-in-Err : goal.returns-in-Err
@@ -122,5 +123,7 @@ returns g c =
       last = shown_by c.unseat-ears.new.last;
       joined = joined;
       each = led_to g.S.Shelf.contents g.S.Shelf.may_give g.S.Shelf.texts g.S.Shelf.faults c.args.depots.items c.close.result.items _ (passes_in c.unseat-ears.new.last) joined c.close.ensures;
+      within = all_within c.serve_all.new.workers.items c.unseat-ears.new.last c.unseat-ears.ensures.drawn
+          (closed_within g.S.Shelf.contents g.S.Shelf.may_give g.S.Shelf.texts g.S.Shelf.faults (passes_in c.unseat-ears.new.last) c.close.result.items c.close.ensures);
       line_is = c.line_of.ensures.value ∙ ap line_by c.unseat-ears.ensures.tally;
     })

@@ -1,15 +1,16 @@
 -- The last worker that is left is joined, and its ear is out.
-use Rattle.std.proofs.Common.{◌≡◌, ◌+◌, ◌++◌, ◌∷◌, [], ℕ, List, length, map, reverse, arith, refl, ap, subst, sym, ◌∙◌}
+use Rattle.std.proofs.Common.{◌≡◌, ◌+◌, ◌++◌, ◌∷◌, [], ℕ, All, List, length, map, arith, refl, ap, subst, sym, ◌∙◌}
 use Rattle.std.specs.Prelude.{sum_by}
 use Rattle.std.proofs.lemmas.List.{map-append}
+use Rattle.std.proofs.lemmas.List.Elements.{All-nil, All-push, All-weaker}
 use Rattle.std.proofs.lemmas.List.Sorted.{All-permutation}
 use Rattle.std.proofs.lemmas.List.Sums.{sum_by_push}
 use Rattle.hall_workers.specs.declared.worker.Worker.{Worker}
 use Rattle.sync_calls.proofs.GatheredLemmas.{popped}
-use Rattle.sync_calls.specs.Hall.{AreReady, PassOf, passes_in, shares_of, shown_by}
+use Rattle.sync_calls.specs.Hall.{AreReady, PassOf, drawn_by, passes_in, shares_of, shown_by}
 use Rattle.sync_calls.specs.Shown.{Shown}
-use Rattle.library_server.specs.Port.{AreJoinOf, tallied, tally_of}
-use Rattle.library_server.proofs.JoinLemmas.{books_once, join_more, join_none, joined_shown}
+use Rattle.library_server.specs.Port.{AreJoinOf, ReadNoMore, tallied, tally_of}
+use Rattle.library_server.proofs.JoinLemmas.{books_once, join_more, join_none, joined_drawn, joined_shown, read_on}
 use Rattle.library_server.proofs.WorkersLemmas.{tally_more, turned_all, unseated_more}
 use Rattle.library_server.proofs.workers.unseat.Goals as goal
 
@@ -29,6 +30,7 @@ loop-worker-init g c =
         ears = c.requires.room.0;
         tally = refl;
         joined = join_none (shown_by c.args.last.now) (books_once g.S.Shelf.contents g.S.Shelf.may_give g.S.Shelf.texts g.S.Shelf.faults c.args.hall.now c.args.last.now c.requires.ready.0);
+        drawn = All-nil (λ (w : Worker (PassOf g.row.S.Denot) g.row.E.Denot). ReadNoMore (drawn_by w.pass) (drawn_by c.args.last.now));
         size = (omega arith, refl);
       },
     )
@@ -77,6 +79,12 @@ loop-worker-preserved g c =
             (sym (map-append (λ (w : Worker (PassOf g.row.S.Denot) g.row.E.Denot). shown_by w.pass) done (worker ∷ [])))
             (join_more (shown_by c.args.last.now) (map (λ (w : Worker (PassOf g.row.S.Denot) g.row.E.Denot). shown_by w.pass) done) (shown_by c.loop-worker.last) (shown_by worker.pass) (shown_by c.join.new.into) so.joined
             (joined_shown (passes_in c.loop-worker.last) (passes_in worker.pass) (passes_in c.join.new.into) size c.join.ensures.told));
+        drawn =
+            let more = joined_drawn (passes_in c.loop-worker.last) (passes_in worker.pass) (passes_in c.join.new.into) size c.join.ensures.told in
+            All-push (λ (w : Worker (PassOf g.row.S.Denot) g.row.E.Denot). ReadNoMore (drawn_by w.pass) (drawn_by c.join.new.into)) done worker
+            (All-weaker (λ (w : Worker (PassOf g.row.S.Denot) g.row.E.Denot). ReadNoMore (drawn_by w.pass) (drawn_by c.loop-worker.last)) (λ (w : Worker (PassOf g.row.S.Denot) g.row.E.Denot). ReadNoMore (drawn_by w.pass) (drawn_by c.join.new.into))
+            (λ w read. read_on (drawn_by w.pass) (drawn_by c.loop-worker.last) (drawn_by c.join.new.into) read more.0) done so.drawn)
+            more.1;
         size = (
           c.join.ensures.size.0 ∙ (let a = so.size.0 in let b = sum_by_push (λ (w : Worker (PassOf g.row.S.Denot) g.row.E.Denot). shares_of w.pass) done worker in omega arith),
           c.join.ensures.size.1 ∙ so.size.1,
@@ -93,6 +101,7 @@ returns g c =
     let whole = turned_all done c.loop-worker.workers.items c.reverse.new.self.items c.args.workers.items (omega (arith, none)) c.reverse.ensures.items so.all in record {
       ready = so.ready;
       joined = subst (λ ws. AreJoinOf (shown_by c.args.last.now) (map (λ (w : Worker (PassOf g.row.S.Denot) g.row.E.Denot). shown_by w.pass) ws) (shown_by c.loop-worker.last)) whole so.joined;
+      drawn = subst (λ ws. All (λ (w : Worker (PassOf g.row.S.Denot) g.row.E.Denot). ReadNoMore (drawn_by w.pass) (drawn_by c.loop-worker.last)) ws) whole so.drawn;
       size = (so.size.0 ∙ ap (λ ws. shares_of c.args.last.now + sum_by (λ (w : Worker (PassOf g.row.S.Denot) g.row.E.Denot). shares_of w.pass) ws) whole, so.size.1);
       tally = so.tally ∙ ap tally_of whole;
       ears = so.ears ∙ ap (λ ws. map (λ (w : Worker (PassOf g.row.S.Denot) g.row.E.Denot). w.ear) ws) whole;

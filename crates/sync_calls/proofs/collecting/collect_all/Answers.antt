@@ -11,7 +11,7 @@ loop-init g c = record {
   ends = search rules;
   ready = c.requires.ready;
   known = c.requires.known;
-  same = record { start = refl; parts = refl; passes = refl };
+  same = record { start = refl; parts = refl; passes = refl; first = refl };
   drawn = λ was. was;
   so = none_taken g.S.Shelf.contents g.S.Shelf.may_give g.S.Shelf.texts g.S.Shelf.faults (g.C.Clock.shows c.args.clock.now) (shown_of c.args.pass.now) _ refl refl refl;
 }

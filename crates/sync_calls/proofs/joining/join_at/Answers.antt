@@ -19,4 +19,5 @@ returns-clause-ready g c =
       opens = c.requires.ready.opens;
       share = ap (λ (v : LibraryView g.row.S.Denot). v.parts) c.join.ensures.view;
       among = ap (λ (v : LibraryView g.row.S.Denot). v.passes) c.join.ensures.view;
+      first = ap (λ (v : LibraryView g.row.S.Denot). v.first) c.join.ensures.view ∙ c.requires.ready.first;
     }

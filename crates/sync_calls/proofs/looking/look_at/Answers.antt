@@ -26,6 +26,7 @@ returns-clause-ready g c =
       opens = c.requires.ready.opens;
       share = ap (λ (v : LibraryView g.row.S.Denot). v.parts) c.count-place.ensures.view;
       among = ap (λ (v : LibraryView g.row.S.Denot). v.passes) c.count-place.ensures.view;
+      first = ap (λ (v : LibraryView g.row.S.Denot). v.first) c.count-place.ensures.view ∙ c.requires.ready.first;
     }
 
 pub returns-clause-told : goal.returns-clause-told
