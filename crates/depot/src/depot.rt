@@ -69,6 +69,13 @@ impl<S: Shelf> Depot<S> {
         self.parts.state.opening
     }
 
+    /// How many collections were begun. Where that is `LAST`, no other begins. It takes no memory.
+    pub fn collection(&self) -> u64
+        ensures value { result ≡ self.now.state.collection }
+    {
+        self.parts.state.collection
+    }
+
     /// The library's id. It takes no memory.
     pub fn lib(&self) -> LibId
         ensures value { result ≡ self.now.state.lib }

@@ -1,12 +1,11 @@
 -- What a collection leaves of a library that nobody else asks. The key lemmas are cut_begun, cut_swept, turns_cut and collect_leads.
-use Rattle.std.proofs.Common.{◌≡◌, ◌≢◌, ◌⊎◌, inl, inr, ◌+◌, ◌||◌, ◌<◌, ℕ, zero, suc, Bool, true, false, List, [], ◌∷◌, ◌++◌, length, refl, sym, ap, ◌∙◌, subst, arith, Option, None, Some, is_some, option_map, true≢false, cond}
-use Rattle.std.specs.Prelude.{pos, slice_set, sum_by}
+use Rattle.std.proofs.Common.{◌≡◌, ◌≢◌, inl, inr, ◌+◌, ◌||◌, ℕ, Bool, true, false, List, [], ◌∷◌, ◌++◌, length, refl, sym, ap, ◌∙◌, subst, arith, Option, None, Some, is_some, option_map, true≢false, cond}
+use Rattle.std.specs.Prelude.{drop, pos}
 use Rattle.std.specs.FinMap as map
 use Rattle.std.specs.FinSet as set
-use Rattle.std.specs.List.{AllByRecursion, IsDistinct, slice_get}
+use Rattle.std.specs.List.{AllByRecursion, IsDistinct}
 use Rattle.std.specs.Ordering.{eq_by_cmp}
 use Rattle.std.specs.Cmp.{eq_by_cmp_equiv}
-use Rattle.std.proofs.lemmas.Bool.{or_left}
 use Rattle.std.proofs.lemmas.List.Sums.{sum_by-cons, sum_by_push}
 use Rattle.collector.proofs.CountedLemmas.{all_in, len_less}
 use Rattle.ids.specs.Key.{Objects, key_cmp}
@@ -18,13 +17,12 @@ use Rattle.library_state.specs.declared.history.Install.{Install}
 use Rattle.library_state.specs.declared.refusal.Refusal.{Refusal}
 use Rattle.library_state.specs.declared.refusal.Refusal.TheVariants as refusal
 use Rattle.library_state.specs.declared.state.LibState.{LibState}
-use Rattle.library_state.specs.declared.reply.Reply.{Reply}
 use Rattle.library_state.specs.declared.reply.Reply.TheVariants as reply
 use Rattle.object_graph.specs.Traversal.{is_in, needs}
 use Rattle.object_graph.specs.Unchanged.{AgreeOn, Keeps}
 use Rattle.object_graph.proofs.KeyLemmas.{same_key}
 use Rattle.library_rules.specs.Changes.{apply, begun, counted, ended, fresher, is_refused, keys_added, moved, step_changes, swept, turn_counted, without, with_added}
-use Rattle.library_rules.specs.CollectionSteps.{Begins, Ends, IsClean, SweepPermits, Sweeps}
+use Rattle.library_rules.specs.CollectionSteps.{IsClean, SweepPermits, Sweeps}
 use Rattle.library_rules.specs.History.{Permits, StepPermits}
 use Rattle.library_rules.specs.LibraryState.{IsSound, Running, State, head_of, is_fresh, is_kept, is_needed, is_stored}
 use Rattle.library_rules.specs.Turns.{TakesStep}
@@ -36,21 +34,19 @@ use Rattle.library_rules.proofs.HeadTreeLemmas.{head_kept}
 use Rattle.library_rules.proofs.KeepingLemmas.{agrees_itself, agrees_then, keeps_itself, keeps_then, kept_without}
 use Rattle.library_rules.proofs.StepLemmas.{agrees_after, objects_after, sound_apply}
 use Rattle.object_store.specs.Shelf.{Contents}
-use Rattle.object_store.specs.StoreView.{objects_of}
 use Rattle.object_store.specs.declared.shelf.Slot.{Slot}
-use Rattle.depot.specs.CollectionTurns.{IsMissed, TurnSo, removed_in}
-use Rattle.depot.specs.DepotView.{DepotView, running_library, state_of}
+use Rattle.depot.specs.CollectionTurns.{TurnSo, removed_in}
 use Rattle.depot.specs.declared.turn.Turn.{Turn}
 use Rattle.depot.specs.declared.turn.Turn.TheVariants as turn
 use Rattle.sync_calls.specs.Collecting.{CollectsSo, EndsAs, EndsSo, IsNextGoal, IsTaken, OneTurn, TurnsOn, deed_of, goes_on, left_by, objects_a_turn, told}
-use Rattle.sync_calls.specs.CollectTurn.{RunsAt, running_number}
+use Rattle.sync_calls.specs.CollectTurn.{running_number}
 use Rattle.sync_calls.specs.Operations.{Line}
-use Rattle.sync_calls.specs.Shown.{Shown, library_at}
+use Rattle.sync_calls.specs.Shown.{Shown}
 use Rattle.sync_calls.specs.declared.collecting.Collected.{Collected}
 use Rattle.sync_calls.specs.declared.collecting.Collected.TheVariants as collected
 use Rattle.generated_library.specs.Filled.{Collects, IsResting}
-use Rattle.generated_library.specs.Leading.{IsNow, IsOwn, Leads}
-use Rattle.generated_library.proofs.OwnLemmas.{BooksSeen, Moved, OwnsSeen, StandsAt, alone_set, below_done, led_now, moved_alone, owns_before}
+use Rattle.generated_library.specs.Leading.{GoesOn, IsNow, IsOwn, Leads}
+use Rattle.generated_library.proofs.OwnLemmas.{BooksSeen, OwnsSeen, StandsAt, alone_set, below_done, done_goes, goes_none, goes_then, led_now, moved_alone, one_goes, owns_before, stands_has}
 
 -- ---- objects that leave
 
@@ -82,13 +78,27 @@ pub record IsCut (kept installs : List Install) : Type 0 where
   pub last : Install
   pub is : installs ≡ last ∷ []
   pub head : last.head ≡ head_of kept
+  pub ends : (front : List Install) (install : Install) → kept ≡ front ++ install ∷ [] → last ≡ install
+
+none_pushed : (front : List Install) (x : Install) → [] ≡ front ++ x ∷ [] → ⊥
+none_pushed [] x is = cc
+none_pushed (y ∷ front) x is = cc
+
+one_pushed : (install x : Install) (front : List Install) → install ∷ [] ≡ front ++ x ∷ [] → install ≡ x
+one_pushed install x [] is = cc
+one_pushed install x (y ∷ front) is = absurd (none_pushed front x (ap (drop 1) is))
+
+more_pushed : (last install next x : Install) (later front : List Install) → ((front : List Install) (x : Install) → next ∷ later ≡ front ++ x ∷ [] → last ≡ x)
+    → install ∷ next ∷ later ≡ front ++ x ∷ [] → last ≡ x
+more_pushed last install next x later [] ends is = cc
+more_pushed last install next x later (y ∷ front) ends is = ends front x (ap (drop 1) is)
 
 cut_zero : (moment : ℕ) (kept : List Install) → kept ≢ [] → IsCut kept (kept_for (pos 0) moment kept)
 cut_zero moment [] some = absurd (some refl)
-cut_zero moment (install ∷ []) some = record { last = install; is = refl; head = refl }
+cut_zero moment (install ∷ []) some = record { last = install; is = refl; head = refl; ends = λ front x is. one_pushed install x front is }
 cut_zero moment (install ∷ next ∷ later) some =
     let rest = cut_zero moment (next ∷ later) (λ e. cc) in
-    record { last = rest.last; is = rest.is; head = rest.head }
+    record { last = rest.last; is = rest.is; head = rest.head; ends = λ front x is. more_pushed rest.last install next x later front rest.ends is }
 
 -- ---- a library as its collection goes on
 
@@ -307,19 +317,11 @@ turn_not_over s0 s t gone (Some goal) moment most number es so (is, cut, runs) =
     so.0.apart (ap (option_map (λ (r : Running). s.state.collection)) runs.is ∙ ap Some (sym is ∙ same))
 
 module _ {S : Type 0} (contents : S → Option Contents) (may_give : S → Slot → Option (List ℕ) → Type 0) (texts faults : S → ℕ) (shows : ℕ → Type 0) where
-  -- what stands has the state and the collection of its library
-  stands_has : (d : DepotView S) (s : State) → state_of contents faults d ≡ Some s → (s.running ≡ d.running) × (s.state ≡ d.state)
-  stands_has d s told = by (objects_of contents d.store) told
-    where
-      by : (o : Option Objects) → option_map (running_library d.state d.running (faults d.store.shelf)) o ≡ Some s → (s.running ≡ d.running) × (s.state ≡ d.state)
-      by None e = cc
-      by (Some held) e = let same = sym (same_from_some (running_library d.state d.running (faults d.store.shelf) held) s e) in (ap (λ (u : State). u.running) same, ap (λ (u : State). u.state) same)
-
   next_of : (goal : Option ℕ) (v : Shown S) (next : Option ℕ) (t : State) → IsNextGoal contents may_give texts faults shows goal v next → StandsAt contents may_give texts faults v t → NextOf goal t next
   next_of (Some number) v next t is stands = is
   next_of None v next t is stands =
       let one : is.there ≡ stands.there = same_from_some is.there stands.there (sym is.stood ∙ stands.stood) in
-      let has = stands_has stands.there t stands.told in
+      let has = stands_has contents may_give texts faults stands.there t stands.told in
       is.runs ∙ (ap running_number one ∙ (ap (option_map (λ (r : Running). stands.there.state.collection)) (sym has.0)
       ∙ ap (λ (l : LibState). option_map (λ (r : Running). l.collection) t.running) (sym has.1)))
 
@@ -335,6 +337,11 @@ module _ {S : Type 0} (contents : S → Option Contents) (may_give : S → Slot 
   turns_owns u goal (one ∷ more) v last (w, next, taken, goes, follows, rest) books owns =
       owns_before contents may_give texts faults u one.place (deed_of one) w taken.done books
       (turns_owns w next more v last rest (below_done contents may_give texts faults u one.place (deed_of one) w taken.done books) owns)
+
+  turns_goes : (u : Shown S) (goal : Option ℕ) (turns : List OneTurn) (v : Shown S) (last : Option ℕ) → TurnsOn contents may_give texts faults shows u goal turns v last → GoesOn u v
+  turns_goes u goal [] v last (same, is) = subst (GoesOn u) (sym same) (goes_none u)
+  turns_goes u goal (one ∷ more) v last (w, next, taken, goes, follows, rest) =
+      goes_then u w v (done_goes contents may_give texts faults u one.place (deed_of one) w taken.done) (turns_goes w next more v last rest)
 
   -- where the library stands, as its collection goes on
   pub record InPhase (s0 : State) (gone : ℕ) (goal : Option ℕ) (u : Shown S) : Type 0 where
@@ -392,6 +399,14 @@ module _ {S : Type 0} (contents : S → Option Contents) (may_give : S → Slot 
       turns_owns u None turns w (Some n) on books (owns_before contents may_give texts faults w last.place (deed_of last) v one.done (turns_books u None turns w (Some n) on books) owns)
   ends_owns u ends turns v drawn number removed taken (EndsSo.spent goal on fits is) done books owns = absurd (done_not number removed taken _ ends done is)
 
+  -- and its history goes on
+  ends_goes : (u : Shown S) (ends : Collected) (turns : List OneTurn) (v : Shown S) (drawn : ℕ) → EndsSo contents may_give texts faults shows u ends turns v drawn → GoesOn u v
+  ends_goes u ends turns v drawn (EndsSo.ended before goal w last on one fits is tells) =
+      goes_then u w v (turns_goes u None before w goal on) (done_goes contents may_give texts faults w last.place (deed_of last) v one.done)
+  ends_goes u ends turns v drawn (EndsSo.over n w last on one fits is tells) =
+      goes_then u w v (turns_goes u None turns w (Some n) on) (done_goes contents may_give texts faults w last.place (deed_of last) v one.done)
+  ends_goes u ends turns v drawn (EndsSo.spent goal on fits is) = turns_goes u None turns v goal on
+
   ends_cut : (s0 : State) → s0.running ≡ None → s0.state.days ≡ pos 0 → IsSound s0 → (u : Shown S) (ends : Collected) (turns : List OneTurn) (v : Shown S) (drawn : ℕ) (number removed taken : ℕ)
       → EndsSo contents may_give texts faults shows u ends turns v drawn → ends ≡ collected.Done number removed taken → BooksSeen contents may_give texts faults u
       → OwnsSeen contents may_give texts faults v → StandsAt contents may_give texts faults u s0 → EndsWell s0 removed v
@@ -433,25 +448,25 @@ module _ {S : Type 0} (contents : S → Option Contents) (may_give : S → Slot 
   collect_leads us vs lib secret ends lines draws number removed taken books (CollectsSo.nowhere away is empty same) done = absurd (done_not number removed taken _ ends done is)
   collect_leads us vs lib secret ends lines draws number removed taken books (CollectsSo.denied library u at may is empty same) done = absurd (done_not number removed taken _ ends done is)
   collect_leads us vs lib secret ends lines draws number removed taken books (CollectsSo.went library u at may turns v drawn how seen drew lines_are is) done = record {
-    own = λ owns. let one = alone owns in record { only = u; is = one.0; each = ends_owns u ends turns v drawn number removed taken how done (books u one.0) one.1 };
-    to = λ owns s now kind. leads owns s now kind (alone owns);
+    own = λ owns. let one = alone owns in record { only = u; is = one.0; each = ends_owns u ends turns v drawn number removed taken how done (books u one.0) one.2 };
+    goes = λ owns x y was is_y. let one = alone owns in one_goes us vs u v x y one.0 one.1 (ends_goes u ends turns v drawn how) was is_y;
+    to = λ owns s now kind. leads s now kind (alone owns);
   }
     where
-      alone : IsOwn vs → (us ≡ u ∷ []) × OwnsSeen contents may_give texts faults v
+      alone : IsOwn vs → (us ≡ u ∷ []) × (vs ≡ v ∷ []) × OwnsSeen contents may_give texts faults v
       alone owns =
           let set = alone_set us library u v owns.only at.at (sym is ∙ owns.is) in
-          (set.0, subst (OwnsSeen contents may_give texts faults) set.1 owns.each)
+          (set.0, owns.is ∙ ap (λ (w : Shown S). w ∷ []) set.1, subst (OwnsSeen contents may_give texts faults) set.1 owns.each)
 
-      leads : IsOwn vs → (s : State) → IsNow contents faults us s → IsResting s → (us ≡ u ∷ []) × OwnsSeen contents may_give texts faults v
+      leads : (s : State) → IsNow contents faults us s → IsResting s → (us ≡ u ∷ []) × (vs ≡ v ∷ []) × OwnsSeen contents may_give texts faults v
           → (t : State) × IsNow contents faults vs t × Collects removed s t
-      leads owns s now resting (alone_is, after) =
+      leads s now resting (alone_is, one, after) =
           let well = ends_cut s resting.0 resting.1 now.sound u ends turns v drawn number removed taken how done (books u alone_is) after
-          (led_now contents may_give texts faults us vs u alone_is s now) in
-          let set = alone_set us library u v owns.only at.at (sym is ∙ owns.is) in (
+          (led_now contents may_give texts faults us vs u alone_is s now) in (
             well.t,
             record {
               only = v;
-              is = owns.is ∙ ap (λ (w : Shown S). w ∷ []) set.1;
+              is = one;
               there = well.stands.there;
               stood = well.stands.stood;
               told = well.stands.told;
@@ -463,6 +478,7 @@ module _ {S : Type 0} (contents : S → Option Contents) (may_give : S → Slot 
               count = well.count;
               left = well.collects.cut.left;
               alone = ap length well.collects.cut.cut.is;
+              last = λ front install is. well.collects.cut.cut.is ∙ ap (λ (x : Install). x ∷ []) (well.collects.cut.cut.ends front install is);
               head = ap head_of well.collects.cut.cut.is ∙ well.collects.cut.cut.head;
               agree = well.collects.cut.agree;
               clean = well.collects.clean;

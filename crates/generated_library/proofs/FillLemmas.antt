@@ -1,5 +1,5 @@
 -- What the steps of a filling leave, one after another. The key lemmas are file_put, pushes_by, push_sees and filled_by.
-use Rattle.std.proofs.Common.{◌≡◌, ◌≢◌, ◌≤◌, ◌⊎◌, inl, inr, ◌+◌, ℕ, Bool, true, false, cond, List, [], ◌∷◌, refl, sym, ap, ap₂, ◌∙◌, subst, arith, Option, None, Some, is_some, option_map, Ok, true≢false}
+use Rattle.std.proofs.Common.{◌≡◌, ◌≢◌, ◌≤◌, ◌⊎◌, inl, inr, ◌+◌, ℕ, Bool, true, false, cond, List, [], ◌∷◌, ◌++◌, refl, sym, ap, ap₂, ◌∙◌, subst, arith, Option, None, Some, is_some, option_map, Ok, true≢false}
 use Rattle.std.specs.Prelude.{codes, length, min, pos}
 use Rattle.std.specs.FinMap as map
 use Rattle.sha1.specs.Sha1.{sha1}
@@ -21,6 +21,7 @@ use Rattle.library_rules.proofs.FileLemmas.{same_tree}
 use Rattle.library_rules.proofs.HeadTreeLemmas.{head_kept}
 use Rattle.library_rules.proofs.HistoryLemmas.{same_commit}
 use Rattle.library_rules.proofs.KeepingLemmas.{agrees_grown, keeps_itself, keeps_then, still_complete}
+use Rattle.library_state.specs.declared.history.Install.{Install}
 use Rattle.tree_merge.proofs.TableLemmas.{get-put}
 use Rattle.tree_merge.specs.Sides.{Entries}
 use Rattle.tree_model.proofs.ListedLemmas.{same_path}
@@ -31,7 +32,7 @@ use Rattle.tree_model.specs.declared.node.Node.{Node}
 use Rattle.tree_model.specs.declared.node.Node.TheVariants as node
 use Rattle.object_graph.specs.declared.entry.Entry.{Entry}
 use Rattle.object_graph.specs.declared.entry.Entry.TheVariants as entry
-use Rattle.generated_library.specs.Filled.{AreStored, Checks, Collects, HasCommit, HasTree, IsFilled, IsNew, IsOfFile, IsOfFiles, IsOfPushes, IsOver, IsPush, Limits, Pushes, PutsBoth, PutsFile, Stores, Updates, entries_of, entry_by, file_entry, file_id, file_object, file_text, put_entry, with_entries, with_entry}
+use Rattle.generated_library.specs.Filled.{AreStored, Checks, Collects, HasCommit, HasTree, IsFilled, IsNew, IsOfFile, IsOfFiles, IsOfPushes, IsOver, IsPush, Limits, Pushes, PutsBoth, PutsFile, Stores, Updates, entries_of, entry_by, file_entry, file_id, file_object, file_text, put_entry, update_of, with_entries, with_entry}
 use Rattle.generated_library.specs.Directories.{IsOfRoot}
 use Rattle.generated_library.specs.Generated.{bytes_made, changed_from, dir_name, file_name, files_from, tree_of, with_file, with_files}
 use Rattle.generated_library.specs.Leading.{Adds, Grows}
@@ -150,12 +151,13 @@ commit_stays id commit A B keeps read = by (map.get A (commit_key id)) refl
 
 -- what was put of a push, and the update
 pub pushes_by : (is_second : Bool) (parent id : List ℕ) (moment : ℕ) (files : List (List ℕ)) (lib root : List ℕ) (s a b c t : State) → length files ≤ 10000 → head_of s.state.kept ≡ parent
-    → Stores files s a → HasTree moment (entries_of moment files) root a b → HasCommit id (made lib root (Some parent) None (codes "make") (codes "make") moment false) b c → Updates id c t
+    → Stores files s a → HasTree moment (entries_of moment files) root a b → HasCommit id (made lib root (Some parent) None (codes "make") (codes "make") moment false) b c → Updates id moment c t
     → Pushes id parent moment files s t
 pushes_by is_second parent id moment files lib root s a b c t few at (grew, stored, files_came) (grew_dirs, tree, dirs_came) (grew_commit, named, read, some, commit_came) updates = record {
   keeps = keeps_then (keeps_then grew.keeps grew_dirs.keeps) (keeps_then grew_commit.keeps still);
   idle = λ idle. updates.idle (grew_commit.idle (grew_dirs.idle (grew.idle idle)));
   head = updates.head;
+  kept = λ other. updates.kept (λ is. other (sym same ∙ is)) ∙ ap (λ (l : List Install). l ++ update_of id moment ∷ []) still_kept;
   push = λ objects keeps. record {
     commit = made lib root (Some parent) None (codes "make") (codes "make") moment false;
     at = commit_stays id (made lib root (Some parent) None (codes "make") (codes "make") moment false) c.objects objects (keeps_then still keeps) read;
@@ -168,6 +170,12 @@ pushes_by is_second parent id moment files lib root s a b c t few at (grew, stor
   new = λ objects keeps complete. needed objects keeps complete;
 }
   where
+    still_kept : c.state.kept ≡ s.state.kept
+    still_kept = grew_commit.kept ∙ (grew_dirs.kept ∙ grew.kept)
+
+    same : head_of c.state.kept ≡ parent
+    same = ap head_of still_kept ∙ at
+
     still : Keeps c.objects t.objects
     still = subst (Keeps c.objects) (sym updates.objects) (keeps_itself c.objects)
 
@@ -209,11 +217,11 @@ over_by parent id moment lib root files s a b c at (grew, stored, files_came) (g
 -- ---- all of it
 
 -- the files were pushed twice, history was given up, and what is left was collected
-pub filled_by : (shows : ℕ → Type 0) (count number moment : ℕ) (first mid head : List ℕ) (filled : Filled) (s a b c d t : State) → shows moment → IsSound d → IsComplete b.objects mid → IsNew first s → Checks s a
-    → Pushes mid first moment (files_from count number) a b → Pushes head mid moment (changed_from 0 (files_from count number)) b c → Limits c d → Collects filled.removed d t
+pub filled_by : (was_head : List ℕ → Type 0) (shows : ℕ → Type 0) (count number moment : ℕ) (first mid head : List ℕ) (filled : Filled) (s a b c d t : State) → shows moment → IsSound d → IsComplete b.objects mid → IsNew first s → Checks s a
+    → Pushes mid first moment (files_from count number) a b → was_head mid → Pushes head mid moment (changed_from 0 (files_from count number)) b c → Limits c d → Collects filled.removed d t
     → filled.paths ≡ map.len (tree_of moment (changed_from 0 (files_from count number))) → filled.bytes ≡ bytes_made count number
-    → IsFilled shows count number first filled s t
-filled_by shows count number moment first mid head filled s a b c d t shown sound complete fresh (grew, idle) one two (grew_on, days, same) collects paths bytes =
+    → IsFilled was_head shows count number first filled s t
+filled_by was_head shows count number moment first mid head filled s a b c d t shown sound complete fresh (grew, idle) one pushed two (grew_on, days, same) collects paths bytes =
     let at : head_of d.state.kept ≡ head = ap head_of grew_on.kept ∙ two.head in
     let here : head_of t.state.kept ≡ head = collects.head ∙ at in
     let kept : is_kept d.state.kept (head_of d.state.kept) ≡ true = head_kept d.state.kept sound.kept.some_kept in
@@ -231,6 +239,7 @@ filled_by shows count number moment first mid head filled s a b c d t shown soun
       since = keeps_then grew.keeps (keeps_then one.keeps (keeps_then two.keeps grew_on.keeps));
       mid = mid;
       one = one.push d.objects (keeps_then two.keeps grew_on.keeps);
+      pushed = pushed;
       two = subst (λ id. IsPush d.objects id mid moment (changed_from 0 (files_from count number))) (sym collects.head) before;
       complete = (mid_whole, subst (λ (id : List ℕ). IsComplete d.objects id) (sym collects.head) whole);
       new = λ key there. subst (λ (id : List ℕ). IsOfPushes s.objects d.objects mid id key) (sym here) (came.each key there);
@@ -238,6 +247,8 @@ filled_by shows count number moment first mid head filled s a b c d t shown soun
           (push_stays d.objects t.objects (head_of d.state.kept) mid moment (changed_from 0 (files_from count number)) whole collects.agree before);
       left = collects.left;
       alone = collects.alone;
+      update = λ other. collects.last b.state.kept (update_of head moment) (grew_on.kept ∙ two.kept (λ is. other (is ∙ sym here)))
+          ∙ ap (λ (id : List ℕ). update_of id moment ∷ []) (sym here);
       clean = collects.clean;
       days = collects.days ∙ days;
       paths = paths;

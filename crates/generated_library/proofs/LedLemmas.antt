@@ -32,10 +32,10 @@ use Rattle.tree_merge.specs.Sides.{Entries}
 use Rattle.generated_library.specs.Directories.{AreOfRoot, IsOfRoot, IsRootOf}
 use Rattle.generated_library.specs.Filled.{AreStored, AreThere, Checks, Collects, HasCommit, HasFiles, HasTree, IsBeside, IsFileStored, IsFilled, IsNew, IsOfFile, IsOfFiles, IsOver, IsResting, Limits, Pushes, Puts, PutsAll, PutsBoth, PutsFile, Stores, Updates, entries_of, file_object, file_text, is_put, pushed_bytes, pushed_files}
 use Rattle.generated_library.specs.Generated.{after_file, bytes_made, changed_from, file_bytes, files_from, tree_of}
-use Rattle.generated_library.specs.Leading.{Adds, Any, Grows, IsAnswered, Leads, call_of}
+use Rattle.generated_library.specs.Leading.{Adds, Any, Grows, IsAnswered, Leads, WasHead, call_of}
 use Rattle.generated_library.specs.declared.filling.Filled.{Filled}
 use Rattle.generated_library.proofs.FillLemmas.{adds_none, adds_then, file_put, filled_by, grows_none, grows_then, keeps_one_more, over_by, pushes_by, removed_within}
-use Rattle.generated_library.proofs.OwnLemmas.{leads_more, leads_none, leads_then}
+use Rattle.generated_library.proofs.OwnLemmas.{leads_more, leads_none, leads_seen, leads_then}
 use Rattle.generated_library.proofs.PushingLemmas.{file_there, pushed_cons}
 use Rattle.generated_library.proofs.RuleLemmas.{check_leaves, commit_put, limit_leaves, put_leaves, update_leaves}
 use Rattle.generated_library.proofs.TreeLemmas.{file_keeps}
@@ -98,12 +98,12 @@ module _ {S : Type 0} (contents : S → Option Contents) (may_give : S → Slot 
       (λ s t sound any answered. limit_leaves secret moment s t r goes (pos 0) answered)
 
   pub update_led : (secret : Option (List ℕ)) (moment : ℕ) (r : Reply) (id : List ℕ) → r ≡ reply.Updated id
-      → Leads contents faults us vs Any (IsAnswered (call_of secret (act.Update id)) moment r) → Leads contents faults us vs (IsOver id) (Updates id)
+      → Leads contents faults us vs Any (IsAnswered (call_of secret (act.Update id)) moment r) → Leads contents faults us vs (IsOver id) (Updates id moment)
   update_led secret moment r id is leads =
-      leads_more contents may_give texts faults us vs Any (IsOver id) (IsAnswered (call_of secret (act.Update id)) moment r) (Updates id) leads (λ s over. tt)
+      leads_more contents may_give texts faults us vs Any (IsOver id) (IsAnswered (call_of secret (act.Update id)) moment r) (Updates id moment) leads (λ s over. tt)
       (λ s t sound over answered.
       let left = update_leaves secret moment s t id over.0 (subst (λ x. IsAnswered (call_of secret (act.Update id)) moment x s t) is answered) sound.kept.some_kept over.1 over.2 in
-      record { objects = left.0; head = left.1; idle = left.3 })
+      record { objects = left.0; head = left.1; kept = left.2; idle = left.4 })
 
   -- ---- files
 
@@ -235,29 +235,38 @@ record CommitSo (parent id : List ℕ) (moment : ℕ) (files : List (List ℕ)) 
   so : DirsSo parent moment files root s b
   put : HasCommit id (made lib root (Some parent) None (codes "make") (codes "make") moment false) b c
 
--- and to the one of before a filling, as the files are pushed, and pushed again, and history is given up
+-- to the one of before a filling, as the files are pushed
 record FirstSo (first mid : List ℕ) (moment : ℕ) (files : List (List ℕ)) (s b : State) : Type 0 where
   a : State
   checks : Checks s a
   one : Pushes mid first moment files a b
 
-record SecondSo (first mid head : List ℕ) (moment : ℕ) (files changed : List (List ℕ)) (s c : State) : Type 0 where
-  b : State
-  so : FirstSo first mid moment files s b
+-- and to the one behind that push, as they are pushed again, history is given up, and what is left is collected
+record SecondSo (mid head : List ℕ) (moment : ℕ) (changed : List (List ℕ)) (b c : State) : Type 0 where
   two : Pushes head mid moment changed b c
   complete : IsComplete b.objects mid
 
-record LimitSo (first mid head : List ℕ) (moment : ℕ) (files changed : List (List ℕ)) (s d : State) : Type 0 where
+record LimitSo (mid head : List ℕ) (moment : ℕ) (changed : List (List ℕ)) (b d : State) : Type 0 where
   c : State
-  so : SecondSo first mid head moment files changed s c
+  so : SecondSo mid head moment changed b c
   limits : Limits c d
+
+record RestSo (removed : ℕ) (mid head : List ℕ) (moment : ℕ) (changed : List (List ℕ)) (b t : State) : Type 0 where
+  d : State
+  sound : IsSound d
+  so : LimitSo mid head moment changed b d
+  collects : Collects removed d t
+
+-- a library behind a first push, at rest
+abbrev IsAgain : List ℕ → List (List ℕ) → State → Type 0
+IsAgain mid files b = IsBeside true mid files b × (b.running ≡ None)
 
 module _ {S : Type 0} (contents : S → Option Contents) (may_give : S → Slot → Option (List ℕ) → Type 0) (texts faults : S → ℕ) where
   -- a push
   pub push_led : (us xs ys zs vs : List (Shown S)) (is_second : Bool) (parent id : List ℕ) (moment : ℕ) (first files : List (List ℕ)) (lib root : List ℕ) → length files ≤ 10000
       → Leads contents faults us xs (HasFiles is_second first) (Stores files) → Leads contents faults xs ys Any (HasTree moment (entries_of moment files) root)
       → Leads contents faults ys zs (λ s. parent ≢ nil) (HasCommit id (made lib root (Some parent) None (codes "make") (codes "make") moment false))
-      → Leads contents faults zs vs (IsOver id) (Updates id) → Leads contents faults us vs (IsBeside is_second parent first) (Pushes id parent moment files)
+      → Leads contents faults zs vs (IsOver id) (Updates id moment) → Leads contents faults us vs (IsBeside is_second parent first) (Pushes id parent moment files)
   push_led us xs ys zs vs is_second parent id moment first files lib root few one two three four =
       let begun : Leads contents faults us xs (IsBeside is_second parent first) (FilesSo parent files) =
       leads_more contents may_give texts faults us xs (HasFiles is_second first) (IsBeside is_second parent first) (Stores files) (FilesSo parent files) one (λ s beside. beside.1)
@@ -269,7 +278,7 @@ module _ {S : Type 0} (contents : S → Option Contents) (may_give : S → Slot 
       leads_then contents may_give texts faults us ys zs (IsBeside is_second parent first) (λ s. parent ≢ nil) (DirsSo parent moment files root)
       (HasCommit id (made lib root (Some parent) None (codes "make") (codes "make") moment false)) (CommitSo parent id moment files lib root) dirs three
       (λ s b sound beside so. parent_some s parent sound beside.0) (λ s b c sound beside so commit. record { b = b; so = so; put = commit }) in
-      leads_then contents may_give texts faults us zs vs (IsBeside is_second parent first) (IsOver id) (CommitSo parent id moment files lib root) (Updates id) (Pushes id parent moment files) put four
+      leads_then contents may_give texts faults us zs vs (IsBeside is_second parent first) (IsOver id) (CommitSo parent id moment files lib root) (Updates id moment) (Pushes id parent moment files) put four
       (λ s c sound beside so. over_by parent id moment lib root files s so.so.a so.b c so.so.so.at so.so.so.stored so.so.tree so.put)
       (λ s c t sound beside so updates. pushes_by is_second parent id moment files lib root s so.so.a so.b c t few so.so.so.at so.so.so.stored so.so.tree so.put updates)
 
@@ -279,7 +288,7 @@ module _ {S : Type 0} (contents : S → Option Contents) (may_give : S → Slot 
       → Leads contents faults ys zs (IsBeside true mid (files_from count number)) (Pushes head mid moment (changed_from 0 (files_from count number)))
       → Leads contents faults zs ws Any Limits → Leads contents faults ws vs IsResting (Collects filled.removed)
       → filled.paths ≡ map.len (tree_of moment (changed_from 0 (files_from count number))) → filled.bytes ≡ bytes_made count number
-      → Leads contents faults us vs (IsNew first) (λ s t. IsFilled shows count number first filled s t)
+      → Leads contents faults us vs (IsNew first) (λ s t. IsFilled (WasHead us vs) shows count number first filled s t)
   fill_led us xs ys zs ws vs shows count number moment first mid head filled shown check one two limit collect paths bytes =
       let files : List (List ℕ) = files_from count number in
       let changed : List (List ℕ) = changed_from 0 files in
@@ -288,18 +297,21 @@ module _ {S : Type 0} (contents : S → Option Contents) (may_give : S → Slot 
       let pushed : Leads contents faults us ys (IsNew first) (FirstSo first mid moment files) =
       leads_then contents may_give texts faults us xs ys (IsNew first) (IsBeside false first files) Checks (Pushes mid first moment files) (FirstSo first mid moment files) checked one
       (λ s a sound new checks. (ap head_of checks.0.kept ∙ new.1, tt)) (λ s a b sound new checks pushes. record { a = a; checks = checks; one = pushes }) in
-      let again : Leads contents faults us zs (IsNew first) (SecondSo first mid head moment files changed) =
-      leads_then contents may_give texts faults us ys zs (IsNew first) (IsBeside true mid files) (FirstSo first mid moment files) (Pushes head mid moment changed)
-      (SecondSo first mid head moment files changed) pushed two (λ s b sound new so. (so.one.head, so.one.stored)) (λ s b c sound new so pushes. record {
-        b = b;
-        so = so;
+      let again : Leads contents faults ys zs (IsAgain mid files) (SecondSo mid head moment changed) =
+      leads_more contents may_give texts faults ys zs (IsBeside true mid files) (IsAgain mid files) (Pushes head mid moment changed) (SecondSo mid head moment changed) two
+      (λ b kind. kind.0) (λ b c sound kind pushes. record {
         two = pushes;
-        complete = subst (λ (id : List ℕ). IsComplete b.objects id) so.one.head (sound.kept.complete (head_of b.state.kept) (head_kept b.state.kept sound.kept.some_kept));
+        complete = subst (λ (id : List ℕ). IsComplete b.objects id) kind.0.0 (sound.kept.complete (head_of b.state.kept) (head_kept b.state.kept sound.kept.some_kept));
       }) in
-      let limited : Leads contents faults us ws (IsNew first) (LimitSo first mid head moment files changed) =
-      leads_then contents may_give texts faults us zs ws (IsNew first) Any (SecondSo first mid head moment files changed) Limits (LimitSo first mid head moment files changed) again limit
-      (λ s c sound new so. tt) (λ s c d sound new so limits. record { c = c; so = so; limits = limits }) in
-      leads_then contents may_give texts faults us ws vs (IsNew first) IsResting (LimitSo first mid head moment files changed) (Collects filled.removed)
-      (λ s t. IsFilled shows count number first filled s t) limited collect
-      (λ s d sound new so. (so.limits.0.idle (so.so.two.idle (so.so.so.one.idle (so.so.so.checks.0.idle new.0))), so.limits.1))
-      (λ s d t sound new so collects. filled_by shows count number moment first mid head filled s so.so.so.a so.so.b so.c d t shown sound so.so.complete new so.so.so.checks so.so.so.one so.so.two so.limits collects paths bytes)
+      let limited : Leads contents faults ys ws (IsAgain mid files) (LimitSo mid head moment changed) =
+      leads_then contents may_give texts faults ys zs ws (IsAgain mid files) Any (SecondSo mid head moment changed) Limits (LimitSo mid head moment changed) again limit
+      (λ b c sound kind so. tt) (λ b c d sound kind so limits. record { c = c; so = so; limits = limits }) in
+      let collected : Leads contents faults ys vs (IsAgain mid files) (RestSo filled.removed mid head moment changed) =
+      leads_then contents may_give texts faults ys ws vs (IsAgain mid files) IsResting (LimitSo mid head moment changed) (Collects filled.removed) (RestSo filled.removed mid head moment changed)
+      limited collect (λ b d sound kind so. (so.limits.0.idle (so.so.two.idle kind.1), so.limits.1))
+      (λ b d t sound kind so collects. record { d = d; sound = sound; so = so; collects = collects }) in
+      leads_seen contents may_give texts faults us ys vs (IsNew first) (IsAgain mid files) (FirstSo first mid moment files) (RestSo filled.removed mid head moment changed)
+      (λ s t. IsFilled (WasHead us vs) shows count number first filled s t) pushed collected
+      (λ s b sound new so. ((so.one.head, so.one.stored), so.one.idle (so.checks.0.idle new.0)))
+      (λ s b t new so rest seen. filled_by (WasHead us vs) shows count number moment first mid head filled s so.a b rest.so.c rest.d t shown rest.sound rest.so.so.complete new so.checks so.one
+      (subst (WasHead us vs) so.one.head seen) rest.so.so.two rest.so.limits rest.collects paths bytes)

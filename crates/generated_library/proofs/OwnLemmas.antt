@@ -1,13 +1,14 @@
--- What calls and turns lead a library to that nobody else asks. The key lemmas are moved_alone, asks_lead and below_done.
-use Rattle.std.proofs.Common.{◌≡◌, ◌⊎◌, inl, inr, ◌≤◌, ◌<◌, ◌+◌, ℕ, zero, suc, Bool, true, false, List, [], ◌∷◌, ◌++◌, length, length-append, add-one, append-nil, refl, sym, ap, ◌∙◌, subst, arith, Option, None, Some, true≢false}
+-- What calls and turns lead a library to that nobody else asks. The key lemmas are moved_alone, asks_lead, below_done, leads_then and leads_seen.
+use Rattle.std.proofs.Common.{◌≡◌, ◌⊎◌, inl, inr, ◌≤◌, ◌<◌, ◌+◌, ℕ, zero, suc, Bool, true, false, List, [], ◌∷◌, ◌++◌, length, length-append, add-one, refl, sym, ap, ◌∙◌, subst, arith, Option, None, Some, option_map, true≢false}
 use Rattle.std.specs.Prelude.{nat_lt, slice_set}
 use Rattle.std.specs.List.{slice_get}
 use Rattle.std.proofs.lemmas.Bool.Decides.{nat_tests}
 use mathlib.Core.List.{IsPrefix}
+use Rattle.ids.specs.Key.{Objects}
 use Rattle.ids.proofs.BasicLemmas.{same_from_some}
-use Rattle.library_rules.specs.Changes.{apply, is_refused}
-use Rattle.library_rules.specs.History.{Permits, StepSo, lone}
-use Rattle.library_rules.specs.LibraryState.{IsSound, State}
+use Rattle.library_rules.specs.Changes.{is_refused}
+use Rattle.library_rules.specs.History.{StepSo, lone}
+use Rattle.library_rules.specs.LibraryState.{IsSound, State, head_of}
 use Rattle.library_rules.specs.declared.entry.Entry.{Entry}
 use Rattle.library_rules.specs.declared.entry.Step.TheVariants as step
 use Rattle.library_rules.proofs.StepLemmas.{sound_apply}
@@ -15,22 +16,24 @@ use Rattle.library_state.specs.declared.call.Call.{Call}
 use Rattle.library_state.specs.declared.refusal.Refusal.{Refusal}
 use Rattle.library_state.specs.declared.reply.Reply.{Reply}
 use Rattle.library_state.specs.declared.reply.Reply.TheVariants as reply
+use Rattle.library_state.specs.declared.state.LibState.{LibState}
 use Rattle.object_store.specs.Shelf.{Contents}
+use Rattle.object_store.specs.StoreView.{objects_of}
 use Rattle.object_store.specs.declared.shelf.Slot.{Slot}
-use Rattle.depot.specs.DepotView.{DepotView, state_of}
-use Rattle.depot.specs.Story.{IsSame, MadeBy}
+use Rattle.depot.specs.DepotView.{DepotView, running_library, state_of}
+use Rattle.depot.specs.Story.{MadeBy}
 use Rattle.depot.specs.declared.story.Change.{Change}
 use Rattle.depot.specs.declared.story.Made.{Made}
 use Rattle.depot.specs.declared.story.Made.TheVariants as made
 use Rattle.depot.proofs.StoryLemmas.{same_state}
 use Rattle.turnstile.specs.Lists.{Has}
-use Rattle.turnstile.proofs.ListsLemmas.{Has-append, prefix_length, prefix_whole}
+use Rattle.turnstile.proofs.ListsLemmas.{Has-append, prefix_length, prefix_refl, prefix_trans, prefix_whole}
 use Rattle.sync_calls.specs.Asking.{AsksSo}
-use Rattle.sync_calls.specs.Operations.{Called, Deed, Does, IsChanging, IsDone, IsMadeBy, IsReading, Line, Looked, TookTurn}
+use Rattle.sync_calls.specs.Operations.{Called, Deed, Does, IsChanging, IsMadeBy, IsReading, Line, Looked, TookTurn}
 use Rattle.sync_calls.specs.Shown.{Shown, library_after, library_at}
 use Rattle.sync_calls.specs.declared.asking.Answer.{Answer}
 use Rattle.sync_calls.proofs.ShownLemmas.{after_front}
-use Rattle.generated_library.specs.Leading.{Any, IsAnswered, IsNow, IsOwn, Leads}
+use Rattle.generated_library.specs.Leading.{Any, GoesOn, IsAnswered, IsNow, IsOwn, Leads, WasHead}
 
 -- ---- lists
 
@@ -61,6 +64,29 @@ alone_set (x ∷ y ∷ xs) zero before after only was is = cc
 alone_set (x ∷ y ∷ xs) (suc zero) before after only was is = cc
 alone_set (x ∷ y ∷ xs) (suc (suc i)) before after only was is = cc
 
+-- ---- history that goes on
+
+pub goes_none : {S : Type 0} (u : Shown S) → GoesOn u u
+goes_none u = (refl, prefix_refl u.seen)
+
+pub goes_then : {S : Type 0} (u v w : Shown S) → GoesOn u v → GoesOn v w → GoesOn u w
+goes_then u v w first second = (second.0 ∙ first.0, prefix_trans u.seen v.seen w.seen first.1 second.1)
+
+-- of the one that is shown
+pub one_goes : {S : Type 0} (us vs : List (Shown S)) (u v x y : Shown S) → us ≡ u ∷ [] → vs ≡ v ∷ [] → GoesOn u v → us ≡ x ∷ [] → vs ≡ y ∷ [] → GoesOn x y
+one_goes {S = S} us vs u v x y was is goes was_x is_y =
+    let front : u ∷ [] ≡ x ∷ [] = sym was ∙ was_x in
+    let back : v ∷ [] ≡ y ∷ [] = sym is ∙ is_y in
+    let same_u : u ≡ x = cc in
+    let same_v : v ≡ y = cc in
+    subst (λ (w : Shown S). GoesOn w y) same_u (subst (GoesOn u) same_v goes)
+
+-- what stood after all changes stands at its place
+stood_on : {S : Type 0} (u v : Shown S) (there : DepotView S) → GoesOn u v → library_at u (length u.seen) ≡ Some there → library_at v (length u.seen) ≡ Some there
+stood_on {S = S} u v there (begins, (rest, is)) stood =
+    ap (λ (start : Option (DepotView S)). library_after start v.seen (length u.seen)) begins
+    ∙ (ap (λ (seen : List (Change (DepotView S))). library_after u.start seen (length u.seen)) (sym is) ∙ (after_front u.start u.seen rest ∙ stood))
+
 -- the library behind one change more
 after_last : {V : Type 0} (start : Option V) (cs : List (Change V)) (c : Change V) → library_after start (cs ++ c ∷ []) (suc (length cs)) ≡ Some c.after.value
 after_last start [] c = refl
@@ -79,6 +105,14 @@ module _ {S : Type 0} (contents : S → Option Contents) (may_give : S → Slot 
     pub there : DepotView S
     pub stood : library_at u (length u.seen) ≡ Some there
     pub told : state_of contents faults there ≡ Some s
+
+  -- what stands has the state and the collection of its library
+  pub stands_has : (d : DepotView S) (s : State) → state_of contents faults d ≡ Some s → (s.running ≡ d.running) × (s.state ≡ d.state)
+  stands_has d s told = by (objects_of contents d.store) told
+    where
+      by : (o : Option Objects) → option_map (running_library d.state d.running (faults d.store.shelf)) o ≡ Some s → (s.running ≡ d.running) × (s.state ≡ d.state)
+      by None e = cc
+      by (Some held) e = let same = sym (same_from_some (running_library d.state d.running (faults d.store.shelf) held) s e) in (ap (λ (u : State). u.running) same, ap (λ (u : State). u.state) same)
 
   -- a deed led from what stood before to what stands now
   pub record Moved (deed : Deed) (s : State) (v : Shown S) : Type 0 where
@@ -199,6 +233,10 @@ module _ {S : Type 0} (contents : S → Option Contents) (may_give : S → Slot 
         | inr last ↦ elim last as (λ _. p < length v.seen) [ inl is ↦ omega (arith, is, changes.whole) | inr none ↦ absurd none ]
       ]
 
+  pub done_goes : (u : Shown S) (place : ℕ) (deed : Deed) (v : Shown S) → IsMade u place deed v → GoesOn u v
+  done_goes u place deed v (inl reads) = (ap (λ (w : Shown S). w.start) reads.same, reads.grows)
+  done_goes u place deed v (inr changes) = (ap (λ (w : Shown S). w.start) changes.same, changes.grows)
+
   pub owns_before : (u : Shown S) (place : ℕ) (deed : Deed) (v : Shown S) → IsMade u place deed v → BooksSeen u → OwnsSeen v → OwnsSeen u
   owns_before u place deed v (inl reads) books owns = subst OwnsSeen (read_same u place deed v reads books owns) owns
   owns_before u place deed v (inr changes) books owns = change_owns u place deed v changes owns
@@ -235,27 +273,27 @@ module _ {S : Type 0} (contents : S → Option Contents) (may_give : S → Slot 
   asks_lead us vs lib call moment answer lines draws books (AsksSo.denied library u at may is empty same) done = absurd (not_refused answer _ 0 0 is done)
   asks_lead us vs lib call moment answer lines draws books (AsksSo.spent library u at may last is empty same) done = absurd (not_refused answer _ 0 0 is done)
   asks_lead us vs lib call moment answer lines draws books (AsksSo.took library u at may drawn drew fits turn) done = record {
-    own = λ owns. let one = alone owns in record { only = u; is = one.0; each = owns_before u turn.place (Called call moment answer.reply) turn.after turn.done (books u one.0) one.1 };
-    to = λ owns s now any. leads owns s now (alone owns);
+    own = λ owns. let one = alone owns in record { only = u; is = one.0; each = owns_before u turn.place (Called call moment answer.reply) turn.after turn.done (books u one.0) one.2 };
+    goes = λ owns x y was is. let one = alone owns in one_goes us vs u turn.after x y one.0 one.1 (done_goes u turn.place (Called call moment answer.reply) turn.after turn.done) was is;
+    to = λ owns s now any. leads s now (alone owns);
   }
     where
-      alone : IsOwn vs → (us ≡ u ∷ []) × OwnsSeen turn.after
+      alone : IsOwn vs → (us ≡ u ∷ []) × (vs ≡ turn.after ∷ []) × OwnsSeen turn.after
       alone owns =
           let set = alone_set us library u turn.after owns.only at.at (sym turn.is ∙ owns.is) in
-          (set.0, subst OwnsSeen set.1 owns.each)
+          (set.0, owns.is ∙ ap (λ (w : Shown S). w ∷ []) set.1, subst OwnsSeen set.1 owns.each)
 
-      leads : IsOwn vs → (s : State) → IsNow contents faults us s → (us ≡ u ∷ []) × OwnsSeen turn.after → (t : State) × IsNow contents faults vs t × IsAnswered call moment answer.reply s t
-      leads owns s now (is, after) =
+      leads : (s : State) → IsNow contents faults us s → (us ≡ u ∷ []) × (vs ≡ turn.after ∷ []) × OwnsSeen turn.after → (t : State) × IsNow contents faults vs t × IsAnswered call moment answer.reply s t
+      leads s now (is, one, after) =
           let moved = moved_alone u turn.place (Called call moment answer.reply) turn.after turn.done (books u is) after s (led_now us vs u is s now) in
           let told = moved.does.serves.told s moved.was in
           let so = told.1 in
           let answered = by_entry s call moment answer.reply so.state told.0 so.step in
-          let stands = moved.stands so.state so.left in
-          let set = alone_set us library u turn.after owns.only at.at (sym turn.is ∙ owns.is) in (
+          let stands = moved.stands so.state so.left in (
             so.state,
             record {
               only = turn.after;
-              is = owns.is ∙ ap (λ (w : Shown S). w ∷ []) set.1;
+              is = one;
               there = stands.there;
               stood = stands.stood;
               told = stands.told;
@@ -266,25 +304,61 @@ module _ {S : Type 0} (contents : S → Option Contents) (may_give : S → Slot 
 
   -- ---- one after another
 
+  leads_goes : (us ms vs : List (Shown S)) (P Q : State → Type 0) (A B : State → State → Type 0) → Leads contents faults us ms P A → Leads contents faults ms vs Q B
+      → IsOwn vs → (u v : Shown S) → us ≡ u ∷ [] → vs ≡ v ∷ [] → GoesOn u v
+  leads_goes us ms vs P Q A B first second owns u v was is =
+      let mid = second.own owns in
+      goes_then u mid.only v (first.goes mid u mid.only was mid.is) (second.goes owns mid.only v mid.is is)
+
   pub leads_then : (us ms vs : List (Shown S)) (P Q : State → Type 0) (A B R : State → State → Type 0) → Leads contents faults us ms P A → Leads contents faults ms vs Q B
       → ((s m : State) → IsSound s → P s → A s m → Q m) → ((s m t : State) → IsSound m → P s → A s m → B m t → R s t) → Leads contents faults us vs P R
   leads_then us ms vs P Q A B R first second ready both = record {
     own = λ owns. first.own (second.own owns);
+    goes = leads_goes us ms vs P Q A B first second;
     to = λ owns s now kind.
         let one = first.to (second.own owns) s now kind in
         let two = second.to owns one.0 one.1 (ready s one.0 now.sound kind one.2) in
         (two.0, two.1, both s one.0 two.0 one.1.sound kind one.2 two.2);
   }
 
+  -- and the head between them was one
+  pub leads_seen : (us ms vs : List (Shown S)) (P Q : State → Type 0) (A B R : State → State → Type 0) → Leads contents faults us ms P A → Leads contents faults ms vs Q B
+      → ((s m : State) → IsSound s → P s → A s m → Q m) → ((s m t : State) → P s → A s m → B m t → WasHead us vs (head_of m.state.kept) → R s t) → Leads contents faults us vs P R
+  leads_seen us ms vs P Q A B R first second ready both = record {
+    own = λ owns. first.own (second.own owns);
+    goes = leads_goes us ms vs P Q A B first second;
+    to = λ owns s now kind.
+        let one = first.to (second.own owns) s now kind in
+        let two = second.to owns one.0 one.1 (ready s one.0 now.sound kind one.2) in
+        let front = first.goes (second.own owns) now.only one.1.only now.is one.1.is in
+        let back = second.goes owns one.1.only two.1.only one.1.is two.1.is in (
+          two.0,
+          two.1,
+          both s one.0 two.0 kind one.2 two.2 (record {
+            before = now.only;
+            was = now.is;
+            after = two.1.only;
+            is = two.1.is;
+            place = length one.1.only.seen;
+            since = prefix_length now.only.seen one.1.only.seen front.1;
+            there = one.1.there;
+            stood = stood_on one.1.only two.1.only one.1.there back one.1.stood;
+            head = ap (λ (x : LibState). head_of x.kept) (sym (stands_has one.1.there one.0 one.1.told).1);
+          }),
+        );
+  }
+
   pub leads_more : (us vs : List (Shown S)) (P Q : State → Type 0) (A B : State → State → Type 0) → Leads contents faults us vs P A → ((s : State) → Q s → P s)
       → ((s t : State) → IsSound s → Q s → A s t → B s t) → Leads contents faults us vs Q B
   leads_more us vs P Q A B leads ready more = record {
     own = leads.own;
+    goes = leads.goes;
     to = λ owns s now kind. let one = leads.to owns s now (ready s kind) in (one.0, one.1, more s one.0 now.sound kind one.2);
   }
 
   pub leads_none : (us vs : List (Shown S)) (P : State → Type 0) (R : State → State → Type 0) → vs ≡ us → ((s : State) → P s → R s s) → Leads contents faults us vs P R
   leads_none us vs P R same each = record {
     own = λ owns. subst IsOwn same owns;
+    goes = λ owns u v was is. one_goes us vs u u u v was (same ∙ was) (goes_none u) was is;
     to = λ owns s now kind. (s, subst (λ ws. IsNow contents faults ws s) (sym same) now, each s kind);
   }

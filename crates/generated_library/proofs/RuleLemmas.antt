@@ -1,5 +1,5 @@
 -- What the calls of a push leave that aren't refused. The key lemmas are put_leaves, check_leaves, update_leaves and limit_leaves.
-use Rattle.std.proofs.Common.{◌≡◌, ◌≢◌, ◌⊎◌, inl, inr, ◌||◌, ℕ, ℤ, Bool, true, false, not, cond, if◌then◌else◌, List, [], ◌∷◌, ◌++◌, refl, sym, ap, ◌∙◌, subst, true≢false, Option, None, Some, is_some, Ok, Err, nat_lt}
+use Rattle.std.proofs.Common.{◌≡◌, ◌≢◌, ◌⊎◌, inl, inr, ◌||◌, ℕ, ℤ, Bool, true, false, not, cond, if◌then◌else◌, List, [], ◌∷◌, ◌++◌, refl, sym, ap, ap₂, ◌∙◌, subst, true≢false, Option, None, Some, is_some, Ok, Err, nat_lt}
 use Rattle.std.specs.Prelude.{⊤}
 use Rattle.std.specs.Bool.{then_some}
 use Rattle.std.specs.FinMap as map
@@ -49,6 +49,7 @@ use Rattle.library_rules.proofs.MemberLemmas.{same_id-itself}
 use Rattle.library_rules.proofs.StepLemmas.{objects_after}
 use Rattle.std.proofs.lemmas.Slice.Eq.{bytes_eq-Decides}
 use Rattle.generated_library.specs.Leading.{Adds, Grows, IsAnswered, call_of}
+use Rattle.generated_library.specs.Filled.{update_of}
 
 -- ---- an entry that isn't refused
 
@@ -280,11 +281,13 @@ module _ (s : State) (e : Entry) (goes : is_refused e.reply ≡ false) (pushed :
       by_may true told = by_known base token (is_kept s.state.kept pushed) refl (subst (GoesSo e) (update_due-is s token pushed) told)
       by_may false told = absurd told
 
--- an update that tells the commit as the head, which is over the head: it is the head, and no object comes
+-- an update that tells the commit as the head, which is over the head: it is the head, by this update unless it was the head before, and no
+-- object comes
 pub update_leaves : (secret : Option (List ℕ)) (moment : ℕ) (s t : State) (pushed : List ℕ) (commit : Commit)
     → IsAnswered (call_of secret (act.Update pushed)) moment (reply.Updated pushed) s t → s.state.kept ≢ []
     → commit_at s.objects pushed ≡ Ok commit → commit.parent ≡ Some (head_of s.state.kept)
-    → (t.objects ≡ s.objects) × (head_of t.state.kept ≡ pushed) × (t.state.kept ≢ []) × (s.running ≡ None → t.running ≡ None)
+    → (t.objects ≡ s.objects) × (head_of t.state.kept ≡ pushed) × (head_of s.state.kept ≢ pushed → t.state.kept ≡ s.state.kept ++ update_of pushed moment ∷ [])
+    × (t.state.kept ≢ []) × (s.running ≡ None → t.running ≡ None)
 update_leaves secret moment s t pushed commit answered some at over =
     let e = answered.entry in
     let call = call_of secret (act.Update pushed) in
@@ -296,6 +299,7 @@ update_leaves secret moment s t pushed commit answered some at over =
     ap (λ (u : State). u.state.kept) now in (
       ap (λ (u : State). u.objects) answered.is ∙ objects_now s e goes call answered.is_step answered.permits [] taken.0,
       ap head_of kept ∙ by_head e answered.answers (is_kept s.state.kept pushed) refl taken.1,
+      λ other. kept ∙ by_kept e answered.answers answered.at other (is_kept s.state.kept pushed) refl taken.1,
       subst (λ (installs : List Install). installs ≢ []) (sym kept) (still_some e (is_kept s.state.kept pushed)),
       λ idle. ap (λ (u : State). u.running) answered.is ∙ idle_now s e goes call answered.is_step answered.permits idle,
     )
@@ -310,6 +314,15 @@ update_leaves secret moment s t pushed commit answered some at over =
     by_head e said true is (inr (unknown, head)) = absurd (true≢false (sym is ∙ unknown))
     by_head e said false is how =
         head_push s.state.kept (record { head = head_in e.reply pushed; pushed = pushed; at = e.moment }) ∙ ap (λ (r : Reply). head_in r pushed) said
+
+    by_kept : (e : Entry) → e.reply ≡ reply.Updated pushed → e.moment ≡ moment → head_of s.state.kept ≢ pushed → (b : Bool) → is_kept s.state.kept pushed ≡ b
+        → ((is_kept s.state.kept pushed ≡ true) × (e.reply ≡ reply.Updated (head_of s.state.kept))) ⊎ ((is_kept s.state.kept pushed ≡ false) × (e.reply ≡ reply.Updated pushed))
+        → (if b then s.state else record s.state { kept = s.state.kept ++ record { head = head_in e.reply pushed; pushed = pushed; at = e.moment } ∷ [] }).kept
+        ≡ s.state.kept ++ update_of pushed moment ∷ []
+    by_kept e said at other true is (inl (known, head)) = absurd (other (updated (head_of s.state.kept) pushed (sym head ∙ said)))
+    by_kept e said at other true is (inr (unknown, head)) = absurd (true≢false (sym is ∙ unknown))
+    by_kept e said at other false is how =
+        ap₂ (λ (r : Reply) (n : ℕ). s.state.kept ++ record { head = head_in r pushed; pushed = pushed; at = n } ∷ []) said at
 
     still_some : (e : Entry) (b : Bool) → (if b then s.state else record s.state { kept = s.state.kept ++ record { head = head_in e.reply pushed; pushed = pushed; at = e.moment } ∷ [] }).kept ≢ []
     still_some e true = some

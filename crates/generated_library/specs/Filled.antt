@@ -15,6 +15,7 @@ use Rattle.ids.specs.declared.key.Key.{Key}
 use Rattle.library_rules.specs.LibraryState.{State, head_of, is_needed, is_stored}
 use Rattle.object_graph.specs.Objects.{AreEntriesOf, IsTreeOf, block_key, commit_at, commit_key, fs_key}
 use Rattle.object_graph.specs.Traversal.{IsComplete, is_in, needs}
+use Rattle.library_state.specs.declared.history.Install.{Install}
 use Rattle.object_graph.specs.Unchanged.{AgreeOn, Keeps}
 use Rattle.object_graph.specs.declared.entry.Entry.{Entry}
 use Rattle.object_graph.specs.declared.entry.Entry.TheVariants as entry
@@ -60,6 +61,10 @@ entries_of moment files = with_entries moment 0 files map.empty
 
 -- ---- what was pushed
 
+-- the update at a moment by which a commit became the head as it was pushed
+abbrev pub update_of : List ℕ → ℕ → Install
+update_of id moment = record { head = id; pushed = id; at = moment }
+
 -- a commit that `make` made at a moment, over one other, lists these files, each of one block and under its size; so it has their tree, whose
 -- directories have the time of the files
 pub record IsPush (objects : Objects) (id parent : List ℕ) (moment : ℕ) (files : List (List ℕ)) : Type 0 where
@@ -74,23 +79,26 @@ pub record IsPush (objects : Objects) (id parent : List ℕ) (moment : ℕ) (fil
 abbrev pub IsOfPushes : (old new : Objects) → (mid head : List ℕ) → Key → Type 0
 IsOfPushes old new mid head key = (is_stored old key ≡ true) ⊎ ((is_in (needs new mid) key ≡ true) ⊎ (is_in (needs new head) key ≡ true))
 
--- at a moment that the clock shows the files were pushed over the first commit, and then every tenth with one byte more over that; so the
--- library stood as its collection began, with all that was stored before it was filled, and beside that with what the two commits need, all
--- of it and nothing else. What is left stood there then; one update is kept, no history is to be kept, and a kept commit needs all that is
--- left. The numbers are those of the head's tree, of the objects that were stored as the collection began, and of those that left
-pub record IsFilled (shows : ℕ → Type 0) (count number : ℕ) (first : List ℕ) (filled : Filled) (s t : State) : Type 0 where
+-- at a moment that the clock shows the files were pushed over the first commit, by a commit that was the head, and then every tenth with one
+-- byte more over that; so the library stood as its collection began, with all that was stored before it was filled, and beside that with what
+-- the two commits need, all of it and nothing else. What is left stood there then; one update is kept, which was made at that moment (but where
+-- the second commit is the first itself), no history is to be kept, and a kept commit needs all that is left. The numbers are those of the
+-- head's tree, of the objects that were stored as the collection began, and of those that left
+pub record IsFilled (was_head : List ℕ → Type 0) (shows : ℕ → Type 0) (count number : ℕ) (first : List ℕ) (filled : Filled) (s t : State) : Type 0 where
   pub moment : ℕ
   pub shown : shows moment
   pub before : Objects
   pub since : Keeps s.objects before
   pub mid : List ℕ
   pub one : IsPush before mid first moment (files_from count number)
+  pub pushed : was_head mid
   pub two : IsPush before (head_of t.state.kept) mid moment (changed_from 0 (files_from count number))
   pub complete : IsComplete before mid × IsComplete before (head_of t.state.kept)
   pub new : (key : Key) → is_stored before key ≡ true → IsOfPushes s.objects before mid (head_of t.state.kept) key
   pub head : IsPush t.objects (head_of t.state.kept) mid moment (changed_from 0 (files_from count number))
   pub left : Keeps t.objects before
   pub alone : length t.state.kept ≡ 1
+  pub update : mid ≢ head_of t.state.kept → t.state.kept ≡ update_of (head_of t.state.kept) moment ∷ []
   pub clean : (key : Key) → is_stored t.objects key ≡ true → is_needed t.objects t.state.kept key ≡ true
   pub days : t.state.days ≡ pos 0
   pub paths : filled.paths ≡ map.len (tree_of moment (changed_from 0 (files_from count number)))
@@ -185,10 +193,11 @@ HasCommit id commit s t = Grows s t × (commit.id ≡ id) × (commit_at t.object
 abbrev pub IsOver : List ℕ → State → Type 0
 IsOver id s = (commit : Commit) × (commit_at s.objects id ≡ Ok commit) × (commit.parent ≡ Some (head_of s.state.kept))
 
--- it is the head
-pub record Updates (id : List ℕ) (s t : State) : Type 0 where
+-- it is the head, and this moment's update is kept unless it was the head before
+pub record Updates (id : List ℕ) (moment : ℕ) (s t : State) : Type 0 where
   pub objects : t.objects ≡ s.objects
   pub head : head_of t.state.kept ≡ id
+  pub kept : head_of s.state.kept ≢ id → t.state.kept ≡ s.state.kept ++ update_of id moment ∷ []
   pub idle : s.running ≡ None → t.running ≡ None
 
 -- a library stands at a commit, and has the files before a second push
@@ -200,6 +209,7 @@ pub record Pushes (id parent : List ℕ) (moment : ℕ) (files : List (List ℕ)
   pub keeps : Keeps s.objects t.objects
   pub idle : s.running ≡ None → t.running ≡ None
   pub head : head_of t.state.kept ≡ id
+  pub kept : parent ≢ id → t.state.kept ≡ s.state.kept ++ update_of id moment ∷ []
   pub push : (objects : Objects) → Keeps t.objects objects → IsPush objects id parent moment files
   pub stored : AreStored t.objects files
   pub new : (objects : Objects) → Keeps t.objects objects → IsComplete objects id → Adds (λ (k : Key). is_in (needs objects id) k ≡ true) s t
@@ -212,13 +222,14 @@ Limits s t = Grows s t × (t.state.days ≡ pos 0) × (t.objects ≡ s.objects)
 abbrev pub IsResting : State → Type 0
 IsResting s = (s.running ≡ None) × (s.state.days ≡ pos 0)
 
--- the head alone is kept, what it needs is as it was, and so is the limit of days; so many objects left, all that it doesn't need
+-- the last update alone is kept, what its head needs is as it was, and so is the limit of days; so many objects left, all that it doesn't need
 pub record Collects (removed : ℕ) (s t : State) : Type 0 where
   pub gone : ℕ
   pub size : map.len s.objects ≡ map.len t.objects + gone
   pub count : removed ≡ told gone
   pub left : Keeps t.objects s.objects
   pub alone : length t.state.kept ≡ 1
+  pub last : (front : List Install) (install : Install) → s.state.kept ≡ front ++ install ∷ [] → t.state.kept ≡ install ∷ []
   pub head : head_of t.state.kept ≡ head_of s.state.kept
   pub agree : AgreeOn (needs s.objects (head_of s.state.kept)) s.objects t.objects
   pub clean : (key : Key) → is_stored t.objects key ≡ true → is_needed t.objects t.state.kept key ≡ true

@@ -1,5 +1,5 @@
 -- Why a filling stops, and the collection with which one ends. Our own. Read EndsFor, then WasRefused and IsOfOneName; and WasCollected.
-use Rattle.std.specs.Prelude.{◌≡◌, ◌⊎◌, ℕ, List, Option, Some, pos, ⊤}
+use Rattle.std.specs.Prelude.{◌≡◌, ◌⊎◌, ℕ, Bool, List, Option, Some, pos, ⊤}
 use Rattle.library_state.specs.declared.call.Act.{Act}
 use Rattle.library_state.specs.declared.call.Act.TheVariants as act
 use Rattle.library_state.specs.declared.call.Op.TheVariants as op
@@ -18,7 +18,8 @@ use Rattle.sync_calls.specs.declared.collecting.Collected.TheVariants as collect
 use Rattle.tree_merge.specs.TreeBuilding.{IsClash}
 use Rattle.tree_merge.specs.declared.tree_builder.BuildFault.{BuildFault}
 use Rattle.tree_merge.specs.declared.tree_builder.BuildFault.TheVariants as unmade
-use Rattle.generated_library.specs.Filled.{entries_of}
+use Rattle.generated_library.specs.Filled.{entries_of, pushed_files}
+use Rattle.generated_library.specs.Generated.{files_from}
 use Rattle.generated_library.specs.Leading.{call_of}
 use Rattle.generated_library.specs.declared.asking.NotFilled.{NotFilled}
 use Rattle.generated_library.specs.declared.asking.NotFilled.TheVariants as not_filled
@@ -42,9 +43,9 @@ abbrev pub StopsAsBuilt : BuildFault → NotFilled → Type 0
 StopsAsBuilt (unmade.Taken id) why = why ≡ not_filled.Taken id
 StopsAsBuilt unmade.NoMemory why = why ≡ not_filled.NoMemory
 
--- two directories of the tree of generated files have this name, or one has, and it is forty zeros
-abbrev pub IsOfOneName : ℕ → List ℕ → Type 0
-IsOfOneName moment id = (files : List (List ℕ)) × IsClash (entries_of moment files) id
+-- two directories of the tree of a push, the first or the second, have this name, or one has, and it is forty zeros
+abbrev pub IsOfOneName : (count number moment : ℕ) → List ℕ → Type 0
+IsOfOneName count number moment id = (is_second : Bool) × IsClash (entries_of moment (pushed_files is_second 0 (files_from count number))) id
 
 module _ {S : Type 0} (contents : S → Option Contents) (may_give : S → Slot → Option (List ℕ) → Type 0) (texts faults : S → ℕ) (lib secret : List ℕ) where
   -- this was asked of the hall through a pass, which is so since it was answered so
@@ -75,14 +76,18 @@ module _ {S : Type 0} (contents : S → Option Contents) (may_give : S → Slot 
     pub turns : ℕ
     pub collects : CollectsSo contents may_give texts faults shows us lib (Some secret) (collected.Done number removed turns) lines (shown_by pass) (drawn_by pass)
 
-  -- a step stops for the last thing that was asked, at this moment; or for a clash of names
-  abbrev pub StopsFor : ℕ → PassOf S → NotFilled → Type 0
-  StopsFor moment pass (not_filled.Refused why) = WasRefused moment why pass
-  StopsFor moment pass (not_filled.Taken id) = IsOfOneName moment id
-  StopsFor moment pass not_filled.NoMemory = ⊤
+  -- a step stops for the last thing that was asked, at this moment; or for a clash of names, which these are
+  abbrev pub StopsWhere : (List ℕ → Type 0) → ℕ → PassOf S → NotFilled → Type 0
+  StopsWhere clashes moment pass (not_filled.Refused why) = WasRefused moment why pass
+  StopsWhere clashes moment pass (not_filled.Taken id) = clashes id
+  StopsWhere clashes moment pass not_filled.NoMemory = ⊤
 
-  -- so does a whole filling, at a moment that the clock shows
-  abbrev pub EndsFor : (ℕ → Type 0) → PassOf S → NotFilled → Type 0
-  EndsFor shows pass (not_filled.Refused why) = ((moment : ℕ) × shows moment × WasRefused moment why pass) ⊎ WasNotCollected shows why pass
-  EndsFor shows pass (not_filled.Taken id) = (moment : ℕ) × shows moment × IsOfOneName moment id
-  EndsFor shows pass not_filled.NoMemory = ⊤
+  -- one that makes no directory stops for no clash
+  abbrev pub StopsFor : ℕ → PassOf S → NotFilled → Type 0
+  StopsFor moment pass why = StopsWhere (λ id. ⊥) moment pass why
+
+  -- so does a whole filling of so many files, from this number on, at a moment that the clock shows
+  abbrev pub EndsFor : (count number : ℕ) → (ℕ → Type 0) → PassOf S → NotFilled → Type 0
+  EndsFor count number shows pass (not_filled.Refused why) = ((moment : ℕ) × shows moment × WasRefused moment why pass) ⊎ WasNotCollected shows why pass
+  EndsFor count number shows pass (not_filled.Taken id) = (moment : ℕ) × shows moment × IsOfOneName count number moment id
+  EndsFor count number shows pass not_filled.NoMemory = ⊤

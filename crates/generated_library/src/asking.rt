@@ -112,7 +112,7 @@ pub(crate) fn update<S: Shelf, R: Wait>(
     requires ready { AreReady S.contents S.may_give S.texts S.faults hall.now pass.old }
     ensures ready { AreReady S.contents S.may_give S.texts S.faults hall.now pass.new }
     ensures size { (shares_of pass.new ≡ shares_of pass.old) × (made_with pass.new ≡ made_with pass.old) }
-    ensures leads { IfOk result (λ done. Leads S.contents S.faults (shown_by pass.old) (shown_by pass.new) (IsOver commit) (Updates commit)) }
+    ensures leads { IfOk result (λ done. Leads S.contents S.faults (shown_by pass.old) (shown_by pass.new) (IsOver commit) (Updates commit asker.now.moment)) }
     ensures stops { IfErr result (StopsFor S.contents S.may_give S.texts S.faults asker.now.lib asker.now.secret asker.now.moment pass.new) }
 {
     let reply = ask(rt, hall, pass, asker, Act::Update(commit))?;

@@ -4,7 +4,7 @@ ghost use Rattle.std.specs.FinMap as map;
 ghost use Rattle.sync_calls.specs.Hall.{AreReady, made_with, shares_of, shown_by};
 ghost use Rattle.generated_library.specs.Filled.{Checks, Collects, IsFilled, IsNew, IsResting, Limits};
 ghost use Rattle.generated_library.specs.Generated.{bytes_made, changed_from, files_from, tree_of};
-ghost use Rattle.generated_library.specs.Leading.{Any, Leads};
+ghost use Rattle.generated_library.specs.Leading.{Any, Leads, WasHead};
 ghost use Rattle.generated_library.specs.Stopping.{EndsFor, StopsFor, WasCollected};
 
 use crate::asking::{Asker, NotFilled, ask};
@@ -54,7 +54,7 @@ pub fn fill<S: Shelf, C: Clock, R: Wait>(
     ensures ready { AreReady S.contents S.may_give S.texts S.faults hall.now pass.new }
     ensures size { (shares_of pass.new ≡ shares_of pass.old) × (made_with pass.new ≡ made_with pass.old) }
     ensures leads { IfOk result (λ filled. Leads S.contents S.faults (shown_by pass.old) (shown_by pass.new) (IsNew plan.now.head)
-        (λ s t. IsFilled (C.shows clock.now) plan.now.count plan.now.number plan.now.head filled s t)) }
+        (λ s t. IsFilled (WasHead (shown_by pass.old) (shown_by pass.new)) (C.shows clock.now) plan.now.count plan.now.number plan.now.head filled s t)) }
     ensures numbers { IfOk result (λ filled. (moment : ℕ) × C.shows clock.now moment
         × (filled.paths ≡ map.len (tree_of moment (changed_from 0 (files_from plan.now.count plan.now.number)))) × (filled.bytes ≡ bytes_made plan.now.count plan.now.number)) }
 
@@ -62,7 +62,7 @@ pub fn fill<S: Shelf, C: Clock, R: Wait>(
     ensures last { IfOk result (λ filled. WasCollected S.contents S.may_give S.texts S.faults plan.now.lib plan.now.secret (C.shows clock.now) filled.removed pass.new) }
 
     // It stops for what was asked last, for a clash of names, or for want of memory.
-    ensures stops { IfErr result (EndsFor S.contents S.may_give S.texts S.faults plan.now.lib plan.now.secret (C.shows clock.now) pass.new) }
+    ensures stops { IfErr result (EndsFor S.contents S.may_give S.texts S.faults plan.now.lib plan.now.secret plan.now.count plan.now.number (C.shows clock.now) pass.new) }
 {
     let asker = Asker {
         lib: plan.lib,
@@ -137,7 +137,7 @@ fn collect<S: Shelf, C: Clock, R: Wait>(
     ensures size { (shares_of pass.new ≡ shares_of pass.old) × (made_with pass.new ≡ made_with pass.old) }
     ensures leads { IfOk result (λ removed. Leads S.contents S.faults (shown_by pass.old) (shown_by pass.new) IsResting (Collects removed)) }
     ensures last { IfOk result (λ removed. WasCollected S.contents S.may_give S.texts S.faults plan.now.lib plan.now.secret (C.shows clock.now) removed pass.new) }
-    ensures stops { IfErr result (EndsFor S.contents S.may_give S.texts S.faults plan.now.lib plan.now.secret (C.shows clock.now) pass.new) }
+    ensures stops { IfErr result (EndsFor S.contents S.may_give S.texts S.faults plan.now.lib plan.now.secret plan.now.count plan.now.number (C.shows clock.now) pass.new) }
 {
     match hall.collect(rt, pass, plan.lib, &Some(plan.secret), clock) {
         Collected::Done {

@@ -7,10 +7,11 @@ ghost use Rattle.fs_objects.specs.FsObject.{fs_of};
 ghost use Rattle.fs_objects.specs.declared.fs_object.FsObject.TheVariants as file_variants;
 ghost use Rattle.commit_objects.specs.Made.{made};
 ghost use Rattle.sync_calls.specs.Hall.{AreReady, made_with, shares_of, shown_by};
+ghost use Rattle.tree_merge.specs.TreeBuilding.{IsClash};
 ghost use Rattle.generated_library.specs.Filled.{HasCommit, HasFiles, HasTree, IsBeside, Pushes, PutsAll, PutsBoth, PutsFile, Stores, entries_of, entry_by, file_id, file_object, file_text, is_marked, is_put, marked, pushed_bytes, pushed_files, put_entry, with_entry};
 ghost use Rattle.generated_library.specs.Generated.{after_file, bytes_pushed, file_bytes, files_from, tree_of};
 ghost use Rattle.generated_library.specs.Leading.{Any, Leads};
-ghost use Rattle.generated_library.specs.Stopping.{StopsAsBuilt, StopsFor};
+ghost use Rattle.generated_library.specs.Stopping.{StopsAsBuilt, StopsFor, StopsWhere};
 
 use crate::asking::{Asker, NotFilled, put, update};
 use crate::directories::{build_at, time_of};
@@ -67,7 +68,8 @@ pub(crate) fn push<S: Shelf, R: Wait>(
     ensures paths { IfOk result (λ pushed. pushed.paths ≡ map.len (tree_of asker.now.moment (pushed_files round.is_second 0 (files_from round.count round.number)))) }
     ensures leads { IfOk result (λ pushed. Leads S.contents S.faults (shown_by pass.old) (shown_by pass.new) (IsBeside round.is_second parent (files_from round.count round.number))
         (Pushes pushed.commit parent asker.now.moment (pushed_files round.is_second 0 (files_from round.count round.number)))) }
-    ensures stops { IfErr result (StopsFor S.contents S.may_give S.texts S.faults asker.now.lib asker.now.secret asker.now.moment pass.new) }
+    ensures stops { IfErr result (StopsWhere S.contents S.may_give S.texts S.faults asker.now.lib asker.now.secret
+        (IsClash (entries_of asker.now.moment (pushed_files round.is_second 0 (files_from round.count round.number)))) asker.now.moment pass.new) }
 {
     let mut entries = PathTable::new(alloc);
     let bytes = put_files(rt, alloc, hall, pass, asker, round, &mut entries)?;
@@ -307,7 +309,7 @@ fn put_directories<S: Shelf, R: Wait>(
     ensures ready { AreReady S.contents S.may_give S.texts S.faults hall.now pass.new }
     ensures size { (shares_of pass.new ≡ shares_of pass.old) × (made_with pass.new ≡ made_with pass.old) }
     ensures leads { IfOk result (λ root. Leads S.contents S.faults (shown_by pass.old) (shown_by pass.new) Any (HasTree asker.now.moment entries root)) }
-    ensures stops { IfErr result (StopsFor S.contents S.may_give S.texts S.faults asker.now.lib asker.now.secret asker.now.moment pass.new) }
+    ensures stops { IfErr result (StopsWhere S.contents S.may_give S.texts S.faults asker.now.lib asker.now.secret (IsClash entries) asker.now.moment pass.new) }
 {
     let built = match build_at(alloc, asker.moment, entries) {
         Ok(built) => built,

@@ -22,7 +22,7 @@ use Rattle.sync_calls.specs.Shown.{LibraryPass, Shown, all_shown, library_after,
 use Rattle.sync_calls.proofs.ShownLemmas.{last_at}
 use Rattle.turnstile.specs.PassView.{seen_of, start_of}
 use Rattle.generated_library.specs.Filled.{IsFilled, IsNew}
-use Rattle.generated_library.specs.Leading.{IsNow, IsOwn, Leads}
+use Rattle.generated_library.specs.Leading.{IsNow, IsOwn, Leads, WasHead}
 use Rattle.generated_library.specs.Stopping.{EndsFor, WasCollected}
 use Rattle.generated_library.specs.declared.asking.NotFilled.{NotFilled}
 use Rattle.generated_library.specs.declared.filling.Filled.{Filled}
@@ -134,6 +134,7 @@ module _ {S : Type 0} (contents : S → Option Contents) (may_give : S → Slot 
         begins = out.starts;
         comes = subst (λ (d : DepotView S). ComesBy contents may_give texts faults d (seen_of out.to) after) same out.closed.comes;
         each = out.closed.each;
+        drawn = out.closed.drawn;
       }
 
   -- the library that comes out is the last one that was shown
@@ -165,29 +166,36 @@ module _ {S : Type 0} (contents : S → Option Contents) (may_give : S → Slot 
   -- ---- what came of a filling
 
   module _ (shows : ℕ → Type 0) (count number : ℕ) where
-    filled_from : (head : List ℕ) (depot after : DepotView S) (what : Filled) (left : ℕ) (s : State) → head ≡ head_of depot.state.kept → IsLeft contents faults after left
-        → LedOut after (λ s t. IsFilled shows count number head what s t) s → IsFilledFrom contents faults shows count number s depot after what (count_sum left what.removed)
-    filled_from head depot after what left s is counts led =
-        let filled : IsFilled shows count number (head_of depot.state.kept) what s led.t = subst (λ (h : List ℕ). IsFilled shows count number h what s led.t) is led.stands in
+    filled_from : (head : List ℕ) (depot after : DepotView S) (us : List (Shown S)) (pass : PassOf S) (out : ComesOut depot pass after) (what : Filled) (left : ℕ) (s : State)
+        → head ≡ head_of depot.state.kept → us ≡ new_shown depot ∷ [] → IsLeft contents faults after left
+        → LedOut after (λ s t. IsFilled (WasHead us (shown_by pass)) shows count number head what s t) s
+        → IsFilledFrom contents faults shows count number s depot after out.to what (count_sum left what.removed)
+    filled_from head depot after us pass out what left s is begins counts led =
+        let shown : shown_by pass ≡ shown_of out.to ∷ [] = ap (λ (ps : List (LibraryPass S)). all_shown ps) out.is in
+        let filled : IsFilled (WasHead (new_shown depot ∷ []) (shown_of out.to ∷ [])) shows count number (head_of depot.state.kept) what s led.t =
+        subst (λ (h : List ℕ). IsFilled (WasHead (new_shown depot ∷ []) (shown_of out.to ∷ [])) shows count number h what s led.t) is
+        (subst (λ (ws : List (Shown S)). IsFilled (WasHead ws (shown_of out.to ∷ [])) shows count number head what s led.t) begins
+        (subst (λ (ws : List (Shown S)). IsFilled (WasHead us ws) shows count number head what s led.t) shown led.stands)) in
         record {
           t = led.t;
           told = led.told;
           filled = filled;
-          size = stored_then left what.removed filled.gone (map.len filled.before) filled.removed (filled.size ∙ ap (λ n. n + filled.gone) (sym (counts led.t led.told)));
-          sum = ap (λ (n : ℕ). count_sum n what.removed) (counts led.t led.told);
+          size = stored_then left what.removed filled.gone (map.len filled.before) filled.removed (filled.size ∙ ap (λ n. n + filled.gone) (sym (counts.told led.t led.told)));
+          sum = ap (λ (n : ℕ). count_sum n what.removed) (counts.told led.t led.told);
         }
 
     pub fills_by : (lib secret head : List ℕ) (depot after : DepotView S) (us : List (Shown S)) (pass : PassOf S) (result : Result Filled NotFilled) (left : ℕ)
         → lib ≡ depot.state.lib → IsOwnedBy depot.state.tokens secret → head ≡ head_of depot.state.kept → IsGood contents faults depot → us ≡ new_shown depot ∷ [] → ComesOut depot pass after
-        → IfOk result (λ what. Leads contents faults us (shown_by pass) (IsNew head) (λ s t. IsFilled shows count number head what s t))
-        → IfOk result (IsNumbered shows count number) → IfOk result (λ what. WasCollected contents may_give texts faults lib secret shows what.removed pass) → IfErr result (EndsFor contents may_give texts faults lib secret shows pass) → IsLeft contents faults after left
-        → Fills contents may_give texts faults shows count number secret depot after (stored_by (told_of result) left) (told_of result)
+        → IfOk result (λ what. Leads contents faults us (shown_by pass) (IsNew head) (λ s t. IsFilled (WasHead us (shown_by pass)) shows count number head what s t))
+        → IfOk result (IsNumbered shows count number) → IfOk result (λ what. WasCollected contents may_give texts faults lib secret shows what.removed pass) → IfErr result (EndsFor contents may_give texts faults lib secret count number shows pass) → IsLeft contents faults after left
+        → Fills contents may_give texts faults shows count number secret depot after (stored_by (told_of after.state.collection result) left) (told_of after.state.collection result)
     fills_by lib secret head depot after us pass (Ok what) left named owned is good begins out leads numbers last stops counts =
-        whole out.to (leads_out depot pass after out) what refl numbers (collected_by contents may_give texts faults shows lib secret depot pass out.to out.is out.starts named owned what.removed last) (λ s told idle. filled_from head depot after what left s is counts
-        (led_out depot after us pass (IsNew head) (λ s t. IsFilled shows count number head what s t) s begins out leads told (good.sound s told) (idle, ap (λ (z : LibState). head_of z.kept) (state_told contents faults depot s told) ∙ sym is)))
+        whole out.to (leads_out depot pass after out) what refl numbers (collected_by contents may_give texts faults shows lib secret depot pass out.to out.is out.starts named owned what.removed last)
+        (ap (λ (n : ℕ). count_sum n what.removed) counts.known) (λ s told idle. filled_from head depot after us pass out what left s is begins counts
+        (led_out depot after us pass (IsNew head) (λ s t. IsFilled (WasHead us (shown_by pass)) shows count number head what s t) s begins out leads told (good.sound s told) (idle, ap (λ (z : LibState). head_of z.kept) (state_told contents faults depot s told) ∙ sym is)))
     fills_by lib secret head depot after us pass (Err why) left named owned is good begins out leads numbers last stops counts =
         stopped out.to (leads_out depot pass after out) why refl
-        (stopped_by contents may_give texts faults shows lib secret depot pass out.to out.is out.starts named owned why stops)
+        (stopped_by contents may_give texts faults shows lib secret depot pass out.to out.is out.starts named owned count number why stops)
 
   -- ---- a library that no call was made of
 

@@ -1,7 +1,7 @@
 -- How a filling ended, of a hall's one library, and what follows for its line: where it tells a failure of the storage its count rose, and over storage
 -- that never fails it tells none. The key lemmas are collected_by, stopped_by, comes_rose and comes_whole.
 use Rattle.std.proofs.Common.{◌≡◌, ◌⊎◌, inl, inr, ◌+◌, ℕ, zero, suc, Bool, true, false, cond, nat_le, List, [], ◌∷◌, length, refl, sym, ap, ◌∙◌, subst, arith, true≢false, Option, None, Some, option_map, Result, Ok, Err}
-use Rattle.std.specs.Prelude.{IsTrue, map as map_list}
+use Rattle.std.specs.Prelude.{IsTrue, ◌==◌, if◌then◌else◌, map as map_list}
 use Rattle.std.specs.List.{slice_get}
 use Rattle.std.specs.Str.{bytes_eq}
 use Rattle.std.proofs.lemmas.Bool.{false≢true}
@@ -10,6 +10,7 @@ use Rattle.ids.specs.FaultCount.{Rose}
 use Rattle.ids.specs.declared.key.Key.{Key}
 use Rattle.ids.proofs.BasicLemmas.{same_from_some}
 use Rattle.library_rules.specs.Calls.{right_for, token_of}
+use Rattle.library_rules.specs.LibraryState.{last_number}
 use Rattle.library_state.specs.Rights.{right_number}
 use Rattle.library_state.specs.declared.call.Act.{Act}
 use Rattle.library_state.specs.declared.call.Call.{Call}
@@ -209,11 +210,12 @@ module _ {S : Type 0} (contents : S → Option Contents) (may_give : S → Slot 
       let went = went_so stops.us (collected.Refused why) stops.lines stops.collects in
       ends_refused went.u why went.turns went.so
 
-  pub stopped_by : (why : NotFilled) → EndsFor contents may_give texts faults lib secret shows pass why → IsStopped contents may_give texts faults shows secret why to
-  stopped_by (unfilled.Refused why) (inl (moment, shown, refused)) = call_stops moment why shown refused
-  stopped_by (unfilled.Refused why) (inr stops) = collection_stops why stops
-  stopped_by (unfilled.Taken id) clash = clash
-  stopped_by unfilled.NoMemory free = tt
+  pub stopped_by : (count number : ℕ) (why : NotFilled) → EndsFor contents may_give texts faults lib secret count number shows pass why
+      → IsStopped contents may_give texts faults shows secret count number why to
+  stopped_by count number (unfilled.Refused why) (inl (moment, shown, refused)) = call_stops moment why shown refused
+  stopped_by count number (unfilled.Refused why) (inr stops) = collection_stops why stops
+  stopped_by count number (unfilled.Taken id) clash = clash
+  stopped_by count number unfilled.NoMemory free = tt
 
 -- ---- the count of the storage
 
@@ -289,14 +291,24 @@ store_or_spent : ◌≡◌ {A = Refusal} refusal.Store refusal.Spent → ⊥
 store_or_spent e = cc
 
 -- a failure of the storage is told of such a refusal alone
-store_alone : (why : Refusal) → is_unfilled_counted (Err (fault_of_refusal why)) ≡ true → why ≡ refusal.Store
-store_alone refusal.Store counted = refl
-store_alone other counted = absurd (false≢true counted)
+spent_uncounted : (is_last : Bool) → is_unfilled_counted (Err (if is_last then fault.Worn else fault.NoMemory)) ≡ false
+spent_uncounted true = refl
+spent_uncounted false = refl
 
-refusal_line : (why : Refusal) → is_of_storage why ≡ false → is_storage_fault (fault_of_refusal why) ≡ false
-refusal_line refusal.Store whole_is = absurd (true≢false whole_is)
-refusal_line (refusal.Damaged want got) whole_is = absurd (true≢false whole_is)
-refusal_line other whole_is = refl
+spent_line : (is_last : Bool) → is_storage_fault (if is_last then fault.Worn else fault.NoMemory) ≡ false
+spent_line true = refl
+spent_line false = refl
+
+store_alone : (collection : ℕ) (why : Refusal) → is_unfilled_counted (Err (fault_of_refusal collection why)) ≡ true → why ≡ refusal.Store
+store_alone collection refusal.Store counted = refl
+store_alone collection refusal.Spent counted = absurd (false≢true (sym (spent_uncounted (collection == last_number)) ∙ counted))
+store_alone collection other counted = absurd (false≢true counted)
+
+refusal_line : (collection : ℕ) (why : Refusal) → is_of_storage why ≡ false → is_storage_fault (fault_of_refusal collection why) ≡ false
+refusal_line collection refusal.Store whole_is = absurd (true≢false whole_is)
+refusal_line collection (refusal.Damaged want got) whole_is = absurd (true≢false whole_is)
+refusal_line collection refusal.Spent whole_is = spent_line (collection == last_number)
+refusal_line collection other whole_is = refl
 
 module _ {S : Type 0} (contents : S → Option Contents) (may_give : S → Slot → Option (List ℕ) → Type 0) (texts faults : S → ℕ) (shows : ℕ → Type 0) where
   stops_rose : (secret : List ℕ) (depot after : DepotView S) (pass : LibraryPass S) → LeadsOut contents may_give texts faults depot pass after
@@ -335,13 +347,13 @@ module _ {S : Type 0} (contents : S → Option Contents) (may_give : S → Slot 
 
     pub comes_rose : ComesOf contents may_give texts faults shows count number depot objects after stored filled → IsTrue (is_unfilled_counted filled)
         → (before : ℕ) × Rose before (faults after.store.shelf)
-    comes_rose (new one secret owned (whole pass leads what is numbers last told)) counted = absurd (no_failure (Ok what) is refl counted)
+    comes_rose (new one secret owned (whole pass leads what is numbers last known told)) counted = absurd (no_failure (Ok what) is refl counted)
     comes_rose (new one secret owned (stopped pass leads why is stops)) counted = by why stops (sym (ap is_unfilled_counted is) ∙ counted)
       where
-        by : (w : NotFilled) → IsStopped contents may_give texts faults shows secret w pass → is_unfilled_counted (Err (fault_of_not_filled w)) ≡ true
+        by : (w : NotFilled) → IsStopped contents may_give texts faults shows secret count number w pass → is_unfilled_counted (Err (fault_of_not_filled after.state.collection w)) ≡ true
             → (before : ℕ) × Rose before (faults after.store.shelf)
         by (unfilled.Refused r) refused tells =
-            stops_rose secret depot after pass leads (subst (λ (x : Refusal). IsLastRefused contents may_give texts faults shows secret x pass) (store_alone r tells) refused)
+            stops_rose secret depot after pass leads (subst (λ (x : Refusal). IsLastRefused contents may_give texts faults shows secret x pass) (store_alone after.state.collection r tells) refused)
         by (unfilled.Taken id) taken tells = absurd (false≢true tells)
         by unfilled.NoMemory free tells = absurd (false≢true tells)
     comes_rose (new one secret owned (no_room comes is)) counted = absurd (no_failure (Err fault.NoMemory) is refl counted)
@@ -349,11 +361,11 @@ module _ {S : Type 0} (contents : S → Option Contents) (may_give : S → Slot 
 
     pub comes_whole : NeverFails faults → NamesIn contents depot → ComesOf contents may_give texts faults shows count number depot objects after stored filled
         → is_storage_line (filled_line filled stored) ≡ false
-    comes_whole steady names (new one secret owned (whole pass leads what is numbers last told)) = ap (λ (f : Result Filled Fault). is_storage_line (filled_line f stored)) is
+    comes_whole steady names (new one secret owned (whole pass leads what is numbers last known told)) = ap (λ (f : Result Filled Fault). is_storage_line (filled_line f stored)) is
     comes_whole steady names (new one secret owned (stopped pass leads why is stops)) = ap (λ (f : Result Filled Fault). is_storage_line (filled_line f stored)) is ∙ by why stops
       where
-        by : (w : NotFilled) → IsStopped contents may_give texts faults shows secret w pass → is_storage_line (filled_line (Err (fault_of_not_filled w)) stored) ≡ false
-        by (unfilled.Refused r) refused = refusal_line r (stops_whole steady secret depot after pass leads names r refused)
+        by : (w : NotFilled) → IsStopped contents may_give texts faults shows secret count number w pass → is_storage_line (filled_line (Err (fault_of_not_filled after.state.collection w)) stored) ≡ false
+        by (unfilled.Refused r) refused = refusal_line after.state.collection r (stops_whole steady secret depot after pass leads names r refused)
         by (unfilled.Taken id) taken = refl
         by unfilled.NoMemory free = refl
     comes_whole steady names (new one secret owned (no_room comes is)) = ap (λ (f : Result Filled Fault). is_storage_line (filled_line f stored)) is

@@ -1,7 +1,7 @@
 -- The command that fills a new library: what it leaves, why it stops, and the line. Our own. Read IsOwned and ComesOf first, then IsStopped and
--- MakesFiles. Read before: IsFilled of `generated_library`; IsDone and IsTaken of `sync_calls`; ComesBy of `depot`; IsBrought of Bringing, objects_in of
+-- MakesFiles. Read before: IsFilled and WasHead of `generated_library`; IsDone and IsTaken of `sync_calls`; ComesBy of `depot`; IsBrought of Bringing, objects_in of
 -- Starting, ComesBack of Standing, IsUnbrought of Connections.
-use Rattle.std.specs.Prelude.{◌≡◌, ◌≢◌, ◌⊎◌, ◌<◌, ℕ, Bool, true, false, List, [], length, Option, None, Some, Result, Ok, Err, ⊤}
+use Rattle.std.specs.Prelude.{◌≡◌, ◌≢◌, ◌⊎◌, ◌<◌, ◌≤◌, ◌==◌, if◌then◌else◌, ℕ, Bool, true, false, List, [], ◌∷◌, length, Option, None, Some, Result, Ok, Err, ⊤}
 use Rattle.std.specs.FinMap as map
 use Rattle.ids.specs.declared.key.Key.{Key}
 use Rattle.depot.specs.DepotView.{DepotView, IsGood, state_of}
@@ -11,12 +11,12 @@ use Rattle.depot.specs.declared.turn.Turn.TheVariants as turn
 use Rattle.folder_storage.specs.Ground.{MayGive, Standing, Standings, count_sum}
 use Rattle.generated_library.specs.Filled.{IsFilled}
 use Rattle.generated_library.specs.Generated.{bytes_made, changed_from, files_from, tree_of}
-use Rattle.generated_library.specs.Leading.{call_of}
+use Rattle.generated_library.specs.Leading.{WasHead, call_of}
 use Rattle.generated_library.specs.Stopping.{IsOfFilling, IsOfOneName}
 use Rattle.generated_library.specs.declared.asking.NotFilled.{NotFilled}
 use Rattle.generated_library.specs.declared.asking.NotFilled.TheVariants as unfilled
 use Rattle.generated_library.specs.declared.filling.Filled.{Filled}
-use Rattle.library_rules.specs.LibraryState.{State, head_of}
+use Rattle.library_rules.specs.LibraryState.{State, head_of, last_number}
 use Rattle.library_state.specs.declared.call.Act.{Act}
 use Rattle.library_state.specs.declared.refusal.Refusal.{Refusal}
 use Rattle.library_state.specs.declared.refusal.Refusal.TheVariants as refusal
@@ -33,11 +33,12 @@ use Rattle.server_words.specs.declared.fault.Fault.TheVariants as fault
 use Rattle.server_words.specs.declared.line.Line.{Line}
 use Rattle.server_words.specs.declared.line.Line.TheVariants as line
 use Rattle.sync_calls.specs.Collecting.{EndsSo, IsTaken, OneTurn, told as told_number}
+use Rattle.sync_calls.specs.Making.{new_shown}
 use Rattle.sync_calls.specs.Operations.{Called, IsDone}
 use Rattle.sync_calls.specs.Shown.{LibraryPass, Shown, shown_of}
 use Rattle.sync_calls.specs.declared.collecting.Collected.TheVariants as collected
 use Rattle.turnstile.specs.Lists.{Has}
-use Rattle.turnstile.specs.PassView.{book_of, drawn_of, seen_of, start_of}
+use Rattle.turnstile.specs.PassView.{book_of, drawn_of, seen_of, start_of, turns_of}
 use Rattle.turnstile.specs.Rule.{most_turns}
 use Rattle.library_server.specs.Bringing.{IsBrought}
 use Rattle.library_server.specs.Connections.{IsUnbrought}
@@ -49,29 +50,31 @@ use Rattle.library_server.specs.declared.not_done.NotBrought.{NotBrought}
 
 -- ---- faults
 
--- a refusal of a call, as it is printed. One that no filling meets is told as want of memory, which may always come
-abbrev pub fault_of_refusal : Refusal → Fault
-fault_of_refusal (refusal.Incomplete key) = fault.Incomplete key
-fault_of_refusal (refusal.Unreadable key) = fault.Unreadable key
-fault_of_refusal (refusal.WrongKind id) = fault.WrongKind id
-fault_of_refusal (refusal.WrongSize id) = fault.WrongSize id
-fault_of_refusal (refusal.TooDeep path) = fault.TooDeep
-fault_of_refusal (refusal.TooMany count) = fault.TooMany
-fault_of_refusal (refusal.Damaged want got) = fault.Damaged want
-fault_of_refusal (refusal.Taken id) = fault.Taken id
-fault_of_refusal refusal.Store = fault.Store
-fault_of_refusal refusal.Spent = fault.Worn
-fault_of_refusal other = fault.NoMemory
+-- a refusal of a call, as it is printed, where so many collections were begun of the library that comes out. Spent is told as `worn` exactly where no
+-- other can begin of it. A lock of which all 2^61 turns are taken, which the filling of so few files can't come to, and a refusal that no filling meets
+-- are told as want of memory, which may always come
+abbrev pub fault_of_refusal : (collection : ℕ) → Refusal → Fault
+fault_of_refusal collection (refusal.Incomplete key) = fault.Incomplete key
+fault_of_refusal collection (refusal.Unreadable key) = fault.Unreadable key
+fault_of_refusal collection (refusal.WrongKind id) = fault.WrongKind id
+fault_of_refusal collection (refusal.WrongSize id) = fault.WrongSize id
+fault_of_refusal collection (refusal.TooDeep path) = fault.TooDeep
+fault_of_refusal collection (refusal.TooMany count) = fault.TooMany
+fault_of_refusal collection (refusal.Damaged want got) = fault.Damaged want
+fault_of_refusal collection (refusal.Taken id) = fault.Taken id
+fault_of_refusal collection refusal.Store = fault.Store
+fault_of_refusal collection refusal.Spent = if collection == last_number then fault.Worn else fault.NoMemory
+fault_of_refusal collection other = fault.NoMemory
 
-abbrev pub fault_of_not_filled : NotFilled → Fault
-fault_of_not_filled (unfilled.Refused why) = fault_of_refusal why
-fault_of_not_filled (unfilled.Taken id) = fault.Taken id
-fault_of_not_filled unfilled.NoMemory = fault.NoMemory
+abbrev pub fault_of_not_filled : (collection : ℕ) → NotFilled → Fault
+fault_of_not_filled collection (unfilled.Refused why) = fault_of_refusal collection why
+fault_of_not_filled collection (unfilled.Taken id) = fault.Taken id
+fault_of_not_filled collection unfilled.NoMemory = fault.NoMemory
 
 -- what came of a filling, with the fault that is printed
-abbrev pub told_of : Result Filled NotFilled → Result Filled Fault
-told_of (Ok what) = Ok what
-told_of (Err why) = Err (fault_of_not_filled why)
+abbrev pub told_of : (collection : ℕ) → Result Filled NotFilled → Result Filled Fault
+told_of collection (Ok what) = Ok what
+told_of collection (Err why) = Err (fault_of_not_filled collection why)
 
 -- the failure that the storage counts
 abbrev pub is_unfilled_counted : Result Filled Fault → Bool
@@ -98,7 +101,8 @@ module _ {S : Type 0} (contents : S → Option Contents) (may_give : S → Slot 
     pub taken : IsTaken contents may_give texts faults shows before goal one (shown_of pass)
     pub is : one.turn ≡ turn.Refused why keys
 
-  -- the library refused so the last call, which is one of a filling, or the last turn; or the last ticket of its lock was drawn, as the pass has read
+  -- the library refused so the last call, which is one of a filling, or the last turn; or the last ticket of its lock was drawn, as the pass has read.
+  -- No call of a filling is refused as Spent (MayAnswer of `depot`), and a turn only where a collection would follow the last one (MayRefuseTurn)
   pub data IsLastRefused (why : Refusal) (pass : LibraryPass S) : Type 0 where
     of_call : (a : Act) → IsOfFilling a → IsLastAnswer a (reply.Refused why) pass → IsLastRefused why pass
     of_turn : IsLastTurn why pass → IsLastRefused why pass
@@ -112,11 +116,11 @@ module _ {S : Type 0} (contents : S → Option Contents) (may_give : S → Slot 
     pub taken : ℕ
     pub ends : EndsSo contents may_give texts faults shows before (collected.Done number removed taken) turns (shown_of pass) (drawn_of pass)
 
-  -- a filling stops for what was asked of the library last; or for a clash of names of its tree; or there is no memory
-  abbrev pub IsStopped : NotFilled → LibraryPass S → Type 0
-  IsStopped (unfilled.Refused why) pass = IsLastRefused why pass
-  IsStopped (unfilled.Taken id) pass = (moment : ℕ) × shows moment × IsOfOneName moment id
-  IsStopped unfilled.NoMemory pass = ⊤
+  -- a filling stops for what was asked of the library last; or for a clash of names of a tree that it pushes; or there is no memory
+  abbrev pub IsStopped : (count number : ℕ) → NotFilled → LibraryPass S → Type 0
+  IsStopped count number (unfilled.Refused why) pass = IsLastRefused why pass
+  IsStopped count number (unfilled.Taken id) pass = (moment : ℕ) × shows moment × IsOfOneName count number moment id
+  IsStopped count number unfilled.NoMemory pass = ⊤
 
 -- ---- the library that is filled
 
@@ -132,32 +136,34 @@ abbrev pub IsNumbered : (ℕ → Type 0) → (count number : ℕ) → Filled →
 IsNumbered shows count number filled = (moment : ℕ) × shows moment
     × (filled.paths ≡ map.len (tree_of moment (changed_from 0 (files_from count number)))) × (filled.bytes ≡ bytes_made count number)
 
--- calls and turns led from one library to another: a pass to it saw all their changes, and made each
+-- calls and turns led from one library to another: a pass to it saw all their changes, and made each; and it read of no more turns of the lock than
+-- it took
 pub record LeadsOut {S : Type 0} (contents : S → Option Contents) (may_give : S → Slot → Option (List ℕ) → Type 0) (texts faults : S → ℕ)
     (depot : DepotView S) (pass : LibraryPass S) (after : DepotView S) : Type 0 where
   pub begins : start_of pass ≡ Some depot
   pub comes : ComesBy contents may_give texts faults depot (seen_of pass) after
   pub each : (place : ℕ) → place < length (seen_of pass) → Has place (book_of pass)
+  pub drawn : drawn_of pass ≤ turns_of pass
 
--- what a library is that was filled where it stood; and how many objects were stored as its collection began: those that are left, and those that left
+-- what a library is that was filled where it stood, through a pass to it; and how many objects were stored as its collection began: those that are left, and those that left
 pub record IsFilledFrom {S : Type 0} (contents : S → Option Contents) (faults : S → ℕ) (shows : ℕ → Type 0) (count number : ℕ)
-    (s : State) (depot after : DepotView S) (what : Filled) (stored : ℕ) : Type 0 where
+    (s : State) (depot after : DepotView S) (pass : LibraryPass S) (what : Filled) (stored : ℕ) : Type 0 where
   pub t : State
   pub told : state_of contents faults after ≡ Some t
-  pub filled : IsFilled shows count number (head_of depot.state.kept) what s t
+  pub filled : IsFilled (WasHead (new_shown depot ∷ []) (shown_of pass ∷ [])) shows count number (head_of depot.state.kept) what s t
   pub size : stored ≡ told_number (map.len filled.before)
   pub sum : stored ≡ count_sum (map.len t.objects) what.removed
 
 module _ {S : Type 0} (contents : S → Option Contents) (may_give : S → Slot → Option (List ℕ) → Type 0) (texts faults : S → ℕ) (shows : ℕ → Type 0) (count number : ℕ) where
-  -- it was filled, as the numbers tell, with a collection at the end, and so it is where it is told and no collection ran;
-  -- or something stopped that; or there was no memory to begin, and no call was made
+  -- it was filled, as the numbers tell, with a collection at the end, and as stored is told what the library still knows, and what left; where
+  -- it is told and no collection ran it is what was filled; or something stopped that; or there was no memory to begin, and no call was made
   pub data Fills (secret : List ℕ) (depot after : DepotView S) (stored : ℕ) (filled : Result Filled Fault) : Type 0 where
     whole : (pass : LibraryPass S) → LeadsOut contents may_give texts faults depot pass after → (what : Filled) → filled ≡ Ok what → IsNumbered shows count number what
-        → IsLastCollection contents may_give texts faults shows secret what.removed pass
-        → ((s : State) → state_of contents faults depot ≡ Some s → s.running ≡ None → IsFilledFrom contents faults shows count number s depot after what stored)
+        → IsLastCollection contents may_give texts faults shows secret what.removed pass → stored ≡ count_sum (map.len after.store.index) what.removed
+        → ((s : State) → state_of contents faults depot ≡ Some s → s.running ≡ None → IsFilledFrom contents faults shows count number s depot after pass what stored)
         → Fills secret depot after stored filled
-    stopped : (pass : LibraryPass S) → LeadsOut contents may_give texts faults depot pass after → (why : NotFilled) → filled ≡ Err (fault_of_not_filled why)
-        → IsStopped contents may_give texts faults shows secret why pass → Fills secret depot after stored filled
+    stopped : (pass : LibraryPass S) → LeadsOut contents may_give texts faults depot pass after → (why : NotFilled) → filled ≡ Err (fault_of_not_filled after.state.collection why)
+        → IsStopped contents may_give texts faults shows secret count number why pass → Fills secret depot after stored filled
     no_room : ComesBy contents may_give texts faults depot [] after → filled ≡ Err fault.NoMemory → Fills secret depot after stored filled
 
   -- what came of a library that has so many objects: one with one object, whose first token is an owner's, was to be filled; any other is as it was
@@ -192,9 +198,10 @@ pub data MakesFiles {S : Type 0} (contents : S → Option Contents) (may_give : 
 
 -- ---- for private clauses
 
--- so many objects are left, where that is told
-abbrev pub IsLeft : {S : Type 0} → (S → Option Contents) → (S → ℕ) → DepotView S → ℕ → Type 0
-IsLeft contents faults after left = (t : State) → state_of contents faults after ≡ Some t → left ≡ map.len t.objects
+-- so many objects are known of it, and that many are left, where that is told
+pub record IsLeft {S : Type 0} (contents : S → Option Contents) (faults : S → ℕ) (after : DepotView S) (left : ℕ) : Type 0 where
+  pub known : left ≡ map.len after.store.index
+  pub told : (t : State) → state_of contents faults after ≡ Some t → left ≡ map.len t.objects
 
 -- how many were stored as a collection began that left so many
 abbrev pub stored_by : Result Filled Fault → ℕ → ℕ

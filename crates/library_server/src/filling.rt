@@ -17,7 +17,7 @@ use depot::Depot;
 use folder_storage::Ground;
 use generated_library::{Filled, NotFilled, Plan, fill};
 use ids::LibId;
-use library_state::{Clock, Refusal, Right, Secret};
+use library_state::{Clock, LAST, Refusal, Right, Secret};
 use object_store::Shelf;
 use server_words::{Fault, Line, Location};
 use std::alloc::Global;
@@ -159,17 +159,18 @@ fn fill_new<S: Shelf, C: Clock, R: Wait>(
         None => unreachable!(),
     };
     passes.destroy_empty();
-    let filled = told_of(fill(rt, alloc, &hall, &mut pass, plan, clock));
-    (filled, only(close(hall, pass)))
+    let filled = fill(rt, alloc, &hall, &mut pass, plan, clock);
+    let depot = only(close(hall, pass));
+    (told_of(filled, depot.collection()), depot)
 }
 
-/// What came of a filling, with the fault that is printed.
-fn told_of(filled: Result<Filled, NotFilled>) -> Result<Filled, Fault>
-    ensures value { result ≡ told_of filled }
+/// What came of a filling, with the fault that is printed, where so many collections were begun of the library that comes out.
+fn told_of(filled: Result<Filled, NotFilled>, collection: u64) -> Result<Filled, Fault>
+    ensures value { result ≡ told_of collection filled }
 {
     match filled {
         Ok(filled) => Ok(filled),
-        Err(why) => Err(fault_of_not_filled(why)),
+        Err(why) => Err(fault_of_not_filled(why, collection)),
     }
 }
 
@@ -187,19 +188,23 @@ fn only<S: Shelf>(mut depots: Vec<Depot<S>>) -> Depot<S>
 }
 
 /// As it is printed.
-fn fault_of_not_filled(why: NotFilled) -> Fault
-    ensures value { result ≡ fault_of_not_filled why }
+fn fault_of_not_filled(why: NotFilled, collection: u64) -> Fault
+    ensures value { result ≡ fault_of_not_filled collection why }
 {
     match why {
-        NotFilled::Refused(why) => fault_of_refusal(why),
+        NotFilled::Refused(why) => fault_of_refusal(why, collection),
         NotFilled::Taken(id) => Fault::Taken(id),
         NotFilled::NoMemory => Fault::NoMemory,
     }
 }
 
 /// A refusal as it is printed. One that no filling meets is told as want of memory, which may always come.
-fn fault_of_refusal(why: Refusal) -> Fault
-    ensures value { result ≡ fault_of_refusal why }
+///
+/// As spent a filling is refused where its collection would follow the last one, and where all turns of the lock are taken:
+/// those are 2^61, which at most 10,000 files don't come to. So `worn` is told only where no collection can begin any more,
+/// and else want of memory.
+fn fault_of_refusal(why: Refusal, collection: u64) -> Fault
+    ensures value { result ≡ fault_of_refusal collection why }
 {
     match why {
         Refusal::Incomplete(key) => Fault::Incomplete(key),
@@ -214,7 +219,11 @@ fn fault_of_refusal(why: Refusal) -> Fault
         }
         Refusal::Taken(id) => Fault::Taken(id),
         Refusal::Store => Fault::Store,
-        Refusal::Spent => Fault::Worn,
+        Refusal::Spent => if collection == LAST {
+            Fault::Worn
+        } else {
+            Fault::NoMemory
+        },
         _ => Fault::NoMemory,
     }
 }

@@ -14,9 +14,9 @@ returns-in-Done-clause-leads g c =
 
 pub returns-in-Done-clause-last : goal.returns-in-Done-clause-last
 returns-in-Done-clause-last g c =
-    was_collected g.S.Shelf.contents g.S.Shelf.may_give g.S.Shelf.texts g.S.Shelf.faults c.args.plan.now.lib c.args.plan.now.secret (g.C.Clock.shows c.args.clock.now) (shown_by c.args.pass.now) c.collect.new.pass
+    was_collected g.S.Shelf.contents g.S.Shelf.may_give g.S.Shelf.texts g.S.Shelf.faults c.args.plan.now.lib c.args.plan.now.secret c.args.plan.now.count c.args.plan.now.number (g.C.Clock.shows c.args.clock.now) (shown_by c.args.pass.now) c.collect.new.pass
     _ _ _ c.collect.result c.in-Done.is c.collect.ensures.told
 
 pub returns-in-Refused-clause-stops : goal.returns-in-Refused-clause-stops
 returns-in-Refused-clause-stops g c =
-    not_collected g.S.Shelf.contents g.S.Shelf.may_give g.S.Shelf.texts g.S.Shelf.faults c.args.plan.now.lib c.args.plan.now.secret (g.C.Clock.shows c.args.clock.now) (shown_by c.args.pass.now) c.collect.new.pass c.in-Refused.why c.collect.result c.in-Refused.is c.collect.ensures.told
+    not_collected g.S.Shelf.contents g.S.Shelf.may_give g.S.Shelf.texts g.S.Shelf.faults c.args.plan.now.lib c.args.plan.now.secret c.args.plan.now.count c.args.plan.now.number (g.C.Clock.shows c.args.clock.now) (shown_by c.args.pass.now) c.collect.new.pass c.in-Refused.why c.collect.result c.in-Refused.is c.collect.ensures.told

@@ -2,7 +2,7 @@
 use Rattle.std.proofs.Common.{false, true}
 use Rattle.sync_calls.specs.Hall.{shown_by}
 use Rattle.generated_library.proofs.LedLemmas.{fill_led}
-use Rattle.generated_library.proofs.StoppingLemmas.{ended_for, ends_for}
+use Rattle.generated_library.proofs.StoppingLemmas.{ended_for, ends_for, push_ends}
 use Rattle.generated_library.proofs.filling.fill.Goals as goal
 
 pub returns-clause-leads : goal.returns-clause-leads
@@ -22,20 +22,24 @@ returns-clause-last g c = c.in_ok-removed.ensures.last
 
 pub returns-in_err-check-clause-stops : goal.returns-in_err-check-clause-stops
 returns-in_err-check-clause-stops g c =
-    ends_for g.S.Shelf.contents g.S.Shelf.may_give g.S.Shelf.texts g.S.Shelf.faults c.args.plan.now.lib c.args.plan.now.secret (g.C.Clock.shows c.args.clock.now) c.now.result c.now.ensures.value c.check.new.pass c.in_err-check.field-0.0 c.from_residual.result c.from_residual.ensures.1 c.in_err-check.ensures.stops
+    ends_for g.S.Shelf.contents g.S.Shelf.may_give g.S.Shelf.texts g.S.Shelf.faults c.args.plan.now.lib c.args.plan.now.secret c.args.plan.now.count c.args.plan.now.number (g.C.Clock.shows c.args.clock.now) c.now.result c.now.ensures.value c.check.new.pass c.in_err-check.field-0.0 c.from_residual.result c.from_residual.ensures.1 c.in_err-check.ensures.stops
 
 pub returns-in_err-before-clause-stops : goal.returns-in_err-before-clause-stops
 returns-in_err-before-clause-stops g c =
-    ends_for g.S.Shelf.contents g.S.Shelf.may_give g.S.Shelf.texts g.S.Shelf.faults c.args.plan.now.lib c.args.plan.now.secret (g.C.Clock.shows c.args.clock.now) c.now.result c.now.ensures.value c.push.new.pass c.in_err-before.field-0.0 c.from_residual-in_err-before.result c.from_residual-in_err-before.ensures.1 c.in_err-before.ensures.stops
+    ended_for g.S.Shelf.contents g.S.Shelf.may_give g.S.Shelf.texts g.S.Shelf.faults c.args.plan.now.lib c.args.plan.now.secret c.args.plan.now.count c.args.plan.now.number (g.C.Clock.shows c.args.clock.now) c.push.new.pass c.in_err-before.field-0.0
+    c.from_residual-in_err-before.result c.from_residual-in_err-before.ensures.1 (push_ends g.S.Shelf.contents g.S.Shelf.may_give g.S.Shelf.texts g.S.Shelf.faults c.args.plan.now.lib c.args.plan.now.secret c.args.plan.now.count c.args.plan.now.number (g.C.Clock.shows c.args.clock.now)
+    c.now.result c.now.ensures.value c.push.new.pass false c.in_err-before.field-0.0 c.in_err-before.ensures.stops)
 
 pub returns-in_err-pushed-clause-stops : goal.returns-in_err-pushed-clause-stops
 returns-in_err-pushed-clause-stops g c =
-    ends_for g.S.Shelf.contents g.S.Shelf.may_give g.S.Shelf.texts g.S.Shelf.faults c.args.plan.now.lib c.args.plan.now.secret (g.C.Clock.shows c.args.clock.now) c.now.result c.now.ensures.value c.push-2.new.pass c.in_err-pushed.field-0.0 c.from_residual-in_err-pushed.result c.from_residual-in_err-pushed.ensures.1 c.in_err-pushed.ensures.stops
+    ended_for g.S.Shelf.contents g.S.Shelf.may_give g.S.Shelf.texts g.S.Shelf.faults c.args.plan.now.lib c.args.plan.now.secret c.args.plan.now.count c.args.plan.now.number (g.C.Clock.shows c.args.clock.now) c.push-2.new.pass c.in_err-pushed.field-0.0
+    c.from_residual-in_err-pushed.result c.from_residual-in_err-pushed.ensures.1 (push_ends g.S.Shelf.contents g.S.Shelf.may_give g.S.Shelf.texts g.S.Shelf.faults c.args.plan.now.lib c.args.plan.now.secret c.args.plan.now.count c.args.plan.now.number (g.C.Clock.shows c.args.clock.now)
+    c.now.result c.now.ensures.value c.push-2.new.pass true c.in_err-pushed.field-0.0 c.in_err-pushed.ensures.stops)
 
 pub returns-in_err-limit-clause-stops : goal.returns-in_err-limit-clause-stops
 returns-in_err-limit-clause-stops g c =
-    ends_for g.S.Shelf.contents g.S.Shelf.may_give g.S.Shelf.texts g.S.Shelf.faults c.args.plan.now.lib c.args.plan.now.secret (g.C.Clock.shows c.args.clock.now) c.now.result c.now.ensures.value c.limit.new.pass c.in_err-limit.field-0.0 c.from_residual-in_err-limit.result c.from_residual-in_err-limit.ensures.1 c.in_err-limit.ensures.stops
+    ends_for g.S.Shelf.contents g.S.Shelf.may_give g.S.Shelf.texts g.S.Shelf.faults c.args.plan.now.lib c.args.plan.now.secret c.args.plan.now.count c.args.plan.now.number (g.C.Clock.shows c.args.clock.now) c.now.result c.now.ensures.value c.limit.new.pass c.in_err-limit.field-0.0 c.from_residual-in_err-limit.result c.from_residual-in_err-limit.ensures.1 c.in_err-limit.ensures.stops
 
 pub returns-in_err-removed-clause-stops : goal.returns-in_err-removed-clause-stops
 returns-in_err-removed-clause-stops g c =
-    ended_for g.S.Shelf.contents g.S.Shelf.may_give g.S.Shelf.texts g.S.Shelf.faults c.args.plan.now.lib c.args.plan.now.secret (g.C.Clock.shows c.args.clock.now) c.collect.new.pass c.in_err-removed.field-0.0 c.from_residual-in_err-removed.result c.from_residual-in_err-removed.ensures.1 c.in_err-removed.ensures.stops
+    ended_for g.S.Shelf.contents g.S.Shelf.may_give g.S.Shelf.texts g.S.Shelf.faults c.args.plan.now.lib c.args.plan.now.secret c.args.plan.now.count c.args.plan.now.number (g.C.Clock.shows c.args.clock.now) c.collect.new.pass c.in_err-removed.field-0.0 c.from_residual-in_err-removed.result c.from_residual-in_err-removed.ensures.1 c.in_err-removed.ensures.stops
