@@ -61,7 +61,10 @@ pub(crate) fn asked_by<S: Shelf>(depot: &mut Depot<S>, byte: u8, act: Act) -> Sa
         act,
     };
     let reply = depot.answer(&call, 9);
-    said_by(&reply)
+    let said = said_by(&reply);
+    drop(reply);
+    drop(call);
+    said
 }
 
 /// What the owner is answered.
@@ -106,7 +109,9 @@ pub(crate) fn turned<S: Shelf>(depot: &mut Depot<S>, goal: Option<u64>, at_most:
     requires some { 1 ≤ at_most }
 {
     let turn = depot.turn_of_collection(goal, MOMENT, at_most);
-    step_of(&turn)
+    let step = step_of(&turn);
+    drop(turn);
+    step
 }
 
 /// What a collection came to that ended: how many objects its turns told as removed, refused ones too, and how often the shelf

@@ -27,8 +27,15 @@ fn push(alloc: Global, depot: &mut Kept, names: &[&str]) -> Result<ObjId, AllocE
 /// The shelf of such a library, and the commit.
 fn pushed(alloc: Global, names: &[&str]) -> Result<(MemoryShelf, ObjId), AllocError> {
     let mut depot = library_on(alloc, &[])?;
-    let commit = push(alloc, &mut depot, names)?;
-    Ok((depot.close().end(), commit))
+    let commit = push(alloc, &mut depot, names);
+    let shelf = depot.close().end();
+    match commit {
+        Ok(commit) => Ok((shelf, commit)),
+        Err(why) => {
+            drop(shelf);
+            Err(why)
+        }
+    }
 }
 
 /// Takes so many turns of one object, if none is refused.
@@ -67,9 +74,14 @@ fn is_enough(
     match opened(alloc, shelf, calls, false) {
         Ok(depot) => {
             let mut depot = depot;
-            Ok(takes_all(&mut depot, turns, &commit, updates))
+            let taken = takes_all(&mut depot, turns, &commit, updates);
+            drop(depot);
+            Ok(taken)
         }
-        Err(_) => Ok(false),
+        Err(shelf) => {
+            drop(shelf);
+            Ok(false)
+        }
     }
 }
 

@@ -19,6 +19,14 @@ fn empty(alloc: Global, fails: &[u64]) -> Result<Store<MemoryShelf>, AllocError>
     }
 }
 
+/// How many objects a library leaves, which is let go.
+pub(crate) fn count_left(depot: Depot<MemoryShelf>) -> u64 {
+    let store = depot.close();
+    let count = store.count();
+    drop(store);
+    count
+}
+
 /// The library `docs` of `me`, whose secret is forty `a`, in an empty store; the store where it isn't made.
 pub(crate) fn made_in<S: Shelf>(alloc: Global, store: Store<S>) -> Result<Depot<S>, Store<S>> {
     let lib = LibId::from_bytes([
@@ -44,6 +52,9 @@ pub(crate) fn made_in<S: Shelf>(alloc: Global, store: Store<S>) -> Result<Depot<
 pub(crate) fn library_on(alloc: Global, fails: &[u64]) -> Result<Depot<MemoryShelf>, AllocError> {
     match made_in(alloc, empty(alloc, fails)?) {
         Ok(depot) => Ok(depot),
-        Err(_) => Err(AllocError),
+        Err(store) => {
+            drop(store);
+            Err(AllocError)
+        }
     }
 }

@@ -23,14 +23,32 @@ enum Left {
 
 fn left_on(alloc: Global, shelf: MemoryShelf) -> Left {
     match Store::start(alloc, shelf) {
-        Ok(store) => match Depot::start(alloc, store) {
-            Ok(depot) => Left::Library(depot.head()),
-            Err(refused) => match refused.1 {
-                StartFault::NoState => Left::Nothing,
-                _ => Left::Other,
-            },
-        },
-        Err(_) => Left::Other,
+        Ok(store) => left_in(alloc, store),
+        Err(refused) => {
+            drop(refused);
+            Left::Other
+        }
+    }
+}
+
+fn left_in(alloc: Global, store: Store<MemoryShelf>) -> Left {
+    match Depot::start(alloc, store) {
+        Ok(depot) => {
+            let head = depot.head();
+            drop(depot);
+            Left::Library(head)
+        }
+        Err((store, fault)) => {
+            drop(store);
+            left_at(fault)
+        }
+    }
+}
+
+fn left_at(fault: StartFault) -> Left {
+    match fault {
+        StartFault::NoState => Left::Nothing,
+        _ => Left::Other,
     }
 }
 
@@ -89,7 +107,10 @@ fn make_stops(alloc: Global, late: bool, head: &ObjId) -> Result<Option<u64>, Al
 
 /// The head of a new library.
 fn first_head(alloc: Global) -> Result<ObjId, AllocError> {
-    Ok(library_on(alloc, &[])?.head())
+    let depot = library_on(alloc, &[])?;
+    let head = depot.head();
+    drop(depot);
+    Ok(head)
 }
 
 #[test]
@@ -146,9 +167,14 @@ pub(crate) fn head_told(alloc: Global, shelf: MemoryShelf) -> Option<ObjId> {
     match opened(alloc, shelf, 1_000_000, false) {
         Ok(depot) => {
             let mut depot = depot;
-            told_to(&mut depot, 0xbb)
+            let head = told_to(&mut depot, 0xbb);
+            drop(depot);
+            head
         }
-        Err(_) => None,
+        Err(shelf) => {
+            drop(shelf);
+            None
+        }
     }
 }
 
@@ -159,9 +185,13 @@ fn token_stop(alloc: Global, passes: u64, late: bool) -> Result<Stop, AllocError
             let mut depot = depot;
             let owned = is_told(&mut depot, 0xaa);
             let added = is_told(&mut depot, 0xbb);
+            drop(depot);
             Ok(stop_of(owned, added, done))
         }
-        Err(_) => Ok(Stop::Lost),
+        Err(shelf) => {
+            drop(shelf);
+            Ok(Stop::Lost)
+        }
     }
 }
 

@@ -90,24 +90,29 @@ fn push_entry(
     text.extend_from_slice(b"}")
 }
 
+/// What the text of a directory begins with, and what it ends with.
+const BEGINNING: &[u8] = b"{\"dirents\":[";
+
+const ENDING: &[u8] = b"],\"type\":3,\"version\":1}";
+
 /// Puts the files of a directory with these letters as names, each of one block of its letter, but the first one of this letter;
-/// and tells the directory's text.
-fn put_files<S: Shelf>(
+/// and appends the directory's text.
+fn push_files<S: Shelf>(
     alloc: Global,
     depot: &mut Depot<S>,
+    text: &mut Vec<u8>,
     names: &[&str],
     first: &str,
-) -> Result<Vec<u8>, AllocError> {
-    let mut text = Vec::from_slice(alloc, b"{\"dirents\":[")?;
+) -> Result<(), AllocError> {
+    text.extend_from_slice(BEGINNING)?;
     let mut between = b"".as_slice();
     for name in names {
         let letter = if between.is_empty() { first } else { *name };
         let file = put_file(alloc, depot, letter)?;
-        push_entry(&mut text, between, *name, b"33188", b"1", &file)?;
+        push_entry(text, between, *name, b"33188", b"1", &file)?;
         between = b",";
     }
-    text.extend_from_slice(b"],\"type\":3,\"version\":1}")?;
-    Ok(text)
+    text.extend_from_slice(ENDING)
 }
 
 /// Puts that directory, and its files.
@@ -117,27 +122,51 @@ fn put_root<S: Shelf>(
     names: &[&str],
     first: &str,
 ) -> Result<ObjId, AllocError> {
-    let text = put_files(alloc, depot, names, first)?;
-    put(depot, Kind::Fs, text)
+    let mut text = Vec::new(alloc);
+    match push_files(alloc, depot, &mut text, names, first) {
+        Ok(()) => put(depot, Kind::Fs, text),
+        Err(why) => {
+            drop(text);
+            Err(why)
+        }
+    }
 }
 
-/// Puts a directory that has a directory of each of these names, with one file of that name in each.
+/// Puts a directory of each of these names, with one file of that name in each, and appends the text of the directory that has
+/// them all.
+fn push_directories<S: Shelf>(
+    alloc: Global,
+    depot: &mut Depot<S>,
+    text: &mut Vec<u8>,
+    names: &[&str],
+    first: &str,
+) -> Result<(), AllocError> {
+    text.extend_from_slice(BEGINNING)?;
+    let mut between = b"".as_slice();
+    for name in names {
+        let letter = if between.is_empty() { first } else { *name };
+        let directory = put_root(alloc, depot, &[*name], letter)?;
+        push_entry(text, between, *name, b"16384", b"0", &directory)?;
+        between = b",";
+    }
+    text.extend_from_slice(ENDING)
+}
+
+/// Puts that directory, and its directories.
 fn put_directories<S: Shelf>(
     alloc: Global,
     depot: &mut Depot<S>,
     names: &[&str],
     first: &str,
 ) -> Result<ObjId, AllocError> {
-    let mut text = Vec::from_slice(alloc, b"{\"dirents\":[")?;
-    let mut between = b"".as_slice();
-    for name in names {
-        let letter = if between.is_empty() { first } else { *name };
-        let directory = put_root(alloc, depot, &[*name], letter)?;
-        push_entry(&mut text, between, *name, b"16384", b"0", &directory)?;
-        between = b",";
+    let mut text = Vec::new(alloc);
+    match push_directories(alloc, depot, &mut text, names, first) {
+        Ok(()) => put(depot, Kind::Fs, text),
+        Err(why) => {
+            drop(text);
+            Err(why)
+        }
     }
-    text.extend_from_slice(b"],\"type\":3,\"version\":1}")?;
-    put(depot, Kind::Fs, text)
 }
 
 /// The text of a commit of this name, parent and root.
@@ -254,8 +283,13 @@ fn update_thrice(alloc: Global, depot: &mut Kept) -> Result<(), AllocError> {
 /// history are kept. Where one of those calls makes the library, there is none.
 pub(crate) fn updated_thrice(alloc: Global, fails: &[u64]) -> Result<Kept, AllocError> {
     let mut depot = library_on(alloc, fails)?;
-    update_thrice(alloc, &mut depot)?;
-    Ok(depot)
+    match update_thrice(alloc, &mut depot) {
+        Ok(()) => Ok(depot),
+        Err(why) => {
+            drop(depot);
+            Err(why)
+        }
+    }
 }
 
 /// The key of the block of this text.

@@ -44,9 +44,15 @@ pub(crate) fn is_whole(alloc: Global, shelf: MemoryShelf, head: &ObjId) -> bool 
             let mut depot = depot;
             let same = depot.head() == *head;
             let ended = removed_by(&mut depot, 3).is_some();
-            depot.close().count() == 4 && same && ended
+            let store = depot.close();
+            let count = store.count();
+            drop(store);
+            count == 4 && same && ended
         }
-        Err(_) => false,
+        Err(shelf) => {
+            drop(shelf);
+            false
+        }
     }
 }
 

@@ -24,8 +24,15 @@ fn fill(alloc: Global, depot: &mut Kept, names: &[&str]) -> Result<(), AllocErro
 /// The shelf of such a library.
 fn shelf_of(alloc: Global, names: &[&str]) -> Result<MemoryShelf, AllocError> {
     let mut depot = library_on(alloc, &[])?;
-    fill(alloc, &mut depot, names)?;
-    Ok(depot.close().end())
+    let filled = fill(alloc, &mut depot, names);
+    let shelf = depot.close().end();
+    match filled {
+        Ok(()) => Ok(shelf),
+        Err(why) => {
+            drop(shelf);
+            Err(why)
+        }
+    }
 }
 
 /// Takes turns of one object until one was removed, if none is refused, two hundred at most.
@@ -62,12 +69,17 @@ fn is_enough(alloc: Global, names: &[&str], updates: bool, calls: u64) -> Result
     match opened(alloc, shelf_of(alloc, names)?, calls, false) {
         Ok(depot) => {
             let mut depot = depot;
-            match takes_all(alloc, &mut depot, names, updates) {
+            let taken = takes_all(alloc, &mut depot, names, updates);
+            drop(depot);
+            match taken {
                 Ok(done) => Ok(done),
                 Err(_) => Ok(false),
             }
         }
-        Err(_) => Ok(false),
+        Err(shelf) => {
+            drop(shelf);
+            Ok(false)
+        }
     }
 }
 

@@ -1,12 +1,13 @@
 //! A collection of a library in turns, and calls between them: what no request of one connection shows.
 use crate::calls::{Said, Step, asked, removed_by, turned};
-use crate::library::library_on;
+use crate::library::{count_left, library_on};
 use crate::objects::{
     Kept, ONE, has_block, is_present, is_updated, put_block, put_commit, update_to, updated_thrice,
 };
 use depot::Depot;
 use ids::ObjId;
 use library_state::{Act, Op};
+use object_store::{MemoryShelf, Store};
 use std::alloc::{AllocError, Global};
 
 /// A turn of one object of the first collection as a letter; `?` where it is of another one, or takes another number of objects.
@@ -37,14 +38,15 @@ fn turns(alloc: Global, depot: &mut Kept, count: u64) -> Result<String, AllocErr
 /// Whether no collection runs, and four objects are left.
 fn is_over(depot: Kept) -> bool {
     let runs = depot.running().is_some();
-    depot.close().count() == 4 && !runs
+    count_left(depot) == 4 && !runs
 }
 
 /// The turns of the library of three updates, and whether they are over.
 fn turns_of_three(alloc: Global) -> Result<(String, bool), AllocError> {
     let mut depot = updated_thrice(alloc, &[])?;
-    let letters = turns(alloc, &mut depot, 16)?;
-    Ok((letters, is_over(depot)))
+    let letters = turns(alloc, &mut depot, 16);
+    let over = is_over(depot);
+    Ok((letters?, over))
 }
 
 #[test]
@@ -88,7 +90,9 @@ fn taken(alloc: Global, depot: &mut Kept, count: u64) -> Result<String, AllocErr
 /// What the turns of the library of three updates took.
 fn taken_of_three(alloc: Global) -> Result<String, AllocError> {
     let mut depot = updated_thrice(alloc, &[])?;
-    taken(alloc, &mut depot, 7)
+    let digits = taken(alloc, &mut depot, 7);
+    drop(depot);
+    digits
 }
 
 // Four objects are needed, and nine are not.
@@ -135,7 +139,9 @@ fn stays(alloc: Global, depot: &mut Kept) -> Result<bool, AllocError> {
 /// The same of a new library.
 fn stays_in_one(alloc: Global) -> Result<bool, AllocError> {
     let mut depot = library_on(alloc, &[])?;
-    stays(alloc, &mut depot)
+    let stays = stays(alloc, &mut depot);
+    drop(depot);
+    stays
 }
 
 #[test]
@@ -162,13 +168,19 @@ fn takes_beside(depot: &mut Kept, commit: &ObjId, before: u64) -> bool {
         && has_block(depot, "d")
 }
 
+/// The same of an update whose objects are put first.
+fn takes_unasked(alloc: Global, depot: &mut Kept, before: u64) -> Result<bool, AllocError> {
+    let commit = put_unasked(alloc, depot)?;
+    Ok(takes_beside(depot, &commit, before))
+}
+
 /// Whether an update beside a collection keeps what it needs, when it comes after so many turns of one object: its objects lay
 /// there unneeded before the collection began, and nobody asked for them since.
 fn keeps_what_it_needs(alloc: Global, before: u64) -> Result<bool, AllocError> {
     let mut depot = library_on(alloc, &[])?;
-    let commit = put_unasked(alloc, &mut depot)?;
-    let taken = takes_beside(&mut depot, &commit, before);
-    Ok(depot.close().count() == 5 && taken)
+    let taken = takes_unasked(alloc, &mut depot, before);
+    let count = count_left(depot);
+    Ok(count == 5 && taken?)
 }
 
 #[test]
@@ -205,12 +217,32 @@ fn takes_both_beside(depot: &mut Kept, one: &ObjId, two: &ObjId) -> bool {
         && has_block(depot, "2")
 }
 
+/// The same of two updates whose objects are put first.
+fn takes_put(alloc: Global, depot: &mut Kept) -> Result<bool, AllocError> {
+    let (one, two) = put_two(alloc, depot)?;
+    Ok(takes_both_beside(depot, &one, &two))
+}
+
+/// Whether a library opens from this store.
+fn opens(alloc: Global, store: Store<MemoryShelf>) -> bool {
+    match Depot::start(alloc, store) {
+        Ok(depot) => {
+            drop(depot);
+            true
+        }
+        Err(refused) => {
+            drop(refused);
+            false
+        }
+    }
+}
+
 /// Whether a merged update beside a collection leaves a whole library.
 fn merges_beside(alloc: Global) -> Result<bool, AllocError> {
     let mut depot = library_on(alloc, &[])?;
-    let (one, two) = put_two(alloc, &mut depot)?;
-    let taken = takes_both_beside(&mut depot, &one, &two);
-    Ok(Depot::start(alloc, depot.close()).is_ok() && taken)
+    let taken = takes_put(alloc, &mut depot);
+    let opens = opens(alloc, depot.close());
+    Ok(opens && taken?)
 }
 
 #[test]
@@ -231,7 +263,9 @@ fn is_known_over(alloc: Global, depot: &mut Kept) -> Result<bool, AllocError> {
 /// The same of a new library.
 fn is_known_after(alloc: Global) -> Result<bool, AllocError> {
     let mut depot = library_on(alloc, &[])?;
-    is_known_over(alloc, &mut depot)
+    let known = is_known_over(alloc, &mut depot);
+    drop(depot);
+    known
 }
 
 #[test]
@@ -266,7 +300,9 @@ fn is_put_again(alloc: Global, depot: &mut Kept) -> Result<bool, AllocError> {
 /// The same of a new library.
 fn is_put_again_in_one(alloc: Global) -> Result<bool, AllocError> {
     let mut depot = library_on(alloc, &[])?;
-    is_put_again(alloc, &mut depot)
+    let again = is_put_again(alloc, &mut depot);
+    drop(depot);
+    again
 }
 
 #[test]

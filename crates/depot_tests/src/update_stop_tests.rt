@@ -53,8 +53,15 @@ fn prepared(alloc: Global, depot: &mut Kept, way: Way) -> Result<Due, AllocError
 /// The shelf of a library that is to be updated so.
 fn shelf_of(alloc: Global, way: Way) -> Result<(MemoryShelf, Due), AllocError> {
     let mut depot = library_on(alloc, &[])?;
-    let due = prepared(alloc, &mut depot, way)?;
-    Ok((depot.close().end(), due))
+    let due = prepared(alloc, &mut depot, way);
+    let shelf = depot.close().end();
+    match due {
+        Ok(due) => Ok((shelf, due)),
+        Err(why) => {
+            drop(shelf);
+            Err(why)
+        }
+    }
 }
 
 /// What an update over a shelf that stops comes to.
