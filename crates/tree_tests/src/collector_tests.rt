@@ -38,7 +38,10 @@ const PAIR_TAIL: &str =
 fn store_that_fails(alloc: Global, fails: Items<u64>) -> Result<Shelved, Fail> {
     match Store::start(alloc, MemoryShelf::new(alloc, fails)) {
         Ok(store) => Ok(store),
-        Err(_) => Err(Fail::from("start")),
+        Err(refused) => {
+            drop(refused);
+            Err(Fail::from("start"))
+        }
     }
 }
 
@@ -88,19 +91,30 @@ fn put_directory(alloc: Global, store: &mut Shelved, file: &ObjId) -> Result<Obj
     put(store, Kind::Fs, text.as_str())
 }
 
-/// A store with a commit of one file of the block `abc`, of which this is put or not, and the blocks `ab` and `c` beside it.
-fn small(alloc: Global, with_block: bool, fails: Items<u64>) -> Result<Shelved, Fail> {
-    let mut store = store_that_fails(alloc, fails)?;
+/// Puts a commit of one file of the block `abc`, which is put or not, and the blocks `ab` and `c` beside it.
+fn fill(alloc: Global, store: &mut Shelved, with_block: bool) -> Result<(), Fail> {
     for text in ["ab", "c"] {
-        let _ = put(&mut store, Kind::Block, text)?;
+        let _ = put(store, Kind::Block, text)?;
     }
     if with_block {
-        let _ = put(&mut store, Kind::Block, "abc")?;
+        let _ = put(store, Kind::Block, "abc")?;
     }
-    let file = put(&mut store, Kind::Fs, FILE)?;
-    let root = put_directory(alloc, &mut store, &file)?;
-    let _ = put_commit(alloc, &mut store, &root)?;
-    Ok(store)
+    let file = put(store, Kind::Fs, FILE)?;
+    let root = put_directory(alloc, store, &file)?;
+    let _ = put_commit(alloc, store, &root)?;
+    Ok(())
+}
+
+/// A store of them.
+fn small(alloc: Global, with_block: bool, fails: Items<u64>) -> Result<Shelved, Fail> {
+    let mut store = store_that_fails(alloc, fails)?;
+    match fill(alloc, &mut store, with_block) {
+        Ok(()) => Ok(store),
+        Err(why) => {
+            drop(store);
+            Err(why)
+        }
+    }
 }
 
 /// The marks of a collection of it that begins.
@@ -110,6 +124,20 @@ fn begun(alloc: Global, store: &Shelved) -> Result<Marks, AllocError>
     let mut kept = IdList::new(alloc);
     kept.push(ObjId::from_bytes([0xcc; 20]))?;
     Marks::begin(alloc, store, &kept)
+}
+
+/// Such a store, and the marks of a collection of it that begins.
+fn small_begun(alloc: Global, with_block: bool, fails: Items<u64>) -> Result<(Shelved, Marks), Fail>
+    ensures stored { IfOk result (λ t. AreStoredIn t.0.index t.1) }
+{
+    let store = small(alloc, with_block, fails)?;
+    match begun(alloc, &store) {
+        Ok(marks) => Ok((store, marks)),
+        Err(why) => {
+            drop(store);
+            Err(Fail::from(why))
+        }
+    }
 }
 
 /// How many turns of one object a marking takes; none where it is refused, or isn't over after a hundred.
@@ -148,13 +176,23 @@ fn swept(store: &mut Shelved, marks: &mut Marks) -> Option<u64>
     None
 }
 
+/// How many turns of one object a collection takes to mark, and how many to sweep, and how much of the store is left.
+fn collected(alloc: Global) -> Result<(Option<u64>, Option<u64>, u64), Fail> {
+    let (mut store, mut marks) = small_begun(alloc, true, Items::new(alloc))?;
+    let marking = marked(&mut store, &mut marks);
+    let sweeping = swept(&mut store, &mut marks);
+    drop(marks);
+    let count = store.count();
+    drop(store);
+    Ok((marking, sweeping, count))
+}
+
 #[test]
 fn a_collection_marks_what_is_needed_and_takes_the_rest(rt: HostRuntime) -> Result<(), Fail> {
-    let mut store = small(rt.alloc(), true, Items::new(rt.alloc()))?;
-    let mut marks = begun(rt.alloc(), &store)?;
-    assert!(rt; marked(&mut store, &mut marks) == Some(4));
-    assert!(rt; swept(&mut store, &mut marks) == Some(2));
-    assert!(rt; store.count() == 4);
+    let (marking, sweeping, count) = collected(rt.alloc())?;
+    assert!(rt; marking == Some(4));
+    assert!(rt; sweeping == Some(2));
+    assert!(rt; count == 4);
     Ok(())
 }
 
@@ -166,16 +204,24 @@ fn block(text: &str) -> Key {
     }
 }
 
-/// How much of the store is left of a collection in which the key was shielded before it was marked.
-fn left_with(alloc: Global, text: &str) -> Result<u64, Fail> {
-    let mut store = small(alloc, true, Items::new(alloc))?;
-    let mut marks = begun(alloc, &store)?;
-    let mut keys = KeyList::new(alloc);
-    keys.push(block(text))?;
-    marks.shield(&keys);
+/// How much of the store is left of a collection in which these keys were shielded before it was marked.
+fn left_beside(alloc: Global, keys: &KeyList) -> Result<u64, Fail> {
+    let (mut store, mut marks) = small_begun(alloc, true, Items::new(alloc))?;
+    marks.shield(keys);
     let _ = marked(&mut store, &mut marks);
     let _ = swept(&mut store, &mut marks);
-    Ok(store.count())
+    drop(marks);
+    let count = store.count();
+    drop(store);
+    Ok(count)
+}
+
+/// The same of the key of the block of this text.
+fn left_with(alloc: Global, text: &str) -> Result<u64, Fail> {
+    let keys = KeyList::copy(alloc, &[block(text)])?;
+    let left = left_beside(alloc, &keys);
+    drop(keys);
+    left
 }
 
 #[test]
@@ -185,16 +231,22 @@ fn what_is_shielded_stays(rt: HostRuntime) -> Result<(), Fail> {
     Ok(())
 }
 
+/// Whether a marking ended as the block `abc` isn't there.
+fn is_incomplete(told: Result<u64, WalkFault>) -> bool {
+    match told {
+        Ok(_) => false,
+        Err(fault) => fault == WalkFault::Incomplete(block("abc")),
+    }
+}
+
 /// Whether the marking of a file without its block ends with that, and goes on marking.
 fn lacks_its_block(alloc: Global) -> Result<bool, Fail> {
-    let mut store = small(alloc, false, Items::new(alloc))?;
-    let mut marks = begun(alloc, &store)?;
-    match marks.mark(&mut store, 1000) {
-        Ok(_) => Ok(false),
-        Err(fault) => Ok(
-            fault == WalkFault::Incomplete(block("abc")) && marks.phase() == Phase::Marking,
-        ),
-    }
+    let (mut store, mut marks) = small_begun(alloc, false, Items::new(alloc))?;
+    let told = marks.mark(&mut store, 1000);
+    let goes_on = marks.phase() == Phase::Marking;
+    drop(marks);
+    drop(store);
+    Ok(is_incomplete(told) && goes_on)
 }
 
 #[test]
@@ -203,17 +255,44 @@ fn a_missing_block_ends_the_marking(rt: HostRuntime) -> Result<(), Fail> {
     Ok(())
 }
 
+/// What a collection comes to whose sweep of at most a thousand objects ended.
+#[derive(Clone, Copy)]
+struct Ended {
+    /// How many turns its marking took.
+    marking: Option<u64>,
+    removed: usize,
+    fault: Option<StoreFault>,
+    phase: Phase,
+}
+
+/// The same of a store whose shelf fails at the fourteenth call.
+fn ended_at_a_removal(alloc: Global) -> Result<Ended, Fail> {
+    let (mut store, mut marks) = small_begun(alloc, true, Items::copy(alloc, &[13])?)?;
+    let marking = marked(&mut store, &mut marks);
+    let took = marks.sweep(&mut store, 1000);
+    let phase = marks.phase();
+    drop(marks);
+    drop(store);
+    let removed = took.removed.len();
+    let fault = took.fault;
+    drop(took);
+    Ok(Ended {
+        marking,
+        removed,
+        fault,
+        phase,
+    })
+}
+
 // A start asks the shelf three times, six objects are put, and three of four are read; the fourteenth call is the second
 // removal.
 #[test]
 fn a_removal_that_fails_is_told_and_ends_the_sweep(rt: HostRuntime) -> Result<(), Fail> {
-    let mut store = small(rt.alloc(), true, Items::copy(rt.alloc(), &[13])?)?;
-    let mut marks = begun(rt.alloc(), &store)?;
-    assert!(rt; marked(&mut store, &mut marks) == Some(4));
-    let took = marks.sweep(&mut store, 1000);
-    assert!(rt; took.removed.len() == 2);
-    assert!(rt; took.fault == Some(StoreFault::Shelf));
-    assert!(rt; marks.phase() == Phase::Over);
+    let ended = ended_at_a_removal(rt.alloc())?;
+    assert!(rt; ended.marking == Some(4));
+    assert!(rt; ended.removed == 2);
+    assert!(rt; ended.fault == Some(StoreFault::Shelf));
+    assert!(rt; ended.phase == Phase::Over);
     Ok(())
 }
 
@@ -224,19 +303,38 @@ fn put_pair(alloc: Global, store: &mut Shelved, d: &ObjId, e: &ObjId) -> Result<
     put(store, Kind::Fs, text.as_str())
 }
 
+/// Puts two trees of two directories that differ in one file.
+fn put_two(alloc: Global, store: &mut Shelved) -> Result<(ObjId, ObjId), Fail> {
+    let file = put(store, Kind::Fs, FILE)?;
+    let one = put_directory(alloc, store, &file)?;
+    let other = put_directory(alloc, store, &ObjId::NIL)?;
+    let old = put_pair(alloc, store, &one, &other)?;
+    let new = put_pair(alloc, store, &one, &one)?;
+    Ok((old, new))
+}
+
+/// How many keys the second needs beside the first.
+fn needed_beside(alloc: Global, store: &mut Shelved) -> Result<usize, Fail> {
+    let (old, new) = put_two(alloc, store)?;
+    let made: KeyTable<Bytes> = KeyTable::new(alloc);
+    let told = unshared(alloc, store, &made, old, new);
+    drop(made);
+    match told {
+        Ok(keys) => {
+            let count = keys.len();
+            drop(keys);
+            Ok(count)
+        }
+        Err(_) => Err(Fail::from("unshared")),
+    }
+}
+
 /// How many keys a tree needs beside one that differs from it in one file of two directories.
 fn beside(alloc: Global) -> Result<usize, Fail> {
     let mut store = small(alloc, true, Items::new(alloc))?;
-    let file = put(&mut store, Kind::Fs, FILE)?;
-    let one = put_directory(alloc, &mut store, &file)?;
-    let other = put_directory(alloc, &mut store, &ObjId::NIL)?;
-    let old = put_pair(alloc, &mut store, &one, &other)?;
-    let new = put_pair(alloc, &mut store, &one, &one)?;
-    let made: KeyTable<Bytes> = KeyTable::new(alloc);
-    match unshared(alloc, &mut store, &made, old, new) {
-        Ok(keys) => Ok(keys.len()),
-        Err(_) => Err(Fail::from("unshared")),
-    }
+    let count = needed_beside(alloc, &mut store);
+    drop(store);
+    count
 }
 
 #[test]

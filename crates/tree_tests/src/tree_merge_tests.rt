@@ -8,7 +8,7 @@ use crate::tree_walk_tests::{empty, put, put_as};
 use ids::{Kind, ObjId, Text};
 use object_graph::Entry;
 use object_store::{MemoryShelf, Shelf, Store};
-use std::alloc::Global;
+use std::alloc::{AllocError, Global};
 use std::test::Fail;
 use tree_merge::{BuildFault, BuiltTree, MergeFault, Merged, build, merge};
 use tree_model::{Name, NameFault, Path, PathTable};
@@ -23,20 +23,53 @@ fn path(alloc: Global, names: &[&str]) -> Result<Path, NameFault> {
     Ok(path)
 }
 
-/// The directory d with an empty file a by me and an empty directory b.
-fn directory(alloc: Global) -> Result<PathTable<Entry>, NameFault> {
-    let mut entries = PathTable::new(alloc);
-    entries.insert(path(alloc, &["d"])?, Entry::Dir)?;
-    entries.insert(path(alloc, &["d", "b"])?, Entry::Dir)?;
-    let file = Entry::File {
+/// An empty file by me.
+fn file(alloc: Global) -> Result<Entry, AllocError> {
+    Ok(Entry::File {
         id: ObjId::NIL,
         mode: 0o100644,
         mtime: 5,
         modifier: Text::copy(alloc, "me")?,
         size: 0,
-    };
-    entries.insert(path(alloc, &["d", "a"])?, file)?;
-    Ok(entries)
+    })
+}
+
+/// Adds such an entry at a path.
+fn add(
+    alloc: Global,
+    entries: &mut PathTable<Entry>,
+    names: &[&str],
+    entry: Entry,
+) -> Result<(), NameFault> {
+    match path(alloc, names) {
+        Ok(path) => {
+            entries.insert(path, entry)?;
+            Ok(())
+        }
+        Err(why) => {
+            drop(entry);
+            Err(why)
+        }
+    }
+}
+
+/// Adds the directory d with an empty file a by me and an empty directory b.
+fn add_directory(alloc: Global, entries: &mut PathTable<Entry>) -> Result<(), NameFault> {
+    add(alloc, entries, &["d"], Entry::Dir)?;
+    add(alloc, entries, &["d", "b"], Entry::Dir)?;
+    add(alloc, entries, &["d", "a"], file(alloc)?)
+}
+
+/// The entries of it.
+fn directory(alloc: Global) -> Result<PathTable<Entry>, NameFault> {
+    let mut entries = PathTable::new(alloc);
+    match add_directory(alloc, &mut entries) {
+        Ok(()) => Ok(entries),
+        Err(why) => {
+            drop(entries);
+            Err(why)
+        }
+    }
 }
 
 /// Whether a tree is built to this root, with so many objects.
@@ -47,6 +80,14 @@ fn is_built(told: &Result<BuiltTree, BuildFault>, digits: &[u8], count: usize) -
     }
 }
 
+/// The same of a tree that is built of these entries.
+fn builds(alloc: Global, entries: PathTable<Entry>, digits: &[u8], count: usize) -> bool {
+    let told = build(alloc, entries);
+    let built = is_built(&told, digits, count);
+    drop(told);
+    built
+}
+
 const ROOT: &[u8] = b"12834c88128f54a3e99dbb4a14672cd61dc45c33";
 
 const ZEROS: &[u8] = b"0000000000000000000000000000000000000000";
@@ -54,8 +95,8 @@ const ZEROS: &[u8] = b"0000000000000000000000000000000000000000";
 #[test]
 fn a_tree_is_made_from_its_last_directory_up(rt: HostRuntime) -> Result<(), NameFault> {
     let alloc = rt.alloc();
-    assert!(rt; is_built(&build(alloc, directory(alloc)?), ROOT, 2));
-    assert!(rt; is_built(&build(alloc, PathTable::new(alloc)), ZEROS, 0));
+    assert!(rt; builds(alloc, directory(alloc)?, ROOT, 2));
+    assert!(rt; builds(alloc, PathTable::new(alloc), ZEROS, 0));
     Ok(())
 }
 
@@ -83,21 +124,15 @@ const COMMITS: [(u8, &str); 3] = [
     ),
 ];
 
-/// A store of the commits and their trees.
-fn stored(alloc: Global) -> Result<Store<MemoryShelf>, Fail> {
-    let mut store = empty(alloc)?;
+/// Puts the commits and their trees.
+fn put_all(store: &mut Store<MemoryShelf>) -> Result<(), Fail> {
     for text in [PLAIN, RUNNABLE] {
-        let _ = put(&mut store, Kind::Fs, text)?;
+        let _ = put(store, Kind::Fs, text)?;
     }
     for (byte, text) in COMMITS {
-        let _ = put_as(
-            &mut store,
-            Kind::Commit,
-            ObjId::from_bytes([byte; 20]),
-            text,
-        )?;
+        let _ = put_as(store, Kind::Commit, ObjId::from_bytes([byte; 20]), text)?;
     }
-    Ok(store)
+    Ok(())
 }
 
 /// The root of a commit that is complete.
@@ -133,19 +168,32 @@ fn merge_commits<S: Shelf>(
     let pushed = complete_root(alloc, store, pushed)?;
     laws::what_is_known_is_right_at_first();
     let mut known = Known::new(alloc);
-    Ok(merge(alloc, store, &mut known, base, head, pushed))
+    let told = merge(alloc, store, &mut known, base, head, pushed);
+    drop(known);
+    Ok(told)
 }
 
-/// The merge of both trees over nothing.
-fn merge_both(alloc: Global) -> Result<Result<Merged, MergeFault>, Fail> {
-    let mut store = stored(alloc)?;
+/// The merge of both trees over nothing, which are put first.
+fn merge_put(
+    alloc: Global,
+    store: &mut Store<MemoryShelf>,
+) -> Result<Result<Merged, MergeFault>, Fail> {
+    put_all(store)?;
     merge_commits(
         alloc,
-        &mut store,
+        store,
         ObjId::from_bytes([0xaa; 20]),
         ObjId::from_bytes([0xbb; 20]),
         ObjId::from_bytes([0xcc; 20]),
     )
+}
+
+/// The same in a new store.
+fn merge_both(alloc: Global) -> Result<Result<Merged, MergeFault>, Fail> {
+    let mut store = empty(alloc)?;
+    let told = merge_put(alloc, &mut store);
+    drop(store);
+    told
 }
 
 /// Whether the one path has this one name.
@@ -171,9 +219,16 @@ fn has_copy(told: &Result<Merged, MergeFault>, text: &str) -> bool {
     }
 }
 
+/// Whether the merge of both trees has one conflict copy, of this name.
+fn merges_to_copy(alloc: Global, text: &str) -> Result<bool, Fail> {
+    let told = merge_both(alloc)?;
+    let copied = has_copy(&told, text);
+    drop(told);
+    Ok(copied)
+}
+
 #[test]
 fn a_merge_tells_the_one_conflict_copy_by_its_path(rt: HostRuntime) -> Result<(), Fail> {
-    let told = merge_both(rt.alloc())?;
-    assert!(rt; has_copy(&told, "f (SFConflict me 1970-01-01-00-00-00)"));
+    assert!(rt; merges_to_copy(rt.alloc(), "f (SFConflict me 1970-01-01-00-00-00)")?);
     Ok(())
 }

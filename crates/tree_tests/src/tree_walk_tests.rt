@@ -34,7 +34,10 @@ const CUT: &str =
 pub(crate) fn empty(alloc: Global) -> Result<Shelved, Fail> {
     match Store::start(alloc, MemoryShelf::new(alloc, Items::new(alloc))) {
         Ok(store) => Ok(store),
-        Err(_) => Err(Fail::from("start")),
+        Err(refused) => {
+            drop(refused);
+            Err(Fail::from("start"))
+        }
     }
 }
 
@@ -105,20 +108,31 @@ fn put_commit(alloc: Global, store: &mut Shelved, root: &ObjId) -> Result<ObjId,
 fn needed(alloc: Global, store: &mut Shelved, root: &ObjId) -> Result<usize, Fail> {
     let commit = put_commit(alloc, store, root)?;
     match needs(alloc, store, commit) {
-        Ok(keys) => Ok(keys.len()),
+        Ok(keys) => {
+            let count = keys.len();
+            drop(keys);
+            Ok(count)
+        }
         Err(WalkFault::TooDeep(_)) => Ok(0),
         Err(_) => Err(Fail::from("needs")),
     }
 }
 
+/// The same for a chain of so many directories that is put.
+fn needed_in_chain(alloc: Global, store: &mut Shelved, names: u64) -> Result<usize, Fail> {
+    let mut below = ObjId::NIL;
+    for _ in 0..names {
+        below = put_directory(alloc, store, LEVEL_HEAD, &below, LEVEL_TAIL)?;
+    }
+    needed(alloc, store, &below)
+}
+
 /// The same for a chain of directories whose longest path has so many names.
 fn needed_by_chain(alloc: Global, names: u64) -> Result<usize, Fail> {
     let mut store = empty(alloc)?;
-    let mut below = ObjId::NIL;
-    for _ in 0..names {
-        below = put_directory(alloc, &mut store, LEVEL_HEAD, &below, LEVEL_TAIL)?;
-    }
-    needed(alloc, &mut store, &below)
+    let count = needed_in_chain(alloc, &mut store, names);
+    drop(store);
+    count
 }
 
 #[test]
@@ -139,21 +153,39 @@ fn put_levels(alloc: Global, store: &mut Shelved, levels: u64) -> Result<ObjId, 
     Ok(root)
 }
 
+/// Puts them, and tells how many keys are needed.
+fn needed_in_levels(alloc: Global, store: &mut Shelved, levels: u64) -> Result<usize, Fail> {
+    let root = put_levels(alloc, store, levels)?;
+    needed(alloc, store, &root)
+}
+
 /// How many keys are needed by so many such levels.
 fn needed_by_levels(alloc: Global, levels: u64) -> Result<usize, Fail> {
     let mut store = empty(alloc)?;
-    let root = put_levels(alloc, &mut store, levels)?;
-    needed(alloc, &mut store, &root)
+    let count = needed_in_levels(alloc, &mut store, levels);
+    drop(store);
+    count
+}
+
+/// Puts them, and tells how many paths they have.
+fn paths_in_levels(alloc: Global, store: &mut Shelved, levels: u64) -> Result<usize, Fail> {
+    let root = put_levels(alloc, store, levels)?;
+    match tree(alloc, store, root) {
+        Ok(entries) => {
+            let count = entries.len();
+            drop(entries);
+            Ok(count)
+        }
+        Err(_) => Err(Fail::from("tree")),
+    }
 }
 
 /// How many paths they have.
 fn paths_of_levels(alloc: Global, levels: u64) -> Result<usize, Fail> {
     let mut store = empty(alloc)?;
-    let root = put_levels(alloc, &mut store, levels)?;
-    match tree(alloc, &mut store, root) {
-        Ok(entries) => Ok(entries.len()),
-        Err(_) => Err(Fail::from("tree")),
-    }
+    let count = paths_in_levels(alloc, &mut store, levels);
+    drop(store);
+    count
 }
 
 #[test]
@@ -171,13 +203,12 @@ fn levels_that_name_the_next_twice_need_each_object_once(rt: HostRuntime) -> Res
     Ok(())
 }
 
-/// A store of the blocks `ab` and `c`.
-fn blocks(alloc: Global) -> Result<Shelved, Fail> {
-    let mut store = empty(alloc)?;
+/// Puts the blocks `ab` and `c`.
+fn put_blocks(store: &mut Shelved) -> Result<(), Fail> {
     for text in ["ab", "c"] {
-        let _ = put(&mut store, Kind::Block, text)?;
+        let _ = put(store, Kind::Block, text)?;
     }
-    Ok(store)
+    Ok(())
 }
 
 fn is_given(told: &Result<Bytes, WalkFault>, wanted: &[u8]) -> bool {
@@ -189,14 +220,25 @@ fn is_given(told: &Result<Bytes, WalkFault>, wanted: &[u8]) -> bool {
 
 /// Whether the file of both is told as `abc`.
 fn is_joined(alloc: Global, store: &mut Shelved) -> Result<bool, Fail> {
+    put_blocks(store)?;
     let cut = put(store, Kind::Fs, CUT)?;
-    Ok(is_given(&file_bytes(alloc, store, cut), b"abc"))
+    let told = file_bytes(alloc, store, cut);
+    let joined = is_given(&told, b"abc");
+    drop(told);
+    Ok(joined)
+}
+
+/// The same in a new store.
+fn is_joined_in_one(alloc: Global) -> Result<bool, Fail> {
+    let mut store = empty(alloc)?;
+    let joined = is_joined(alloc, &mut store);
+    drop(store);
+    joined
 }
 
 #[test]
 fn the_bytes_of_a_file_are_those_of_its_blocks_in_order(rt: HostRuntime) -> Result<(), Fail> {
-    let mut store = blocks(rt.alloc())?;
-    assert!(rt; is_joined(rt.alloc(), &mut store)?);
+    assert!(rt; is_joined_in_one(rt.alloc())?);
     Ok(())
 }
 
@@ -211,15 +253,33 @@ fn is_read_again<S: Shelf>(
     let mut known = Known::new(alloc);
     let is_found = extent_at(alloc, full, &mut known, root).is_ok();
     known.forget();
-    is_found && extent_at(alloc, other, &mut known, root).is_err()
+    let is_lost = extent_at(alloc, other, &mut known, root).is_err();
+    drop(known);
+    is_found && is_lost
 }
 
-/// The same of a directory that the other store lacks.
+/// The same of a directory that is put into the one.
+fn is_forgotten_by(alloc: Global, full: &mut Shelved, other: &mut Shelved) -> Result<bool, Fail> {
+    let root = put_directory(alloc, full, LEVEL_HEAD, &ObjId::NIL, LEVEL_TAIL)?;
+    Ok(is_read_again(alloc, full, other, root))
+}
+
+/// The same of two new stores.
 fn is_forgotten(alloc: Global) -> Result<bool, Fail> {
     let mut full = empty(alloc)?;
-    let mut other = empty(alloc)?;
-    let root = put_directory(alloc, &mut full, LEVEL_HEAD, &ObjId::NIL, LEVEL_TAIL)?;
-    Ok(is_read_again(alloc, &mut full, &mut other, root))
+    match empty(alloc) {
+        Ok(other) => {
+            let mut other = other;
+            let forgotten = is_forgotten_by(alloc, &mut full, &mut other);
+            drop(other);
+            drop(full);
+            forgotten
+        }
+        Err(why) => {
+            drop(full);
+            Err(why)
+        }
+    }
 }
 
 #[test]

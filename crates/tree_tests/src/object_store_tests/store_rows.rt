@@ -4,7 +4,10 @@ use super::*;
 fn store_on<S: Shelf + Drop>(alloc: Global, shelf: S) -> Result<Store<S>, Fail> {
     match Store::start(alloc, shelf) {
         Ok(store) => Ok(store),
-        Err(_) => Err(Fail::from("no store")),
+        Err(refused) => {
+            drop(refused);
+            Err(Fail::from("no store"))
+        }
     }
 }
 
@@ -49,10 +52,44 @@ fn keeps(store: &mut Shelved, block: &Key) -> bool {
         && is_given(&store.get(*block), b"abc")
 }
 
+/// What a new store shows.
+#[derive(Clone, Copy)]
+enum Row {
+    /// A block that is given back.
+    Block,
+    /// The first text of a commit.
+    First,
+    /// A put that fails once. A start over no object makes three calls.
+    FailingPut,
+}
+
+/// Which calls of its shelf fail.
+fn fails(row: Row) -> &'static [u64] {
+    match row {
+        Row::FailingPut => &[3],
+        _ => &[],
+    }
+}
+
+fn goes(store: &mut Shelved, row: Row) -> bool {
+    match row {
+        Row::Block => keeps(store, &key(Kind::Block, b"abc")),
+        Row::First => keeps_the_first(store, &key(Kind::Commit, b"one")),
+        Row::FailingPut => fails_once(store, &key(Kind::Block, b"abc")),
+    }
+}
+
+/// Whether a new store shows it.
+fn shows(alloc: Global, row: Row) -> Result<bool, Fail> {
+    let mut store = store_that_fails(alloc, fails(row))?;
+    let shown = goes(&mut store, row);
+    drop(store);
+    Ok(shown)
+}
+
 #[test]
 fn a_block_that_was_put_is_given_back(rt: HostRuntime) -> Result<(), Fail> {
-    let mut store = store_that_fails(rt.alloc(), &[])?;
-    assert!(rt; keeps(&mut store, &key(Kind::Block, b"abc")));
+    assert!(rt; shows(rt.alloc(), Row::Block)?);
     Ok(())
 }
 
@@ -75,8 +112,7 @@ fn keeps_the_first(store: &mut Shelved, commit: &Key) -> bool {
 fn the_first_text_of_a_commit_stays_and_nothing_is_stored_under_nil(
     rt: HostRuntime,
 ) -> Result<(), Fail> {
-    let mut store = store_that_fails(rt.alloc(), &[])?;
-    assert!(rt; keeps_the_first(&mut store, &key(Kind::Commit, b"one")));
+    assert!(rt; shows(rt.alloc(), Row::First)?);
     Ok(())
 }
 
@@ -107,21 +143,33 @@ fn gives_up(store: &mut Shelved, commit: &Key) -> bool {
 /// Whether the shelf of a store has the slot of this object empty.
 fn ends_without(store: Shelved, commit: &Key) -> bool {
     let mut shelf = store.end();
-    is_empty(&shelf.fetch(Slot::Object(*commit)))
+    let is_empty = is_empty(&shelf.fetch(Slot::Object(*commit)));
+    drop(shelf);
+    is_empty
+}
+
+/// Whether keys come in their order until one is given up.
+fn comes_in_order(store: &mut Shelved, commit: &Key, block: &Key) -> bool {
+    takes_two(store, commit, block)
+        && is_in_order(store, commit, block)
+        && gives_up(store, commit)
+        && is_alone(store, block)
+}
+
+/// Whether that is so in a new store, and whether the slot of the one is empty then.
+fn gives_up_one(alloc: Global, commit: &Key, block: &Key) -> Result<(bool, bool), Fail> {
+    let mut store = store_that_fails(alloc, &[])?;
+    let in_order = comes_in_order(&mut store, commit, block);
+    Ok((in_order, ends_without(store, commit)))
 }
 
 #[test]
 fn keys_come_in_order_until_they_are_given_up(rt: HostRuntime) -> Result<(), Fail> {
     let commit = &key(Kind::Commit, b"one");
     let block = &key(Kind::Block, b"abc");
-    let mut store = store_that_fails(rt.alloc(), &[])?;
-    assert!(rt;
-        takes_two(&mut store, commit, block)
-            && is_in_order(&store, commit, block)
-            && gives_up(&mut store, commit)
-            && is_alone(&store, block)
-    );
-    assert!(rt; ends_without(store, commit));
+    let (in_order, without) = gives_up_one(rt.alloc(), commit, block)?;
+    assert!(rt; in_order);
+    assert!(rt; without);
     Ok(())
 }
 
@@ -134,12 +182,21 @@ fn is_noted(store: &mut Shelved) -> bool {
     is_given(&store.noted(), b"state") && store.count() == 0
 }
 
+/// Whether a text is noted by a new store, and whether it is there when that starts again.
+fn notes_for_later(alloc: Global) -> Result<(bool, bool), Fail> {
+    let mut store = store_that_fails(alloc, &[])?;
+    let notes = notes(&mut store);
+    let mut again = store_on(alloc, store.end())?;
+    let is_noted = is_noted(&mut again);
+    drop(again);
+    Ok((notes, is_noted))
+}
+
 #[test]
 fn a_noted_text_is_there_when_the_store_starts_again(rt: HostRuntime) -> Result<(), Fail> {
-    let mut store = store_that_fails(rt.alloc(), &[])?;
-    assert!(rt; notes(&mut store));
-    let mut store = store_on(rt.alloc(), store.end())?;
-    assert!(rt; is_noted(&mut store));
+    let (notes, is_noted) = notes_for_later(rt.alloc())?;
+    assert!(rt; notes);
+    assert!(rt; is_noted);
     Ok(())
 }
 
@@ -152,11 +209,9 @@ fn fails_once(store: &mut Shelved, block: &Key) -> bool {
         && is_put(store.put(*block, b"abc"), Put::New)
 }
 
-// A start over no object makes three calls.
 #[test]
 fn a_failing_put_stores_nothing_and_may_be_tried_again(rt: HostRuntime) -> Result<(), Fail> {
-    let mut store = store_that_fails(rt.alloc(), &[3])?;
-    assert!(rt; fails_once(&mut store, &key(Kind::Block, b"abc")));
+    assert!(rt; shows(rt.alloc(), Row::FailingPut)?);
     Ok(())
 }
 
@@ -174,9 +229,15 @@ fn takes_three(shelf: &mut MemoryShelf) -> bool {
 /// Whether a start over three objects is well; else the shelf has one fault.
 fn starts(shelf: MemoryShelf, alloc: Global) -> Option<bool> {
     match Store::start(alloc, shelf) {
-        Ok(store) => if store.count() == 3 { Some(true) } else { None },
+        Ok(store) => {
+            let count = store.count();
+            drop(store);
+            if count == 3 { Some(true) } else { None }
+        }
         Err((shelf, fault)) => {
-            if fault == StoreFault::Shelf && shelf.faults() == 1 {
+            let faults = shelf.faults();
+            drop(shelf);
+            if fault == StoreFault::Shelf && faults == 1 {
                 Some(false)
             } else {
                 None
@@ -189,6 +250,7 @@ fn starts(shelf: MemoryShelf, alloc: Global) -> Option<bool> {
 fn starts_failing(alloc: Global, failing: u64) -> Result<Option<bool>, AllocError> {
     let mut shelf = memory(alloc, &[failing])?;
     if !takes_three(&mut shelf) {
+        drop(shelf);
         return Ok(None);
     }
     Ok(starts(shelf, alloc))
