@@ -48,32 +48,68 @@ reads() {
     return 1
 }
 
-# client_stops_within FILE LEAST MOST CONF: the client syncs its jobs once, and is stopped with the file open, with more bytes read than
-# LEAST and fewer than MOST.
-client_stops_within() {
+# client_begins WORD..: a run of the client with these words begins. Its number is in $number, and what waits for it in $running.
+client_begins() {
     rm -f number
-    timeout -k 5 "$SECONDS_EACH" sh -c 'echo "$$" > number && exec "$@"' _ "$CLIENT" start -c "$4" -n 1 > got 2> complaint < /dev/null &
+    : > got
+    : > complaint
+    # (what it prints comes behind what is there, so that several may run beside each other)
+    timeout -k 5 "$SECONDS_EACH" sh -c 'echo "$$" > number && exec "$@"' _ "$CLIENT" "$@" >> got 2>> complaint < /dev/null &
     running=$!
     until [ -s number ]; do
         sleep 0.01
     done
     number=$(cat number)
+}
+
+# client_stops: the client whose number is in $number is stopped.
+client_stops() {
+    kill -s STOP "$number"
+    until grep -q '^State:.T' "/proc/$number/status"; do
+        sleep 0.01
+    done
+}
+
+# files_in FOLDER: how many files lie in it, at any depth.
+files_in() {
+    find "$1" -type f 2> /dev/null | wc -l
+}
+
+# client_stops_with FOLDER LEAST MOST WORD..: a run of the client with these words is stopped with more files in the folder than LEAST, and
+# fewer than MOST.
+client_stops_with() {
+    fills=$1 least=$2 most=$3
+    shift 3
+    client_begins "$@"
+    tries=0
+    until [ "$(files_in "$fills")" -gt "$least" ]; do
+        tries=$((tries + 1))
+        [ "$tries" -lt 2000 ] || fail "there are no more files than $least in $fills"
+        sleep 0.01
+    done
+    client_stops
+    [ "$(files_in "$fills")" -lt "$most" ] || fail "$fills was full before the client stopped"
+}
+
+# client_stops_within FILE LEAST MOST CONF: the client syncs its jobs once, and is stopped with the file open, with more bytes read than
+# LEAST and fewer than MOST.
+client_stops_within() {
+    client_begins start -c "$4" -n 1
     tries=0
     until reads "$1" "$2"; do
         tries=$((tries + 1))
         [ "$tries" -lt 2000 ] || fail 'the file was not seen open'
         sleep 0.01
     done
-    kill -s STOP "$number"
-    until grep -q '^State:.T' "/proc/$number/status"; do
-        sleep 0.01
-    done
+    client_stops
     reads "$1" "$2" || fail 'the file was read before the client stopped'
     [ "$(sed -n 's/^rchar: //p' "/proc/$number/io")" -lt "$3" ] || fail 'the file was read to its end'
 }
 
 # client_goes_on: the client that was stopped goes on and ends.
 client_goes_on() {
+    : > got
+    : > complaint
     kill -s CONT "$number"
     ran='start' status=0
     wait "$running" || status=$?

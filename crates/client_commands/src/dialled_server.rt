@@ -86,4 +86,10 @@ impl<D: Dial> Remote for DialledServer<D> {
     {
         self.remote.send(alloc, order)
     }
+
+    fn rest(&mut self)
+        ensures stays { (self.new.peer ≡ self.old.peer) × (self.new.sends ≡ self.old.sends) × (self.new.links.faults ≡ self.old.links.faults) }
+    {
+        self.remote.rest();
+    }
 }

@@ -22,6 +22,9 @@ const GOT_LAST: &[u8] =
 const BOTH: &[u8] =
     b"HTTP/1.1 200 OK\r\nContent-Length: 0\r\n\r\nHTTP/1.1 200 OK\r\nContent-Type: application/octet-stream\r\nContent-Length: 3\r\n\r\nabc";
 
+/// A reply, and the first bytes of the next one.
+const STORED_AND_FRONT: &[u8] = b"HTTP/1.1 200 OK\r\nContent-Length: 0\r\n\r\nHTTP/1.1 2";
+
 /// A link with this input that was not used, which keeps so many bytes of what it is given.
 fn unused(
     alloc: Global,
@@ -135,7 +138,7 @@ fn comes_to(
 }
 
 /// The inputs of two links, how many bytes they move at a time, the words of orders, and what they come to.
-const ROWS: [(&[u8], &[u8], usize, &[&str], &str); 8] = [
+const ROWS: [(&[u8], &[u8], usize, &[&str], &str); 12] = [
     (b"x", b"", 1, &["head"], "Err(BadReply(0)) 1"),
     (b"", b"", 1, &["head"], "Err(Cut(0)) 1"),
     (
@@ -180,10 +183,39 @@ const ROWS: [(&[u8], &[u8], usize, &[&str], &str); 8] = [
         &["get", "put"],
         "Ok(Plain(Got(Items { inner: [97, 98, 99] }), Tag { opening: 0, count: 0 })) Ok(Plain(Stored(true), Tag { opening: 0, count: 0 })) 2",
     ),
+    (
+        STORED,
+        STORED,
+        100,
+        &["put", "put"],
+        "Ok(Plain(Stored(true), Tag { opening: 0, count: 0 })) Ok(Plain(Stored(true), Tag { opening: 0, count: 0 })) 2",
+    ),
+    (
+        STORED,
+        b"",
+        100,
+        &["put", "put"],
+        "Ok(Plain(Stored(true), Tag { opening: 0, count: 0 })) Err(Cut(0)) 2",
+    ),
+    (
+        STORED_AND_FRONT,
+        STORED,
+        1,
+        &["put", "put"],
+        "Ok(Plain(Stored(true), Tag { opening: 0, count: 0 })) Err(Cut(10)) 1",
+    ),
+    (
+        STORED,
+        STORED,
+        100,
+        &["put", "put", "put"],
+        "Ok(Plain(Stored(true), Tag { opening: 0, count: 0 })) Ok(Plain(Stored(true), Tag { opening: 0, count: 0 })) Err(Link) 2",
+    ),
 ];
 
 /// Two replies in one piece are those of two orders over one link; after bytes that are no reply, and after a reply that
-/// closes, the next order has another.
+/// closes, the next order has another. A link that was kept and ends before a byte of a reply is left for another, just once an
+/// order; one that was made for the order, or that gave a byte, is told as cut.
 #[test]
 fn each_order_comes_to_what_its_link_gives(rt: HostRuntime) -> Result<(), AllocError> {
     for (first, second, piece, words, wanted) in ROWS {
@@ -220,6 +252,27 @@ fn a_link_that_fails_is_told_and_left(rt: HostRuntime) -> Result<(), AllocError>
     assert!(rt; is_undialled(rt.alloc())?);
     assert!(rt; is_left(rt.alloc(), 0)?);
     assert!(rt; is_left(rt.alloc(), 1)?);
+    Ok(())
+}
+
+/// Whether an order goes over another link where the one that was kept fails in its call of this number.
+fn is_given_again(alloc: Global, failing: u64) -> Result<bool, AllocError> {
+    let first = link(alloc, STORED, 100, &[failing])?;
+    let second = link(alloc, STORED, 100, &[])?;
+    let dial = dial_over(alloc, first, second, &[])?;
+    comes_to(
+        alloc,
+        dial,
+        &["put", "put"],
+        "Ok(Plain(Stored(true), Tag { opening: 0, count: 0 })) Ok(Plain(Stored(true), Tag { opening: 0, count: 0 })) 2",
+    )
+}
+
+/// A link that was kept fails as it is given the request, or as it is asked for the reply.
+#[test]
+fn a_link_that_was_kept_and_fails_is_left_for_another(rt: HostRuntime) -> Result<(), AllocError> {
+    assert!(rt; is_given_again(rt.alloc(), 2)?);
+    assert!(rt; is_given_again(rt.alloc(), 3)?);
     Ok(())
 }
 
@@ -344,5 +397,46 @@ fn is_left_in_time(alloc: Global) -> Result<bool, AllocError> {
 #[test]
 fn a_link_has_nine_thousand_requests(rt: HostRuntime) -> Result<(), AllocError> {
     assert!(rt; is_left_in_time(rt.alloc())?);
+    Ok(())
+}
+
+/// Whether two links came back that were given as much.
+fn gave_alike(dial: &MemoryDial) -> bool {
+    match dial.returned() {
+        [first, second] => first.given().len() == second.given().len(),
+        _ => false,
+    }
+}
+
+/// Whether something is stored by an order before a rest and by one after it.
+fn is_stored_around_a_rest(
+    alloc: Global,
+    remote: &mut HttpRemote<MemoryDial>,
+    order: &Order,
+) -> bool {
+    let before = is_stored(alloc, remote, order);
+    remote.rest();
+    before && is_stored(alloc, remote, order)
+}
+
+/// Whether a remote that rests leaves a link that would give one more reply, for another.
+fn is_left_at_rest(alloc: Global) -> Result<bool, AllocError> {
+    let first = storing_link(alloc, 2)?;
+    let second = storing_link(alloc, 1)?;
+    let dial = dial_over(alloc, first, second, &[])?;
+    let order = order(alloc, "put")?;
+    let host = Text::copy(alloc, "x")?;
+    if !is_host(&host) {
+        return Ok(false);
+    }
+    let mut remote = HttpRemote::new(dial, host, 8082);
+    let stored = is_stored_around_a_rest(alloc, &mut remote, &order);
+    let dial = remote.end();
+    Ok(stored && gave_alike(&dial))
+}
+
+#[test]
+fn a_link_is_left_at_rest(rt: HostRuntime) -> Result<(), AllocError> {
+    assert!(rt; is_left_at_rest(rt.alloc())?);
     Ok(())
 }

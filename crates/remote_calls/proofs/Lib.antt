@@ -12,3 +12,5 @@ pub mod SentCountLemmas
 pub mod LinksToldLemmas
 pub mod SpellingLemmas
 pub mod DialledLemmas
+pub mod TryLemmas
+pub mod SparesLemmas

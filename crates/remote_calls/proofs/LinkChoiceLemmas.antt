@@ -1,17 +1,17 @@
 -- A link that may not be kept goes back before another is made. The key lemmas are readies_after, no_link_after,
--- keeps_new, count_fits, no_link_cause, never_kept, exchanged_over and went_back.
+-- keeps_new, count_fits, no_link_cause, never_kept, exchanged_over, went_back and left_all.
 use Rattle.std.proofs.Common.{◌≡◌, ℕ, ◌+◌, ◌^◌, ◌<◌, not, nat_lt, Bool, true, false, List, [], ◌∷◌, ◌++◌, Option, None, Some, Err, map, option_map, refl, sym, ap, subst, ◌∙◌, append-nil, arith}
 use Rattle.std.proofs.lemmas.Bool.{and_parts, false≢true}
 use Rattle.std.proofs.lemmas.Bool.Decides.{nat_tests}
 use Rattle.std.proofs.lemmas.List.{map-append}
-use Rattle.http_client.specs.RequestText.{request_text}
-use Rattle.http_front.specs.declared.order.Order.{Order}
+use Rattle.http_front.specs.declared.order.What.{What}
 use Rattle.remote_calls.specs.Exchange.{Exchanges, IsLinkCause, LinkView, OpenView, open_view}
-use Rattle.remote_calls.specs.HttpRemote.{HasNoLink, IsNew, LeavesLink, LinksView, ReadiesBy, SendsOver, keeps, keeps_open, left_over, links_in, links_of}
+use Rattle.remote_calls.specs.HttpRemote.{GoesOver, HasNoLink, IsNew, LeavesAll, LeavesLink, LinksView, ReadiesBy, keeps, keeps_open, left_over, links_in, links_of, sum_with}
 use Rattle.remote_calls.specs.Sends.{Ending}
 use Rattle.remote_calls.specs.declared.error.RemoteFault.{RemoteFault}
 use Rattle.remote_calls.specs.declared.error.RemoteFault.TheVariants as fault
 use Rattle.remote_calls.specs.declared.open_link.OpenLink.{OpenLink}
+use Rattle.remote_calls.proofs.LinkCountLemmas.{ended_count}
 
 -- as one link went back and none is kept
 pub record WentBack (old mid : LinksView) : Type 0 where
@@ -58,22 +58,20 @@ pub no_link_cause : (old new : LinksView) (f : RemoteFault) → HasNoLink old ne
 no_link_cause old new f (HasNoLink.undialled is leaves none) = subst IsLinkCause (sym (same_fault (Err f) f fault.Link refl is)) tt
 no_link_cause old new f (HasNoLink.no_room is leaves none) = subst IsLinkCause (sym (same_fault (Err f) f fault.NoMemory refl is)) tt
 
--- ---- a send
+-- ---- a try
 
 -- what is nothing holds no link
 pub never_kept : {A P : Type 0} (told : Option A) (a : A) → told ≡ None → told ≡ Some a → P
 never_kept told a none some = absurd (cc)
 
--- a send over a link that was readied, and is kept then
-pub exchanged_over : {D L : Type 0} (view : L → LinkView) (back : D → List L) (faults : D → ℕ) (reaches : LinkView → List ℕ → ℕ → Type 0) (host : List ℕ) (port : ℕ)
-    (order : Order) (old : LinksView) (mid dial : D) (chosen after : OpenLink L) (kept : Option (OpenLink L)) (text : List ℕ) (ending : Ending)
-    → dial ≡ mid → kept ≡ Some after → text ≡ request_text order host false → ReadiesBy (λ link. reaches link host port) old (open_view view chosen) (map view (back mid))
-    → Exchanges order.what text (open_view view chosen) (open_view view after) ending → SendsOver reaches host port order old (links_of view back faults dial kept) ending
-exchanged_over {D} {L} view back faults reaches host port order old mid dial chosen after kept text ending same kept_is text_is readies exchange =
-    SendsOver.exchanged (open_view view chosen) (open_view view after)
-    (subst (λ (d : D). ReadiesBy (λ link. reaches link host port) old (open_view view chosen) (map view (back d))) (sym same) readies)
-    (subst (λ (t : List ℕ). Exchanges order.what t (open_view view chosen) (open_view view after) ending) text_is exchange)
-    (ap (option_map (open_view view)) kept_is)
+-- an order over a link that was readied, and is kept then
+pub exchanged_over : {D L : Type 0} (view : L → LinkView) (back : D → List L) (faults : D → ℕ) (reaches : LinkView → Type 0) (what : What) (old : LinksView) (mid dial : D)
+    (chosen after : OpenLink L) (kept : Option (OpenLink L)) (text : List ℕ) (ending : Ending)
+    → dial ≡ mid → kept ≡ Some after → ReadiesBy reaches old (open_view view chosen) (map view (back mid))
+    → Exchanges what text (open_view view chosen) (open_view view after) ending → GoesOver reaches what text old (links_of view back faults dial kept) ending
+exchanged_over {D} {L} view back faults reaches what old mid dial chosen after kept text ending same kept_is readies exchange =
+    GoesOver.exchanged (open_view view chosen) (open_view view after)
+    (subst (λ (d : D). ReadiesBy reaches old (open_view view chosen) (map view (back d))) (sym same) readies) exchange (ap (option_map (open_view view)) kept_is)
 
 -- ---- at the end
 
@@ -82,3 +80,14 @@ pub went_back : {L : Type 0} (view : L → LinkView) (back : List L) (kept : Opt
     → map view (back ++ links_in kept) ≡ map view back ++ left_over (option_map (open_view view) kept)
 went_back view back None = ap (map view) (append-nil back) ∙ sym (append-nil (map view back))
 went_back view back (Some last) = map-append view back (last.link ∷ [])
+
+-- and none is kept
+pub left_all : {D L : Type 0} (view : L → LinkView) (back : D → List L) (faults : D → ℕ) (link_faults : L → ℕ) (old new : D) (kept now : Option (OpenLink L))
+    → ((l : L) → (view l).faults ≡ link_faults l) → now ≡ None → back new ≡ back old ++ links_in kept → faults new ≡ sum_with link_faults (faults old) kept
+    → LeavesAll (links_of view back faults old kept) (links_of view back faults new now)
+left_all {D} {L} view back faults link_faults old new kept now same none back_is count_is =
+    subst (λ (k : Option (OpenLink L)). LeavesAll (links_of view back faults old kept) (links_of view back faults new k)) (sym none) (record {
+      none = refl;
+      back_is = ap (map view) back_is ∙ went_back view (back old) kept;
+      count = ended_count link_faults view (faults old) (faults new) kept same count_is;
+    })

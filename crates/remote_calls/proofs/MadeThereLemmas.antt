@@ -1,9 +1,12 @@
--- As many links come back as were made to a port of a host. The key lemmas are there_first, there_step and there_at_end.
-use Rattle.std.proofs.Common.{◌≡◌, ℕ, ◌+◌, suc, List, [], ◌∷◌, ◌++◌, length, Option, None, Some, refl, sym, ap, ap₂, subst, ◌∙◌, append-nil, arith}
+-- As many links come back as were made to a port of a host. The key lemmas are there_first, there_step, there_rest
+-- and there_at_end.
+use Rattle.std.proofs.Common.{◌≡◌, ℕ, ◌+◌, suc, List, [], ◌∷◌, ◌++◌, length, Bool, false, Option, None, Some, Err, refl, sym, ap, ap₂, subst, ◌∙◌, append-nil, arith}
 use Rattle.std.proofs.lemmas.List.{length-append}
+use Rattle.http_client.specs.RequestText.{request_text}
 use Rattle.http_front.specs.declared.order.Order.{Order}
+use Rattle.http_front.specs.declared.order.What.{What}
 use Rattle.remote_calls.specs.Exchange.{LinkView, OpenView}
-use Rattle.remote_calls.specs.HttpRemote.{AreMadeThere, HasNoLink, HttpPeer, LinksView, ReadiesBy, SendsOver, left_over}
+use Rattle.remote_calls.specs.HttpRemote.{AreMadeThere, GoesOver, HasNoLink, HttpPeer, LeavesAll, LinksView, ReadiesBy, SendsOver, Tries, left_over}
 use Rattle.remote_calls.specs.Sends.{Ending}
 
 -- the links that came back, and the one that is kept
@@ -52,23 +55,39 @@ module _ (reaches : LinkView → List ℕ → ℕ → Type 0) where
     count = one_longer (length more) (length links) (length peer.start) (length is.made) many is.count;
   }
 
+  went_there : (peer : HttpPeer) (what : What) (text : List ℕ) (old new : LinksView) (ending : Ending) → AreMadeThere reaches peer (all_of old)
+      → GoesOver (λ link. reaches link peer.host peer.port) what text old new ending → AreMadeThere reaches peer (all_of new)
+  went_there peer what text old new ending is (GoesOver.unlinked (HasNoLink.undialled ending_is leaves none)) =
+      there_again peer (all_of old) (all_of new) (ap length (went_back old new leaves.back_is none)) is
+  went_there peer what text old new ending is (GoesOver.unlinked (HasNoLink.no_room ending_is leaves none)) =
+      there_again peer (all_of old) (all_of new) (ap length (went_back old new leaves.back_is none)) is
+  went_there peer what text old new ending is (GoesOver.exchanged o after (ReadiesBy.kept keeps_it) exchange kept_is) =
+      there_again peer (all_of old) (all_of new) (as_many old new o after keeps_it.back_is keeps_it.is kept_is) is
+  went_there peer what text old new ending is (GoesOver.exchanged o after (ReadiesBy.made leaves fresh there) exchange kept_is) =
+      one_made peer (all_of old) (all_of new) o.link there (one_more_kept old new after leaves.back_is kept_is) is
+
+  tried_there : (peer : HttpPeer) (what : What) (text : List ℕ) (old new : LinksView) (ending : Ending) → AreMadeThere reaches peer (all_of old)
+      → Tries (λ link. reaches link peer.host peer.port) what text old new ending → AreMadeThere reaches peer (all_of new)
+  tried_there peer what text old new ending is (Tries.once goes counts due) = went_there peer what text old new ending is goes
+  tried_there peer what text old new ending is (Tries.again mid f first counts due goes more) =
+      went_there peer what text mid new ending (went_there peer what text old mid (Err f) is first) goes
+
   sent_there : (peer : HttpPeer) (old new : LinksView) (order : Order) (ending : Ending) → AreMadeThere reaches peer (all_of old)
       → SendsOver reaches peer.host peer.port order old new ending → AreMadeThere reaches peer (all_of new)
   sent_there peer old new order ending is (SendsOver.too_large large ending_is same) = subst (λ (links : LinksView). AreMadeThere reaches peer (all_of links)) (sym same) is
   sent_there peer old new order ending is (SendsOver.unwritten ending_is same) = subst (λ (links : LinksView). AreMadeThere reaches peer (all_of links)) (sym same) is
-  sent_there peer old new order ending is (SendsOver.unlinked (HasNoLink.undialled ending_is leaves none)) =
-      there_again peer (all_of old) (all_of new) (ap length (went_back old new leaves.back_is none)) is
-  sent_there peer old new order ending is (SendsOver.unlinked (HasNoLink.no_room ending_is leaves none)) =
-      there_again peer (all_of old) (all_of new) (ap length (went_back old new leaves.back_is none)) is
-  sent_there peer old new order ending is (SendsOver.exchanged o after (ReadiesBy.kept keeps_it) exchange kept_is) =
-      there_again peer (all_of old) (all_of new) (as_many old new o after keeps_it.back_is keeps_it.is kept_is) is
-  sent_there peer old new order ending is (SendsOver.exchanged o after (ReadiesBy.made leaves fresh there) exchange kept_is) =
-      one_made peer (all_of old) (all_of new) o.link there (one_more_kept old new after leaves.back_is kept_is) is
+  sent_there peer old new order ending is (SendsOver.tried tries) = tried_there peer order.what (request_text order peer.host false) old new ending is tries
 
   pub there_step : (peer peer_then : HttpPeer) (old new : LinksView) (order : Order) (ending : Ending) → AreMadeThere reaches peer (all_of old) → peer_then ≡ peer
       → SendsOver reaches peer.host peer.port order old new ending → AreMadeThere reaches peer_then (all_of new)
   there_step peer peer_then old new order ending is same sends =
       subst (λ (p : HttpPeer). AreMadeThere reaches p (all_of new)) (sym same) (sent_there peer old new order ending is sends)
+
+  pub there_rest : (peer peer_then : HttpPeer) (old new : LinksView) → AreMadeThere reaches peer (all_of old) → peer_then ≡ peer → LeavesAll old new
+      → AreMadeThere reaches peer_then (all_of new)
+  there_rest peer peer_then old new is same leaves =
+      subst (λ (p : HttpPeer). AreMadeThere reaches p (all_of new)) (sym same)
+      (there_again peer (all_of old) (all_of new) (ap length (went_back old new leaves.back_is leaves.none)) is)
 
   pub there_at_end : (peer : HttpPeer) (all back : List LinkView) → AreMadeThere reaches peer all → back ≡ all → AreMadeThere reaches peer back
   there_at_end peer all back is same = there_again peer all back (ap length same) is

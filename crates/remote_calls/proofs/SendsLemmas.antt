@@ -1,6 +1,6 @@
 -- What a send leaves on the list and of the count of faults, by its ending, and when its order is too large. The key lemmas are
--- listed_more, listed_same, counts_same, counts_after, counts_told, read_counts, not_too_large, too_large, large_from, fits_from,
--- refused_for, ended_for and rose_by_one.
+-- listed_more, listed_same, counts_same, counts_after, counts_told, read_counts, counts_sent, counts_again, not_too_large, too_large,
+-- large_from, fits_from, refused_for, ended_for and rose_by_one.
 use Rattle.std.proofs.Common.{◌≡◌, ℕ, ◌+◌, ◌-◌, ◌^◌, ◌<◌, ◌≤◌, ◌⊎◌, min, Bool, true, false, IsTrue, List, [], ◌∷◌, ◌++◌, length, Result, Ok, Err, refl, sym, subst, ◌∙◌, inl, inr, arith}
 use Rattle.std.specs.Prelude.{◌↔◌, IfErr}
 use Rattle.std.proofs.lemmas.Bool.{cases_order, false≢true, true≢false}
@@ -11,7 +11,7 @@ use Rattle.http_front.specs.declared.order.What.{What}
 use Rattle.http_front.specs.declared.outcome.Outcome.{Outcome}
 use Rattle.http_client.specs.RequestText.{IsWithinLimit, body_in, limit_in}
 use Rattle.remote_calls.specs.Exchange.{IsLinkCause, IsRead}
-use Rattle.remote_calls.specs.Sends.{CountsSend, Ending, IsTooLarge, SendsOne, Sent, is_listed, is_no_memory, size_told}
+use Rattle.remote_calls.specs.Sends.{CountsFailure, CountsSend, Ending, IsTooLarge, SendsOne, Sent, is_listed, is_no_memory, size_told}
 use Rattle.remote_calls.specs.declared.error.RemoteFault.{RemoteFault}
 use Rattle.remote_calls.specs.declared.error.RemoteFault.TheVariants as fault
 
@@ -26,24 +26,56 @@ listed_same old order (Err fault.NoMemory) is = refl
 listed_same old order (Err other) is = absurd (true≢false is)
 
 -- the count stays with whatever is no fault of the link
-pub counts_same : {T : Type 0} (before now : ℕ) (told : Result T RemoteFault) → (told ≡ Err fault.Link → ⊥) → now ≡ before → CountsSend before now told
+pub counts_same : {T : Type 0} (before now : ℕ) (told : Result T RemoteFault) → (told ≡ Err fault.Link → ⊥) → now ≡ before → CountsFailure before now told
 counts_same before now (Ok done) other same = same
 counts_same before now (Err fault.Link) other same = absurd (other refl)
 counts_same before now (Err another) other same = same
 
 -- the count is that of an earlier time
-pub counts_after : {T : Type 0} (before mid now : ℕ) (told : Result T RemoteFault) → mid ≡ before → CountsSend mid now told → CountsSend before now told
-counts_after before mid now told same is = subst (λ (n : ℕ). CountsSend n now told) same is
+pub counts_after : {T : Type 0} (before mid now : ℕ) (told : Result T RemoteFault) → mid ≡ before → CountsFailure mid now told → CountsFailure before now told
+counts_after before mid now told same is = subst (λ (n : ℕ). CountsFailure n now told) same is
 
 -- the same count, whatever comes of it
-pub counts_told : (T U : Type 0) (before now : ℕ) (f : RemoteFault) → CountsSend {T = T} before now (Err f) → CountsSend {T = U} before now (Err f)
+pub counts_told : (T U : Type 0) (before now : ℕ) (f : RemoteFault) → CountsFailure {T = T} before now (Err f) → CountsFailure {T = U} before now (Err f)
 counts_told T U before now fault.Link is = is
 counts_told T U before now other is = is
 
 -- where bytes are none of a reply, or memory was wanting, the count stays
-pub read_counts : (T : Type 0) (what : What) (held : List ℕ) (before now : ℕ) (f : RemoteFault) → now ≡ before → IsRead what held (Err f) → CountsSend {T = T} before now (Err f)
+pub read_counts : (T : Type 0) (what : What) (held : List ℕ) (before now : ℕ) (f : RemoteFault) → now ≡ before → IsRead what held (Err f) → CountsFailure {T = T} before now (Err f)
 read_counts T what held before now fault.Link same is = absurd is
 read_counts T what held before now other same is = same
+
+no_less : (before now : ℕ) → now ≡ before → before ≤ now
+no_less before now same = omega (arith, same)
+
+-- the count of one try is right of a send
+pub counts_sent : {T : Type 0} (before now : ℕ) (told : Result T RemoteFault) → CountsFailure before now told → CountsSend before now told
+counts_sent before now (Ok done) same = no_less before now same
+counts_sent before now (Err fault.Link) rose = rose
+counts_sent before now (Err other) same = no_less before now same
+
+grew : (most before mid : ℕ) → before ≤ most → min (before + 1) most ≤ mid → before ≤ mid
+grew most before mid few rose = omega (arith, few, rose)
+
+grew_then : (before mid now : ℕ) → before ≤ mid → now ≡ mid → before ≤ now
+grew_then before mid now first same = omega (arith, first, same)
+
+rose_then : (most before mid now : ℕ) → before ≤ mid → min (mid + 1) most ≤ now → min (before + 1) most ≤ now
+rose_then most before mid now first rose = omega (arith, first, rose)
+
+-- and so is that of two
+pub counts_again : (U : Type 0) {T : Type 0} (before mid now : ℕ) (f : RemoteFault) (told : Result T RemoteFault) → before ≤ 2 ^ 64 - 1
+    → CountsFailure {T = U} before mid (Err f) → CountsFailure mid now told → CountsSend before now told
+counts_again U {T} before mid now f told few first second = by told second
+  where
+    went : (f : RemoteFault) → CountsFailure {T = U} before mid (Err f) → before ≤ mid
+    went fault.Link rose = grew (2 ^ 64 - 1) before mid few rose
+    went other same = no_less before mid same
+
+    by : (told : Result T RemoteFault) → CountsFailure mid now told → CountsSend before now told
+    by (Ok done) same = grew_then before mid now (went f first) same
+    by (Err fault.Link) rose = rose_then (2 ^ 64 - 1) before mid now (went f first) rose
+    by (Err other) same = grew_then before mid now (went f first) same
 
 -- ---- an order that is too large
 

@@ -1,5 +1,5 @@
 -- What is given and taken on a link grows, and spells the sends so far and one more. The key lemmas are open_spells, open_more,
--- open_ends, open_unlisted, spells_skip and kept_more.
+-- open_ends, open_unlisted, spells_skip, kept_more and kept_unlisted.
 use Rattle.std.proofs.Common.{◌≡◌, ℕ, Bool, true, false, List, [], ◌∷◌, ◌++◌, length, take, drop, Option, Some, Ok, Err, refl, sym, ap, subst, ◌∙◌, append-nil, append_assoc}
 use Rattle.std.specs.Io.KnownBytes.{append_known}
 use Rattle.std.proofs.lemmas.List.{length-take-le, take-append-drop}
@@ -9,7 +9,7 @@ use Rattle.http_front.specs.declared.outcome.Outcome.{Outcome}
 use Rattle.http_client.specs.Response.{IsBad, IsCut, IsWhole}
 use Rattle.http_client.proofs.MoreBytesLemmas.{whole_alone}
 use Rattle.worker_server.proofs.AskedLemmas.{told_before}
-use Rattle.remote_calls.specs.Exchange.{ComesTo, Exchanges, OpenView, ReadFails}
+use Rattle.remote_calls.specs.Exchange.{ComesTo, Exchanges, OpenView, ReadFails, Replies}
 use Rattle.remote_calls.specs.Sends.{Ending, Sent}
 use Rattle.remote_calls.specs.Spelling.{BytesSpell, BytesSpellBy, BytesSpellOpen, IsFrontOf, IsGivenLast, IsReply, KeptSpells, NoneGiven, request_of}
 use Rattle.remote_calls.specs.declared.error.RemoteFault.{RemoteFault}
@@ -205,3 +205,33 @@ module _ (host : List ℕ) where
           (subst (λ (h : List ℕ). BytesSpell host (mine ++ (order, Err fault.Link) ∷ []) (before ++ front) t h) (sym u_is)
           (subst (λ (h : List ℕ). BytesSpell host (mine ++ (order, Err fault.Link) ∷ []) (before ++ front) h o.unread) (append-nil t)
           (subst (λ (h : List ℕ). BytesSpell host (mine ++ (order, Err fault.Link) ∷ []) (before ++ front) (t ++ []) h) (append-nil o.unread) ends)))))
+
+  -- ---- an order that is given once more on another link, and isn't listed here
+
+  unanswered : (what : What) (text : List ℕ) (o after : OpenView) (f : RemoteFault) → Replies what text o after (Err f) → Replies what text o after (Err fault.NoMemory)
+  unanswered what text o after f is = record {
+    between = is.between;
+    given = is.given;
+    taken = is.taken;
+    asked = is.asked;
+    held = is.held;
+    reads = is.reads;
+    ahead = is.ahead;
+    comes = (tt, is.comes.1, is.comes.2);
+    last = tt;
+  }
+
+  pub kept_unlisted : (o after : OpenView) (mine : List Sent) (order : Order) (f : RemoteFault) → o.over ≡ false → KeptSpells host (Some o) mine
+      → Exchanges order.what (request_of host order) o after (Err f) → KeptSpells host (Some after) mine
+  kept_unlisted o after mine order f goes_on is (Exchanges.given count replies) =
+      kept_more o after mine order (Err fault.NoMemory) goes_on is (Exchanges.given count (unanswered order.what (request_of host order) o after f replies))
+  kept_unlisted o after mine order f goes_on is (Exchanges.cut_off count fails) = λ given taken eg et.
+      let gave = told_before o.link.tells.given fails.given.front given (sym fails.given.given ∙ eg) in
+      let open_is = subst (λ (b : Bool). BytesSpellBy host b mine gave.0 taken o.unread) goes_on (is gave.0 taken gave.1 (sym fails.taken ∙ et)) in
+      let front : IsFrontOf fails.given.front (request_of host order) = (fails.given.rest, fails.given.cut) in
+      let spells = open_unlisted mine gave.0 taken o.unread fails.given.front [] order open_is front in
+      subst (λ (b : Bool). BytesSpellBy host b mine given taken after.unread) (sym fails.over)
+      (subst (λ (h : List ℕ). BytesSpell host mine h taken after.unread) (sym gave.2)
+      (subst (λ (h : List ℕ). BytesSpell host mine (gave.0 ++ fails.given.front) taken h) (sym fails.unread)
+      (subst (λ (h : List ℕ). BytesSpell host mine (gave.0 ++ fails.given.front) h o.unread) (append-nil taken)
+      (subst (λ (h : List ℕ). BytesSpell host mine (gave.0 ++ fails.given.front) (taken ++ []) h) (append-nil o.unread) spells))))

@@ -1,13 +1,16 @@
--- A server behind links, as contracts see it, and what a send does with its links: which one it goes over, when that is kept
--- and when another is made. Our own. Read HttpRemoteView first, then keeps, and SendsOver, at the end.
-use Rattle.std.specs.Prelude.{ℕ, ◌≡◌, ◌+◌, Bool, true, false, ◌&&◌, not, nat_lt, List, [], ◌∷◌, ◌++◌, length, Option, None, Some, Result, Ok, Err, map, option_map}
+-- A server behind links, as contracts see it, and what a send does with its links: which one it goes over, when that is kept,
+-- when another is made, and when an order is given once more. Our own. Read HttpRemoteView first, then keeps, gives_again, and SendsOver,
+-- at the end.
+use Rattle.std.specs.Prelude.{ℕ, ◌≡◌, ◌+◌, ◌==◌, Bool, true, false, ◌&&◌, not, nat_lt, List, [], ◌∷◌, ◌++◌, length, Option, None, Some, Result, Ok, Err, map, option_map}
 use Rattle.std.specs.List.{AllByRecursion}
 use Rattle.ids.specs.FaultCount.{Rose}
 use Rattle.http_front.specs.Dial.{IsNothing, count_sum}
 use Rattle.http_front.specs.declared.order.Order.{Order}
+use Rattle.http_front.specs.declared.order.What.{What}
+use Rattle.http_front.specs.declared.outcome.Outcome.{Outcome}
 use Rattle.http_client.specs.RequestText.{request_text}
 use Rattle.remote_calls.specs.Exchange.{Exchanges, LinkView, OpenView, open_view}
-use Rattle.remote_calls.specs.Sends.{CountsSends, Ending, IsTooLarge, Sent, size_told}
+use Rattle.remote_calls.specs.Sends.{CountsFailure, CountsSends, Ending, IsTooLarge, Sent, size_told}
 use Rattle.remote_calls.specs.declared.error.RemoteFault.{RemoteFault}
 use Rattle.remote_calls.specs.declared.error.RemoteFault.TheVariants as fault
 use Rattle.remote_calls.specs.declared.open_link.OpenLink.{OpenLink}
@@ -101,7 +104,7 @@ left_over None = []
 left_over (Some o) = o.link ∷ []
 
 -- what is told of a remote's links beside what they spell: those that came back and the one that is kept are as many as were made to its
--- port of its host; and its count rose since it was made where the link failed in a send, and stayed where it failed in none
+-- port of its host; and its count rose since it was made where a send came to a failure of the link, and didn't fall where none did
 pub record TellsLinks (reaches : LinkView → List ℕ → ℕ → Type 0) (remote : HttpRemoteView) : Type 0 where
   pub there : AreMadeThere reaches remote.peer (remote.links.back ++ left_over remote.links.kept)
   pub counts : CountsSends remote.peer.faults remote.sends remote.links.faults
@@ -154,12 +157,50 @@ ReadiesCount faults link_faults before dial (Ok o) = count_sum (faults dial) (li
 ReadiesCount faults link_faults before dial (Err fault.Link) = Rose before (count_sum (faults dial) 0)
 ReadiesCount faults link_faults before dial (Err f) = count_sum (faults dial) 0 ≡ before
 
+-- the link that was kept, if any, went back, and none is kept: nothing was sent, and the count is the same
+pub record LeavesAll (old new : LinksView) : Type 0 where
+  pub none : new.kept ≡ None
+  pub back_is : new.back ≡ old.back ++ left_over old.kept
+  pub count : new.faults ≡ old.faults
+
+-- ---- one try
+
+-- an order with this request is given to one link, which is kept then, or no link could be made
+pub data GoesOver (reaches : LinkView → Type 0) (what : What) (text : List ℕ) (old new : LinksView) (ending : Ending) : Type 0 where
+  unlinked : HasNoLink old new ending → GoesOver reaches what text old new ending
+  exchanged : (o after : OpenView) → ReadiesBy reaches old o new.back → Exchanges what text o after ending → new.kept ≡ Some after
+      → GoesOver reaches what text old new ending
+
+-- the link failed, or ended, before a byte of a reply: `unread` is what it gave and no reply used
+abbrev pub is_unanswered : RemoteFault → (unread : List ℕ) → Bool
+is_unanswered fault.Link unread = length unread == 0
+is_unanswered (fault.Cut size) unread = length unread == 0
+is_unanswered _ unread = false
+
+-- the same of a link that is kept then
+abbrev pub ends_unanswered : RemoteFault → Option OpenView → Bool
+ends_unanswered f None = false
+ends_unanswered f (Some o) = is_unanswered f o.unread
+
+-- an order is given once more: it went over a link that was kept, and that failed or ended before a byte of the reply. What the order
+-- asks for makes no difference
+abbrev pub gives_again : Option OpenView → Ending → Option OpenView → Bool
+gives_again last (Ok outcome) after = false
+gives_again last (Err f) after = keeps_open last && ends_unanswered f after
+
+-- the tries of an order with this request: one, or two where it is given once more. The second goes over a link that is made for it, since
+-- one on which a fault came may not be kept
+pub data Tries (reaches : LinkView → Type 0) (what : What) (text : List ℕ) (old new : LinksView) (ending : Ending) : Type 0 where
+  once : GoesOver reaches what text old new ending → CountsFailure old.faults new.faults ending → gives_again old.kept ending new.kept ≡ false
+      → Tries reaches what text old new ending
+  again : (mid : LinksView) (f : RemoteFault) → GoesOver reaches what text old mid (Err f) → CountsFailure {T = Outcome} old.faults mid.faults (Err f)
+      → gives_again old.kept (Err f) mid.kept ≡ true → GoesOver reaches what text mid new ending → CountsFailure mid.faults new.faults ending
+      → Tries reaches what text old new ending
+
 -- ---- a send
 
 -- what a send does with the links: `reaches` tells whether a link was made to this port of this host
 pub data SendsOver (reaches : LinkView → List ℕ → ℕ → Type 0) (host : List ℕ) (port : ℕ) (order : Order) (old new : LinksView) (ending : Ending) : Type 0 where
   too_large : IsTooLarge order → ending ≡ Err (fault.TooLarge (size_told order)) → new ≡ old → SendsOver reaches host port order old new ending
   unwritten : ending ≡ Err fault.NoMemory → new ≡ old → SendsOver reaches host port order old new ending
-  unlinked : HasNoLink old new ending → SendsOver reaches host port order old new ending
-  exchanged : (o after : OpenView) → ReadiesBy (λ link. reaches link host port) old o new.back
-      → Exchanges order.what (request_text order host false) o after ending → new.kept ≡ Some after → SendsOver reaches host port order old new ending
+  tried : Tries (λ link. reaches link host port) order.what (request_text order host false) old new ending → SendsOver reaches host port order old new ending

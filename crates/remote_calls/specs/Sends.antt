@@ -1,6 +1,6 @@
 -- The list of what a remote was sent, and what came of it. Our own. Read Sent first, then SendsOne and IsTooLarge.
 -- The list stands in proofs alone, so it has the bytes of objects themselves: nothing is kept and nothing hashed for it.
-use Rattle.std.specs.Prelude.{ℕ, ◌≡◌, ◌<◌, not, min, Bool, true, false, List, [], ◌∷◌, ◌++◌, length, Result, Ok, Err}
+use Rattle.std.specs.Prelude.{ℕ, ◌≡◌, ◌<◌, ◌≤◌, not, min, Bool, true, false, List, [], ◌∷◌, ◌++◌, length, Result, Ok, Err}
 use Rattle.std.specs.Bool.{MatchBool}
 use Rattle.std.specs.List.{list_any}
 use Rattle.ids.specs.FaultCount.{Rose}
@@ -34,10 +34,16 @@ SendsOne old new order (Ok outcome) = new ≡ old ++ (order, Ok outcome) ∷ []
 SendsOne old new order (Err fault.NoMemory) = new ≡ old
 SendsOne old new order (Err f) = new ≡ old ++ (order, Err f) ∷ []
 
--- the count of faults rose where the link failed, and stayed otherwise
+-- over one link, or none: the count of faults rose where the link failed, and stayed otherwise
+abbrev pub CountsFailure : {T : Type 0} → ℕ → ℕ → Result T RemoteFault → Type 0
+CountsFailure before now (Err fault.Link) = Rose before now
+CountsFailure before now told = now ≡ before
+
+-- the count of faults rose where the send came to a failure of the link, and didn't fall otherwise: a link that was left for another
+-- may have failed
 abbrev pub CountsSend : {T : Type 0} → ℕ → ℕ → Result T RemoteFault → Type 0
 CountsSend before now (Err fault.Link) = Rose before now
-CountsSend before now told = now ≡ before
+CountsSend before now told = before ≤ now
 
 -- ---- the count over all sends
 
@@ -49,9 +55,9 @@ is_link_failure _ = false
 abbrev pub fails_by_link : List Sent → Bool
 fails_by_link sends = list_any (λ sent. is_link_failure sent.1) sends
 
--- the count rose since where the link failed in one of these sends, and stayed where it failed in none
+-- the count rose since where one of these sends came to a failure of the link, and didn't fall where none did
 abbrev pub CountsSends : ℕ → List Sent → ℕ → Type 0
-CountsSends before sends now = MatchBool (fails_by_link sends) (Rose before now) (now ≡ before)
+CountsSends before sends now = MatchBool (fails_by_link sends) (Rose before now) (before ≤ now)
 
 -- ---- orders that are too large
 

@@ -1,5 +1,5 @@
 -- The sends that the bytes of links spell: what was given to each link are the requests of orders one after another, and what
--- it gave are their replies. Our own. Read LinkSpells first, then AllSpell and IsSpelled, at the end.
+-- it gave are their replies. Our own. Read LinkSpells first, then Spares, AllSpell and IsSpelled, at the end.
 use Rattle.std.specs.Prelude.{ℕ, ◌≡◌, Bool, true, false, List, [], ◌∷◌, ◌++◌, length, Option, None, Some, Ok, Err, ⊤}
 use Rattle.http_front.specs.declared.order.Order.{Order}
 use Rattle.http_front.specs.declared.order.What.{What}
@@ -7,7 +7,7 @@ use Rattle.http_front.specs.declared.outcome.Outcome.{Outcome}
 use Rattle.http_client.specs.RequestText.{request_text}
 use Rattle.http_client.specs.Response.{IsBad, IsCut, IsWhole}
 use Rattle.remote_calls.specs.Exchange.{LinkView, OpenView}
-use Rattle.remote_calls.specs.HttpRemote.{HttpRemoteView}
+use Rattle.remote_calls.specs.HttpRemote.{HttpRemoteView, is_unanswered}
 use Rattle.remote_calls.specs.Sends.{Ending, Sent}
 use Rattle.remote_calls.specs.declared.error.RemoteFault.TheVariants as fault
 
@@ -34,11 +34,27 @@ IsUnsent (Err (fault.TooLarge size)) = ⊤
 IsUnsent (Err fault.Link) = ⊤
 IsUnsent _ = ⊥
 
+-- each has its outcome, or was too large to be given
+abbrev pub AreAnswered : List Sent → Type 0
+AreAnswered [] = ⊤
+AreAnswered ((order, Ok outcome) ∷ more) = AreAnswered more
+AreAnswered ((order, Err (fault.TooLarge size)) ∷ more) = AreAnswered more
+AreAnswered ((order, Err _) ∷ more) = ⊥
+
+-- the sends of a link, of which none failed before a byte of its reply but the first that was given to the link: each other one is given once
+-- more, over the next link. `unread` is what no reply used
+abbrev pub Spares : (is_first : Bool) → List Sent → (unread : List ℕ) → Type 0
+Spares is_first [] unread = ⊤
+Spares is_first ((order, Ok outcome) ∷ more) unread = Spares false more unread
+Spares is_first ((order, Err (fault.TooLarge size)) ∷ more) unread = Spares is_first more unread
+Spares is_first ((order, Err f) ∷ more) unread = is_first ≡ false → is_unanswered f unread ≡ false
+
 module _ (host : List ℕ) where
   abbrev pub request_of : Order → List ℕ
   request_of order = request_text order host false
 
-  -- what was given after the last send that is listed: nothing, or a front of the request of one for which memory was wanting
+  -- what was given after the last send that is listed: nothing, or a front of the request of one for which memory was wanting, or that was
+  -- given once more, over the next link
   pub data IsGivenLast (given : List ℕ) : Type 0 where
     none : given ≡ [] → IsGivenLast given
     unlisted : (order : Order) → IsFrontOf given (request_of order) → IsGivenLast given
@@ -74,7 +90,7 @@ module _ (host : List ℕ) where
     unsent : (links : List LinkView) (before : List Sent) (order : Order) (ending : Ending) → IsUnsent ending → AllSpell links before
         → AllSpell links (before ++ (order, ending) ∷ [])
     over_link : (others : List LinkView) (link : LinkView) (unread : List ℕ) (before mine : List Sent) → LinkSpells link unread mine
-        → AllSpell others before → AllSpell (others ++ link ∷ []) (before ++ mine)
+        → Spares true mine unread → AllSpell others before → AllSpell (others ++ link ∷ []) (before ++ mine)
 
   -- ---- a link on which more may be given
 
@@ -100,6 +116,15 @@ module _ (host : List ℕ) where
   KeptSpells (Some o) mine = (given taken : List ℕ) → o.link.tells.given ≡ Some given → o.link.tells.taken ≡ Some taken
       → BytesSpellBy o.over mine given taken o.unread
 
+-- while the link that is kept isn't over, each of its sends has its outcome
+abbrev pub SparesBy : Bool → List Sent → (unread : List ℕ) → Type 0
+SparesBy true mine unread = Spares true mine unread
+SparesBy false mine unread = AreAnswered mine
+
+abbrev pub KeptSpares : Option OpenView → List Sent → Type 0
+KeptSpares None mine = ⊤
+KeptSpares (Some o) mine = SparesBy o.over mine o.unread
+
 -- the links of a remote spell its sends: those that went back since it was made, and then the one that is kept
 pub record IsSpelled (remote : HttpRemoteView) : Type 0 where
   pub links : List LinkView
@@ -109,6 +134,7 @@ pub record IsSpelled (remote : HttpRemoteView) : Type 0 where
   pub back : remote.links.back ≡ remote.peer.start ++ links
   pub spelled : AllSpell remote.peer.host links before
   pub kept : KeptSpells remote.peer.host remote.links.kept mine
+  pub spares : KeptSpares remote.links.kept mine
 
 -- what is told of all of it, once every link went back
 pub record SpellsAll (host : List ℕ) (start back : List LinkView) (sends : List Sent) : Type 0 where

@@ -6,7 +6,7 @@ ghost use Rattle.http_client.specs.OrderOutcome.{CanHave};
 ghost use Rattle.http_client.specs.RequestText.{HasRequest};
 ghost use Rattle.worker_server.specs.Calls.{ServesOrder};
 ghost use Rattle.remote_calls.specs.DeskRemote.{DesksOver, desk_rules};
-ghost use Rattle.remote_calls.specs.Sends.{CountsSend, IsTooLarge, SendsOne, Sent, is_no_memory, size_told};
+ghost use Rattle.remote_calls.specs.Sends.{CountsFailure, CountsSend, IsTooLarge, SendsOne, Sent, is_no_memory, size_told};
 
 use crate::desk_host::DeskHost;
 use crate::error::RemoteFault;
@@ -104,6 +104,12 @@ impl Remote for DeskRemote {
         list_send(&mut self.sends, order, &ending);
         ending
     }
+
+    /// Nothing is kept for the next order, and the library and its numbers are as they were.
+    fn rest(&mut self)
+        ensures stays { (self.new.fails ≡ self.old.fails) × (self.new.sends ≡ self.old.sends) × (self.new.faults ≡ self.old.faults) }
+        ensures value { self.new ≡ self.old }
+    {}
 }
 
 /// The same, but for the list.
@@ -118,7 +124,7 @@ fn send_at(
     requires proper { HasRequest order.now }
     ensures told { IfOk result (CanHave order.now.what) }
     ensures too_large { ExactlyWith is_no_memory result RemoteFault.TooLarge (size_told order.now) (IsTooLarge order.now) }
-    ensures faults { CountsSend faults.old faults.new result }
+    ensures faults { CountsFailure faults.old faults.new result }
     ensures value { (before after : List Sent) → DesksOver order.now
         (record { depot = depot.old; fails = fails.now; count = count.old; faults = faults.old; sends = before })
         (record { depot = depot.new; fails = fails.now; count = count.new; faults = faults.new; sends = after }) result }

@@ -1,12 +1,12 @@
 //! A server behind links, as a remote.
-ghost use Rattle.std.specs.Prelude.{◌≡◌, ◌++◌, [], None, Some, map, IfOk};
+ghost use Rattle.std.specs.Prelude.{◌≡◌, ◌++◌, [], None, Some, map, IfErr, IfOk, option_map};
 ghost use Rattle.ids.specs.Outcome.{ExactlyWith};
 ghost use Rattle.http_client.specs.OrderOutcome.{CanHave};
 ghost use Rattle.http_client.specs.RequestText.{HasRequest, IsHost};
-ghost use Rattle.remote_calls.specs.Exchange.{link_view};
+ghost use Rattle.remote_calls.specs.Exchange.{IsLinkCause, link_view, open_view};
 ghost use Rattle.http_front.specs.Dial.{DialsOnly, count_sum};
-ghost use Rattle.remote_calls.specs.HttpRemote.{AreMadeThere, Reaches, SendsOver, left_over, links_in, links_of, sum_with};
-ghost use Rattle.remote_calls.specs.Sends.{CountsSend, CountsSends, IsTooLarge, SendsOne, is_no_memory, size_told};
+ghost use Rattle.remote_calls.specs.HttpRemote.{AreMadeThere, GoesOver, LeavesAll, Reaches, SendsOver, Tries, ends_unanswered, keeps_open, left_over, links_in, links_of, sum_with};
+ghost use Rattle.remote_calls.specs.Sends.{CountsFailure, CountsSend, CountsSends, IsTooLarge, SendsOne, is_no_memory, size_told};
 ghost use Rattle.remote_calls.specs.Spelling.{SpellsAll};
 
 use crate::error::RemoteFault;
@@ -14,7 +14,7 @@ use crate::link_choice::ready_link;
 use crate::open_link::{OpenLink, send_on};
 use crate::remote::{Remote, SentLog, list_send};
 use http_client::{body_size, is_within_limit, request_bytes};
-use http_front::{Dial, Order, Outcome};
+use http_front::{Dial, Link, Order, Outcome};
 use http_server::Log;
 use ids::Text;
 use std::alloc::Global;
@@ -23,8 +23,9 @@ use std::marker::Model;
 /// A server at a port of a host, asked over links of a dial.
 ///
 /// A link is made as an order has none, and kept for the next one: up to 9,000 requests, and until a fault comes over it or
-/// a reply closes. The link of the last send stays until the next, with what it gave. What it gives behind a reply is read
-/// as the reply to the next order. It is never let go: `end` gives its links back.
+/// a reply closes. The link of the last send stays until the next, with what it gave, unless it is left by `rest`. What it gives
+/// behind a reply is read as the reply to the next order. Where a link that was kept fails, or ends, before a byte of the reply,
+/// the order is given once more, over a link that is made for it. It is never let go: `end` gives its links back.
 pub struct HttpRemote<D: Dial> {
     dial: D,
     host: Text,
@@ -85,7 +86,7 @@ impl<D: Dial + Drop> HttpRemote<D> {
 
     /// The dial, to which every link went back: the bytes that were moved on those that came back since `new`, where they tell
     /// them, are the requests and replies of the sends, and as many were made to this port of this host; it was asked for no other port
-    /// since. Its count rose since where the link failed in a send, and stayed where it failed in none. It takes no memory.
+    /// since. Its count rose since where a send came to a failure of the link, and didn't fall where none did. It takes no memory.
     pub fn end(self) -> D
         ensures back { map (link_view D.L.left D.L.taken D.L.given D.L.asked D.L.faults) (D.back result) ≡ self.links.back ++ left_over self.links.kept }
         ensures told { SpellsAll self.peer.host self.peer.start (map (link_view D.L.left D.L.taken D.L.given D.L.asked D.L.faults) (D.back result)) self.sends }
@@ -121,8 +122,8 @@ impl<D: Dial> Remote for HttpRemote<D> {
     ghost faults = { λ remote. remote.links.faults };
 
     /// The faults, in the order in which they are looked for: `TooLarge`; then `Link` where no link could be made or the
-    /// request could not be given whole; then `BadReply`, `Cut` and `Link` by what the link gave. The list of sends and the
-    /// links beside, a fault leaves all as it was.
+    /// request could not be given whole; then `BadReply`, `Cut` and `Link` by what the link gave. Where the order is given once
+    /// more, they are those of the second time. The list of sends and the links beside, a fault leaves all as it was.
     fn send(&mut self, alloc: Global, order: &Order) -> Result<Outcome, RemoteFault>
         requires proper { HasRequest order.now }
         ensures told { IfOk result (CanHave order.now.what) }
@@ -131,7 +132,7 @@ impl<D: Dial> Remote for HttpRemote<D> {
         ensures faults { CountsSend self.old.links.faults self.new.links.faults result }
         ensures stays { self.new.peer ≡ self.old.peer }
 
-        // Which link it went over, what was given to it, and what it gave.
+        // Which links it went over, what was given to them, and what they gave.
         ensures value { SendsOver (Reaches (link_view D.L.left D.L.taken D.L.given D.L.asked D.L.faults) D.reaches) self.old.peer.host self.old.peer.port order.now
             self.old.links self.new.links result }
     {
@@ -146,9 +147,19 @@ impl<D: Dial> Remote for HttpRemote<D> {
         list_send(&mut self.sends, order, &ending);
         ending
     }
+
+    /// Gives the link that is kept back, if there is one. The next order has another.
+    fn rest(&mut self)
+        ensures stays { (self.new.peer ≡ self.old.peer) × (self.new.sends ≡ self.old.sends) × (self.new.links.faults ≡ self.old.links.faults) }
+
+        // The link that was kept went back.
+        ensures value { LeavesAll self.old.links self.new.links }
+    {
+        leave_kept(&mut self.dial, &mut self.kept);
+    }
 }
 
-/// One order, over the link that is kept or another.
+/// One order, over the link that is kept or another, or over both.
 fn send_over<D: Dial>(
     alloc: Global,
     dial: &mut D,
@@ -175,13 +186,89 @@ fn send_over<D: Dial>(
         Ok(text) => text,
         Err(_) => return Err(RemoteFault::NoMemory),
     };
+    try_over(alloc, dial, kept, host, port, order, text.slice())
+}
+
+/// One order with this request. Where it goes over the link that is kept, and that fails or ends before a byte of the reply, it
+/// is given once more, over a link that is made for it.
+fn try_over<D: Dial>(
+    alloc: Global,
+    dial: &mut D,
+    kept: &mut Option<OpenLink<D::L>>,
+    host: &Text,
+    port: u16,
+    order: &Order,
+    text: &[u8],
+) -> Result<Outcome, RemoteFault>
+    ensures told { IfOk result (CanHave order.now.what) }
+    ensures cause { IfErr result IsLinkCause }
+    ensures dialled { DialsOnly host.now port (D.dialled dial.old) (D.dialled dial.new) }
+    ensures faults { CountsSend (links_of (link_view D.L.left D.L.taken D.L.given D.L.asked D.L.faults) D.back D.faults dial.old kept.old).faults
+        (links_of (link_view D.L.left D.L.taken D.L.given D.L.asked D.L.faults) D.back D.faults dial.new kept.new).faults result }
+    ensures value { Tries (λ link. Reaches (link_view D.L.left D.L.taken D.L.given D.L.asked D.L.faults) D.reaches link host.now port) order.now.what text.now
+        (links_of (link_view D.L.left D.L.taken D.L.given D.L.asked D.L.faults) D.back D.faults dial.old kept.old)
+        (links_of (link_view D.L.left D.L.taken D.L.given D.L.asked D.L.faults) D.back D.faults dial.new kept.new) result }
+{
+    let was_open = is_open(kept);
+    let fault = match go_over(alloc, dial, kept, host, port, order, text) {
+        Ok(outcome) => return Ok(outcome),
+        Err(fault) => fault,
+    };
+    if !was_open {
+        return Err(fault);
+    }
+    if !is_unanswered(fault, kept) {
+        return Err(fault);
+    }
+    go_over(alloc, dial, kept, host, port, order, text)
+}
+
+/// One order with this request, over the link that is kept or another, which is kept then.
+fn go_over<D: Dial>(
+    alloc: Global,
+    dial: &mut D,
+    kept: &mut Option<OpenLink<D::L>>,
+    host: &Text,
+    port: u16,
+    order: &Order,
+    text: &[u8],
+) -> Result<Outcome, RemoteFault>
+    ensures told { IfOk result (CanHave order.now.what) }
+    ensures cause { IfErr result IsLinkCause }
+    ensures dialled { DialsOnly host.now port (D.dialled dial.old) (D.dialled dial.new) }
+    ensures faults { CountsFailure (links_of (link_view D.L.left D.L.taken D.L.given D.L.asked D.L.faults) D.back D.faults dial.old kept.old).faults
+        (links_of (link_view D.L.left D.L.taken D.L.given D.L.asked D.L.faults) D.back D.faults dial.new kept.new).faults result }
+    ensures value { GoesOver (λ link. Reaches (link_view D.L.left D.L.taken D.L.given D.L.asked D.L.faults) D.reaches link host.now port) order.now.what text.now
+        (links_of (link_view D.L.left D.L.taken D.L.given D.L.asked D.L.faults) D.back D.faults dial.old kept.old)
+        (links_of (link_view D.L.left D.L.taken D.L.given D.L.asked D.L.faults) D.back D.faults dial.new kept.new) result }
+{
     let mut chosen = match ready_link(alloc, dial, kept, host, port) {
         Ok(chosen) => chosen,
         Err(fault) => return Err(fault),
     };
-    let ending = send_on(alloc, &mut chosen, order, text.slice());
+    let ending = send_on(alloc, &mut chosen, order, text);
     put_kept(dial, kept, chosen);
     ending
+}
+
+/// Whether a link is kept to which a further request may be given.
+fn is_open<L: Link>(kept: &Option<OpenLink<L>>) -> bool
+    ensures value { result ≡ keeps_open (option_map (open_view (link_view L.left L.taken L.given L.asked L.faults)) kept.now) }
+{
+    match kept {
+        Some(last) => last.keeps(),
+        None => false,
+    }
+}
+
+/// Whether the link that is kept failed, or ended, before a byte of a reply.
+fn is_unanswered<L: Link>(fault: RemoteFault, kept: &Option<OpenLink<L>>) -> bool
+    ensures value { result ≡ ends_unanswered fault (option_map (open_view (link_view L.left L.taken L.given L.asked L.faults)) kept.now) }
+{
+    match kept {
+        Some(last) => last.is_unanswered(fault),
+        None => false,
+    }
 }
 
 /// Keeps a link where none is kept. A link can't be dropped, so one that was kept would be given back.
@@ -194,6 +281,16 @@ fn put_kept<D: Dial>(dial: &mut D, kept: &mut Option<OpenLink<D::L>>, chosen: Op
         Some(last) => hang_up(dial, Some(last)),
         None => {}
     }
+}
+
+/// Gives the link that is kept back, if there is one, and keeps none.
+fn leave_kept<D: Dial>(dial: &mut D, kept: &mut Option<OpenLink<D::L>>)
+    ensures value { LeavesAll (links_of (link_view D.L.left D.L.taken D.L.given D.L.asked D.L.faults) D.back D.faults dial.old kept.old)
+        (links_of (link_view D.L.left D.L.taken D.L.given D.L.asked D.L.faults) D.back D.faults dial.new kept.new) }
+    ensures dialled { D.dialled dial.new ≡ D.dialled dial.old }
+{
+    let last = kept.take();
+    hang_up(dial, last);
 }
 
 /// Gives the link that is kept back, if there is one.

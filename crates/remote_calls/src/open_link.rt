@@ -2,8 +2,8 @@
 ghost use Rattle.std.specs.Prelude.{◌≡◌, true, IfErr, IfOk};
 ghost use Rattle.http_client.specs.OrderOutcome.{CanHave};
 ghost use Rattle.remote_calls.specs.Exchange.{Exchanges, IsLinkCause, link_view, open_view};
-ghost use Rattle.remote_calls.specs.HttpRemote.{keeps};
-ghost use Rattle.remote_calls.specs.Sends.{CountsSend};
+ghost use Rattle.remote_calls.specs.HttpRemote.{is_unanswered, keeps};
+ghost use Rattle.remote_calls.specs.Sends.{CountsFailure};
 
 use crate::error::RemoteFault;
 use crate::reply_reading::{ReadReply, read_reply};
@@ -32,6 +32,17 @@ impl<L> OpenLink<L> {
     {
         !self.over && self.count < MOST_ON_LINK
     }
+
+    /// Whether it failed with this, or ended, before a byte of a reply.
+    pub fn is_unanswered(&self, fault: RemoteFault) -> bool
+        ensures value { result ≡ is_unanswered fault self.now.buffer }
+    {
+        match fault {
+            RemoteFault::Link => self.buffer.len() == 0,
+            RemoteFault::Cut(_) => self.buffer.len() == 0,
+            _ => false,
+        }
+    }
 }
 
 /// Gives a request to a link, and reads the reply to its order. After a fault the link is over, and what it gave is kept
@@ -48,7 +59,7 @@ pub(crate) fn send_on<L: Link>(
         (open_view (link_view L.left L.taken L.given L.asked L.faults) chosen.old)
         (open_view (link_view L.left L.taken L.given L.asked L.faults) chosen.new) result }
     ensures cause { IfErr result IsLinkCause }
-    ensures faults { CountsSend (L.faults chosen.old.link) (L.faults chosen.new.link) result }
+    ensures faults { CountsFailure (L.faults chosen.old.link) (L.faults chosen.new.link) result }
 {
     chosen.count += 1;
     chosen.over = true;

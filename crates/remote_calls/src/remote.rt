@@ -42,6 +42,11 @@ pub trait Remote {
         ensures listed { SendsOne (sends self.old) (sends self.new) order.now result }
         ensures faults { CountsSend (faults self.old) (faults self.new) result }
         ensures stays { peer self.new ≡ peer self.old };
+
+    /// Says that no order comes for a while: what was kept for the next one, a link, is left. Nothing is sent, and it takes no
+    /// memory.
+    fn rest(&mut self)
+        ensures stays { (peer self.new ≡ peer self.old) × (sends self.new ≡ sends self.old) × (faults self.new ≡ faults self.old) };
 }
 
 /// Puts a send on the list.

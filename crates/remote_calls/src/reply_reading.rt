@@ -6,7 +6,7 @@ ghost use Rattle.http_front.specs.Link.{told_by};
 ghost use Rattle.http_client.specs.Response.{IsCut, IsWhole};
 ghost use Rattle.worker_server.specs.RequestSteps.{MayEnd, ReadsOn};
 ghost use Rattle.remote_calls.specs.Exchange.{FaultAsked, FillAsked, IsFillFault, IsRead, ReadFails};
-ghost use Rattle.remote_calls.specs.Sends.{CountsSend};
+ghost use Rattle.remote_calls.specs.Sends.{CountsFailure};
 
 use crate::error::RemoteFault;
 use http_client::{Response, next_response};
@@ -35,7 +35,7 @@ pub(crate) fn read_reply<L: Link>(
     ensures to_read { to_read buffer.new (L.left link.new) ≡ to_read buffer.old (L.left link.old) }
     ensures reads { ReadsOn (MayEnd result) (IsCut order.now.what) buffer.old buffer.new (told_by L.taken L.given L.asked link.old) (told_by L.taken L.given L.asked link.new) }
     ensures last { IfErr result (λ fault. FaultAsked fault (told_by L.taken L.given L.asked link.old) (told_by L.taken L.given L.asked link.new)) }
-    ensures faults { CountsSend (L.faults link.old) (L.faults link.new) result }
+    ensures faults { CountsFailure (L.faults link.old) (L.faults link.new) result }
 {
     loop {
         match reply_in(alloc, order, buffer.front()) {
@@ -83,7 +83,7 @@ fn fill<L: Link>(link: &mut L, buffer: &mut Buffer) -> Result<usize, RemoteFault
     ensures fills { Fills buffer.old buffer.new (told_by L.taken L.given L.asked link.old) (told_by L.taken L.given L.asked link.new) }
     ensures to_read { to_read buffer.new (L.left link.new) ≡ to_read buffer.old (L.left link.old) }
     ensures last { IfErr result (λ fault. FillAsked fault (told_by L.taken L.given L.asked link.old) (told_by L.taken L.given L.asked link.new)) }
-    ensures faults { CountsSend (L.faults link.old) (L.faults link.new) result }
+    ensures faults { CountsFailure (L.faults link.old) (L.faults link.new) result }
 {
     match buffer.fill(link) {
         Ok(count) => Ok(count),

@@ -105,7 +105,7 @@ fn one_round<F: Folder, R: Remote, C: Clock>(
     checked_round(alloc, folder, remote, asker, index, user, clock, cuts, may)
 }
 
-/// The rest of a round: the folder is scanned.
+/// The rest of a round: the folder is scanned. No order comes until then, so that what is kept for the next one is left.
 fn checked_round<F: Folder, R: Remote, C: Clock>(
     alloc: Global,
     folder: &mut F,
@@ -122,6 +122,7 @@ fn checked_round<F: Folder, R: Remote, C: Clock>(
     ensures stays { (F.told folder.new ≡ F.told folder.old) × (R.peer remote.new ≡ R.peer remote.old) }
     ensures faults { FailsBy is_folder_fault (F.faults folder.old) (F.faults folder.new) result }
 {
+    remote.rest();
     folder.ahead(Ahead::Files(files_known(index)));
     let report = match scan_folder(alloc, folder, cuts) {
         Ok(report) => report,

@@ -91,6 +91,10 @@ impl Remote for MeddledRemote {
         self.sends = self.sends.and(order, &ending);
         ending
     }
+
+    fn rest(&mut self) {
+        self.desk.rest();
+    }
 }
 
 /// Counts a failure of the link.
