@@ -1,7 +1,7 @@
 //! The directories of the runtime's file system.
 use crate::directory_calls::{DirectoryCalls, EntryKind, EntryNames};
 use std::alloc::{AllocError, Global};
-use std::fs::{DirBuilder, DirEntry, File, Files, Metadata, OpenOptions};
+use std::fs::{DirBuilder, DirEntry, File, Files, Metadata, OpenOptions, TryLockError};
 use std::io::{ErrorKind, Write};
 use std::os::fd::AsRawFd;
 use std::os::unix::fs::{DirBuilderExt, FileExt, MetadataExt, OpenOptionsExt};
@@ -84,8 +84,11 @@ impl<R: Files<File = File> + AllocGlobal + Clone + Drop> DirectoryCalls for Syst
     }
 
     fn lock(&mut self, dir: &File) -> io::Result<()> {
-        dir.try_lock()?;
-        Ok(())
+        match dir.try_lock() {
+            Ok(()) => Ok(()),
+            Err(TryLockError::WouldBlock) => Err(is_taken()),
+            Err(TryLockError::Error(failure)) => Err(failure),
+        }
     }
 
     fn open_directory(&mut self, dir: &File, name: &str) -> io::Result<File> {
@@ -129,7 +132,7 @@ impl<R: Files<File = File> + AllocGlobal + Clone + Drop> DirectoryCalls for Syst
     fn open_file(&mut self, dir: &File, name: &str) -> io::Result<File> {
         let path = entry_path(self.rt.alloc(), dir, name)?;
         if !fs::symlink_metadata(&self.rt, path.as_str())?.is_file() {
-            return Err(io::Error::from(ErrorKind::InvalidInput));
+            return Err(io::Error::new(ErrorKind::InvalidInput, "it is no file"));
         }
         let opened = File::open(&self.rt, path.as_str())?;
         itself(&self.rt, opened, path.as_str())
@@ -184,6 +187,11 @@ impl<R: Files<File = File> + AllocGlobal + Clone + Drop> DirectoryCalls for Syst
     }
 }
 
+/// The failure of a lock that another has.
+fn is_taken() -> io::Error {
+    io::Error::new(ErrorKind::WouldBlock, "another seaf-cli has this folder")
+}
+
 /// The path of an entry by the number of its open directory.
 fn entry_path(alloc: Global, dir: &File, name: &str) -> Result<String, AllocError> {
     format!(in alloc; "/proc/self/fd/{}/{name}", dir.as_raw_fd())
@@ -195,7 +203,7 @@ fn itself<R: Files>(rt: &R, opened: File, path: &str) -> io::Result<File> {
     if is_same(&opened.metadata()?, &entry) {
         return Ok(opened);
     }
-    Err(io::Error::from(ErrorKind::FilesystemLoop))
+    Err(io::Error::new(ErrorKind::FilesystemLoop, "a link, which is not followed"))
 }
 
 /// Whether two tell of the same file of the same device.

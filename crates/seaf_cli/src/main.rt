@@ -3,14 +3,16 @@
 //! `main` makes the real objects and calls `client_commands::cli`, whose clauses say what is done.
 #![tactic(auto)]
 
+mod cause;
+mod notes;
 mod own_folder;
 mod progress;
 mod shown_dial;
 mod shown_folder;
 mod system_desk;
 
+use crate::notes::Notes;
 use crate::own_folder::own_folder;
-use crate::progress::Progress;
 use crate::system_desk::SystemDesk;
 use client_commands::cli;
 use http_front::Sink;
@@ -45,7 +47,9 @@ fn run_over<
         Ok(own) => own,
         Err(_) => return 3,
     };
-    let progress = Progress::new(rt, rt.alloc(), err);
-    let mut desk = SystemDesk::new(rt, own, &progress);
-    cli(rt, rt.alloc(), words, &mut desk, clock, out)
+    let notes = Notes::new(rt, rt.alloc(), err);
+    let mut desk = SystemDesk::new(rt, own, &notes);
+    let status = cli(rt, rt.alloc(), words, &mut desk, clock, out);
+    notes.end();
+    status
 }
