@@ -18,18 +18,19 @@ const TOLD: u64 = 10;
 pub struct Notes<R> {
     progress: Progress<R>,
     alloc: Global,
-    err: Stderr,
+    // Where the lines go, if they do.
+    err: Option<Stderr>,
     // How many faults there were so far, told or not.
     faults: Cell<u64>,
 }
 
 impl<R: Clock> Notes<R> {
-    /// No line yet.
-    pub fn new(rt: R, alloc: Global, err: Stderr) -> Notes<R> {
+    /// No line yet. Where standard error was not open as the program began there is none to come: what is opened since may have its number.
+    pub fn new(rt: R, alloc: Global, err: Stderr, is_open: bool) -> Notes<R> {
         Notes {
             progress: Progress::new(rt, alloc, err),
             alloc,
-            err,
+            err: if is_open { Some(err) } else { None },
             faults: Cell::new(0),
         }
     }
@@ -69,6 +70,16 @@ impl<R: Clock> Notes<R> {
         }
     }
 
+    /// Tells which word of a command line was wrong, and where the right ones are told.
+    pub fn wrong_words(&self, wrong: &str) {
+        let line = format!(in self.alloc;
+            "seaf-cli: {wrong}; 'seaf-cli --help' tells the words that there are\n"
+        );
+        if let Ok(line) = line {
+            self.write(line.as_str());
+        }
+    }
+
     /// Tells how many more faults there were than have a line.
     pub fn end(&self) {
         let more = self.faults.get().saturating_sub(TOLD);
@@ -100,8 +111,10 @@ impl<R: Clock> Notes<R> {
 
     /// Writes a line, if it can be written, in place of the line of progress.
     fn write(&self, line: &str) {
+        let Some(mut err) = self.err else {
+            return;
+        };
         self.progress.clear();
-        let mut err = self.err;
         let _ = err.write_all(line.as_bytes());
     }
 }

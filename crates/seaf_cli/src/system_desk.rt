@@ -79,13 +79,12 @@ impl<'a, R: Files<File = File> + Net<Stream = TcpStream> + Clock + AllocGlobal +
         };
         let opened = open(self.rt, &self.own, dir);
         note_failure(self.notes, dir, &opened);
-        match answer(&mut self.folder_faults, opened) {
-            Ok(folder) => {
-                let is_shown = self.own.path.slice() != dir;
-                Ok(ShownFolder::new(folder, self.notes, whose, is_shown))
-            }
-            Err(fault) => Err(fault),
-        }
+        let folder = match answer(&mut self.folder_faults, opened) {
+            Ok(folder) => folder,
+            Err(fault) => return Err(fault),
+        };
+        let is_shown = self.own.path.slice() != dir;
+        Ok(ShownFolder::new(folder, self.notes, whose, is_shown))
     }
 
     fn give_back(
