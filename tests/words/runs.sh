@@ -32,7 +32,39 @@ ended() {
     : > wanted
     [ "$#" = 0 ] || printf '%s\n' "$@" > wanted
     same "$ran" wanted got
-    [ ! -s complaint ] || fail "$ran: it wrote to standard error: $(cat -v complaint)"
+    complains_well
+}
+
+# complains_well: a fault that has a cause, and words that are no command, have lines on standard error, each with the program's name, and
+# without the secret or a control character; nothing else has any, but that a link which broke may have been followed by another.
+complains_well() {
+    if grep -q -e ' fault$' -e ': usage$' -e ' is not supported$' got; then
+        [ -s complaint ] || fail "$ran: it told no cause"
+    elif [ "$status" = 1 ] && [ ! -s got ]; then
+        # (a connection whose library isn't opened prints nothing)
+        ! grep -v '^seaf-server: store: ' complaint || fail "$ran: these lines on standard error are of no store"
+    else
+        ! grep -v '^seaf-cli: [^ ]*:[0-9]*: [rs]e[cn][a-z]*ing: ' complaint || fail "$ran: it wrote to standard error: $(cat -v complaint)"
+    fi
+    ! grep -v '^seaf-[a-z]*: ' complaint || fail "$ran: these lines on standard error have no name"
+    is_clean_complaint
+}
+
+# is_clean_complaint: standard error has neither the secret nor a control character.
+is_clean_complaint() {
+    ! grep -qF "$SECRET" complaint || fail "$ran: it told the secret on standard error"
+    ! tr -d '\n' < complaint | grep -q '[[:cntrl:]]' || fail "$ran: $(cat -v complaint)"
+}
+
+# complained LINE..: what the last run wrote to standard error.
+complained() {
+    printf '%s\n' "$@" > wanted
+    same "$ran: standard error" wanted complaint
+}
+
+# complained_like FORM: the last run wrote one line of this form, a basic regular expression, to standard error.
+complained_like() {
+    [ "$(wc -l < complaint)" = 1 ] && grep -qx "$1" complaint || fail "$ran: standard error, and not $1: $(cat -v complaint)"
 }
 
 # library: makes the library in the folder `folder`, of `me`, by a run of its own. The row finds its first commit in
@@ -120,7 +152,14 @@ met() {
     spell
     same "$ran, which ended with status $status" wanted got
     [ "$status" = "$1" ] || fail "$ran: status $status, and not $1: $(cat -v complaint)"
-    [ ! -s complaint ] || fail "$ran: it wrote to standard error: $(cat -v complaint)"
+    if grep -q '"reason":"store"' got; then
+        [ -s complaint ] || fail "$ran: it told no cause"
+    elif [ -s got ]; then
+        [ ! -s complaint ] || fail "$ran: it wrote to standard error: $(cat -v complaint)"
+    fi
+    # (a connection without a reply may have a library that isn't opened)
+    ! grep -v '^seaf-server: store: ' complaint || fail "$ran: these lines on standard error are of no store"
+    is_clean_complaint
 }
 
 # begin [PLACE [LIB..]]: like connect, but the program runs from here on. What is asked goes out with the word `replied`.

@@ -2,6 +2,7 @@
 ghost use Rattle.std.specs.Prelude.{◌≡◌, ⊤, Err, IfOk, Ok, is_ok};
 ghost use Rattle.object_store.specs.Shelf.{CountsFaults};
 
+use crate::file_system::FileSystem;
 use object_store::ShelfFailed;
 use std::io;
 use std::io::ErrorKind;
@@ -28,6 +29,20 @@ pub(crate) fn counted<T>(faults: &mut u64, outcome: io::Result<T>) -> Result<T, 
     match outcome {
         Ok(value) => Ok(value),
         Err(_) => Err(failed(faults, false)),
+    }
+}
+
+/// Tells who looks on why something couldn't be done, where no call of the system refused it.
+pub(crate) fn tell<F: FileSystem, T>(
+    files: &mut F,
+    deed: &str,
+    path: &str,
+    outcome: &io::Result<T>,
+) {
+    if let Err(failure) = outcome {
+        if failure.raw_os_error().is_none() && failure.kind() != ErrorKind::OutOfMemory {
+            files.hear(deed, path, failure);
+        }
     }
 }
 

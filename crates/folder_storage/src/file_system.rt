@@ -132,4 +132,12 @@ pub trait FileSystem {
     /// Takes the lock of a file, which is made where it isn't there, for as long as this handle stands. A lock that
     /// another handle has is a failure, and so is a file that is no longer at this path once the lock is had.
     fn lock(&mut self, path: &str) -> io::Result<()>;
+
+    /// Hears why something of this path can't be done that no call of the system refused, for who looks on. It is no call that fails, and
+    /// nothing is changed by it.
+    fn hear(&mut self, deed: &str, path: &str, failure: &io::Error) {
+        let _ = deed;
+        let _ = path;
+        let _ = failure;
+    }
 }

@@ -5,7 +5,7 @@ ghost use Rattle.object_store.specs.Shelf.{CountsFaults};
 ghost use Rattle.folder_storage.specs.Ground.{HasNoFaults};
 ghost use Rattle.folder_storage.specs.Paths.{library_text};
 
-use crate::answer::answer;
+use crate::answer::{answer, tell};
 use crate::file_system::FileSystem;
 use crate::folder_shelf::FolderShelf;
 use crate::ground::Ground;
@@ -67,6 +67,7 @@ impl<F: FileSystem + Drop> Ground for FolderGround<F> {
         ensures fresh { IfOk result (HasNoFaults (λ shelf. shelf.faults)) }
     {
         let found = find_library(&self.files, folder, &lib);
+        tell(&mut self.files, "opening a library of", folder, &found);
         match answer(&mut self.faults, found)? {
             Some(library) => Ok(Some(FolderShelf::new(library))),
             None => Ok(None),
@@ -79,6 +80,7 @@ impl<F: FileSystem + Drop> Ground for FolderGround<F> {
         ensures fresh { IfOk result (HasNoFaults (λ shelf. shelf.faults)) }
     {
         let made = make_library(&self.files, folder, &lib);
+        tell(&mut self.files, "making a library in", folder, &made);
         match answer(&mut self.faults, made)? {
             Some(library) => Ok(Some(FolderShelf::new(library))),
             None => Ok(None),

@@ -4,7 +4,7 @@ ghost use Rattle.object_store.specs.Shelf.{CountsFaults, texts_after};
 ghost use Rattle.folder_storage.specs.Durability.{IsListed, StaysListed};
 ghost use Rattle.folder_storage.specs.LibraryFolder.{PutsInto, WantsNoMore, doubts_of};
 
-use crate::answer::{answer, counted};
+use crate::answer::{answer, counted, tell};
 use crate::file_system::FileSystem;
 use crate::library_folder::{LibraryFolder, Way};
 use crate::unsynced::Unsynced;
@@ -100,6 +100,12 @@ impl<F: FileSystem + Drop> Shelf for FolderShelf<F> {
             Slot::Status => {
                 let alloc = self.folder.files.alloc();
                 let put = self.unsynced.put_text(alloc, &mut self.folder, bytes);
+                tell(
+                    &mut self.folder.files,
+                    "changing",
+                    self.folder.path.as_str(),
+                    &put,
+                );
                 answer(&mut self.faults, put)
             }
         }

@@ -88,7 +88,7 @@ impl<F: FileSystem + Drop> LibraryFolder<F> {
         ensures after { doubts_of self.new ≡ record (doubts_of self.old) { torn = self.new.earlier.torn.items; is_adrift = self.new.is_adrift } }
     {
         if self.is_adrift || self.lost.is_some() {
-            return Err(io::Error::from(ErrorKind::Other));
+            return Err(needs_opening());
         }
         self.clear_torn()
     }
@@ -361,6 +361,14 @@ fn add_all(keys: &mut Vec<Key>, more: &[Key]) -> Result<(), AllocError>
         note(keys, key)?;
     }
     Ok(())
+}
+
+/// The failure of a text while something is in doubt that the next opening finds out.
+fn needs_opening() -> io::Error {
+    io::Error::new(
+        ErrorKind::Other,
+        "an object or a name was lost: it has to be opened anew, as a restart does",
+    )
 }
 
 /// The failure of a call that may have changed something: want of memory is no excuse there.

@@ -1,6 +1,8 @@
 //! Lines on standard error for who runs a server.
 use std::alloc::Global;
+use std::io;
 use std::io::{Stderr, Write};
+use system_edges::failure_words;
 use worker_server::Served;
 
 /// Tells that a port is open for so many libraries, with so many ears. A line that can't be made or written is left out.
@@ -13,6 +15,19 @@ pub(crate) fn note_port(
 ) {
     if let Ok(line) = format!(in alloc;
         "seaf-server: listening on 127.0.0.1:{port}, libraries: {libraries}, workers: {workers}\n"
+    ) {
+        write(err, line.as_bytes());
+    }
+}
+
+/// Tells why a port couldn't be opened.
+pub(crate) fn note_unopened(err: &mut Stderr, alloc: Global, port: u16, failure: &io::Error) {
+    let Ok(words) = failure_words(alloc, failure) else {
+        return;
+    };
+    if let Ok(line) = format!(in alloc;
+        "seaf-server: 127.0.0.1:{port}: opening the port: {}\n",
+        words.as_str()
     ) {
         write(err, line.as_bytes());
     }

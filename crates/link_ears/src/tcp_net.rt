@@ -4,7 +4,7 @@ ghost use Rattle.link_ears.specs.Ear.{IsNewEar, counts_sum};
 
 use crate::ear::Ear;
 use crate::net::{Net, NetFault};
-use crate::notes::note_port;
+use crate::notes::{note_port, note_unopened};
 use crate::tcp_ear::TcpEar;
 use http_server::Log;
 use ids::Items;
@@ -118,7 +118,11 @@ fn open<R: Network<Listener = TcpListener, Stream = TcpStream>>(
 {
     match TcpListener::bind(rt, (Ipv4Addr::LOCALHOST, port)) {
         Ok(listener) => ears_of(alloc, &listener, err, workers, connections),
-        Err(_) => Err(NetFault::Link),
+        Err(failure) => {
+            let mut err = err;
+            note_unopened(&mut err, alloc, port, &failure);
+            Err(NetFault::Link)
+        }
     }
 }
 

@@ -11,7 +11,10 @@ use tree_model::Name;
 
 /// The failure of a change where something else stands.
 fn in_the_way() -> io::Error {
-    io::Error::from(ErrorKind::AlreadyExists)
+    io::Error::new(
+        ErrorKind::AlreadyExists,
+        "something else stands there, or under its name in another case",
+    )
 }
 
 /// Takes a spare that is there away. Anything else of its name is a fault.

@@ -18,6 +18,23 @@ pub fn answer<T>(faults: &mut u64, outcome: io::Result<T>) -> Result<T, FolderFa
     }
 }
 
+/// As `answer`, and notes the failure, or that there was none.
+pub(crate) fn noted_answer<T>(
+    faults: &mut u64,
+    failure: &mut Option<io::Error>,
+    outcome: io::Result<T>,
+) -> Result<T, FolderFault>
+    ensures value { IfOk result (λ value. outcome ≡ Ok value) }
+    ensures fails { is_ok result ≡ is_ok outcome }
+    ensures faults { FolderFails faults.old faults.new result }
+{
+    *failure = match &outcome {
+        Ok(_) => None,
+        Err(failed) => Some(*failed),
+    };
+    answer(faults, outcome)
+}
+
 /// The failure that is answered, which is counted unless memory was wanting.
 fn failed(faults: &mut u64, is_memory: bool) -> FolderFault
     ensures faults { FolderFails {T = ⊤} faults.old faults.new (Err result) }

@@ -45,7 +45,10 @@ pub(crate) fn is_spare(names: &[Name]) -> bool {
 
 /// The failure of a call on what no entry is.
 pub(crate) fn no_entry() -> io::Error {
-    io::Error::from(ErrorKind::NotFound)
+    io::Error::new(
+        ErrorKind::NotFound,
+        "it isn't there, or its name is seaf-cli's own",
+    )
 }
 
 /// The entries of a directory in byte order of their names, without the spare.

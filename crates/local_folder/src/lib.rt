@@ -10,9 +10,11 @@ mod counting;
 mod directory_calls;
 mod entries;
 mod local_folder;
+mod permissions;
 mod system_directories;
 
 pub use crate::counting::answer;
 pub use crate::directory_calls::{DirectoryCalls, EntryKind, EntryNames};
 pub use crate::local_folder::LocalFolder;
-pub use crate::system_directories::{Permissions, SystemDirectories};
+pub use crate::permissions::Permissions;
+pub use crate::system_directories::SystemDirectories;

@@ -4,12 +4,13 @@ ghost use Rattle.folder_side.specs.Folder.{FolderFails};
 ghost use Rattle.local_folder.specs.Steps.{Does, DoesAll, Empties, Wrote, made, moved_in, taken};
 
 use crate::changes::{make_at, move_spare, new_spare, remove_at, sweep};
-use crate::counting::answer;
+use crate::counting::noted_answer;
 use crate::directory_calls::DirectoryCalls;
 use crate::entries::{Reading, listing_at, look_at, no_entry, read_at};
 use folder_side::{Ahead, Folder, FolderFault, ItemKind, Listing};
 use std::alloc::Global;
 use std::io;
+use std::io::ErrorKind;
 use tree_model::Path;
 
 /// A folder of the file system, which tells nothing of what it holds, and counts the calls that failed.
@@ -31,6 +32,8 @@ pub struct LocalFolder<C: DirectoryCalls> {
     reading: Option<Reading<C::File>>,
     spare: Option<C::File>,
     faults: u64,
+    // Why the last call failed, for who looks on.
+    failure: Option<io::Error>,
     pub ghost at_root: { IsTrue (C.stands_at root []) },
 }
 
@@ -51,6 +54,7 @@ impl<C: DirectoryCalls + Drop> LocalFolder<C> {
             reading: None,
             spare: None,
             faults: 0,
+            failure: None,
         })
     }
 
@@ -65,12 +69,18 @@ impl<C: DirectoryCalls + Drop> LocalFolder<C> {
             reading: _,
             spare,
             faults,
+            failure: _,
         } = self;
         let mut calls = calls;
         if spare.is_some() {
             let _ = sweep(&mut calls, &root);
         }
         faults
+    }
+
+    /// Why the last call failed, if it did; no clause says so.
+    pub fn failure(&self) -> Option<io::Error> {
+        self.failure
     }
 
     /// The calls by which it works.
@@ -96,7 +106,7 @@ impl<C: DirectoryCalls + Drop> Folder for LocalFolder<C> {
     {
         let listed = listing_at(&mut self.calls, alloc, &self.root, dir.names());
         let listed = self.if_there(dir.names().is_empty(), listed);
-        answer(&mut self.faults, listed)
+        noted_answer(&mut self.faults, &mut self.failure, listed)
     }
 
     fn look(&mut self, path: &Path) -> Result<Option<ItemKind>, FolderFault>
@@ -107,7 +117,7 @@ impl<C: DirectoryCalls + Drop> Folder for LocalFolder<C> {
     {
         let found = look_at(&mut self.calls, &self.root, path.names());
         let found = self.if_there(path.names().len() <= 1, found);
-        answer(&mut self.faults, found)
+        noted_answer(&mut self.faults, &mut self.failure, found)
     }
 
     fn read(&mut self, file: &Path, place: u64, into: &mut [u8]) -> Result<usize, FolderFault>
@@ -126,7 +136,7 @@ impl<C: DirectoryCalls + Drop> Folder for LocalFolder<C> {
             place,
             into,
         );
-        answer(&mut self.faults, read)
+        noted_answer(&mut self.faults, &mut self.failure, read)
     }
 
     fn spare_clear(&mut self) -> Result<(), FolderFault>
@@ -141,7 +151,7 @@ impl<C: DirectoryCalls + Drop> Folder for LocalFolder<C> {
                 self.spare = Some(spare);
                 Ok(())
             }
-            Err(failure) => answer(&mut self.faults, Err(failure)),
+            Err(failure) => noted_answer(&mut self.faults, &mut self.failure, Err(failure)),
         }
     }
 
@@ -152,7 +162,7 @@ impl<C: DirectoryCalls + Drop> Folder for LocalFolder<C> {
         ensures order { Does (Wrote bytes.now) (C.steps self.old.calls) (C.steps self.new.calls) result }
     {
         let added = self.add_to_spare(bytes);
-        answer(&mut self.faults, added)
+        noted_answer(&mut self.faults, &mut self.failure, added)
     }
 
     fn spare_move(&mut self, file: &Path) -> Result<(), FolderFault>
@@ -163,7 +173,7 @@ impl<C: DirectoryCalls + Drop> Folder for LocalFolder<C> {
     {
         self.reading = None;
         let moved = self.move_to(file);
-        answer(&mut self.faults, moved)
+        noted_answer(&mut self.faults, &mut self.failure, moved)
     }
 
     fn make_dir(&mut self, dir: &Path) -> Result<(), FolderFault>
@@ -174,7 +184,7 @@ impl<C: DirectoryCalls + Drop> Folder for LocalFolder<C> {
     {
         self.reading = None;
         let made = make_at(&mut self.calls, &self.root, dir.names());
-        answer(&mut self.faults, made)
+        noted_answer(&mut self.faults, &mut self.failure, made)
     }
 
     fn remove(&mut self, path: &Path) -> Result<(), FolderFault>
@@ -185,12 +195,17 @@ impl<C: DirectoryCalls + Drop> Folder for LocalFolder<C> {
     {
         self.reading = None;
         let removed = remove_at(&mut self.calls, &self.root, path.names());
-        answer(&mut self.faults, removed)
+        noted_answer(&mut self.faults, &mut self.failure, removed)
     }
 
     fn ahead(&self, ahead: Ahead) {
         let _ = ahead;
     }
+}
+
+/// The failure of a call on a folder that no longer stands at its path.
+fn gone() -> io::Error {
+    io::Error::new(ErrorKind::NotFound, "the folder is no longer at its path")
 }
 
 impl<C: DirectoryCalls> LocalFolder<C> {
@@ -201,7 +216,7 @@ impl<C: DirectoryCalls> LocalFolder<C> {
     {
         let found = found?;
         if is_root && !self.calls.is_at(&self.root, self.path.as_str())? {
-            return Err(no_entry());
+            return Err(gone());
         }
         Ok(found)
     }

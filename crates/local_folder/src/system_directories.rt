@@ -1,54 +1,40 @@
 //! The directories of the runtime's file system.
 use crate::directory_calls::{DirectoryCalls, EntryKind, EntryNames};
+use crate::permissions::{Permissions, hand_on, make_owners_file, usual_rights};
 use std::alloc::{AllocError, Global};
-use std::fs::{DirBuilder, DirEntry, File, Files, Metadata, OpenOptions};
+use std::fs::{DirBuilder, DirEntry, File, Files, Metadata, TryLockError};
 use std::io::{ErrorKind, Write};
 use std::os::fd::AsRawFd;
-use std::os::unix::fs::{DirBuilderExt, FileExt, MetadataExt, OpenOptionsExt};
+use std::os::unix::fs::{DirBuilderExt, FileExt, MetadataExt};
 use std::{fs, io};
-
-/// Who may use the files and directories that are made.
-#[derive(Clone, Copy, Debug, PartialEq, Eq)]
-pub enum Permissions {
-    /// Their owner alone: 0600 and 0700.
-    OwnersAlone,
-    /// Whom the process allows it to: 0666 and 0777 without the bits of its mask.
-    Usual,
-}
-
-impl Permissions {
-    /// The mode of a file.
-    fn of_file(&self) -> u32 {
-        match self {
-            Permissions::OwnersAlone => 0o600,
-            Permissions::Usual => 0o666,
-        }
-    }
-
-    /// The mode of a directory.
-    fn of_directory(&self) -> u32 {
-        match self {
-            Permissions::OwnersAlone => 0o700,
-            Permissions::Usual => 0o777,
-        }
-    }
-}
 
 /// The directories of the runtime's file system.
 ///
 /// An entry of an open directory is reached by `/proc/self/fd`, which Linux has, so that no other part of a path is walked.
 /// What was opened is kept only where the entry itself is the same file of the same device, so that no link was
 /// followed.
+///
+/// A file that is made is its owner's alone until it is moved: then it has the rights, owner and group of the file that it replaces, as
+/// far as the system lets it, or those of a new file. So what replaces a file is at no moment read by who couldn't read that one.
 #[derive(Drop)]
 pub struct SystemDirectories<R> {
     rt: R,
     permissions: Permissions,
+    // The rights of a new file, once one was made.
+    usual: Option<u32>,
+    // Another handle of the file that was made last, until it is moved.
+    made: Option<File>,
 }
 
 impl<R> SystemDirectories<R> {
     /// The directories of this runtime; what is made in them has these permissions.
     pub fn new(rt: R, permissions: Permissions) -> SystemDirectories<R> {
-        SystemDirectories { rt, permissions }
+        SystemDirectories {
+            rt,
+            permissions,
+            usual: None,
+            made: None,
+        }
     }
 }
 
@@ -84,8 +70,11 @@ impl<R: Files<File = File> + AllocGlobal + Clone + Drop> DirectoryCalls for Syst
     }
 
     fn lock(&mut self, dir: &File) -> io::Result<()> {
-        dir.try_lock()?;
-        Ok(())
+        match dir.try_lock() {
+            Ok(()) => Ok(()),
+            Err(TryLockError::WouldBlock) => Err(is_taken()),
+            Err(TryLockError::Error(failure)) => Err(failure),
+        }
     }
 
     fn open_directory(&mut self, dir: &File, name: &str) -> io::Result<File> {
@@ -129,7 +118,7 @@ impl<R: Files<File = File> + AllocGlobal + Clone + Drop> DirectoryCalls for Syst
     fn open_file(&mut self, dir: &File, name: &str) -> io::Result<File> {
         let path = entry_path(self.rt.alloc(), dir, name)?;
         if !fs::symlink_metadata(&self.rt, path.as_str())?.is_file() {
-            return Err(io::Error::from(ErrorKind::InvalidInput));
+            return Err(io::Error::new(ErrorKind::InvalidInput, "it is no file"));
         }
         let opened = File::open(&self.rt, path.as_str())?;
         itself(&self.rt, opened, path.as_str())
@@ -141,11 +130,13 @@ impl<R: Files<File = File> + AllocGlobal + Clone + Drop> DirectoryCalls for Syst
 
     fn create(&mut self, dir: &File, name: &str) -> io::Result<File> {
         let path = entry_path(self.rt.alloc(), dir, name)?;
-        let mut how = OpenOptions::new();
-        how.write(true)
-            .create_new(true)
-            .mode(self.permissions.of_file());
-        how.open(&self.rt, path.as_str())
+        self.made = None;
+        if !self.permissions.are_owners_alone() && self.usual.is_none() {
+            self.usual = Some(usual_rights(&self.rt, path.as_str())?);
+        }
+        let file = make_owners_file(&self.rt, path.as_str())?;
+        self.made = Some(file.try_clone()?);
+        Ok(file)
     }
 
     fn write(&mut self, file: &mut File, bytes: &[u8]) -> io::Result<()> {
@@ -163,6 +154,10 @@ impl<R: Files<File = File> + AllocGlobal + Clone + Drop> DirectoryCalls for Syst
     fn rename(&mut self, from: &File, old: &str, to: &File, new: &str) -> io::Result<()> {
         let from = entry_path(self.rt.alloc(), from, old)?;
         let to = entry_path(self.rt.alloc(), to, new)?;
+        if let Some(usual) = self.usual {
+            hand_on_at(&self.rt, &self.made, from.as_str(), to.as_str(), usual)?;
+        }
+        self.made = None;
         fs::rename(&self.rt, from.as_str(), to.as_str())
     }
 
@@ -184,6 +179,33 @@ impl<R: Files<File = File> + AllocGlobal + Clone + Drop> DirectoryCalls for Syst
     }
 }
 
+/// Gives the file that was made last, where it stands at this path, the permissions that it is to have at that one.
+fn hand_on_at<R: Files>(
+    rt: &R,
+    made: &Option<File>,
+    from: &str,
+    to: &str,
+    usual: u32,
+) -> io::Result<()> {
+    let Some(made) = made else {
+        return Ok(());
+    };
+    if !is_same(&made.metadata()?, &fs::symlink_metadata(rt, from)?) {
+        return Ok(());
+    }
+    match fs::symlink_metadata(rt, to) {
+        Ok(replaced) if replaced.is_file() => hand_on(made, Some(&replaced), usual),
+        Ok(_) => hand_on(made, None, usual),
+        Err(failure) if failure.kind() == ErrorKind::NotFound => hand_on(made, None, usual),
+        Err(failure) => Err(failure),
+    }
+}
+
+/// The failure of a lock that another has.
+fn is_taken() -> io::Error {
+    io::Error::new(ErrorKind::WouldBlock, "another seaf-cli has this folder")
+}
+
 /// The path of an entry by the number of its open directory.
 fn entry_path(alloc: Global, dir: &File, name: &str) -> Result<String, AllocError> {
     format!(in alloc; "/proc/self/fd/{}/{name}", dir.as_raw_fd())
@@ -195,7 +217,7 @@ fn itself<R: Files>(rt: &R, opened: File, path: &str) -> io::Result<File> {
     if is_same(&opened.metadata()?, &entry) {
         return Ok(opened);
     }
-    Err(io::Error::from(ErrorKind::FilesystemLoop))
+    Err(io::Error::new(ErrorKind::FilesystemLoop, "a link, which is not followed"))
 }
 
 /// Whether two tell of the same file of the same device.

@@ -3,24 +3,32 @@
 //! `main` makes the real objects and calls `client_commands::cli`, whose clauses say what is done.
 #![tactic(auto)]
 
+mod cause;
+mod notes;
 mod own_folder;
 mod progress;
 mod shown_dial;
 mod shown_folder;
 mod system_desk;
+mod usage;
 
+use crate::notes::Notes;
 use crate::own_folder::own_folder;
-use crate::progress::Progress;
 use crate::system_desk::SystemDesk;
+use crate::usage::wrong_word;
 use client_commands::cli;
 use http_front::Sink;
 use ids::Text;
+use std::fs;
 use std::fs::{File, Files};
 use std::io::Stderr;
 use std::net::{Net, TcpStream};
 use std::process::ExitCode;
 use std::time::Clock;
 use system_edges::{StandardSink, SystemClock, words_of};
+
+/// The status of words that are no command.
+const USAGE: u8 = 2;
 
 fn main(rt: HostRuntime) -> ExitCode {
     let words = match words_of(&rt, rt.alloc()) {
@@ -45,7 +53,20 @@ fn run_over<
         Ok(own) => own,
         Err(_) => return 3,
     };
-    let progress = Progress::new(rt, rt.alloc(), err);
-    let mut desk = SystemDesk::new(rt, own, &progress);
-    cli(rt, rt.alloc(), words, &mut desk, clock, out)
+    let is_open = fs::metadata(rt, "/proc/self/fd/2").is_ok();
+    let notes = Notes::new(rt, rt.alloc(), err, is_open);
+    let mut desk = SystemDesk::new(rt, own, &notes);
+    let status = cli(rt, rt.alloc(), words, &mut desk, clock, out);
+    notes.end();
+    if status == USAGE {
+        note_usage(&notes, words);
+    }
+    status
+}
+
+/// Tells which word was wrong, and where the right ones are told.
+fn note_usage<R: Clock>(notes: &Notes<R>, words: &[Text]) {
+    if let Ok(wrong) = wrong_word(notes.alloc(), words) {
+        notes.wrong_words(wrong.as_str());
+    }
 }

@@ -82,6 +82,11 @@ impl<R: Clock> Progress<R> {
     /// Takes the line away, and begins anew.
     pub fn end(&self) {
         self.done.set(NOTHING);
+        self.clear();
+    }
+
+    /// Takes the line away, until what was done is noted again.
+    pub fn clear(&self) {
         if self.is_drawn.get() {
             let mut err = self.err;
             self.is_drawn.set(err.write_all(b"\r\x1b[K").is_err());

@@ -1,14 +1,16 @@
 //! The folders of the file system and the network, as the client's desk.
 ghost use Rattle.std.specs.Prelude.{◌≡◌, IfOk};
 
+use crate::notes::Notes;
 use crate::own_folder::OwnFolder;
-use crate::progress::Progress;
 use crate::shown_dial::ShownDial;
 use crate::shown_folder::ShownFolder;
 use client_desk::Desk;
 use folder_side::FolderFault;
 use http_server::Log;
+use ids::Text;
 use local_folder::{LocalFolder, Permissions, SystemDirectories, answer};
+use std::alloc::AllocError;
 use std::fs::{DirBuilder, File, Files};
 use std::io;
 use std::io::ErrorKind;
@@ -27,7 +29,7 @@ use tcp_links::{TcpDial, TcpLink};
 pub struct SystemDesk<'a, R> {
     rt: &'a R,
     own: OwnFolder,
-    progress: &'a Progress<&'a R>,
+    notes: &'a Notes<&'a R>,
     folder_faults: u64,
     dial_faults: u64,
     // The dials that came back, for proofs alone.
@@ -35,13 +37,13 @@ pub struct SystemDesk<'a, R> {
 }
 
 impl<'a, R> SystemDesk<'a, R> {
-    /// A desk over this runtime, for a client whose own folder this is, which shows by this line what is done in the others, and what is
-    /// sent and fetched.
-    pub fn new(rt: &'a R, own: OwnFolder, progress: &'a Progress<&'a R>) -> SystemDesk<'a, R> {
+    /// A desk over this runtime, for a client whose own folder this is, which shows by these notes what is done in the others, what is
+    /// sent and fetched, and why a call failed.
+    pub fn new(rt: &'a R, own: OwnFolder, notes: &'a Notes<&'a R>) -> SystemDesk<'a, R> {
         SystemDesk {
             rt,
             own,
-            progress,
+            notes,
             folder_faults: 0,
             dial_faults: 0,
             dials: Log::new(),
@@ -71,17 +73,18 @@ impl<'a, R: Files<File = File> + Net<Stream = TcpStream> + Clock + AllocGlobal +
         &mut self,
         dir: &str,
     ) -> Result<ShownFolder<'a, LocalFolder<SystemDirectories<R>>, &'a R>, FolderFault> {
+        let whose = match Text::copy(self.rt.alloc(), dir) {
+            Ok(whose) => whose,
+            Err(AllocError) => return Err(FolderFault::NoMemory),
+        };
         let opened = open(self.rt, &self.own, dir);
+        note_failure(self.notes, dir, &opened);
         let folder = match answer(&mut self.folder_faults, opened) {
             Ok(folder) => folder,
             Err(fault) => return Err(fault),
         };
-        let progress = if self.own.path.slice() == dir {
-            None
-        } else {
-            Some(self.progress)
-        };
-        Ok(ShownFolder::new(folder, progress))
+        let is_shown = self.own.path.slice() != dir;
+        Ok(ShownFolder::new(folder, self.notes, whose, is_shown))
     }
 
     fn give_back(
@@ -95,13 +98,22 @@ impl<'a, R: Files<File = File> + Net<Stream = TcpStream> + Clock + AllocGlobal +
     }
 
     fn dial(&mut self) -> ShownDial<'a, TcpDial<&'a R>, TcpLink, &'a R> {
-        ShownDial::new(TcpDial::new(self.rt), self.progress)
+        ShownDial::new(TcpDial::new(self.rt), self.notes)
     }
 
     fn hang_up(&mut self, dial: ShownDial<'a, TcpDial<&'a R>, TcpLink, &'a R>) {
         self.dials = self.dials.and(&dial, &0);
         let dial = dial.into_dial();
         self.dial_faults = self.dial_faults.saturating_add(dial.faults());
+    }
+}
+
+/// Tells why a folder wasn't opened, if it wasn't by a fault.
+fn note_failure<T, R: Clock>(notes: &Notes<R>, dir: &str, opened: &io::Result<T>) {
+    if let Err(failure) = opened {
+        if failure.kind() != ErrorKind::OutOfMemory {
+            notes.fault(dir, "opening", "", failure);
+        }
     }
 }
 

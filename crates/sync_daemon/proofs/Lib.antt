@@ -31,3 +31,4 @@ pub mod BringLemmas
 pub mod CheckoutFaultLemmas
 pub mod ChangeLemmas
 pub mod KnownOfferLemmas
+pub mod FilesKnownLemmas

@@ -8,3 +8,4 @@ pub mod Finishing
 pub mod Bringing
 pub mod SeenFolder
 pub mod Turns
+pub mod FilesKnown

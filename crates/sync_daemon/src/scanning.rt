@@ -1,8 +1,10 @@
 //! What a folder holds, and how that differs from what its index tells.
-ghost use Rattle.std.specs.Prelude.{◌≡◌, IfOk};
+ghost use Rattle.std.specs.Prelude.{◌≡◌, IfOk, min};
+ghost use Rattle.std.specs.FinMap as map;
 ghost use Rattle.ids.specs.FaultCount.{FailsBy};
 ghost use Rattle.sync_rules.specs.Causes.{is_folder_fault};
 ghost use Rattle.tree_push.specs.ChangedOwns.{AreChangedOwns};
+ghost use Rattle.sync_daemon.specs.FilesKnown.{file_count, files_in};
 ghost use Rattle.sync_daemon.specs.Rounds.{ScansSo, TellsChange, scan_fault};
 
 use block_chunker::Cuts;
@@ -61,18 +63,23 @@ pub(crate) fn find_changes(alloc: Global, report: &Scan, index: &Index) -> Resul
     })
 }
 
-/// How many files an index knows, for who looks on.
-pub(crate) fn files_known(index: &Index) -> u64 {
+/// How many files an index knows, for who looks on, or 2^64 - 1 where that is more.
+pub(crate) fn files_known(index: &Index) -> u64
+    ensures value { result ≡ min (files_in (map.entries index.now.entries)) 18446744073709551615 }
+{
     let mut count: u64 = 0;
     for (_, known) in index.entries.iter() {
-        count = count.saturating_add(u64::from(is_file(known)));
+        count = count.saturating_add(file_count(known));
     }
     count
 }
 
-fn is_file(known: &Known) -> bool {
+/// How many files an entry is: one or none.
+fn file_count(known: &Known) -> u64
+    ensures value { result ≡ file_count known.now }
+{
     match known {
-        Known::Dir => false,
-        Known::File { .. } => true,
+        Known::Dir => 0,
+        Known::File { .. } => 1,
     }
 }

@@ -1,7 +1,7 @@
 //! A dial over TCP.
 ghost use Rattle.std.specs.Prelude.{◌≡◌, [], IfOk};
 
-use crate::counting::answer;
+use crate::counting::noted_answer;
 use crate::tcp_link::{TcpLink, Waits};
 use http_front::{Dial, DialLog, LinkFailed};
 use http_server::Log;
@@ -28,6 +28,8 @@ const WAITS: Waits = Waits {
 pub struct TcpDial<R> {
     rt: R,
     faults: u64,
+    // Why the last call failed, for who looks on.
+    failure: Option<io::Error>,
     // The links that came back, and what was asked for, for proofs alone.
     back: Log<TcpLink, u64>,
     dialled: DialLog,
@@ -42,6 +44,7 @@ impl<R> TcpDial<R> {
         TcpDial {
             rt,
             faults: 0,
+            failure: None,
             back: Log::new(),
             dialled: DialLog::new(),
         }
@@ -52,6 +55,11 @@ impl<R> TcpDial<R> {
         ensures value { result ≡ self.now.faults }
     {
         self.faults
+    }
+
+    /// Why the last link wasn't made, if it wasn't; no clause says so.
+    pub fn failure(&self) -> Option<io::Error> {
+        self.failure
     }
 }
 
@@ -71,7 +79,7 @@ impl<R: Net<Stream = TcpStream>> Dial for TcpDial<R> {
     fn link(&mut self, host: &str, port: u16) -> Result<TcpLink, LinkFailed> {
         self.dialled = self.dialled.and(host, port);
         let linked = connect(&self.rt, host, port);
-        answer(&mut self.faults, linked)
+        noted_answer(&mut self.faults, &mut self.failure, linked)
     }
 
     fn hang_up(&mut self, link: TcpLink) {
@@ -84,7 +92,7 @@ impl<R: Net<Stream = TcpStream>> Dial for TcpDial<R> {
 fn connect<R: Net<Stream = TcpStream>>(rt: &R, host: &str, port: u16) -> io::Result<TcpLink>
     ensures faults { IfOk result (λ link. link.faults ≡ 0) }
 {
-    let mut last = io::Error::from(ErrorKind::NotFound);
+    let mut last = io::Error::new(ErrorKind::NotFound, "the host has no address");
     for address in (host, port).to_socket_addrs(rt)? {
         match connect_to(rt, &address) {
             Ok(link) => return Ok(link),

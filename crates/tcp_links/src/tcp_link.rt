@@ -1,7 +1,7 @@
 //! A link over a TCP connection.
 ghost use Rattle.std.specs.Prelude.{◌≡◌, ◌≤◌, IfOk, length};
 
-use crate::counting::answer;
+use crate::counting::noted_answer;
 use http_front::{Link, LinkFailed};
 use std::io;
 use std::io::{ErrorKind, Read, Write};
@@ -25,6 +25,8 @@ pub struct Waits {
 pub struct TcpLink {
     stream: TcpStream,
     faults: u64,
+    // Why the last call failed, for who looks on.
+    failure: Option<io::Error>,
 }
 
 impl TcpLink {
@@ -37,7 +39,11 @@ impl TcpLink {
         stream.set_nodelay(true)?;
         stream.set_read_timeout(Some(Duration::from_secs(waits.take)))?;
         stream.set_write_timeout(Some(Duration::from_secs(waits.give)))?;
-        Ok(TcpLink { stream, faults: 0 })
+        Ok(TcpLink {
+            stream,
+            faults: 0,
+            failure: None,
+        })
     }
 
     /// How many calls failed so far.
@@ -45,6 +51,11 @@ impl TcpLink {
         ensures value { result ≡ self.now.faults }
     {
         self.faults
+    }
+
+    /// Why the last call failed, if it did; no clause says so.
+    pub fn failure(&self) -> Option<io::Error> {
+        self.failure
     }
 }
 
@@ -63,12 +74,12 @@ impl Link for TcpLink {
 
     fn take(&mut self, into: &mut [u8]) -> Result<usize, LinkFailed> {
         let read = read_some(&mut self.stream, into);
-        answer(&mut self.faults, read)
+        noted_answer(&mut self.faults, &mut self.failure, read)
     }
 
     fn give(&mut self, piece: &[u8]) -> Result<(), LinkFailed> {
-        let written = self.stream.write_all(piece);
-        answer(&mut self.faults, written)
+        let written = write_all(&mut self.stream, piece);
+        noted_answer(&mut self.faults, &mut self.failure, written)
     }
 }
 
@@ -80,8 +91,24 @@ fn read_some(stream: &mut TcpStream, into: &mut [u8]) -> io::Result<usize>
         match stream.read(into) {
             Ok(count) => return Ok(count),
             Err(failure) if failure.kind() == ErrorKind::Interrupted => {}
-            Err(failure) => return Err(failure),
+            Err(failure) => return Err(in_time(failure)),
         }
     }
     Err(io::Error::from(ErrorKind::Interrupted))
+}
+
+/// Gives all of a piece.
+fn write_all(stream: &mut TcpStream, piece: &[u8]) -> io::Result<()> {
+    match stream.write_all(piece) {
+        Ok(()) => Ok(()),
+        Err(failure) => Err(in_time(failure)),
+    }
+}
+
+/// A failure, as the end of a wait where it is that: the system tells it as a call that would wait.
+fn in_time(failure: io::Error) -> io::Error {
+    if failure.kind() == ErrorKind::WouldBlock {
+        return io::Error::new(ErrorKind::TimedOut, "the peer did nothing for too long");
+    }
+    failure
 }

@@ -1,9 +1,10 @@
 //! A checkout: the steps of a plan.
-ghost use Rattle.std.specs.Prelude.{◌≡◌, ◌<◌, ◌≤◌, IfErr, IfOk, OnOk, Some, false, length, map as list_map};
+ghost use Rattle.std.specs.Prelude.{◌≡◌, ◌<◌, ◌≤◌, ◌+◌, IfErr, IfOk, OnOk, Some, false, length, map as list_map};
 ghost use Rattle.std.specs.List.{AllByRecursion, IsDistinct};
 ghost use Rattle.std.specs.Ordering.{eq_by_cmp};
 ghost use Rattle.ids.specs.FaultCount.{FailsBy};
 ghost use Rattle.folder_side.specs.Folder.{Contents};
+ghost use Rattle.folder_side.specs.declared.folder.Ahead.TheVariants.{Steps};
 ghost use Rattle.folder_side.specs.declared.folder_scan.TheConstants.{PIECE};
 ghost use Rattle.sync_rules.specs.Checkout.{Step, run};
 ghost use Rattle.sync_rules.specs.Causes.{is_folder_fault};
@@ -55,7 +56,7 @@ pub fn checkout<F: Folder, R: Remote>(
     ensures stays { R.peer remote.new ≡ R.peer remote.old }
     ensures faults { FailsBy is_folder_fault (F.faults folder.old) (F.faults folder.new) result }
 {
-    folder.ahead(Ahead::Steps((doomed.len() as u64).saturating_add(writes.len() as u64)));
+    folder.ahead(steps_ahead(doomed, writes));
     match remove_all(alloc, folder, scan, doomed, cuts, buffer) {
         Ok(()) => {}
         Err(fault) => return Err(fault),
@@ -68,4 +69,11 @@ pub fn checkout<F: Folder, R: Remote>(
         Err(fault) => return Err(fault),
     }
     Ok(owns)
+}
+
+/// How many steps a checkout takes, for who looks on: one for each path that is removed, and for each that is written.
+fn steps_ahead(doomed: &[Path], writes: &[Write]) -> Ahead
+    ensures value { result ≡ Steps (length doomed.now + length writes.now) }
+{
+    Ahead::Steps((doomed.len() as u64).saturating_add(writes.len() as u64))
 }

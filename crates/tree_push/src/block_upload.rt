@@ -16,9 +16,10 @@ ghost use Rattle.tree_push.specs.Lacking.{has_key};
 ghost use Rattle.tree_push.specs.BlockUpload.{IsChange, IsFileFault, IsPutFault, IsReadFault, NotChanged, PutsOff, StandsThere, folder_fault};
 
 use crate::asking::Library;
+use crate::lacking::blocks_ahead;
 use crate::puts::put_block;
 use block_chunker::{Chunker, Cuts};
-use folder_side::{Ahead, Folder, FolderFault};
+use folder_side::{Folder, FolderFault};
 use ids::{Bytes, Items, Key, KeyTable, Kind, ObjId};
 use remote_calls::Remote;
 use std::alloc::{AllocError, Global};
@@ -55,7 +56,7 @@ pub fn put_blocks<F: Folder, R: Remote>(
     let mut chunker = Chunker::new(alloc, cuts);
     let mut place: u64 = 0;
     while place < size {
-        folder.ahead(Ahead::Blocks(lacking.len() as u64));
+        folder.ahead(blocks_ahead(lacking));
         let count = match read_piece(alloc, folder, path, place, size - place, buffer) {
             Ok(count) => count,
             Err(fault) => return Err(fault),

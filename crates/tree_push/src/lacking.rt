@@ -1,12 +1,14 @@
 //! What the library lacks.
 ghost use Rattle.std.specs.Prelude.{◌≡◌, ◌≤◌, IfErr, IfOk, length, true};
 ghost use Rattle.std.specs.FinMap as map;
+ghost use Rattle.folder_side.specs.declared.folder.Ahead.TheVariants.{Blocks};
 ghost use Rattle.sync_rules.specs.Orders.{most_asked};
 ghost use Rattle.tree_push.specs.Asking.{IsAbsentReply, IsOrderFault, Went, is_listed, no_key};
 ghost use Rattle.tree_push.specs.Lacking.{AsksNoting, NotesIds, NotesSo};
 ghost use Rattle.tree_push.specs.Wanted.{ids_in};
 
 use crate::asking::{Library, ask};
+use folder_side::Ahead;
 use http_front::What;
 use ids::{IdList, Key, KeyTable, Kind, ObjId};
 use library_state::Reply;
@@ -107,4 +109,11 @@ pub fn ids_of<V>(alloc: Global, table: &KeyTable<V>) -> Result<IdList, AllocErro
         ids.push(key.id)?;
     }
     Ok(ids)
+}
+
+/// How many blocks are left to be put, for who looks on.
+pub(crate) fn blocks_ahead(lacking: &KeyTable<()>) -> Ahead
+    ensures value { result ≡ Blocks (map.len lacking.now) }
+{
+    Ahead::Blocks(lacking.len() as u64)
 }

@@ -17,11 +17,11 @@ ghost use Rattle.tree_push.specs.Wanted.{AreOwnNamed, AreSeenBlocks, ids_in};
 
 use crate::asking::Library;
 use crate::block_upload::put_blocks;
-use crate::lacking::{ask_lacking, ids_of};
+use crate::lacking::{ask_lacking, blocks_ahead, ids_of};
 use crate::puts::put_objects;
 use crate::wanted::Wanted;
 use block_chunker::Cuts;
-use folder_side::{Ahead, Folder, Seen};
+use folder_side::{Folder, Seen};
 use ids::{Key, KeyTable, Kind, ObjId};
 use remote_calls::Remote;
 use std::alloc::{AllocError, Global};
@@ -77,7 +77,7 @@ pub(crate) fn upload<F: Folder, R: Remote>(
         Ok(()) => {}
         Err(fault) => return Err(fault),
     }
-    folder.ahead(Ahead::Blocks(blocks.len() as u64));
+    folder.ahead(blocks_ahead(&blocks));
     put_objects(alloc, remote, library, &wanted.made, &objects)
 }
 
