@@ -1,13 +1,13 @@
 -- Whether a folder is as a checkout leaves it that was interrupted: each path holds what the index tells, what the head's tree has, or
 -- nothing, where that has nothing or another kind. Our own. Read is_left, then IsLeftByCheckout, IsInterrupted and IsChangedByReader.
-use Rattle.std.specs.Prelude.{ℕ, ◌≡◌, ◌≢◌, ◌⊎◌, ◌||◌, not, Bool, true, false, List, Option, None, Some, option_and_then, Ok}
+use Rattle.std.specs.Prelude.{ℕ, ◌≡◌, ◌≢◌, ◌⊎◌, ◌||◌, not, Bool, true, false, List, Option, None, Some, option_and_then, Ok, ⊤}
 use Rattle.std.specs.FinMap as fin
 use Rattle.std.specs.Str.{bytes_eq}
 use Rattle.ids.specs.Key.{Objects}
 use Rattle.tree_model.specs.Path.{PathV}
 use Rattle.block_chunker.specs.declared.cuts.Cuts.{Cuts}
 use Rattle.commit_objects.specs.declared.commit.Commit.{Commit}
-use Rattle.object_graph.specs.Objects.{commit_at, entry_below}
+use Rattle.object_graph.specs.Objects.{commit_at, contents_of, entry_below}
 use Rattle.object_graph.specs.declared.entry.Entry.{Entry}
 use Rattle.object_graph.specs.declared.entry.Entry.TheVariants as entry
 use Rattle.folder_side.specs.Folder.{Contents, at}
@@ -21,7 +21,7 @@ use Rattle.local_index.specs.declared.index.Known.{Known}
 use Rattle.local_index.specs.declared.index.Known.TheVariants as known
 use Rattle.remote_calls.specs.Sends.{Sent}
 use Rattle.sync_rules.specs.Named.{HasGot, last_head}
-use Rattle.sync_rules.specs.Offer.{Agrees}
+use Rattle.sync_rules.specs.Offer.{Agrees, own_of}
 
 -- ---- at a path
 
@@ -55,6 +55,14 @@ is_left (Some s) was there = is_unchanged s was || is_reached s there
 abbrev pub IsLeftByCheckout : Objects → Cuts → Contents → Index → (root : List ℕ) → Type 0
 IsLeftByCheckout objects cuts c index root =
     (path : PathV) → is_left (option_and_then (seen_of cuts) (at c path)) (fin.get index.entries path) (entry_below objects path root) ≡ true
+
+-- each file of a tree has the own id of this project's chunks
+abbrev pub HasOwnId : Objects → Cuts → Option Entry → Type 0
+HasOwnId objects cuts (Some (entry.File id mode mtime modifier size)) = own_of cuts (contents_of objects id) ≡ id
+HasOwnId objects cuts _ = ⊤
+
+abbrev pub HasOwnIds : Objects → Cuts → (root : List ℕ) → Type 0
+HasOwnIds objects cuts root = (path : PathV) → HasOwnId objects cuts (entry_below objects path root)
 
 -- ---- of one who may only read
 

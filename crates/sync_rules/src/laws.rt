@@ -13,6 +13,8 @@ ghost use Rattle.folder_side.specs.Folder.{Contents, at};
 ghost use Rattle.folder_side.specs.declared.holding.Holding.TheVariants as holding;
 ghost use Rattle.tree_model.specs.declared.node.FileVersion.{FileVersion};
 ghost use Rattle.tree_model.specs.declared.node.Node.TheVariants as node;
+ghost use Rattle.object_graph.specs.Objects.{IsTreeOf};
+ghost use Rattle.sync_rules.specs.InterruptedCheckout.{HasOwnIds, IsLeftByCheckout};
 ghost use Rattle.sync_rules.specs.Offer.{Agrees, own_of};
 ghost use Rattle.folder_side.specs.WorkingTree.{HoldsLeft, PlainFile, held_list, plain_at};
 ghost use Rattle.tree_model.specs.DirectorySurvival.{is_under};
@@ -81,6 +83,13 @@ pub fn what_was_had_has_what_was_got()
 pub fn what_was_got_is_what_was_had_of_gets()
     ensures { (objects : Objects) (sends : List Sent) (had : List (Key × List ℕ)) → All (λ (sent : Sent). is_get sent.0.what ≡ true) sends
         → IsHad sends had → HasGot objects sends → HasAll objects had }
+{}
+
+/// What a checkout to a tree left of a folder that agreed with its index, done or not, is known as that: where each file of the tree has
+/// the own id of this project's chunks, no path is one that a reader changed.
+pub fn what_a_checkout_left_is_known()
+    ensures { (objects : Objects) (cuts : Cuts) (c d : Contents) (index : Index) (tree : Tree) (root : List ℕ) → Agrees cuts c index → IsTreeOf objects root tree
+        → HasOwnIds objects cuts root → ((path : PathV) → MayHold tree c d path) → IsLeftByCheckout objects cuts d index root }
 {}
 
 /// What a whole call got, its parts got.
