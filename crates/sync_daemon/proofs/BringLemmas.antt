@@ -47,11 +47,11 @@ knows_by scan writes handed owns told entries index same are knows =
     subst (λ (w : List Write). KnowsAs scan (with_owns fin.empty w owns) entries index) same
     (subst (λ (o : List (List ℕ)). KnowsAs scan (with_owns fin.empty handed o) entries index) are knows)
 
-pub brings_by : (asker : Asker) (cuts : Cuts) (scan : Scan) (index : Index) (pushed : Bool) (root : List ℕ) (old mid new : List Sent) (told now : Option Contents) (tree : FetchedTree)
-    (plan : Plan) (writes : List Write) (result : Result Done SyncFault) → IsReady asker scan index pushed old mid root tree plan writes
-    → ChangesSo asker cuts scan tree.entries plan writes mid new told now result → BringsSo asker cuts scan index pushed root old new told now result
-brings_by asker cuts scan index pushed root old mid new told now tree plan writes (Ok done) ready changes = (mid, tree, plan, writes, ready, changes)
-brings_by asker cuts scan index pushed root old mid new told now tree plan writes (Err f) ready stops = inr (inr (mid, tree, plan, writes, ready, stops))
+pub brings_by : (asker : Asker) (cuts : Cuts) (scan : Scan) (index : Index) (pushed differs : Bool) (root : List ℕ) (old mid new : List Sent) (told now : Option Contents) (tree : FetchedTree)
+    (plan : Plan) (writes : List Write) (result : Result Done SyncFault) → IsReady asker scan index pushed differs old mid root tree plan writes
+    → ChangesSo asker cuts scan tree.entries plan writes mid new told now result → BringsSo asker cuts scan index pushed differs root old new told now result
+brings_by asker cuts scan index pushed differs root old mid new told now tree plan writes (Ok done) ready changes = (mid, tree, plan, writes, ready, changes)
+brings_by asker cuts scan index pushed differs root old mid new told now tree plan writes (Err f) ready stops = inr (inr (mid, tree, plan, writes, ready, stops))
 
 -- what is told where the folder was brought to the head
 abbrev pub told_of : Settled → (conflict : Bool) → Done → Synced
@@ -79,21 +79,21 @@ both_when b test holds told right = ((λ is. (test.0 holds, right.0 is)), (λ bo
 module _ (asker : Asker) (cuts : Cuts) (settled : Settled) (old mid new : List Sent) (told now : Option Contents) (index : Index) (commit : Commit)
     (fetched : FetchesCommit asker old mid settled.head (Ok commit)) (pushed : Bool) (pushed_is : pushed ≡ is_pushed settled.pushed) where
   pub reaches_by : (done : Done) (conflict : Bool) → conflict ≡ tells_conflict settled.pushed settled.head commit.conflict
-      → BringsSo asker cuts settled.scan index pushed commit.root mid new told now (Ok done)
+      → BringsSo asker cuts settled.scan index pushed settled.differs commit.root mid new told now (Ok done)
       → ReachesAs asker cuts settled old new told now index (index_of index settled done) (Ok (told_of settled conflict done))
   reaches_by done conflict conflict_is brings = (
     mid,
     commit,
     done,
     fetched,
-    subst (λ (b : Bool). BringsSo asker cuts settled.scan index b commit.root mid new told now (Ok done)) pushed_is brings,
+    subst (λ (b : Bool). BringsSo asker cuts settled.scan index b settled.differs commit.root mid new told now (Ok done)) pushed_is brings,
     refl,
     ap (λ (b : Bool). told_of settled b done) conflict_is,
   )
 
-  pub halts_by : (f : SyncFault) → BringsSo asker cuts settled.scan index pushed commit.root mid new told now (Err f)
+  pub halts_by : (f : SyncFault) → BringsSo asker cuts settled.scan index pushed settled.differs commit.root mid new told now (Err f)
       → ReachesAs asker cuts settled old new told now index index (Err f)
-  halts_by f brings = (refl, inr (mid, commit, fetched, subst (λ (b : Bool). BringsSo asker cuts settled.scan index b commit.root mid new told now (Err f)) pushed_is brings))
+  halts_by f brings = (refl, inr (mid, commit, fetched, subst (λ (b : Bool). BringsSo asker cuts settled.scan index b settled.differs commit.root mid new told now (Err f)) pushed_is brings))
 
 -- ---- all of the second half
 
@@ -102,7 +102,7 @@ module _ (asker : Asker) (user : List ℕ) (cuts : Cuts) (settled : Settled) (ol
   pub knows_finishes : (result : Result Synced SyncFault) → IsOwnHead settled index → KnowsSo user settled index later result
       → FinishesAs asker user cuts settled old old told told index later result
   knows_finishes (Ok s) own knows = inr (inl (own, refl, refl, knows))
-  knows_finishes (Err f) own knows = inl (refl, refl, knows.0, knows.1)
+  knows_finishes (Err f) own knows = inl (refl, refl, knows.0, inr knows.1)
 
   pub knows_fails : (result : Result Synced SyncFault) (faults : ℕ) → KnowsSo user settled index later result → FailsBy is_folder_fault faults faults result
   knows_fails (Ok s) faults knows = refl
@@ -112,4 +112,4 @@ module _ (asker : Asker) (user : List ℕ) (cuts : Cuts) (settled : Settled) (ol
   pub reaches_finishes : (new : List Sent) (now : Option Contents) (result : Result Synced SyncFault) → (IsDone settled index → ⊥) → (IsOwnHead settled index → ⊥)
       → ReachesAs asker cuts settled old new told now index later result → FinishesAs asker user cuts settled old new told now index later result
   reaches_finishes new now (Ok s) apart other reaches = inr (inr (apart, other, reaches))
-  reaches_finishes new now (Err f) apart other reaches = inr reaches
+  reaches_finishes new now (Err f) apart other reaches = inr (apart, reaches)

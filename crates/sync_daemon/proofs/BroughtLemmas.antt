@@ -36,7 +36,7 @@ use Rattle.tree_checkout.proofs.HadLemmas.{got_had}
 use Rattle.tree_fetch.specs.declared.asker.Asker.{Asker}
 use Rattle.tree_fetch.specs.declared.tree.FetchedTree.{FetchedTree}
 use Rattle.tree_push.proofs.OfferedContentLemmas.{seen_folder}
-use Rattle.sync_daemon.specs.Bringing.{AreMade, Changes, IsDone, IsOwnHead, IsPlanned, KnowsAs, index_of, is_pushed, source_of, synced_of, with_owns}
+use Rattle.sync_daemon.specs.Bringing.{AreMade, Changes, IsDone, IsOwnHead, IsPlanned, KnowsAs, MayChange, index_of, is_pushed, source_of, synced_of, with_owns}
 use Rattle.sync_daemon.specs.Finishing.{Finishes}
 use Rattle.sync_daemon.specs.Going.{GoingOver, Sync}
 use Rattle.sync_daemon.specs.Rounds.{sync_of}
@@ -53,12 +53,14 @@ use Rattle.sync_daemon.proofs.JoinLemmas.{asked_then}
 use Rattle.sync_daemon.proofs.NewIndexLemmas.{index_names, index_stands, knows_root, knows_sizes}
 use Rattle.sync_daemon.proofs.ReadingLemmas.{names}
 use Rattle.sync_daemon.proofs.SkippedLemmas.{all_skipped}
+use Rattle.sync_daemon.proofs.GoesUnpushedLemmas.{goes_unpushed}
 use Rattle.sync_daemon.proofs.WrittenLemmas.{AreIn, all_planned}
 
 module _ (asker : Asker) (user : List ℕ) (shows : ℕ → Type 0) (cuts : Cuts) (told : Option Contents) (index : Index) (before : List Sent) (settled : Settled) (commit : Commit)
     (tree : FetchedTree) (got : HasTree (sync_of asker user shows cuts told index) before settled commit tree) (apart : IsDone settled index → ⊥) (other : IsOwnHead settled index → ⊥)
     (plan : Plan) (writes : List Write) (planned : IsPlanned settled.scan index tree.entries (is_pushed settled.pushed) plan) (made : AreMade tree.objects plan.writes writes)
-    (old new : List Sent) (now : Option Contents) (done : Done) (changes : Changes asker cuts settled.scan tree.entries plan writes old new told now done) where
+    (old new : List Sent) (now : Option Contents) (done : Done) (changes : Changes asker cuts settled.scan tree.entries plan writes old new told now done)
+    (may : MayChange settled.differs settled.scan.paths index.entries tree.entries) where
   abbrev this : Sync
   this = sync_of asker user shows cuts told index
 
@@ -228,6 +230,7 @@ module _ (asker : Asker) (user : List ℕ) (shows : ℕ → Type 0) (cuts : Cuts
           (holds_now c is).1,
           uploads_gets this before more got.reading.stage got.reading.late got.reading.going gets got.reading.may_get syncs needed c was.uploads,
           order_gets this before more got.reading.stage got.reading.late got.reading.going gets got.reading.may_get syncs needed c was (got.reading.over c is),
+          goes_unpushed asker user shows cuts told index before settled commit tree got apart may more gets c is,
           had_before c is ++ had_of more,
           had_then before more (had_before c is) (had_of more) (got.reading.offered c is).1 (got_had (source_of asker) (blocks_due writes) more changes.out.got),
           λ objects base all. ((tree_for objects tree.entries).0, got.reading.moment, got.reading.shown, synced c is objects base all),

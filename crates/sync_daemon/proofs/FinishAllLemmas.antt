@@ -22,21 +22,22 @@ use Rattle.tree_checkout.specs.declared.steps.Write.{Write}
 use Rattle.tree_checkout.proofs.AskLemmas.{planned_looks, planned_paths}
 use Rattle.tree_fetch.specs.declared.asker.Asker.{Asker}
 use Rattle.tree_fetch.specs.declared.tree.FetchedTree.{FetchedTree}
-use Rattle.sync_daemon.specs.Bringing.{AreMade, BringsSo, ChangesNot, FinishesAs, IsDone, IsOwnHead, IsPlanned, ReachesAs, StopsChange, index_of, is_pushed, synced_of}
+use Rattle.sync_daemon.specs.Bringing.{AreMade, BringsSo, ChangesNot, FinishesAs, IsDone, IsIdle, IsOwnHead, IsPlanned, IsUnready, MayChange, ReachesAs, StopsChange, index_of, is_pushed, synced_of}
 use Rattle.sync_daemon.specs.Finishing.{Finishes, FinishesSo, SyncsIndex}
-use Rattle.sync_daemon.specs.Going.{Stops, Sync}
+use Rattle.sync_daemon.specs.Going.{Refuses, Stops, Sync}
 use Rattle.sync_daemon.specs.Rounds.{IsSettled, RoundsSo, sync_of}
 use Rattle.sync_daemon.specs.Syncing.{SyncedAs, counted, counted_entries}
 use Rattle.sync_daemon.specs.declared.bringing.Done.{Done}
 use Rattle.sync_daemon.specs.declared.round.Settled.{Settled}
 use Rattle.sync_daemon.proofs.BroughtLemmas.{brought_finishes}
-use Rattle.sync_daemon.proofs.FinishLemmas.{refused_finishes, spared_finishes}
+use Rattle.sync_daemon.proofs.FinishLemmas.{idle_refuses, refused_finishes, spared_finishes}
 use Rattle.sync_daemon.proofs.GotTreeLemmas.{HasCommit, HasTree, commit_got, commit_halts, tree_got, tree_halts}
 use Rattle.sync_daemon.proofs.OwnHeadLemmas.{none_here, own_finishes}
 use Rattle.sync_daemon.proofs.ReadingLemmas.{reading_begins}
 use Rattle.sync_daemon.proofs.CheckoutFaultLemmas.{stops_all}
 use Rattle.sync_daemon.proofs.SkippedLemmas.{keeps_itself}
 use Rattle.sync_daemon.proofs.StoppedLemmas.{none_halts, plan_halts, stopped_finishes}
+use Rattle.sync_daemon.proofs.GoesUnpushedLemmas.{changed_refuses, goes_here}
 use Rattle.sync_daemon.proofs.WrittenLemmas.{made_for}
 
 module _ (asker : Asker) (user : List ℕ) (shows : ℕ → Type 0) (cuts : Cuts) (told : Option Contents) (index : Index) (start : List Sent) (settled : Settled) where
@@ -64,64 +65,71 @@ module _ (asker : Asker) (user : List ℕ) (shows : ℕ → Type 0) (cuts : Cuts
   stop_grown old new more before begun grown = grown ∙ ap (λ (sends : List Sent). sends ++ more) begun ∙ append_assoc start before more
 
   -- the checkout stopped, or memory was wanting before or behind it
-  change_stopped : (before : List Sent) (commit : Commit) (tree : FetchedTree) → HasTree this before settled commit tree → (plan : Plan) (writes : List Write)
+  change_stopped : (before : List Sent) (commit : Commit) (tree : FetchedTree) → HasTree this before settled commit tree → (IsDone settled index → ⊥)
+      → MayChange settled.differs settled.scan.paths index.entries tree.entries → (plan : Plan) (writes : List Write)
       → IsPlanned settled.scan index tree.entries (is_pushed settled.pushed) plan → AreMade tree.objects plan.writes writes → (old new : List Sent) (now : Option Contents) (f : SyncFault)
       → old ≡ start ++ before → StopsChange asker cuts settled.scan plan writes old new told now f → FinishesSo this now index start new (Err f)
   unfolding stops_all
-  change_stopped before commit tree got plan writes planned made old new now f begun (inl (same, held, is)) =
+  change_stopped before commit tree got apart may plan writes planned made old new now f begun (inl (same, held, is)) =
       subst (λ (g : SyncFault). FinishesSo this now index start new (Err g)) (sym is)
       (all_stopped new now fault.NoMemory held (before, same ∙ begun, none_halts asker user shows cuts told index before settled commit tree got))
-  change_stopped before commit tree got plan writes planned made old new now f begun (inr (inl (stops, none))) = (
+  change_stopped before commit tree got apart may plan writes planned made old new now f begun (inr (inl (stops, none))) = (
     before ++ stops.more,
     stop_grown old new stops.more before begun stops.grown,
     stopped_finishes asker user shows cuts told index before settled commit tree got plan writes planned made old new now f stops
-        (unchanged before commit tree got plan writes planned made f none),
+        (unchanged before commit tree got plan writes planned made f none) apart may,
   )
-  change_stopped before commit tree got plan writes planned made old new now f begun (inr (inr (owns, out, is))) =
+  change_stopped before commit tree got apart may plan writes planned made old new now f begun (inr (inr (owns, out, is))) =
       subst (λ (g : SyncFault). FinishesSo this now index start new (Err g)) (sym is) (
         before ++ out.more,
         stop_grown old new out.more before begun out.grown,
         stopped_finishes asker user shows cuts told index before settled commit tree got plan writes planned made old new now fault.NoMemory
-            (stops_all asker plan.doomed writes settled.scan cuts old new told now owns out) (λ c told_is. refl),
+            (stops_all asker plan.doomed writes settled.scan cuts old new told now owns out) (λ c told_is. refl) apart may,
       )
 
+  -- no step is begun
+  unready_halts : (before : List Sent) (commit : Commit) (tree : FetchedTree) → HasTree this before settled commit tree → (IsDone settled index → ⊥) → (f : SyncFault)
+      → IsUnready settled.scan index (is_pushed settled.pushed) settled.differs tree f → Refuses this before f
+  unready_halts before commit tree got apart f (inl (never, is)) =
+      subst (λ (g : SyncFault). Refuses this before g) (sym is) (changed_refuses asker user shows cuts told index before settled commit tree got never)
+  unready_halts before commit tree got apart f (inr (may, inl un)) =
+      plan_halts asker user shows cuts told index before settled commit tree got (goes_here asker user shows cuts told index before settled commit tree got apart may) f un
+  unready_halts before commit tree got apart f (inr (may, inr is)) =
+      subst (λ (g : SyncFault). Refuses this before g) (sym is) (none_halts asker user shows cuts told index before settled commit tree got)
+
   -- from where the commit was got
-  bring_stopped : (first : List Sent) (commit : Commit) → HasCommit this first settled commit → (old new : List Sent) (now : Option Contents) (f : SyncFault) → old ≡ start ++ first
-      → BringsSo asker cuts settled.scan index (is_pushed settled.pushed) commit.root old new told now (Err f) → FinishesSo this now index start new (Err f)
-  bring_stopped first commit has old new now f begun (inl (halts, same)) =
+  bring_stopped : (first : List Sent) (commit : Commit) → HasCommit this first settled commit → (IsDone settled index → ⊥) → (old new : List Sent) (now : Option Contents) (f : SyncFault) → old ≡ start ++ first
+      → BringsSo asker cuts settled.scan index (is_pushed settled.pushed) settled.differs commit.root old new told now (Err f) → FinishesSo this now index start new (Err f)
+  bring_stopped first commit has apart old new now f begun (inl (halts, same)) =
       all_stopped new now f same (tree_halts asker user shows cuts told index start first settled commit has old new f begun halts)
-  bring_stopped first commit has old new now f begun (inr (inl (tree, fetched, same, inl un))) =
+  bring_stopped first commit has apart old new now f begun (inr (inl (tree, fetched, same, unready))) =
       let got = tree_got asker user shows cuts told index start first settled commit has old new tree begun fetched in
-      all_stopped new now f same (got.0, got.1, plan_halts asker user shows cuts told index got.0 settled commit tree got.2 f un)
-  bring_stopped first commit has old new now f begun (inr (inl (tree, fetched, same, inr is))) =
-      let got = tree_got asker user shows cuts told index start first settled commit has old new tree begun fetched in
-      subst (λ (g : SyncFault). FinishesSo this now index start new (Err g)) (sym is)
-      (all_stopped new now fault.NoMemory same (got.0, got.1, none_halts asker user shows cuts told index got.0 settled commit tree got.2))
-  bring_stopped first commit has old new now f begun (inr (inr (mid, tree, plan, writes, ready, stops))) =
+      all_stopped new now f same (got.0, got.1, unready_halts got.0 commit tree got.2 apart f unready)
+  bring_stopped first commit has apart old new now f begun (inr (inr (mid, tree, plan, writes, ready, stops))) =
       let got = tree_got asker user shows cuts told index start first settled commit has old mid tree begun ready.fetched in
-      change_stopped got.0 commit tree got.2 plan writes ready.planned ready.made mid new now f got.1 stops
+      change_stopped got.0 commit tree got.2 apart ready.may plan writes ready.planned ready.made mid new now f got.1 stops
 
   bring_done : (first : List Sent) (commit : Commit) → HasCommit this first settled commit → (IsDone settled index → ⊥) → (IsOwnHead settled index → ⊥) → (old new : List Sent) (now : Option Contents) (done : Done)
-      → old ≡ start ++ first → BringsSo asker cuts settled.scan index (is_pushed settled.pushed) commit.root old new told now (Ok done)
+      → old ≡ start ++ first → BringsSo asker cuts settled.scan index (is_pushed settled.pushed) settled.differs commit.root old new told now (Ok done)
       → FinishesSo this now (index_of index settled done) start new (Ok (synced_of settled commit done))
   bring_done first commit has apart other old new now done begun (mid, tree, plan, writes, ready, changes) =
       let got = tree_got asker user shows cuts told index start first settled commit has old mid tree begun ready.fetched in (
         got.0 ++ changes.out.more,
         stop_grown mid new changes.out.more got.0 got.1 changes.out.grown,
-        brought_finishes asker user shows cuts told index got.0 settled commit tree got.2 apart other plan writes ready.planned ready.made mid new now done changes,
+        brought_finishes asker user shows cuts told index got.0 settled commit tree got.2 apart other plan writes ready.planned ready.made mid new now done changes ready.may,
       )
 
   -- ---- all of it
 
   -- an order for the head's commit failed, or what came of it did
   reach_halts : (first old new : List Sent) (now : Option Contents) (later : Index) (f : SyncFault) → IsSettled this first settled → old ≡ start ++ first
-      → ReachesAs asker cuts settled old new told now index later (Err f) → FinishesSo this now later start new (Err f)
-  reach_halts first old new now later f is begun (kept, inl (halts, same)) =
+      → (IsDone settled index → ⊥) → ReachesAs asker cuts settled old new told now index later (Err f) → FinishesSo this now later start new (Err f)
+  reach_halts first old new now later f is begun apart (kept, inl (halts, same)) =
       subst (λ (x : Index). FinishesSo this now x start new (Err f)) (sym kept)
       (all_stopped new now f same (commit_halts asker user shows cuts told index start first settled (reading_begins this first settled is) old new f begun halts))
-  reach_halts first old new now later f is begun (kept, inr (mid, commit, fetched, brings)) =
+  reach_halts first old new now later f is begun apart (kept, inr (mid, commit, fetched, brings)) =
       let got = commit_got asker user shows cuts told index start first settled (reading_begins this first settled is) old mid commit begun fetched in
-      subst (λ (x : Index). FinishesSo this now x start new (Err f)) (sym kept) (bring_stopped got.0 commit got.2 mid new now f got.1 brings)
+      subst (λ (x : Index). FinishesSo this now x start new (Err f)) (sym kept) (bring_stopped got.0 commit got.2 apart mid new now f got.1 brings)
 
   -- the head's commit was got, or an order for it failed
   reach_all : (first old new : List Sent) (now : Option Contents) (later : Index) (result : Result Synced SyncFault) → IsSettled this first settled → old ≡ start ++ first
@@ -131,16 +139,22 @@ module _ (asker : Asker) (user : List ℕ) (shows : ℕ → Type 0) (cuts : Cuts
       subst (λ (x : Index). FinishesSo this now x start new (Ok s)) (sym later_is)
       (subst (λ (x : Synced). FinishesSo this now (index_of index settled done) start new (Ok x)) (sym tells)
       (bring_done got.0 commit got.2 apart other mid new now done got.1 brings))
-  reach_all first old new now later (Err f) is begun apart other reaches = reach_halts first old new now later f is begun reaches
+  reach_all first old new now later (Err f) is begun apart other reaches = reach_halts first old new now later f is begun apart reaches
+
+  -- no step was begun
+  idle_halts : (first : List Sent) (f : SyncFault) → IsSettled this first settled → IsIdle settled index f → Refuses this first f
+  idle_halts first f is (inl (done, differs, same)) =
+      subst (λ (g : SyncFault). Refuses this first g) (sym same) (idle_refuses this first settled is done.1 differs)
+  idle_halts first f is (inr none) = subst (λ (g : SyncFault). Refuses this first g) (sym none) (none_here this first settled is)
 
   pub finish_all : (first old new : List Sent) (now : Option Contents) (later : Index) (result : Result Synced SyncFault) → IsSettled this first settled → old ≡ start ++ first
       → FinishesAs asker user cuts settled old new told now index later result → FinishesSo this now later start new result
-  finish_all first old new now later (Ok s) is begun (inl (done, same, held, kept, tells)) = (
+  finish_all first old new now later (Ok s) is begun (inl (done, agrees, same, held, kept, tells)) = (
     first,
     same ∙ begun,
     subst (λ (x : Option Contents). Finishes this x later first (Ok s)) (sym held)
         (subst (λ (x : Index). Finishes this told x first (Ok s)) (sym kept)
-        (subst (λ (x : Synced). Finishes this told index first (Ok x)) (sym tells) (spared_finishes this first settled is done.0 done.1))),
+        (subst (λ (x : Synced). Finishes this told index first (Ok x)) (sym tells) (spared_finishes this first settled is done.0 done.1 agrees))),
   )
   finish_all first old new now later (Ok s) is begun (inr (inl (own, same, held, knows))) = (
     first,
@@ -151,11 +165,9 @@ module _ (asker : Asker) (user : List ℕ) (shows : ℕ → Type 0) (cuts : Cuts
         (own_finishes this first settled is own.0 own.1 knows.0.0 knows.0.1))),
   )
   finish_all first old new now later (Ok s) is begun (inr (inr (apart, other, reaches))) = reach_all first old new now later (Ok s) is begun apart other reaches
-  finish_all first old new now later (Err f) is begun (inl (same, held, kept, none)) =
-      subst (λ (x : Index). FinishesSo this now x start new (Err f)) (sym kept)
-      (subst (λ (g : SyncFault). FinishesSo this now index start new (Err g)) (sym none)
-      (all_stopped new now fault.NoMemory held (first, same ∙ begun, none_here this first settled is)))
-  finish_all first old new now later (Err f) is begun (inr reaches) = reach_halts first old new now later f is begun reaches
+  finish_all first old new now later (Err f) is begun (inl (same, held, kept, idle)) =
+      subst (λ (x : Index). FinishesSo this now x start new (Err f)) (sym kept) (all_stopped new now f held (first, same ∙ begun, idle_halts first f is idle))
+  finish_all first old new now later (Err f) is begun (inr (apart, reaches)) = reach_halts first old new now later f is begun apart reaches
 
 -- a sync that its rounds refused
 pub refused_as : (asker : Asker) (user : List ℕ) (shows : ℕ → Type 0) (cuts : Cuts) (told now : Option Contents) (index : Index) (start new : List Sent) (f : SyncFault) → now ≡ told

@@ -1,18 +1,20 @@
 -- A sync goes on by orders that ask for the objects of a tree, or is refused by them. The key lemmas are goes_gets, fails_gets and
 -- found_behind.
-use Rattle.std.proofs.Common.{◌≡◌, ◌≤◌, ◌+◌, ℕ, true, false, All, List, [], ◌∷◌, ◌++◌, Option, None, Some, Ok, refl, sym, ap, subst, ◌∙◌, append_assoc, append-nil, inr, true≢false, arith}
+use Rattle.std.proofs.Common.{◌≡◌, ◌≤◌, ◌+◌, ◌⊎◌, ℕ, true, false, All, List, [], ◌∷◌, ◌++◌, Option, None, Some, Ok, refl, sym, ap, subst, ◌∙◌, append_assoc, append-nil, inl, inr, true≢false, arith}
 use Rattle.std.specs.Option.{option_or}
 use Rattle.std.proofs.lemmas.Grind.{flat_map-append}
-use Rattle.std.proofs.lemmas.List.Elements.{All-append, All-cons, All-head, All-nil, All-tail, All-weaker}
+use Rattle.std.proofs.lemmas.List.Elements.{All-append, All-cons, All-head, All-nil, All-tail, All-weaker, Contains-append_left}
 use Rattle.ids.specs.declared.key.Key.{Key}
+use Rattle.block_chunker.specs.declared.cuts.Cuts.{Cuts}
 use Rattle.folder_side.specs.Folder.{Contents}
 use Rattle.folder_side.specs.ScanReport.{IsWithinLimits}
 use Rattle.http_front.specs.declared.order.What.{What}
 use Rattle.http_front.specs.declared.order.What.TheVariants as what
 use Rattle.http_front.specs.declared.outcome.Outcome.TheVariants.{Plain}
 use Rattle.library_state.specs.declared.reply.Reply.TheVariants as reply
+use Rattle.local_index.specs.declared.index.Index.{Index}
 use Rattle.remote_calls.specs.Sends.{Ending, Sent}
-use Rattle.sync_rules.specs.Causes.{CausedBy, FindsSome, GoesWell, HasPath, WentWell, is_of_order, stale_count}
+use Rattle.sync_rules.specs.Causes.{CausedBy, DeniesUpload, FindsSome, GoesWell, HasPath, WentWell, is_of_order, stale_count}
 use Rattle.sync_rules.specs.Named.{Head, IsHad, asked_after, asked_by, asked_head, head_after, is_block, is_get, is_upload, keys_asked, last_head, last_round, round_after}
 use Rattle.sync_rules.specs.Offer.{Agrees}
 use Rattle.sync_rules.specs.OneSync.{ComesInOrder, EndsWhereSome, GoesInOrder, PushesFirst}
@@ -150,10 +152,18 @@ asked_gets o (sent ∷ more) gets = ap (asked_head more) (kept sent.0.what sent.
     kept (what.GetFs ids) ending get = refl
     kept _ ending get = absurd (true≢false (sym get))
 
+-- that an upload is denied stays so
+pub denies_then : (first more : List Sent) → DeniesUpload first → DeniesUpload (first ++ more)
+denies_then first more (order, ending, there, asked, refused) = (order, ending, Contains-append_left first more (order, ending) there, asked, refused)
+
+pub agrees_then : (cuts : Cuts) (c : Contents) (index : Index) (first more : List Sent) → Agrees cuts c index ⊎ DeniesUpload first → Agrees cuts c index ⊎ DeniesUpload (first ++ more)
+agrees_then cuts c index first more (inl same) = inl same
+agrees_then cuts c index first more (inr denies) = inr (denies_then first more denies)
+
 -- over a folder that tells what it holds
 pub record GetsOver (s : Sync) (first : List Sent) (c : Contents) : Type 0 where
   pub within : IsWithinLimits c
-  pub agrees : (head : List ℕ) → last_head first None ≡ Some (head, None) → Agrees s.cuts c s.index
+  pub agrees : (head : List ℕ) → last_head first None ≡ Some (head, None) → Agrees s.cuts c s.index ⊎ DeniesUpload first
   pub behind : s.index.base ≡ None → HasPath c → (front : List Sent) (other : Sent) → first ≡ front ++ other ∷ [] → other.0.what ≡ what.Head None → ⊥
 
 module _ (s : Sync) (first more : List Sent) (stage : Stage) (late : ℕ) (going : Going s first stage late) (gets : All IsGetting more)
@@ -188,11 +198,11 @@ module _ (s : Sync) (first more : List Sent) (stage : Stage) (late : ℕ) (going
   head_stays : (before sends : List Sent) → All IsGetting sends → last_head (before ++ sends) None ≡ last_head before None
   head_stays before sends all = head_then None before sends ∙ head_gets (last_head before None) sends all
 
-  pushes_gets : (c : Contents) → ((head : List ℕ) → last_head first None ≡ Some (head, None) → Agrees s.cuts c s.index) → (done sends : List Sent) → All IsGetting done → All IsGetting sends
+  pushes_gets : (c : Contents) → ((head : List ℕ) → last_head first None ≡ Some (head, None) → Agrees s.cuts c s.index ⊎ DeniesUpload first) → (done sends : List Sent) → All IsGetting done → All IsGetting sends
       → PushesFirst s.cuts c s.index (first ++ done) sends
   pushes_gets c agrees done [] before_all all = tt
   pushes_gets c agrees done (sent ∷ sends) before_all all = (
-    (λ tree head named. agrees head (sym (head_stays first done before_all) ∙ named)),
+    (λ tree head named. agrees_then s.cuts c s.index first done (agrees head (sym (head_stays first done before_all) ∙ named))),
     subst (λ (before : List Sent). PushesFirst s.cuts c s.index before sends) (sym (append_assoc first done (sent ∷ [])))
         (pushes_gets c agrees (done ++ sent ∷ []) sends
         (All-append IsGetting done (sent ∷ []) before_all (All-cons IsGetting sent [] (All-head IsGetting sent sends all) (All-nil IsGetting))) (All-tail IsGetting sent sends all)),

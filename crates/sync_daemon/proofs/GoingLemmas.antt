@@ -13,7 +13,7 @@ use Rattle.http_front.specs.declared.outcome.Outcome.TheVariants.{Plain, Refused
 use Rattle.library_state.specs.declared.refusal.Refusal.{Refusal}
 use Rattle.library_state.specs.declared.reply.Reply.TheVariants as reply
 use Rattle.remote_calls.specs.Sends.{Ending, Sent}
-use Rattle.sync_rules.specs.Causes.{CausedBy, FindsSome, HasPath, IsRefusedBy, WentWell, ends_sync, goes_on, is_late, is_of_order, is_stale, is_too_long, stale_count}
+use Rattle.sync_rules.specs.Causes.{CausedBy, DeniesUpload, FindsSome, HasPath, IsRefusedBy, WentWell, ends_sync, goes_on, is_late, is_of_order, is_stale, is_too_long, stale_count}
 use Rattle.sync_rules.specs.Named.{IsHad, IsHadFor, Named, asked_by, gets_tree, is_block, is_check, is_get, is_upload, keys_asked, asked_head, last_head, last_round, names_in}
 use Rattle.sync_rules.specs.Offer.{Agrees}
 use Rattle.sync_rules.specs.OneSync.{ComesInOrder, GoesInOrder, HasNotBegun, NeedsNoTree}
@@ -82,7 +82,7 @@ module _ (s : Sync) (c : Contents) where
   offers_quiet before _ none = tt
 
   pushed_quiet : (before : List Sent) (asked : What) → gets_tree asked ≡ false → gets_tree asked ≡ true → (head : List ℕ) → last_head before None ≡ Some (head, None)
-      → Agrees s.cuts c s.index
+      → Agrees s.cuts c s.index ⊎ DeniesUpload before
   pushed_quiet before asked flat gets head named = absurd (true≢false (sym gets ∙ flat))
 
 -- ---- counts and names

@@ -17,11 +17,13 @@ pub mod BlockSendLemmas
 pub mod ReadingLemmas
 pub mod CheckedOutLemmas
 pub mod GotTreeLemmas
+pub mod GoesUnpushedLemmas
 pub mod StepFileLemmas
 pub mod SkippedLemmas
 pub mod StoppedLemmas
 pub mod BroughtLemmas
 pub mod SeenFolderLemmas
+pub mod InterruptedCheckoutLemmas
 pub mod OwnHeadLemmas
 pub mod FinishAllLemmas
 pub mod TurnsLemmas

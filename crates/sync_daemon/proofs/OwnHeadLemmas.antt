@@ -55,6 +55,7 @@ use Rattle.sync_daemon.proofs.FinishLemmas.{none_contained}
 use Rattle.sync_daemon.proofs.GoingLemmas.{fails_here}
 use Rattle.sync_daemon.proofs.HeadTreeLemmas.{is_tree_of, other_way, tree_for}
 use Rattle.sync_daemon.proofs.NewIndexLemmas.{IsOwnAt, index_names, knows_root, knows_sizes, stands_by}
+use Rattle.sync_daemon.proofs.ReadingLemmas.{pushed_in}
 use Rattle.sync_daemon.proofs.SkippedLemmas.{same_skipped}
 
 -- ---- a table with another value at each path
@@ -283,6 +284,7 @@ module _ (s : Sync) (more : List Sent) (settled : Settled) (is_settled : IsSettl
           told,
           over.uploads,
           over.order,
+          (λ head named. absurd (true≢false (ap is_some (sym own ∙ ap pushed_in (sym is_settled.named ∙ named))))),
           had c told,
           (is_settled.offered c told).1,
           λ objects base all. (tree c told objects base all, settled.moment, is_settled.shown, synced c told objects base all),

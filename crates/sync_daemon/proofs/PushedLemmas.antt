@@ -220,7 +220,7 @@ module _ (asker : Asker) (user : List ℕ) (shows : ℕ → Type 0) (cuts : Cuts
   -- ---- what a round comes to
 
   abbrev pushed_to : Owns → List ℕ → List ℕ → Settled
-  pushed_to owns commit head = record { scan = report; owns = owns; head = head; pushed = Some commit; moment = moment }
+  pushed_to owns commit head = record { scan = report; owns = owns; head = head; pushed = Some commit; moment = moment; differs = false }
 
   pub push_goes : (owns : Owns) → AreChangedOwns index.entries report.paths owns → (commit head : List ℕ) → EndsPush more (Ok (Installed commit head)) → HoldsOffer (record { lib = asker.lib; secret = asker.secret }) user moment parent index report more commit
       → IsSettled this (first ++ more) (pushed_to owns commit head)
@@ -249,7 +249,8 @@ module _ (asker : Asker) (user : List ℕ) (shows : ℕ → Type 0) (cuts : Cuts
               offer = held_then (record { lib = asker.lib; secret = asker.secret }) user moment parent index report first more commit held;
             });
         seen = seen;
-        agrees = λ c is none_pushed. absurd (true≢false (ap is_some none_pushed));
+        agrees = λ c is none_pushed same. absurd (true≢false (ap is_some none_pushed));
+        differs = λ apart. absurd (true≢false (sym apart));
         offered = λ c is.
             let here = once c is done sent [] commit split asks in
             let had : (had : List (Key × List ℕ)) × IsHad (first ++ more) had = had_of done sent commit split asks went c is in (

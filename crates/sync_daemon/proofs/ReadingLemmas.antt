@@ -1,6 +1,6 @@
 -- A sync that is settled goes on by what asks for the head's commit and tree, or is refused by it. The key lemmas are reading_begins,
 -- reading_goes, stopped_refuses and wrong_refuses.
-use Rattle.std.proofs.Common.{◌≡◌, ◌≤◌, ℕ, true, false, All, List, [], ◌∷◌, ◌++◌, length, Option, None, Some, Ok, Err, refl, sym, ap, subst, ◌∙◌, append_assoc, append-nil, inl, inr, true≢false, arith}
+use Rattle.std.proofs.Common.{◌≡◌, ◌≤◌, ◌⊎◌, ℕ, Bool, true, false, All, List, [], ◌∷◌, ◌++◌, length, Option, None, Some, Ok, Err, refl, sym, ap, subst, ◌∙◌, append_assoc, append-nil, inl, inr, true≢false, arith}
 use Rattle.std.specs.Prelude.{⊤}
 use Rattle.std.specs.List.{Contains, flat_map}
 use Rattle.std.proofs.lemmas.Grind.{flat_map-append}
@@ -22,11 +22,12 @@ use Rattle.local_index.specs.declared.index.Index.{Index}
 use Rattle.object_graph.specs.Objects.{commit_at}
 use Rattle.object_graph.specs.Reached.{own_keys}
 use Rattle.remote_calls.specs.Sends.{Ending, Sent}
-use Rattle.sync_rules.specs.Causes.{CausedBy, FindsSome, HasPath, IsBadTree, IsLast, IsSoHere, IsWrongTree, WentWell, is_of_order, is_too_long, stale_count}
+use Rattle.sync_rules.specs.Causes.{CausedBy, DeniesUpload, FindsSome, HasPath, IsBadTree, IsLast, IsSoHere, IsWrongTree, WentWell, is_of_order, is_too_long, stale_count}
 use Rattle.sync_rules.specs.Named.{HasGot, Head, IsHad, Named, asked_by, asked_head, got_in, is_block, is_get, keys_asked, last_head}
-use Rattle.sync_rules.specs.Offer.{IsOfferOf}
+use Rattle.sync_rules.specs.Offer.{Agrees, IsOfferOf}
 use Rattle.sync_rules.specs.OneSync.{ComesInOrder, HasNotBegun, NeedsNoTree}
 use Rattle.sync_rules.specs.Orders.{GetsNeeded, IsSyncOrder, Stage, may_send}
+use Rattle.sync_rules.specs.Orders.Stage.{Begins, Reads}
 use Rattle.sync_rules.specs.Premises.{Over}
 use Rattle.sync_rules.specs.declared.fault.SyncFault.{SyncFault}
 use Rattle.sync_rules.specs.declared.fault.SyncFault.TheVariants as fault
@@ -37,13 +38,13 @@ use Rattle.tree_walk.specs.declared.fault.WalkFault.{WalkFault}
 use Rattle.tree_walk.specs.declared.fault.WalkFault.TheVariants as walk
 use Rattle.tree_fetch.specs.Fetching.{AsksOne, FindsWrongTree, GetsReached, IsAlone, Stopped}
 use Rattle.tree_fetch.specs.declared.asker.Asker.{Asker}
-use Rattle.sync_daemon.specs.RoundOrder.{IsSoInRound}
+use Rattle.sync_daemon.specs.RoundOrder.{IsSoInRound, stage_from}
 use Rattle.sync_daemon.specs.Going.{Going, Stops, Sync}
-use Rattle.sync_daemon.specs.Rounds.{IsSeen, IsSettled, sync_of}
+use Rattle.sync_daemon.specs.Rounds.{Differs, IsSeen, IsSettled, sync_of}
 use Rattle.sync_daemon.specs.declared.round.Settled.{Settled}
-use Rattle.sync_daemon.proofs.GetLemmas.{GetsOver, IsGetting, asked_gets, behind_get, fails_gets, found_over_gets, goes_gets, head_gets}
+use Rattle.sync_daemon.proofs.GetLemmas.{GetsOver, IsGetting, agrees_then, asked_gets, behind_get, denies_then, fails_gets, found_over_gets, goes_gets, head_gets, stage_gets}
 use Rattle.sync_daemon.proofs.GoingLemmas.{had_then, last_then, last_with, refused_not_well}
-use Rattle.sync_daemon.proofs.JoinLemmas.{asked_then, head_then}
+use Rattle.sync_daemon.proofs.JoinLemmas.{asked_then, head_then, stage_then}
 use Rattle.sync_daemon.proofs.TreeLemmas.{asks_of, gets_of, small_of, timely_of}
 
 -- ---- where a sync stands that asks for the head's objects
@@ -63,12 +64,37 @@ pub record IsReading (s : Sync) (more : List Sent) (settled : Settled) : Type 0 
   pub moment : ℕ
   pub shown : s.shows moment
   pub seen : (c : Contents) → s.told ≡ Some c → IsSeen s.cuts c settled.scan
+  pub agrees : (c : Contents) → s.told ≡ Some c → settled.pushed ≡ None → settled.differs ≡ false → Agrees s.cuts c s.index
+  pub differs : settled.differs ≡ true → Differs s more settled
   pub offered : (c : Contents) → s.told ≡ Some c → (had : List (Key × List ℕ)) × IsHad more had × ((objects : Objects) (base : Tree) → Over objects s.cuts c s.index base had
       → IsOfferOf objects s.cuts c s.index moment s.user (asked_head more None) settled.pushed)
 
-abbrev pushed_in : Option Head → Option (List ℕ)
+-- a head that was named, and what was pushed for it
+abbrev pub headed : List ℕ → Option (List ℕ) → Option Head
+headed head pushed = Some (head, pushed)
+
+abbrev pub pushed_in : Option Head → Option (List ℕ)
 pushed_in None = None
 pushed_in (Some (head, pushed)) = pushed
+
+-- where nothing was pushed the folder agrees with its index, or an upload is denied
+agrees_by : (s : Sync) (more : List Sent) (settled : Settled) → IsSettled s more settled → (c : Contents) → s.told ≡ Some c → settled.pushed ≡ None
+    → Agrees s.cuts c s.index ⊎ DeniesUpload more
+agrees_by s more settled is c told none = by settled.differs refl
+  where
+    by : (b : Bool) → settled.differs ≡ b → Agrees s.cuts c s.index ⊎ DeniesUpload more
+    by false same = inl (is.agrees c told none same)
+    by true differs = inr (is.differs differs).denies
+
+-- behind orders that ask for objects it still differs
+differs_then : (s : Sync) (first more : List Sent) (settled : Settled) → All IsGetting more → Differs s first settled → Differs s (first ++ more) settled
+differs_then s first more settled gets was = record {
+  unpushed = was.unpushed;
+  based = was.based;
+  denies = denies_then first more was.denies;
+  reads = stage_then Begins first more ∙ ap (λ (at : Stage). stage_from at more) was.reads ∙ stage_gets Reads more gets;
+  other = was.other;
+}
 
 pub reading_begins : (s : Sync) (more : List Sent) (settled : Settled) → IsSettled s more settled → IsReading s more settled
 reading_begins s more settled is = record {
@@ -80,12 +106,14 @@ reading_begins s more settled is = record {
   named = is.named;
   over = λ c told. record {
     within = (is.seen c told).within;
-    agrees = λ head named. is.agrees c told (ap pushed_in (sym is.named ∙ named));
+    agrees = λ head named. agrees_by s more settled is c told (ap pushed_in (sym is.named ∙ named));
     behind = is.behind c told;
   };
   moment = settled.moment;
   shown = is.shown;
   seen = is.seen;
+  agrees = is.agrees;
+  differs = is.differs;
   offered = is.offered;
 }
 
@@ -106,7 +134,7 @@ module _ (s : Sync) (first : List Sent) (settled : Settled) (is : IsReading s fi
     over_then c told =
         let was : GetsOver s first c = is.over c told in record {
           within = was.within;
-          agrees = λ head named. was.agrees head (sym (head_then None first more ∙ head_gets (last_head first None) more gets) ∙ named);
+          agrees = λ head named. agrees_then s.cuts c s.index first more (was.agrees head (sym (head_then None first more ∙ head_gets (last_head first None) more gets) ∙ named));
           behind = λ none has. behind_gets first more gets (was.behind none has);
         }
 
@@ -123,6 +151,8 @@ module _ (s : Sync) (first : List Sent) (settled : Settled) (is : IsReading s fi
       moment = is.moment;
       shown = is.shown;
       seen = is.seen;
+      agrees = is.agrees;
+      differs = λ apart. differs_then s first more settled gets (is.differs apart);
       offered = λ c told.
           let was = is.offered c told in (
             was.0 ++ had,

@@ -1,6 +1,6 @@
 -- What the last step of a round comes to, and all rounds. The key lemmas are round_pushed, round_stopped, round_here, rounds_begin,
 -- rounds_late and rounds_end.
-use Rattle.std.proofs.Common.{◌≡◌, ◌≤◌, ◌<◌, ◌+◌, ℕ, Bool, true, false, List, [], ◌++◌, Option, Some, Result, Ok, Err, refl, sym, ap, subst, ◌∙◌, append_assoc, append-nil, inl, inr, arith}
+use Rattle.std.proofs.Common.{◌≡◌, ◌≤◌, ◌<◌, ◌+◌, ℕ, Bool, true, false, List, [], ◌++◌, Option, None, Some, is_some, Result, Ok, Err, refl, sym, ap, subst, ◌∙◌, append_assoc, append-nil, inl, inr, true≢false, arith}
 use Rattle.std.specs.Option.{option_or}
 use Rattle.block_chunker.specs.declared.cuts.Cuts.{Cuts}
 use Rattle.folder_side.specs.Folder.{Contents}
@@ -26,6 +26,10 @@ use Rattle.sync_daemon.proofs.GoingLemmas.{going_begins}
 use Rattle.sync_daemon.proofs.PushedLemmas.{push_fails, push_goes, push_late}
 use Rattle.sync_daemon.proofs.SettleLemmas.{denied}
 
+none_of : (base : Option (List ℕ)) → is_some base ≡ false → base ≡ None
+none_of None unbased = refl
+none_of (Some id) unbased = absurd (true≢false unbased)
+
 module _ (asker : Asker) (user : List ℕ) (shows : ℕ → Type 0) (cuts : Cuts) (told : Option Contents) (index : Index) (start first : List Sent) (late : ℕ) (may : Bool) (report : Scan)
     (asked : Option (List ℕ)) (joined : IsJoined (sync_of asker user shows cuts told index) first late may asked) (seen : (c : Contents) → told ≡ Some c → IsSeen cuts c report) where
   abbrev this : Sync
@@ -35,10 +39,10 @@ module _ (asker : Asker) (user : List ℕ) (shows : ℕ → Type 0) (cuts : Cuts
   pub joined_short : (now : List Sent) → now ≡ start ++ first → Stops this start now fault.NoMemory
   joined_short now begun = (first, begun, short_of_memory asker user shows cuts told index start first joined.stage late joined.going joined.few)
 
-  -- what changed may not be uploaded
-  pub joined_denied : (now : List Sent) → now ≡ start ++ first → may ≡ false → TellsChange report index true → Stops this start now (fault.Refused refusal.Denied)
-  joined_denied now begun none changed =
-      (first, begun, denied asker user shows cuts told index start first late may report asked joined seen (subst (λ (b : Bool). MayUpload b joined.stage first) none joined.may_upload) changed)
+  -- what changed may not be uploaded, and nothing was synced yet
+  pub joined_denied : (now : List Sent) → now ≡ start ++ first → may ≡ false → is_some index.base ≡ false → TellsChange report index true → Stops this start now (fault.Refused refusal.Denied)
+  joined_denied now begun none unbased changed =
+      (first, begun, denied asker user shows cuts told index start first late may report asked joined seen (subst (λ (b : Bool). MayUpload b joined.stage first) none joined.may_upload) (none_of index.base unbased) changed)
 
   -- it may
   pub joined_may : may ≡ true → IsJoined this first late true asked

@@ -1,5 +1,5 @@
--- The end of a round: nothing changed, an upload is denied, or what changed was pushed. The key lemmas are same_goes, same_fails,
--- denied, push_goes, push_late, push_fails and stale_ends.
+-- The end of a round: nothing changed, an upload is denied, or what changed was pushed. The key lemmas are unpushed_goes, unpushed_fails,
+-- denied and caused_then.
 use Rattle.std.proofs.Common.{◌≡◌, ℕ, Bool, true, false, List, [], ◌∷◌, ◌++◌, Option, None, Some, is_some, Ok, Err, refl, sym, ap, subst, ◌∙◌, append_assoc, inl, inr, true≢false, arith}
 use Rattle.std.specs.List.{Contains, flat_map}
 use Rattle.std.proofs.lemmas.Grind.{flat_map-append}
@@ -28,12 +28,12 @@ use Rattle.tree_push.specs.ChangedOwns.{AreChangedOwns, Owns}
 use Rattle.tree_push.specs.Pushing.{IsPushFault}
 use Rattle.sync_daemon.specs.Asking.{HeadOf}
 use Rattle.sync_daemon.specs.Going.{Going, GoingOver, Refuses, Spares, Stops, Sync}
-use Rattle.sync_daemon.specs.Rounds.{IsAskedFor, IsJoined, IsSeen, IsSettled, TellsChange, sync_of}
+use Rattle.sync_daemon.specs.Rounds.{Differs, IsAskedFor, IsJoined, IsSeen, IsSettled, MayDiffer, MayUpload, TellsChange, sync_of}
 use Rattle.sync_daemon.specs.declared.round.Settled.{Settled}
 use Rattle.sync_daemon.proofs.CheckLemmas.{fails_so, plain_head}
 use Rattle.sync_daemon.proofs.GoingLemmas.{fails_here, spares_more}
 use Rattle.sync_daemon.proofs.JoinLemmas.{head_then}
-use Rattle.sync_daemon.proofs.MeetLemmas.{can_ask, head_ends, head_goes}
+use Rattle.sync_daemon.proofs.MeetLemmas.{can_ask, head_ends, head_goes, may_more}
 use Rattle.sync_daemon.proofs.RoundLemmas.{agrees_of, differs_of}
 
 module _ (asker : Asker) (user : List ℕ) (shows : ℕ → Type 0) (cuts : Cuts) (told : Option Contents) (index : Index) (start first : List Sent) (late : ℕ) (may : Bool) (report : Scan)
@@ -44,16 +44,30 @@ module _ (asker : Asker) (user : List ℕ) (shows : ℕ → Type 0) (cuts : Cuts
   abbrev head_sent : (id : List ℕ) → Tag → Sent
   head_sent id tag = (order_of asker (what.Head None), Ok (Plain (reply.HeadIs id) tag))
 
-  -- ---- nothing changed
+  -- ---- nothing is pushed
 
-  abbrev unpushed : Owns → List ℕ → (moment : ℕ) → Settled
-  unpushed owns head moment = record { scan = report; owns = owns; head = head; pushed = None; moment = moment }
+  abbrev unpushed : Owns → List ℕ → (moment : ℕ) → Bool → Settled
+  unpushed owns head moment differs = record { scan = report; owns = owns; head = head; pushed = None; moment = moment; differs = differs }
+
+  -- the folder differs only where an upload is denied
+  differs_so : (differs : Bool) → TellsChange report index differs → MayDiffer differs may index.base → (owns : Owns) (id : List ℕ) (now : ℕ) (more : List Sent)
+      → Going this more joined.stage late → MayUpload may joined.stage more → differs ≡ true → Differs this more (unpushed owns id now differs)
+  differs_so false changed allowed owns id now more going uploads is = absurd (true≢false (sym is))
+  differs_so true changed allowed owns id now more going uploads is =
+      let reads : (joined.stage ≡ Reads) × DeniesUpload more = subst (λ (b : Bool). MayUpload b joined.stage more) allowed.0 uploads in record {
+        unpushed = refl;
+        based = allowed.1;
+        denies = reads.1;
+        reads = going.reached ∙ reads.0;
+        other = λ c holds. differs_of cuts c report (seen c holds) index changed;
+      }
 
   -- whatever was sent so far, where the head was named last and nothing was pushed
-  settled : (owns : Owns) → AreChangedOwns index.entries report.paths owns → (more : List Sent) (id : List ℕ) (now : ℕ) → Going this more joined.stage late → shows now → TellsChange report index false → Spares this more → last_head more None ≡ Some (id, None)
+  settled : (owns : Owns) → AreChangedOwns index.entries report.paths owns → (differs : Bool) → TellsChange report index differs → (more : List Sent) (id : List ℕ) (now : ℕ)
+      → (differs ≡ true → Differs this more (unpushed owns id now differs)) → Going this more joined.stage late → shows now → Spares this more → last_head more None ≡ Some (id, None)
       → ((c : Contents) → told ≡ Some c → index.base ≡ None → HasPath c → (before : List Sent) (sent : Sent) → more ≡ before ++ sent ∷ [] → sent.0.what ≡ what.Head None → ⊥)
-      → IsSettled this more (unpushed owns id now)
-  settled owns are more id now going shown same spares named behind = record {
+      → IsSettled this more (unpushed owns id now differs)
+  settled owns are differs changed more id now so going shown spares named behind = record {
     stage = joined.stage;
     late = late;
     going = going;
@@ -65,10 +79,11 @@ module _ (asker : Asker) (user : List ℕ) (shows : ℕ → Type 0) (cuts : Cuts
     owns = are;
     pushed_as = λ other is. absurd (true≢false (sym (ap is_some is)));
     seen = seen;
-    agrees = λ c is none. agrees_of cuts c report (seen c is) index same;
+    agrees = λ c is none same. agrees_of cuts c report (seen c is) index (subst (TellsChange report index) same changed);
+    differs = so;
     offered = λ c is.
         let over : GoingOver this c more = going.over c is in
-        (over.had, over.is_had, λ objects base all. agrees_of cuts c report (seen c is) index same);
+        (over.had, over.is_had, λ objects base all. tt);
     behind = behind;
   }
     where
@@ -81,29 +96,32 @@ module _ (asker : Asker) (user : List ℕ) (shows : ℕ → Type 0) (cuts : Cuts
       no_upload (what.GetFs ids) get = refl
       no_upload _ get = absurd (true≢false (sym get))
 
-  pub same_goes : (owns : Owns) → AreChangedOwns index.entries report.paths owns → (old new : List Sent) (head : List ℕ) (now : ℕ) → old ≡ start ++ first → shows now → TellsChange report index false → HeadOf asker asked old new (Ok head)
-      → (more : List Sent) × (new ≡ start ++ more) × IsSettled this more (unpushed owns head now)
-  same_goes owns are old new head now begun shown same of = by asked joined.asked_for of
+  pub unpushed_goes : (owns : Owns) → AreChangedOwns index.entries report.paths owns → (differs : Bool) → TellsChange report index differs → MayDiffer differs may index.base
+      → (old new : List Sent) (head : List ℕ) (now : ℕ) → old ≡ start ++ first → shows now → HeadOf asker asked old new (Ok head)
+      → (more : List Sent) × (new ≡ start ++ more) × IsSettled this more (unpushed owns head now differs)
+  unpushed_goes owns are differs changed allowed old new head now begun shown of = by asked joined.asked_for of
     where
-      by : (o : Option (List ℕ)) → IsAskedFor index.base o first → HeadOf asker o old new (Ok head) → (more : List Sent) × (new ≡ start ++ more) × IsSettled this more (unpushed owns head now)
+      by : (o : Option (List ℕ)) → IsAskedFor index.base o first → HeadOf asker o old new (Ok head) → (more : List Sent) × (new ≡ start ++ more) × IsSettled this more (unpushed owns head now differs)
       by None (based, unasked) (tag, grown) =
-          let last : Sent = head_sent head tag in (
+          let last : Sent = head_sent head tag in
+          let going : Going this (first ++ last ∷ []) joined.stage late =
+          head_goes asker user shows cuts told index start first joined.stage late joined.going joined.few (λ c is. (seen c is).within) head tag
+          (can_ask may joined.stage first joined.may_upload (what.Head None) refl refl) unasked in (
             first ++ last ∷ [],
             grown ∙ ap (λ (sends : List Sent). sends ++ last ∷ []) begun ∙ append_assoc start first (last ∷ []),
-            settled owns are (first ++ last ∷ []) head now
-                (head_goes asker user shows cuts told index start first joined.stage late joined.going joined.few (λ c is. (seen c is).within) head tag
-                (can_ask may joined.stage first joined.may_upload (what.Head None) refl refl) unasked)
-                shown same (spares_more this first last joined.spares refl) (head_then None first (last ∷ [])) (λ c is none has. absurd (true≢false (sym based ∙ ap is_some none))),
+            settled owns are differs changed (first ++ last ∷ []) head now
+                (differs_so differs changed allowed owns head now (first ++ last ∷ []) going (may_more may joined.stage first (last ∷ []) joined.may_upload))
+                going shown (spares_more this first last joined.spares refl) (head_then None first (last ∷ [])) (λ c is none has. absurd (true≢false (sym based ∙ ap is_some none))),
           )
       by (Some id) (none, of_round, named) (is, stays) =
           let one : head ≡ id = cc in (
             first,
             stays ∙ begun,
-            settled owns are first head now joined.going shown same joined.spares (named ∙ ap (λ (x : List ℕ). Some (x, None)) (sym one)) joined.behind,
+            settled owns are differs changed first head now (differs_so differs changed allowed owns head now first joined.going joined.may_upload) joined.going shown joined.spares (named ∙ ap (λ (x : List ℕ). Some (x, None)) (sym one)) joined.behind,
           )
 
-  pub same_fails : (old new : List Sent) (f : SyncFault) → old ≡ start ++ first → HeadOf asker asked old new (Err f) → Stops this start new f
-  same_fails old new f begun of = by asked joined.asked_for of
+  pub unpushed_fails : (old new : List Sent) (f : SyncFault) → old ≡ start ++ first → HeadOf asker asked old new (Err f) → Stops this start new f
+  unpushed_fails old new f begun of = by asked joined.asked_for of
     where
       by : (o : Option (List ℕ)) → IsAskedFor index.base o first → HeadOf asker o old new (Err f) → Stops this start new f
       by None (based, unasked) fails =
@@ -114,10 +132,10 @@ module _ (asker : Asker) (user : List ℕ) (shows : ℕ → Type 0) (cuts : Cuts
 
   -- ---- what changed may not be uploaded
 
-  pub denied : (stage_is : (joined.stage ≡ Reads) × DeniesUpload first) → TellsChange report index true → Refuses this first (fault.Refused refusal.Denied)
-  denied stage_is other =
+  pub denied : (stage_is : (joined.stage ≡ Reads) × DeniesUpload first) → index.base ≡ None → TellsChange report index true → Refuses this first (fault.Refused refusal.Denied)
+  denied stage_is none other =
       fails_here this first joined.stage late joined.going (fault.Refused refusal.Denied) joined.few
-      (inr (refl, stage_is.1, joined.going.went, ((λ c is. differs_of cuts c report (seen c is) index other), joined.going.reached ∙ stage_is.0)))
+      (inr (refl, stage_is.1, joined.going.went, ((λ c is. (differs_of cuts c report (seen c is) index other, inl none)), joined.going.reached ∙ stage_is.0)))
       (λ c is. ((λ went. ((seen c is).within, joined.joins c is)), inl (tt, joined.going.unbegun)))
 
 -- ---- what changed is pushed

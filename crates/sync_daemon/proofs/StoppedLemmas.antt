@@ -21,7 +21,7 @@ use Rattle.sync_rules.specs.Causes.{CausedBy, CausedOver, FindsSome, HasPath, We
 use Rattle.sync_rules.specs.Checkout.{Front, IsPlan, Step, is_alone, run}
 use Rattle.sync_rules.specs.Named.{HasAll, HasGot, asked_head}
 use Rattle.sync_rules.specs.Offer.{IsOfferOf}
-use Rattle.sync_rules.specs.OneSync.{ComesInOrder}
+use Rattle.sync_rules.specs.OneSync.{ComesInOrder, GoesUnpushed}
 use Rattle.sync_rules.specs.Orders.{GetsNeeded, IsSyncOrder}
 use Rattle.sync_rules.specs.Premises.{Over}
 use Rattle.sync_rules.specs.Synced.{IsHeadTree, IsSized, IsStopped}
@@ -45,7 +45,7 @@ use Rattle.tree_checkout.proofs.CheckingOutLemmas.{stopped_from}
 use Rattle.tree_checkout.proofs.HadLemmas.{stopped_had}
 use Rattle.tree_fetch.specs.declared.asker.Asker.{Asker}
 use Rattle.tree_fetch.specs.declared.tree.FetchedTree.{FetchedTree}
-use Rattle.sync_daemon.specs.Bringing.{AreMade, IsPlanned, IsUnplanned, is_pushed, source_of}
+use Rattle.sync_daemon.specs.Bringing.{AreMade, IsDone, IsPlanned, IsUnplanned, MayChange, is_pushed, source_of}
 use Rattle.sync_daemon.specs.Finishing.{Finishes}
 use Rattle.sync_daemon.specs.RoundOrder.{IsSoInRound}
 use Rattle.sync_daemon.specs.Going.{GoingOver, Refuses, Sync}
@@ -62,6 +62,7 @@ use Rattle.sync_daemon.proofs.JoinLemmas.{asked_then}
 use Rattle.sync_daemon.proofs.ReadingLemmas.{names}
 use Rattle.sync_daemon.proofs.SkippedLemmas.{front_skipped}
 use Rattle.sync_daemon.proofs.StepFileLemmas.{file_from, front_of, nameless_kept, wrong_tree}
+use Rattle.sync_daemon.proofs.GoesUnpushedLemmas.{goes_unpushed}
 use Rattle.sync_daemon.proofs.WrittenLemmas.{AreIn, all_planned, made_for, made_objects, made_of}
 
 module _ (asker : Asker) (user : List ℕ) (shows : ℕ → Type 0) (cuts : Cuts) (told : Option Contents) (index : Index) (before : List Sent) (settled : Settled) (commit : Commit)
@@ -85,13 +86,14 @@ module _ (asker : Asker) (user : List ℕ) (shows : ℕ → Type 0) (cuts : Cuts
     is_tree = is_tree_of objects commit.root tree.entries (tree_for objects tree.entries).0 (got.entries objects has) (tree_for objects tree.entries).1;
   }
 
-  pub plan_halts : (f : SyncFault) → IsUnplanned settled.scan index tree.entries (is_pushed settled.pushed) f → Refuses this before f
-  plan_halts (fault.Blocked path) un =
+  pub plan_halts : ((c : Contents) → told ≡ Some c → GoesUnpushed cuts c index before) → (f : SyncFault) → IsUnplanned settled.scan index tree.entries (is_pushed settled.pushed) f → Refuses this before f
+  plan_halts goes (fault.Blocked path) un =
       fails_here this before got.reading.stage got.reading.late got.reading.going (fault.Blocked path) got.reading.few (tt, tt)
       (λ c is.
       let was : GoingOver this c before = got.reading.going.over c is in (
         was.found,
         inr (
+          goes c is,
           was.had,
           was.is_had,
           λ objects base over.
@@ -106,14 +108,15 @@ module _ (asker : Asker) (user : List ℕ) (shows : ℕ → Type 0) (cuts : Cuts
               ),
         ),
       ))
-  plan_halts fault.NoMemory un = none_halts
-  plan_halts _ un = absurd un.0
+  plan_halts goes fault.NoMemory un = none_halts
+  plan_halts goes _ un = absurd un.0
 
   -- ---- the checkout stopped
 
   module _ (plan : Plan) (writes : List Write) (planned : IsPlanned settled.scan index tree.entries (is_pushed settled.pushed) plan) (made : AreMade tree.objects plan.writes writes)
       (old new : List Sent) (now : Option Contents) (f : SyncFault) (stops : StopsOut (source_of asker) plan.doomed writes settled.scan cuts old new told now f)
-      (unchanged : (c : Contents) → told ≡ Some c → is_change f ≡ false) where
+      (unchanged : (c : Contents) → told ≡ Some c → is_change f ≡ false) (apart : IsDone settled index → ⊥)
+      (may : MayChange settled.differs settled.scan.paths index.entries tree.entries) where
     abbrev more : List Sent
     more = stops.more
 
@@ -318,6 +321,7 @@ module _ (asker : Asker) (user : List ℕ) (shows : ℕ → Type 0) (cuts : Cuts
                 (found_over_gets this before more got.reading.stage got.reading.late got.reading.going gets got.reading.may_get syncs needed c was (got.reading.over c is)),
             (λ early. absurd (never_late f of early)),
             inr (
+              goes_unpushed asker user shows cuts told index before settled commit tree got apart may more gets c is,
               had_before c is ++ had_of more,
               had_then before more (had_before c is) (had_of more) (got.reading.offered c is).1 (stopped_had (source_of asker) more (blocks_due writes) f stops.stops),
               λ objects base all. (caused_over objects c f of, inr (stopped c is objects base all)),

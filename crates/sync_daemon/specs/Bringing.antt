@@ -15,6 +15,7 @@ use Rattle.folder_side.specs.ScanReport.{IsScan, IsWithinLimits}
 use Rattle.folder_side.specs.declared.scan_report.Scan.{Scan}
 use Rattle.folder_side.specs.declared.scan_report.Seen.{Seen}
 use Rattle.folder_side.specs.declared.scan_report.Seen.TheVariants as seen
+use Rattle.library_state.specs.declared.refusal.Refusal.TheVariants as refusal
 use Rattle.local_index.specs.OwnIds.{own_id}
 use Rattle.local_index.specs.declared.index.Index.{Index}
 use Rattle.local_index.specs.declared.index.Known.{Known}
@@ -46,6 +47,7 @@ use Rattle.tree_fetch.specs.Fetching.{FetchesCommit, FetchesTree, IsFetchedCommi
 use Rattle.tree_fetch.specs.declared.asker.Asker.{Asker}
 use Rattle.tree_fetch.specs.declared.tree.FetchedTree.{FetchedTree}
 use Rattle.sync_daemon.specs.Finishing.{spared_of}
+use Rattle.sync_daemon.specs.InterruptedCheckout.{IsSeenLeft}
 use Rattle.sync_daemon.specs.declared.bringing.Done.{Done}
 use Rattle.sync_daemon.specs.declared.round.Settled.{Settled}
 
@@ -150,20 +152,31 @@ pub record IsPlanned (scan : Scan) (index : Index) (entries : fin.FinMap path_cm
 abbrev pub IsUnplanned : Scan → Index → (entries : fin.FinMap path_cmp Entry) → Bool → SyncFault → Type 0
 IsUnplanned scan index entries pushed f = IsPlanFault f × ((cuts : Cuts) (c : Contents) → IsScan cuts c scan → PlansSo cuts c index entries pushed (Err f))
 
--- a tree was got, a plan made for it, and all that it writes of files was got
-pub record IsReady (asker : Asker) (scan : Scan) (index : Index) (pushed : Bool) (old mid : List Sent) (root : List ℕ) (tree : FetchedTree) (plan : Plan) (writes : List Write) : Type 0 where
+-- a folder that differs from its index and may not be pushed is as a checkout leaves it that was interrupted
+abbrev pub MayChange : (differs : Bool) → SeenPaths → KnownPaths → (entries : fin.FinMap path_cmp Entry) → Type 0
+MayChange differs seens knowns entries = differs ≡ true → IsSeenLeft seens knowns entries
+
+-- a tree was got, the folder may be changed, a plan was made for it, and all that it writes of files was got
+pub record IsReady (asker : Asker) (scan : Scan) (index : Index) (pushed differs : Bool) (old mid : List Sent) (root : List ℕ) (tree : FetchedTree) (plan : Plan) (writes : List Write) : Type 0 where
   pub fetched : IsFetchedTree asker old mid root tree
+  pub may : MayChange differs scan.paths index.entries tree.entries
   pub planned : IsPlanned scan index tree.entries pushed plan
   pub made : AreMade tree.objects plan.writes writes
 
-abbrev pub BringsSo : Asker → Cuts → Scan → Index → (pushed : Bool) → (root : List ℕ) → (old new : List Sent) → (told now : Option Contents) → Result Done SyncFault → Type 0
-BringsSo asker cuts scan index pushed root old new told now (Ok done) = (mid : List Sent) × (tree : FetchedTree) × (plan : Plan) × (writes : List Write)
-    × IsReady asker scan index pushed old mid root tree plan writes × Changes asker cuts scan tree.entries plan writes mid new told now done
-BringsSo asker cuts scan index pushed root old new told now (Err f) =
+-- a tree was got, but no step of a plan is begun: the folder may not be changed, there is no plan, or memory was wanting
+abbrev pub IsUnready : Scan → Index → (pushed differs : Bool) → FetchedTree → SyncFault → Type 0
+IsUnready scan index pushed differs tree f =
+    (((MayChange differs scan.paths index.entries tree.entries → ⊥) × (f ≡ fault.Refused refusal.Denied))
+    ⊎ (MayChange differs scan.paths index.entries tree.entries × (IsUnplanned scan index tree.entries pushed f ⊎ (f ≡ fault.NoMemory))))
+
+abbrev pub BringsSo : Asker → Cuts → Scan → Index → (pushed differs : Bool) → (root : List ℕ) → (old new : List Sent) → (told now : Option Contents) → Result Done SyncFault → Type 0
+BringsSo asker cuts scan index pushed differs root old new told now (Ok done) = (mid : List Sent) × (tree : FetchedTree) × (plan : Plan) × (writes : List Write)
+    × IsReady asker scan index pushed differs old mid root tree plan writes × Changes asker cuts scan tree.entries plan writes mid new told now done
+BringsSo asker cuts scan index pushed differs root old new told now (Err f) =
     (FetchesTree asker old new root (Err f) × (now ≡ told))
-    ⊎ (((tree : FetchedTree) × IsFetchedTree asker old new root tree × (now ≡ told) × (IsUnplanned scan index tree.entries pushed f ⊎ (f ≡ fault.NoMemory)))
+    ⊎ (((tree : FetchedTree) × IsFetchedTree asker old new root tree × (now ≡ told) × IsUnready scan index pushed differs tree f)
     ⊎ ((mid : List Sent) × (tree : FetchedTree) × (plan : Plan) × (writes : List Write)
-    × IsReady asker scan index pushed old mid root tree plan writes × StopsChange asker cuts scan plan writes mid new told now f))
+    × IsReady asker scan index pushed differs old mid root tree plan writes × StopsChange asker cuts scan plan writes mid new told now f))
 
 -- ---- the head is the commit that was pushed
 
@@ -225,17 +238,21 @@ index_of index settled done = record { lib = index.lib; base = Some settled.head
 -- the head's commit and its tree were got, and the folder was brought to it
 abbrev pub ReachesAs : Asker → Cuts → Settled → (old new : List Sent) → (told now : Option Contents) → (index later : Index) → Result Synced SyncFault → Type 0
 ReachesAs asker cuts settled old new told now index later (Ok s) = (mid : List Sent) × (commit : Commit) × (done : Done) × IsFetchedCommit asker old mid settled.head commit
-    × BringsSo asker cuts settled.scan index (is_pushed settled.pushed) commit.root mid new told now (Ok done)
+    × BringsSo asker cuts settled.scan index (is_pushed settled.pushed) settled.differs commit.root mid new told now (Ok done)
     × (later ≡ index_of index settled done) × (s ≡ synced_of settled commit done)
 ReachesAs asker cuts settled old new told now index later (Err f) = (later ≡ index) × ((FetchesCommit asker old new settled.head (Err f) × (now ≡ told))
     ⊎ ((mid : List Sent) × (commit : Commit) × IsFetchedCommit asker old mid settled.head commit
-    × BringsSo asker cuts settled.scan index (is_pushed settled.pushed) commit.root mid new told now (Err f)))
+    × BringsSo asker cuts settled.scan index (is_pushed settled.pushed) settled.differs commit.root mid new told now (Err f)))
+
+-- no step is begun: the library did not go on from the index's base, and yet the folder differs; or memory was wanting
+abbrev pub IsIdle : Settled → Index → SyncFault → Type 0
+IsIdle settled index f = (IsDone settled index × (settled.differs ≡ true) × (f ≡ fault.Refused refusal.Denied)) ⊎ (f ≡ fault.NoMemory)
 
 -- nothing is got where nothing is to be done, nor where the head is the commit that was pushed
 abbrev pub FinishesAs : Asker → (user : List ℕ) → Cuts → Settled → (old new : List Sent) → (told now : Option Contents) → (index later : Index) → Result Synced SyncFault → Type 0
 FinishesAs asker user cuts settled old new told now index later (Ok s) =
-    (IsDone settled index × (new ≡ old) × (now ≡ told) × (later ≡ index) × (s ≡ spared_of settled))
+    (IsDone settled index × (settled.differs ≡ false) × (new ≡ old) × (now ≡ told) × (later ≡ index) × (s ≡ spared_of settled))
     ⊎ ((IsOwnHead settled index × (new ≡ old) × (now ≡ told) × KnowsSo user settled index later (Ok s))
     ⊎ ((IsDone settled index → ⊥) × (IsOwnHead settled index → ⊥) × ReachesAs asker cuts settled old new told now index later (Ok s)))
 FinishesAs asker user cuts settled old new told now index later (Err f) =
-    ((new ≡ old) × (now ≡ told) × (later ≡ index) × (f ≡ fault.NoMemory)) ⊎ ReachesAs asker cuts settled old new told now index later (Err f)
+    ((new ≡ old) × (now ≡ told) × (later ≡ index) × IsIdle settled index f) ⊎ ((IsDone settled index → ⊥) × ReachesAs asker cuts settled old new told now index later (Err f))

@@ -10,7 +10,7 @@ use Rattle.local_index.specs.declared.index.Index.{Index}
 use Rattle.remote_calls.specs.Sends.{Sent}
 use Rattle.sync_rules.specs.Causes.{CausedOver, EndsSo, FindsSome, HasPath, WentWell, stale_count}
 use Rattle.sync_rules.specs.Named.{IsHad, is_block, keys_asked}
-use Rattle.sync_rules.specs.OneSync.{ComesInOrder, GoesInOrder, HasNotBegun, NeedsNoTree}
+use Rattle.sync_rules.specs.OneSync.{ComesInOrder, GoesInOrder, GoesUnpushed, HasNotBegun, NeedsNoTree}
 use Rattle.sync_rules.specs.Orders.{Stage}
 use Rattle.sync_rules.specs.Orders.Stage.{Begins}
 use Rattle.sync_rules.specs.Premises.{Over}
@@ -60,7 +60,7 @@ Spares s more = is_some s.index.base ≡ true → keys_asked more ≡ []
 -- no step of a plan was begun, and where a tree tells the cause it is that
 abbrev pub CausedUntouched : Sync → Contents → List Sent → SyncFault → Type 0
 CausedUntouched s c more f = (NeedsNoTree f × HasNotBegun more f)
-    ⊎ ((had : List (Key × List ℕ)) × IsHad more had × ((objects : Objects) (base : Tree) → Over objects s.cuts c s.index base had
+    ⊎ (GoesUnpushed s.cuts c s.index more × (had : List (Key × List ℕ)) × IsHad more had × ((objects : Objects) (base : Tree) → Over objects s.cuts c s.index base had
     → CausedOver objects c more f × HasNotBegun more f))
 
 pub record RefusesOver (s : Sync) (c : Contents) (more : List Sent) (f : SyncFault) : Type 0 where

@@ -5,6 +5,7 @@ pub mod Joining
 pub mod Rounds
 pub mod Syncing
 pub mod Finishing
+pub mod InterruptedCheckout
 pub mod Bringing
 pub mod SeenFolder
 pub mod Turns

@@ -30,7 +30,7 @@ use Rattle.tree_push.specs.ChangedOwns.{AreChangedOwns, Owns}
 use Rattle.tree_push.specs.Pushing.{HoldsOffer}
 use Rattle.tree_push.specs.declared.standing.Pushed.{Pushed}
 use Rattle.tree_push.specs.declared.standing.Pushed.TheVariants as pushed
-use Rattle.sync_daemon.specs.RoundOrder.{IsBehindChecks}
+use Rattle.sync_daemon.specs.RoundOrder.{IsBehindChecks, stage_from}
 use Rattle.sync_daemon.specs.Going.{Going, Spares, Stops, Sync}
 use Rattle.sync_daemon.specs.declared.round.Round.{Round}
 use Rattle.sync_daemon.specs.declared.round.Round.TheVariants as round
@@ -72,6 +72,11 @@ ScansSo cuts told (Err f) = IsScanFault told f
 abbrev pub TellsChange : Scan → Index → Bool → Type 0
 TellsChange report index true = ((path : PathV) → change_at report.paths index.entries path ≡ None) → ⊥
 TellsChange report index false = (path : PathV) → change_at report.paths index.entries path ≡ None
+
+-- a folder that differs isn't pushed only where an upload is denied; and it may be as a checkout left it only where the index has a base
+abbrev pub MayDiffer : (differs may : Bool) → (base : Option (List ℕ)) → Type 0
+MayDiffer true may base = (may ≡ false) × IsSome base
+MayDiffer false may base = ⊤
 
 -- ---- between the steps of a round
 
@@ -122,7 +127,16 @@ pub record IsPushed (s : Sync) (more : List Sent) (settled : Settled) (id : List
   pub parent : List ℕ
   pub offer : HoldsOffer (record { lib = s.lib; secret = s.secret }) s.user settled.moment parent s.index settled.scan more id
 
--- the folder agrees with the index and the head was asked for, or what changed was pushed; what is sent next may ask for objects
+-- nothing was pushed though the folder differs from its index, since an upload is denied
+pub record Differs (s : Sync) (more : List Sent) (settled : Settled) : Type 0 where
+  pub unpushed : settled.pushed ≡ None
+  pub based : IsSome s.index.base
+  pub denies : DeniesUpload more
+  pub reads : stage_from Begins more ≡ Reads
+  pub other : (c : Contents) → s.told ≡ Some c → Agrees s.cuts c s.index → ⊥
+
+-- the folder agrees with the index and the head was asked for, or what changed was pushed, or may not be; what is sent next may ask for
+-- objects
 pub record IsSettled (s : Sync) (more : List Sent) (settled : Settled) : Type 0 where
   pub stage : Stage
   pub late : ℕ
@@ -135,7 +149,8 @@ pub record IsSettled (s : Sync) (more : List Sent) (settled : Settled) : Type 0 
   pub owns : AreChangedOwns s.index.entries settled.scan.paths settled.owns
   pub pushed_as : (id : List ℕ) → settled.pushed ≡ Some id → IsPushed s more settled id
   pub seen : (c : Contents) → s.told ≡ Some c → IsSeen s.cuts c settled.scan
-  pub agrees : (c : Contents) → s.told ≡ Some c → settled.pushed ≡ None → Agrees s.cuts c s.index
+  pub agrees : (c : Contents) → s.told ≡ Some c → settled.pushed ≡ None → settled.differs ≡ false → Agrees s.cuts c s.index
+  pub differs : settled.differs ≡ true → Differs s more settled
   pub offered : (c : Contents) → s.told ≡ Some c → (had : List (Key × List ℕ)) × IsHad more had × ((objects : Objects) (base : Tree) → Over objects s.cuts c s.index base had
       → IsOfferOf objects s.cuts c s.index settled.moment s.user (asked_head more None) settled.pushed)
   pub behind : (c : Contents) → s.told ≡ Some c → s.index.base ≡ None → HasPath c → (before : List Sent) (sent : Sent) → more ≡ before ++ sent ∷ [] → sent.0.what ≡ what.Head None → ⊥
@@ -160,5 +175,5 @@ RoundsSo s start now (Err f) = Stops s start now f
 
 -- what a push comes to
 abbrev pub pushed_round : Scan → Owns → (moment : ℕ) → Pushed → Round
-pushed_round report owns moment (pushed.Installed commit head) = round.Settled (record { scan = report; owns = owns; head = head; pushed = Some commit; moment = moment })
+pushed_round report owns moment (pushed.Installed commit head) = round.Settled (record { scan = report; owns = owns; head = head; pushed = Some commit; moment = moment; differs = false })
 pushed_round report owns moment (pushed.Late count) = round.Late count

@@ -1,15 +1,19 @@
 //! A tree is got, and a folder brought to it.
-ghost use Rattle.std.specs.Prelude.{◌≡◌, IfOk, length, vec_len};
+ghost use Rattle.std.specs.Prelude.{◌≡◌, ◌↔◌, IfOk, IsTrue, length, vec_len};
 ghost use Rattle.ids.specs.FaultCount.{FailsBy};
 ghost use Rattle.sync_rules.specs.Causes.{is_folder_fault};
-ghost use Rattle.sync_daemon.specs.Bringing.{BringsSo, ChangesSo};
+ghost use Rattle.tree_push.specs.ChangedOwns.{AreChangedOwns};
+ghost use Rattle.sync_daemon.specs.Bringing.{BringsSo, ChangesSo, MayChange};
 ghost use Rattle.sync_daemon.specs.declared.bringing.TheConstants.{PIECE};
 
+use crate::interrupted_checkout::is_left_by_checkout;
 use crate::known_entries::known_entries;
+use crate::round::Settled;
 use crate::tree_writes::writes_of;
 use block_chunker::Cuts;
 use folder_side::{Folder, Scan};
 use ids::{Items, ObjId};
+use library_state::Refusal;
 use local_index::{Index, Known};
 use object_graph::Entry;
 use remote_calls::Remote;
@@ -31,7 +35,8 @@ pub(crate) struct Done {
     pub(crate) removed: u64,
 }
 
-/// Gets the tree of a root, and brings the folder to it. Each file's object is read before the folder is touched.
+/// Gets the tree of a root, and brings the folder to it. Each file's object is read before the folder is touched, and whether it may be
+/// is looked at.
 pub(crate) fn bring<F: Folder, R: Remote>(
     alloc: Global,
     folder: &mut F,
@@ -39,11 +44,12 @@ pub(crate) fn bring<F: Folder, R: Remote>(
     remote: &mut R,
     asker: &Asker,
     cuts: Cuts,
-    scan: &Scan,
+    settled: &Settled,
     pushed: bool,
     root: ObjId,
 ) -> Result<Done, SyncFault>
-    ensures value { BringsSo asker.now cuts scan.now index.now pushed root (R.sends remote.old) (R.sends remote.new) (F.told folder.old) (F.told folder.new) result }
+    requires ids { AreChangedOwns index.now.entries settled.now.scan.paths settled.now.owns }
+    ensures value { BringsSo asker.now cuts settled.now.scan index.now pushed settled.now.differs root (R.sends remote.old) (R.sends remote.new) (F.told folder.old) (F.told folder.new) result }
     ensures stays { R.peer remote.new ≡ R.peer remote.old }
     ensures faults { FailsBy is_folder_fault (F.faults folder.old) (F.faults folder.new) result }
 {
@@ -51,7 +57,10 @@ pub(crate) fn bring<F: Folder, R: Remote>(
         Ok(tree) => tree,
         Err(fault) => return Err(fault),
     };
-    let plan = match plan_of(alloc, scan, index, &tree.entries, pushed) {
+    if !may_change(index, settled, &tree.entries) {
+        return Err(SyncFault::Refused(Refusal::Denied));
+    }
+    let plan = match plan_of(alloc, &settled.scan, index, &tree.entries, pushed) {
         Ok(plan) => plan,
         Err(fault) => return Err(fault),
     };
@@ -65,11 +74,22 @@ pub(crate) fn bring<F: Folder, R: Remote>(
         remote,
         asker,
         cuts,
-        scan,
+        &settled.scan,
         &tree.entries,
         plan,
         writes,
     )
+}
+
+/// Whether a folder may be changed: what differs from its index in it, if that may not be pushed, a checkout left so that was interrupted.
+fn may_change(index: &Index, settled: &Settled, entries: &PathTable<Entry>) -> bool
+    requires ids { AreChangedOwns index.now.entries settled.now.scan.paths settled.now.owns }
+    ensures value { IsTrue result ↔ MayChange settled.now.differs settled.now.scan.paths index.now.entries entries.now }
+{
+    if !settled.differs {
+        return true;
+    }
+    is_left_by_checkout(&settled.scan.paths, &index.entries, &settled.owns, entries)
 }
 
 /// Does the steps of a plan, and tells what is known of the entries then.

@@ -13,6 +13,7 @@ use crate::round::Settled;
 use block_chunker::Cuts;
 use folder_side::Folder;
 use ids::{Items, ObjId, Text};
+use library_state::Refusal;
 use local_index::Index;
 use remote_calls::Remote;
 use std::alloc::{AllocError, Global};
@@ -21,7 +22,8 @@ use tree_fetch::{Asker, fetch_commit};
 
 /// Brings a folder to the head, and makes its index anew. After an error the index is as it was.
 ///
-/// Nothing is got of a head that is the commit which was pushed: its tree is what was offered.
+/// Nothing is got of a head that is the commit which was pushed: its tree is what was offered. Where the folder differs from its index and
+/// an upload is denied, it has to be as a checkout to the head leaves it that was interrupted, else `Denied` is answered.
 pub(crate) fn finish<F: Folder, R: Remote>(
     alloc: Global,
     folder: &mut F,
@@ -38,6 +40,9 @@ pub(crate) fn finish<F: Folder, R: Remote>(
     ensures faults { FailsBy is_folder_fault (F.faults folder.old) (F.faults folder.new) result }
 {
     if is_done(index, &settled) {
+        if settled.differs {
+            return Err(SyncFault::Refused(Refusal::Denied));
+        }
         return Ok(spared(alloc, settled));
     }
     let own = match is_own_head(alloc, index, &settled) {
@@ -86,6 +91,7 @@ fn reach<F: Folder, R: Remote>(
     cuts: Cuts,
     settled: Settled,
 ) -> Result<Synced, SyncFault>
+    requires ids { AreChangedOwns index.old.entries settled.scan.paths settled.owns }
     ensures value { ReachesAs asker.now cuts settled (R.sends remote.old) (R.sends remote.new) (F.told folder.old) (F.told folder.new) index.old index.new result }
     ensures stays { R.peer remote.new ≡ R.peer remote.old }
     ensures faults { FailsBy is_folder_fault (F.faults folder.old) (F.faults folder.new) result }
@@ -103,7 +109,7 @@ fn reach<F: Folder, R: Remote>(
         remote,
         asker,
         cuts,
-        &settled.scan,
+        &settled,
         pushed,
         commit.root,
     ) {

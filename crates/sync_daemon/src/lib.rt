@@ -7,6 +7,7 @@
 mod asking;
 mod bringing;
 mod finishing;
+mod interrupted_checkout;
 mod joining;
 mod known_entries;
 mod own_head;

@@ -10,7 +10,7 @@ ghost use Rattle.sync_rules.specs.Orders.Stage.{Begins};
 ghost use Rattle.tree_push.specs.ChangedOwns.{AreChangedOwns};
 ghost use Rattle.sync_daemon.specs.Asking.{HeadOf};
 ghost use Rattle.sync_daemon.specs.Going.{Going, Spares};
-ghost use Rattle.sync_daemon.specs.Rounds.{IsChecked, IsJoined, IsSeen, RoundSo, RoundsSo, TellsChange, pushed_round, sync_of};
+ghost use Rattle.sync_daemon.specs.Rounds.{IsChecked, IsJoined, IsSeen, MayDiffer, RoundSo, RoundsSo, TellsChange, pushed_round, sync_of};
 
 use crate::asking::{ask_head, may_upload};
 use crate::joining::join;
@@ -30,14 +30,14 @@ use tree_push::{Library, Pushed, push};
 /// What a round came to.
 #[derive(Drop)]
 pub(crate) enum Round {
-    /// The folder agrees with its index, or what changed was pushed.
+    /// The folder agrees with its index, or what changed was pushed, or may not be.
     Settled(Settled),
     /// The update came too late; the last collection has this number.
     Late(u64),
 }
 
 /// What the folder held, with the own ids of the files that are new or changed, and where the library stands now; the moment of the
-/// round, at which it was offered where something was pushed.
+/// round, at which it was offered where something was pushed; whether the folder differs from its index and nothing may be pushed.
 #[derive(Drop)]
 pub(crate) struct Settled {
     pub(crate) scan: Scan,
@@ -45,6 +45,7 @@ pub(crate) struct Settled {
     pub(crate) head: ObjId,
     pub(crate) pushed: Option<ObjId>,
     pub(crate) moment: u64,
+    pub(crate) differs: bool,
 }
 
 /// How often an update may come too late.
@@ -160,7 +161,7 @@ fn scanned_round<F: Folder, R: Remote, C: Clock>(
     )
 }
 
-/// The rest of a round: what changed is pushed, or else the head is asked for.
+/// The rest of a round: what changed is pushed, where one may, or else the head is asked for.
 fn joined_round<F: Folder, R: Remote, C: Clock>(
     alloc: Global,
     folder: &mut F,
@@ -184,20 +185,26 @@ fn joined_round<F: Folder, R: Remote, C: Clock>(
         Err(AllocError) => return Err(SyncFault::NoMemory),
     };
     if !is_changed {
-        return same_round(
-            alloc, folder, remote, asker, index, user, clock, cuts, may, report, owns, asked,
+        return unpushed_round(
+            alloc, folder, remote, asker, index, user, clock, cuts, may, report, owns, asked, false,
         );
     }
-    if !may {
-        return Err(SyncFault::Refused(Refusal::Denied));
+    if may {
+        return changed_round(
+            alloc, folder, remote, asker, index, user, clock, cuts, report, owns, asked,
+        );
     }
-    changed_round(
-        alloc, folder, remote, asker, index, user, clock, cuts, report, owns, asked,
-    )
+    if index.base.is_some() {
+        return unpushed_round(
+            alloc, folder, remote, asker, index, user, clock, cuts, may, report, owns, asked, true,
+        );
+    }
+    Err(SyncFault::Refused(Refusal::Denied))
 }
 
-/// The end of a round in which nothing is pushed: the head is asked for, unless it was.
-fn same_round<F: Folder, R: Remote, C: Clock>(
+/// The end of a round in which nothing is pushed: the head is asked for, unless it was. `differs` tells that the folder differs from its
+/// index, which one who may only read can't push.
+fn unpushed_round<F: Folder, R: Remote, C: Clock>(
     alloc: Global,
     folder: &mut F,
     remote: &mut R,
@@ -210,10 +217,11 @@ fn same_round<F: Folder, R: Remote, C: Clock>(
     report: Scan,
     owns: PathTable<ObjId>,
     asked: Option<ObjId>,
+    differs: bool,
 ) -> Result<Round, SyncFault>
     requires library { asker.now.lib ≡ index.now.lib }
     requires ids { AreChangedOwns index.now.entries report.paths owns }
-    ensures value { (start before : List Sent) (late : ℕ) → R.sends remote.old ≡ start ++ before → IsJoined (sync_of asker.now user.now (C.shows clock.now) cuts (F.told folder.old) index.now) before late may asked → ((c : Contents) → F.told folder.old ≡ Some c → IsSeen cuts c report) → TellsChange report index.now false → RoundSo (sync_of asker.now user.now (C.shows clock.now) cuts (F.told folder.old) index.now) start (R.sends remote.new) late result }
+    ensures value { (start before : List Sent) (late : ℕ) → R.sends remote.old ≡ start ++ before → IsJoined (sync_of asker.now user.now (C.shows clock.now) cuts (F.told folder.old) index.now) before late may asked → ((c : Contents) → F.told folder.old ≡ Some c → IsSeen cuts c report) → TellsChange report index.now differs → MayDiffer differs may index.now.base → RoundSo (sync_of asker.now user.now (C.shows clock.now) cuts (F.told folder.old) index.now) start (R.sends remote.new) late result }
     ensures stays { (F.told folder.new ≡ F.told folder.old) × (R.peer remote.new ≡ R.peer remote.old) }
     ensures faults { FailsBy is_folder_fault (F.faults folder.old) (F.faults folder.new) result }
 {
@@ -225,6 +233,7 @@ fn same_round<F: Folder, R: Remote, C: Clock>(
             head,
             pushed: None,
             moment,
+            differs,
         })),
         Err(fault) => Err(fault),
     }
@@ -277,6 +286,7 @@ fn pushed_round(report: Scan, owns: PathTable<ObjId>, moment: u64, pushed: Pushe
             head,
             pushed: Some(commit),
             moment,
+            differs: false,
         }),
         Pushed::Late { now } => Round::Late(now),
     }

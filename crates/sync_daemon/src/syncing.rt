@@ -22,7 +22,9 @@ use tree_fetch::Asker;
 /// Where the index has no base, the head is asked for and is the base; `NotEmpty` where folder and head both have something.
 /// What entries such an index has don't count: nothing was synced by them, so nothing is taken for removed.
 /// What changed since the index is pushed as one commit on the base, by this user; all begins anew, from the first check, where a
-/// collection began meanwhile, in three rounds at most. Where nothing changed the head is asked for, unless it was in the round. The
+/// collection began meanwhile, in three rounds at most. Where nothing changed the head is asked for, unless it was in the round. So it
+/// is where an upload is denied and something changed: then `Denied` is answered, unless the head isn't the index's base and the folder
+/// is as a checkout to it leaves it that was interrupted, which is looked at once the head's tree was got. The
 /// head's tree is got, unless nothing was pushed and it is the index's base, or it is the commit that was pushed: of that what was
 /// offered is known. Then the folder is changed, by the steps of a plan: removals, deepest first, and then directories and files in
 /// byte order of path.

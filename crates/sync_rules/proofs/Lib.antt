@@ -3,6 +3,7 @@ pub mod GotLemmas
 pub mod NameLemmas
 pub mod OverLemmas
 pub mod PlanLemmas
+pub mod InterruptedCheckoutLemmas
 pub mod ShortSyncLemmas
 pub mod StopLemmas
 pub mod WentLemmas

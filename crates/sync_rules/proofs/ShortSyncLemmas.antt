@@ -15,13 +15,14 @@ use Rattle.local_index.specs.declared.index.Index.{Index}
 use Rattle.remote_calls.specs.Sends.{Sent}
 use Rattle.sync_rules.specs.Causes.{DeniesUpload, EndsSo, IsSoHere, WentWell}
 use Rattle.sync_rules.specs.Checkout.{Step}
+use Rattle.sync_rules.specs.InterruptedCheckout.{IsChangedByReader}
 use Rattle.sync_rules.specs.Named.{IsNamedSo, is_block, is_upload}
 use Rattle.sync_rules.specs.Offer.{Agrees}
 use Rattle.sync_rules.specs.OneSync.{LeavesIndex, SyncsSo}
 use Rattle.sync_rules.specs.Orders.{IsLacked, IsNeeded, IsSyncOrder, OrdersSo}
 use Rattle.sync_rules.specs.Premises.{IsBase, KnowsBase, KnowsRoot, Over}
 use Rattle.sync_rules.specs.Synced.{IsOfWritten, IsSynced}
-use Rattle.sync_rules.specs.ShortSyncs.{allowed_sent, check_sent, denied_sent, head_sent, none_done, two_checks, two_sent}
+use Rattle.sync_rules.specs.ShortSyncs.{allowed_sent, check_sent, denied_sent, head_sent, none_done, reader_sent, two_sent}
 use Rattle.sync_rules.specs.Uploads.{UploadsSo}
 use Rattle.sync_rules.specs.declared.fault.SyncFault.{SyncFault}
 use Rattle.sync_rules.specs.declared.fault.SyncFault.TheVariants as fault
@@ -75,7 +76,7 @@ module _ (lib secret id : List ℕ) (first later : Tag) where
         let knows : KnowsRoot objects of_base.0.root index = subst (λ (o : Option (List ℕ)). KnowsBase objects o index) is over.knows of_base.0 of_base.1 in
         record {
           named = refl;
-          pushed = agrees;
+          pushed = tt;
           commit = of_base.0;
           stored = of_base.1;
           is_tree = of_base.2;
@@ -112,6 +113,7 @@ module _ (lib secret id : List ℕ) (first later : Tag) where
         found = λ none has. absurd (based none);
         pushed = ((λ gets. absurd (true≢false (sym gets))), ((λ gets. absurd (true≢false (sym gets))), tt));
       },
+      (λ head named. inl agrees),
       [],
       tt,
       λ objects base over. (base, moment, shown, unchanged_synced objects base moment over),
@@ -119,53 +121,69 @@ module _ (lib secret id : List ℕ) (first later : Tag) where
 
 -- ---- one who may only read, with a changed folder
 
-module _ (lib secret : List ℕ) (first later : Tag) where
-  both_checks : (P : Sent → Type 0) → P (denied_sent lib secret first) → P (allowed_sent lib secret later) → All P (two_checks lib secret first later)
-  both_checks P denied allowed =
-      All-cons P (denied_sent lib secret first) (allowed_sent lib secret later ∷ []) denied (All-cons P (allowed_sent lib secret later) [] allowed (All-nil P))
+module _ (lib secret id : List ℕ) (first later last : Tag) where
+  abbrev these : List Sent
+  these = reader_sent lib secret id first later last
 
-  pub denied_orders : (user : List ℕ) (shows : ℕ → Type 0) (base : Option (List ℕ)) → OrdersSo lib secret user shows base (two_checks lib secret first later)
+  each_of : (P : Sent → Type 0) → P (denied_sent lib secret first) → P (allowed_sent lib secret later) → P (head_sent lib secret id last) → All P these
+  each_of P denied allowed head =
+      All-cons P (denied_sent lib secret first) (allowed_sent lib secret later ∷ head_sent lib secret id last ∷ []) denied
+      (All-cons P (allowed_sent lib secret later) (head_sent lib secret id last ∷ []) allowed (All-cons P (head_sent lib secret id last) [] head (All-nil P)))
+
+  pub denied_orders : (user : List ℕ) (shows : ℕ → Type 0) (base : Option (List ℕ)) → OrdersSo lib secret user shows base these
   denied_orders user shows base = record {
-    asks = both_checks (IsSyncOrder lib secret) (refl, refl, refl, tt) (refl, refl, refl, tt);
-    made = (tt, tt, (tt, tt, tt));
-    puts = (All-nil (IsLacked []), (All-nil (IsLacked []), tt));
-    rounds = (refl, (refl, tt));
-    gets = (All-nil (IsNeeded []), (All-nil (IsNeeded (denied_sent lib secret first ∷ [])), tt));
+    asks = each_of (IsSyncOrder lib secret) (refl, refl, refl, tt) (refl, refl, refl, tt) (refl, refl, refl, tt);
+    made = (tt, tt, (tt, tt, (tt, tt, tt)));
+    puts = (All-nil (IsLacked []), (All-nil (IsLacked []), (All-nil (IsLacked (allowed_sent lib secret later ∷ [])), tt)));
+    rounds = (refl, (refl, (refl, tt)));
+    gets = (
+      All-nil (IsNeeded []),
+      (
+        All-nil (IsNeeded (denied_sent lib secret first ∷ [])),
+        (All-nil (IsNeeded (denied_sent lib secret first ∷ allowed_sent lib secret later ∷ [])), tt),
+      ),
+    );
   }
 
-  both_well : All WentWell (two_checks lib secret first later)
-  both_well = both_checks WentWell (refl, All-nil IsNamedSo) (refl, All-nil IsNamedSo)
+  all_well : All WentWell these
+  all_well = each_of WentWell (refl, All-nil IsNamedSo) (refl, All-nil IsNamedSo) (refl, All-nil IsNamedSo)
 
-  first_denies : DeniesUpload (two_checks lib secret first later)
+  first_denies : DeniesUpload these
   first_denies =
-      let some : 0 < 2 = omega arith in
+      let some : 0 < 3 = omega arith in
       ((denied_sent lib secret first).0, (denied_sent lib secret first).1, (0, some, refl), refl, refl)
 
-  module _ (cuts : Cuts) (c : Contents) (index : Index) (differs : Agrees cuts c index → ⊥) where
-    pub denied_ends : EndsSo (IsSoHere cuts (Some c) index (two_checks lib secret first later)) (two_checks lib secret first later) (Err (fault.Refused refusal.Denied))
+  module _ (cuts : Cuts) (c : Contents) (index : Index) (is : index.base ≡ Some id) (differs : Agrees cuts c index → ⊥) where
+    changed : IsChangedByReader cuts c index these
+    changed = (differs, inr (id, refl, inl is))
+
+    pub denied_ends : EndsSo (IsSoHere cuts (Some c) index these) these (Err (fault.Refused refusal.Denied))
     denied_ends =
         let few : 0 ≤ 2 = omega arith in (
-          ((refl, All-nil IsNamedSo), tt),
-          inr (refl, first_denies, both_well, λ told is same. differs (subst (λ (o : Option Contents). Agrees cuts (unwrap_or o c) index) (sym is) same)),
+          ((refl, All-nil IsNamedSo), ((refl, All-nil IsNamedSo), tt)),
+          inr (refl, first_denies, all_well, λ other told. subst (λ (o : Option Contents). IsChangedByReader cuts (unwrap_or o c) index these) told changed),
           (λ other. absurd (true≢false other)),
           (λ early. few),
         )
 
-    pub denied_syncs : (id user : List ℕ) (shows : ℕ → Type 0) → index.base ≡ Some id → IsWithinLimits c
-        → SyncsSo cuts c (Some c) index index user (two_checks lib secret first later) shows (Err (fault.Refused refusal.Denied))
-    denied_syncs id user shows is within =
+    pub denied_syncs : (user : List ℕ) (shows : ℕ → Type 0) → IsWithinLimits c
+        → SyncsSo cuts c (Some c) index index user these shows (Err (fault.Refused refusal.Denied))
+    denied_syncs user shows within =
         let based : index.base ≡ None → ⊥ = λ none. true≢false (sym (ap is_some is) ∙ ap is_some none) in (
           c,
           refl,
           record {
             changed = λ same. absurd (differs same);
             joins = λ none has. absurd (based none);
-            offers = (tt, (tt, tt));
+            offers = (tt, (tt, (tt, tt)));
           },
           record {
             scanned = inr within;
             found = λ none has. absurd (based none);
-            pushed = ((λ gets. absurd (true≢false (sym gets))), ((λ gets. absurd (true≢false (sym gets))), tt));
+            pushed = (
+              (λ gets. absurd (true≢false (sym gets))),
+              ((λ gets. absurd (true≢false (sym gets))), ((λ gets. absurd (true≢false (sym gets))), tt)),
+            );
           },
           (λ went. (within, λ none has. absurd (based none))),
           (λ early. refl),

@@ -39,8 +39,8 @@ use Rattle.http_front.specs.declared.outcome.Outcome.{Outcome}
 use Rattle.http_front.specs.declared.outcome.Outcome.TheVariants.{Plain, Refused}
 use Rattle.remote_calls.specs.Sends.{Ending, Sent}
 use Rattle.sync_rules.specs.Checkout.{first_blocked}
+use Rattle.sync_rules.specs.InterruptedCheckout.{IsChangedByReader}
 use Rattle.sync_rules.specs.Named.{GetsNamed, HasGot, got_in, last_head}
-use Rattle.sync_rules.specs.Offer.{Agrees}
 use Rattle.sync_rules.specs.Synced.{IsHeadTree}
 use Rattle.sync_rules.specs.declared.fault.SyncFault.{SyncFault}
 use Rattle.sync_rules.specs.declared.fault.SyncFault.TheVariants as fault
@@ -160,10 +160,11 @@ abbrev pub HasPath : Contents → Type 0
 HasPath c = (path : PathV) × IsSome (held_at c path)
 
 -- what is wrong with the head's tree, over any objects that have what was got; and a folder, where it tells what it holds, and its index:
--- that they differ, what is too much for a scan, that nothing was synced yet and the folder has something. A folder that tells what it
--- holds never changes meanwhile. That the folder failed and that memory was wanting is told by the sync's own words
+-- that they differ, and not by a checkout that was interrupted, what is too much for a scan, that nothing was synced yet and the folder
+-- has something. A folder that tells what it holds never changes meanwhile. That the folder failed and that memory was wanting is told by
+-- the sync's own words
 abbrev pub IsSoHere : Cuts → Option Contents → Index → List Sent → SyncFault → Type 0
-IsSoHere cuts told index more (fault.Refused r) = (c : Contents) → told ≡ Some c → Agrees cuts c index → ⊥
+IsSoHere cuts told index more (fault.Refused r) = (c : Contents) → told ≡ Some c → IsChangedByReader cuts c index more
 IsSoHere cuts told index more (fault.Scan scan.Folder) = ⊥
 IsSoHere cuts told index more (fault.Scan scan.NoMemory) = ⊥
 IsSoHere cuts told index more (fault.Scan why) = (c : Contents) → told ≡ Some c → IsPastLimit c why

@@ -3,6 +3,7 @@ pub mod Offer
 pub mod Premises
 pub mod Checkout
 pub mod Synced
+pub mod InterruptedCheckout
 pub mod Causes
 pub mod Uploads
 pub mod Orders

@@ -1,6 +1,6 @@
 -- What a sync offers of a folder: its visible tree, and the commit that is made of it. Our own. Read offered_at first, then Agrees
 -- and IsOffer.
-use Rattle.std.specs.Prelude.{ℕ, ◌≡◌, ◌≢◌, ◌↔◌, ◌-◌, ◌^◌, false, min, if◌then◌else◌, List, [], length, Option, None, Some, Ok, option_and_then, codes, pos}
+use Rattle.std.specs.Prelude.{ℕ, ◌≡◌, ◌≢◌, ◌↔◌, ◌-◌, ◌^◌, false, min, if◌then◌else◌, List, [], length, Option, None, Some, Ok, option_and_then, codes, pos, ⊤}
 use Rattle.std.specs.FinMap as fin
 use Rattle.std.specs.Option.{option_or}
 use Rattle.std.specs.Str.{bytes_eq}
@@ -114,9 +114,9 @@ pub record IsOffer (objects : Objects) (cuts : Cuts) (c : Contents) (index : Ind
   -- the ids and sizes with which it stands there
   pub entries : (path : PathV) → path ≢ [] → entry_below objects path commit.root ≡ offered_entry_at cuts c index moment user path
 
--- something was pushed exactly where the folder differs from the index, on the index's base, or on the head that was asked where
--- there was none
+-- something was pushed only where the folder differs from the index, on the index's base, or on the head that was asked where there was
+-- none. Where nothing was, `GoesUnpushed` tells of the folder
 abbrev pub IsOfferOf : Objects → Cuts → Contents → Index → ℕ → List ℕ → Option (List ℕ) → Option (List ℕ) → Type 0
-IsOfferOf objects cuts c index moment user asked None = Agrees cuts c index
+IsOfferOf objects cuts c index moment user asked None = ⊤
 IsOfferOf objects cuts c index moment user asked (Some pushed) =
     (Agrees cuts c index → ⊥) × IsOffer objects cuts c index moment user (option_or index.base asked) pushed

@@ -15,7 +15,8 @@ use Rattle.folder_side.specs.Folder.{Contents}
 use Rattle.folder_side.specs.ScanReport.{IsWithinLimits}
 use Rattle.local_index.specs.declared.index.Index.{Index}
 use Rattle.remote_calls.specs.Sends.{Sent}
-use Rattle.sync_rules.specs.Causes.{CausedOver, FindsSome, HasPath, WentWell}
+use Rattle.sync_rules.specs.Causes.{CausedOver, DeniesUpload, FindsSome, HasPath, WentWell}
+use Rattle.sync_rules.specs.InterruptedCheckout.{IsInterrupted}
 use Rattle.sync_rules.specs.Named.{AreTextsOf, EndsAtUpdate, HasGot, IsHad, gets_tree, is_block, is_check, keys_asked, last_head}
 use Rattle.sync_rules.specs.Offer.{Agrees}
 use Rattle.sync_rules.specs.Premises.{KnowsRoot, KnowsSizes, Over}
@@ -27,11 +28,12 @@ use Rattle.sync_rules.specs.declared.synced.Synced.{Synced}
 
 -- ---- in which order
 
--- a tree is got where the folder agrees with its index, or where what it differed in was pushed; `before` was sent before these
+-- a tree is got where the folder agrees with its index, where what it differed in was pushed, or where an upload is denied, to look
+-- whether it is as a checkout leaves it; `before` was sent before these
 abbrev pub PushesFirst : Cuts → Contents → Index → (before : List Sent) → List Sent → Type 0
 PushesFirst cuts c i before [] = ⊤
 PushesFirst cuts c i before (sent ∷ more) =
-    (gets_tree sent.0.what ≡ true → (head : List ℕ) → last_head before None ≡ Some (head, None) → Agrees cuts c i)
+    (gets_tree sent.0.what ≡ true → (head : List ℕ) → last_head before None ≡ Some (head, None) → Agrees cuts c i ⊎ DeniesUpload before)
     × PushesFirst cuts c i (before ++ sent ∷ []) more
 
 -- nothing is sent once the head was found to have something; `before` was sent before these
@@ -103,14 +105,19 @@ abbrev pub HasNotBegun : List Sent → SyncFault → Type 0
 HasNotBegun more (fault.BadTree (walk.WrongSize id)) = ⊥
 HasNotBegun more f = All (λ (key : Key). is_block key.kind ≡ false) (keys_asked more)
 
+-- where nothing was pushed, the folder agrees with its index; or an upload is denied, and it differs from that by a checkout that was
+-- interrupted alone
+abbrev pub GoesUnpushed : Cuts → Contents → Index → List Sent → Type 0
+GoesUnpushed cuts c i more = (head : List ℕ) → last_head more None ≡ Some (head, None) → Agrees cuts c i ⊎ (DeniesUpload more × IsInterrupted cuts c i more head)
+
 -- of a folder that tells what it holds: over any objects that have what the call named. Where no step was begun the folder is as it
 -- was; else it stopped within a plan
 abbrev pub SyncsSo : Cuts → Contents → Option Contents → Index → Index → (user : List ℕ) → List Sent → (ℕ → Type 0) → Result Synced SyncFault → Type 0
 SyncsSo cuts c told i j user more shows (Ok s) = (d : Contents) × (told ≡ Some d) × UploadsSo cuts c i user more shows × GoesInOrder cuts c i more
-    × (had : List (Key × List ℕ)) × IsHad more had
+    × GoesUnpushed cuts c i more × (had : List (Key × List ℕ)) × IsHad more had
     × ((objects : Objects) (base : Tree) → Over objects cuts c i base had → (t : Tree) × (moment : ℕ) × shows moment × IsSynced objects cuts c d i j t moment user more s)
 SyncsSo cuts c told i j user more shows (Err f) = (d : Contents) × (told ≡ Some d) × UploadsSo cuts c i user more shows × GoesInOrder cuts c i more
     × ComesInOrder c i more f × (is_early f ≡ true → d ≡ c)
-    × (((d ≡ c) × NeedsNoTree f × HasNotBegun more f) ⊎ ((had : List (Key × List ℕ)) × IsHad more had
+    × (((d ≡ c) × NeedsNoTree f × HasNotBegun more f) ⊎ (GoesUnpushed cuts c i more × (had : List (Key × List ℕ)) × IsHad more had
     × ((objects : Objects) (base : Tree) → Over objects cuts c i base had
     → CausedOver objects c more f × (((d ≡ c) × HasNotBegun more f) ⊎ IsStopped objects cuts c d i user more shows))))

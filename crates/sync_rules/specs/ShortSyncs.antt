@@ -1,4 +1,4 @@
--- Two short syncs, as words of laws: of a folder in which nothing changed, of a library that stands at the index's base; and of a changed
+-- Two short syncs, as words of laws, of a library that stands at the index's base: of a folder in which nothing changed; and of a changed
 -- folder, by one who may only read. Our own.
 use Rattle.std.specs.Prelude.{ℕ, false, List, [], ◌∷◌, None, Some, Ok}
 use Rattle.std.specs.FinMap as fin
@@ -45,5 +45,5 @@ denied_sent lib secret tag = (asked_of lib (Some secret) (what.Check op.Upload),
 abbrev pub allowed_sent : (lib secret : List ℕ) → Tag → Sent
 allowed_sent lib secret tag = (asked_of lib (Some secret) (what.Check op.Download), Ok (Plain reply.Checked tag))
 
-abbrev pub two_checks : (lib secret : List ℕ) → (first later : Tag) → List Sent
-two_checks lib secret first later = denied_sent lib secret first ∷ allowed_sent lib secret later ∷ []
+abbrev pub reader_sent : (lib secret : List ℕ) → (id : List ℕ) → (first later last : Tag) → List Sent
+reader_sent lib secret id first later last = denied_sent lib secret first ∷ allowed_sent lib secret later ∷ head_sent lib secret id last ∷ []

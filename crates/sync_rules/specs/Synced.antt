@@ -124,7 +124,7 @@ pub record IsHeadTree (objects : Objects) (more : List Sent) (tree : Tree) : Typ
   pub stored : commit_at objects head ≡ Ok commit
   pub is_tree : IsTreeOf objects commit.root tree
 
--- what the folder differed in was pushed before, and the whole tree of the head was got, in which nothing is wrong and no path
+-- what was pushed before is what the folder offered, and the whole tree of the head was got, in which nothing is wrong and no path
 -- blocked. Since then a front of a plan was done: each path holds its old contents, those of the tree, or nothing, where the tree has
 -- nothing or another kind. What was written has the size that its file object tells
 pub record IsStopped (objects : Objects) (cuts : Cuts) (c d : Contents) (i : Index) (user : List ℕ) (more : List Sent) (shows : ℕ → Type 0) : Type 0 where

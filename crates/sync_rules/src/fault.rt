@@ -13,7 +13,8 @@ pub enum SyncFault {
     Folder,
     /// The last order had no outcome.
     Remote(RemoteFault),
-    /// The last reply refused so, or an upload was denied and the folder differs from the index.
+    /// The last reply refused so, or an upload was denied and the folder differs from the index, and not by a checkout to the head
+    /// that was interrupted.
     Refused(Refusal),
     /// The bytes that were got for a block, a file or a directory have another SHA-1.
     Damaged { want: ObjId, got: ObjId },

@@ -13,6 +13,8 @@ ghost use Rattle.folder_side.specs.Folder.{Contents, at};
 ghost use Rattle.folder_side.specs.declared.holding.Holding.TheVariants as holding;
 ghost use Rattle.tree_model.specs.declared.node.FileVersion.{FileVersion};
 ghost use Rattle.tree_model.specs.declared.node.Node.TheVariants as node;
+ghost use Rattle.object_graph.specs.Objects.{IsTreeOf};
+ghost use Rattle.sync_rules.specs.InterruptedCheckout.{HasOwnIds, IsLeftByCheckout};
 ghost use Rattle.sync_rules.specs.Offer.{Agrees, own_of};
 ghost use Rattle.folder_side.specs.WorkingTree.{HoldsLeft, PlainFile, held_list, plain_at};
 ghost use Rattle.tree_model.specs.DirectorySurvival.{is_under};
@@ -30,7 +32,7 @@ ghost use Rattle.library_state.specs.declared.tag.Tag.{Tag};
 ghost use Rattle.sync_rules.specs.Causes.{EndsSo, GoesWell, IsSoHere, WentWell};
 ghost use Rattle.sync_rules.specs.OneSync.{LeavesIndex, SyncsSo};
 ghost use Rattle.sync_rules.specs.Orders.{OrdersSo};
-ghost use Rattle.sync_rules.specs.ShortSyncs.{none_done, two_checks, two_sent};
+ghost use Rattle.sync_rules.specs.ShortSyncs.{none_done, reader_sent, two_sent};
 ghost use Rattle.sync_rules.specs.Named.{HasAll, HasGot, IsHad, is_get};
 ghost use Rattle.sync_rules.specs.OneFile.{IsOneFile, commit_alone, empty_index, folder_of, index_of, no_contents, objects_of, stored, tree_of, unsynced};
 ghost use Rattle.sync_rules.specs.Synced.{IsSynced};
@@ -83,6 +85,13 @@ pub fn what_was_got_is_what_was_had_of_gets()
         → IsHad sends had → HasGot objects sends → HasAll objects had }
 {}
 
+/// What a checkout to a tree left of a folder that agreed with its index, done or not, is known as that: where each file of the tree has
+/// the own id of this project's chunks, no path is one that a reader changed.
+pub fn what_a_checkout_left_is_known()
+    ensures { (objects : Objects) (cuts : Cuts) (c d : Contents) (index : Index) (tree : Tree) (root : List ℕ) → Agrees cuts c index → IsTreeOf objects root tree
+        → HasOwnIds objects cuts root → ((path : PathV) → MayHold tree c d path) → IsLeftByCheckout objects cuts d index root }
+{}
+
 /// What a whole call got, its parts got.
 pub fn what_a_call_got_its_parts_got()
     ensures { (objects : Objects) (first later : List Sent) → HasGot objects (first ++ later) → HasGot objects first × HasGot objects later }
@@ -104,14 +113,15 @@ pub fn an_unchanged_folder_is_synced_by_two_orders()
         × LeavesIndex index index (two_sent lib secret id first later) (Ok (none_done c id)) }
 {}
 
-/// Where a folder changed and its owner may only read, two orders end the sync as denied: whether an upload is allowed, and then
-/// whether a download is. All clauses of a sync are met with nothing done.
+/// Where a folder changed and its owner may only read, of a library that stands at the index's base, three orders end the sync as
+/// denied: whether an upload is allowed, then whether a download is, and which commit the library stands at. All clauses of a sync are
+/// met with nothing done.
 pub fn a_changed_folder_of_a_reader_is_told_as_denied()
-    ensures { (lib secret id : List ℕ) (first later : Tag) (cuts : Cuts) (c : Contents) (index : Index) (user : List ℕ) (moment : ℕ)
+    ensures { (lib secret id : List ℕ) (first later last : Tag) (cuts : Cuts) (c : Contents) (index : Index) (user : List ℕ) (moment : ℕ)
         → index.base ≡ Some id → (Agrees cuts c index → ⊥) → IsWithinLimits c
-        → SyncsSo cuts c (Some c) index index user (two_checks lib secret first later) (λ other. other ≡ moment) (Err (fault.Refused refusal.Denied))
-        × OrdersSo lib secret user (λ other. other ≡ moment) index.base (two_checks lib secret first later)
-        × EndsSo (IsSoHere cuts (Some c) index (two_checks lib secret first later)) (two_checks lib secret first later) (Err (fault.Refused refusal.Denied)) }
+        → SyncsSo cuts c (Some c) index index user (reader_sent lib secret id first later last) (λ other. other ≡ moment) (Err (fault.Refused refusal.Denied))
+        × OrdersSo lib secret user (λ other. other ≡ moment) index.base (reader_sent lib secret id first later last)
+        × EndsSo (IsSoHere cuts (Some c) index (reader_sent lib secret id first later last)) (reader_sent lib secret id first later last) (Err (fault.Refused refusal.Denied)) }
 {}
 
 /// The premise of what is said of trees can be met (`Over`): by a folder that holds one file, and the objects of a library that holds it

@@ -1,13 +1,16 @@
 -- Nothing to do; the head is the commit that was pushed; or it is another.
-use Rattle.std.proofs.Common.{inl, refl}
+use Rattle.std.proofs.Common.{inl, inr, refl}
 use Rattle.sync_daemon.proofs.BringLemmas.{knows_fails, knows_finishes, not_so, reaches_finishes}
 use Rattle.sync_daemon.proofs.finishing.finish.Goals as goal
 
+pub returns-then-settled-clause-value : goal.returns-then-settled-clause-value
+returns-then-settled-clause-value g c = inl (refl, refl, refl, inl (c.is_done.ensures.value.0 c.if-is_done.true, c.if-settled.true, refl))
+
 pub returns-then-is_done-clause-value : goal.returns-then-is_done-clause-value
-returns-then-is_done-clause-value g c = inl (c.is_done.ensures.value.0 c.if-is_done.true, refl, refl, refl, c.spared.ensures.value)
+returns-then-is_done-clause-value g c = inl (c.is_done.ensures.value.0 c.if-is_done.true, c.if-settled.false, refl, refl, refl, c.spared.ensures.value)
 
 pub returns-in-Err-clause-value : goal.returns-in-Err-clause-value
-returns-in-Err-clause-value g c = inl (refl, refl, refl, refl)
+returns-in-Err-clause-value g c = inl (refl, refl, refl, inr refl)
 
 pub returns-then-own-clause-value : goal.returns-then-own-clause-value
 returns-then-own-clause-value g c =

@@ -1,0 +1,9 @@
+-- What is left decides.
+use Rattle.std.proofs.Common.{◌≡◌}
+use Rattle.std.specs.FinMap as fin
+use Rattle.std.specs.List.{list_all}
+use Rattle.sync_daemon.specs.InterruptedCheckout.{are_left_known, is_left_known}
+use Rattle.sync_daemon.proofs.interrupted_checkout.are_left_known.Given as goal
+
+abbrev pub invariant-loop-path : goal.invariant-loop-path
+invariant-loop-path l = list_all (λ item. is_left_known (fin.get l.seens item.0) item.1 (fin.get l.entries item.0)) l.path-iterator ≡ are_left_known l.seens l.knowns l.entries
