@@ -1,5 +1,5 @@
 -- How many files an index knows, for who looks on. Our own. Read files_in.
-use Rattle.std.specs.Prelude.{ℕ, List, ◌×◌}
+use Rattle.std.specs.Prelude.{ℕ, List}
 use Rattle.std.specs.List.{sum_by}
 use Rattle.tree_model.specs.Path.{PathV}
 use Rattle.local_index.specs.declared.index.Known.{Known}

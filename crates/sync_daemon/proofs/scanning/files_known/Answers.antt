@@ -1,5 +1,5 @@
 -- The next entry is counted where it is a file.
-use Rattle.std.proofs.Common.{◌≡◌, ◌∙◌, ◌∷◌, List, subst, sym}
+use Rattle.std.proofs.Common.{◌≡◌, ◌∙◌, ◌∷◌, ◌+◌, ℕ, List, ap, min, subst, sym}
 use Rattle.std.specs.FinMap as map
 use Rattle.std.specs.Map.Iter.{deref_pair}
 use Rattle.std.proofs.lemmas.Map.Iter.{rest_more}
@@ -17,7 +17,7 @@ loop-known-preserved c =
     = rest_more deref_pair _ _ _ (c.in-Some.field-0-0, c.in-Some.known) c.in-Some.is c.next.ensures.steps in
     count_more (map.entries c.args.index.now.entries) c.next.new.self (c.in-Some.field-0-0.now, c.in-Some.known.now) c.loop-known.count c.saturating_add-count.result
     (subst (λ (left : List KnownEntry). CountsSo (map.entries c.args.index.now.entries) left c.loop-known.count) next c.loop-known.invariant)
-    (c.saturating_add-count.ensures)
+    (c.saturating_add-count.ensures ∙ ap (λ (n : ℕ). min (c.loop-known.count + n) 18446744073709551615) c.file_count.ensures.value)
 
 pub returns : goal.returns
 returns c = record {
