@@ -1,3 +1,4 @@
 pub mod KeptCommitLemmas
+mod MembersLemmas
 pub mod ReadBackLemmas
 pub mod TextLemmas

@@ -1,6 +1,7 @@
 pub mod Commit
 pub mod CommitKey
 pub mod Made
+pub mod Members
 pub mod Proper
 pub mod Reading
 pub mod Spelling

@@ -10,3 +10,10 @@ pub record IsTyped (commit : Commit) : Type 0 where
   pub root : IsId commit.root
   pub parent : IfSome commit.parent IsId
   pub second_parent : IfSome commit.second_parent IsId
+
+-- the same of the ids behind the description
+pub record AreEndsTyped (commit : Commit) : Type 0 where
+  pub parent : IfSome commit.parent IsId
+  pub lib : library_id_of (hyphenated_text lower commit.lib) ≡ Some commit.lib
+  pub root : IsId commit.root
+  pub second_parent : IfSome commit.second_parent IsId
