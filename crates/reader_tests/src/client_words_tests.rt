@@ -2,15 +2,29 @@
 use client_words::{Line, Unsupported, Words, read_jobs, read_words, write_jobs};
 use ids::{LibId, ObjId, Text};
 use std::alloc::{AllocError, Global};
-use std::test::Fail;
 
-/// What a line of words asks for, which have one blank between them.
-fn asked(alloc: Global, line: &str) -> Result<Words, AllocError> {
-    let mut words = Vec::new(alloc);
+/// Adds the words of a line, which have one blank between them.
+fn push_words(alloc: Global, words: &mut Vec<Text>, line: &str) -> Result<(), AllocError> {
     for word in line.split(' ') {
         words.push(Text::copy(alloc, word)?)?;
     }
-    read_words(alloc, words.as_slice())
+    Ok(())
+}
+
+/// What such a line asks for.
+fn asked(alloc: Global, line: &str) -> Result<Words, AllocError> {
+    let mut words = Vec::new(alloc);
+    match push_words(alloc, &mut words, line) {
+        Ok(()) => {
+            let asked = read_words(alloc, words.as_slice());
+            drop(words);
+            asked
+        }
+        Err(why) => {
+            drop(words);
+            Err(why)
+        }
+    }
 }
 
 fn option_name(option: &Unsupported) -> &'static str {
@@ -37,7 +51,7 @@ fn name(words: &Words) -> &'static str {
     }
 }
 
-const LINES: [(&str, &str); 22] = [
+const LINES: &[(&str, &str)] = &[
     ("init -c conf", "init"),
     ("list -c conf", "list"),
     ("status -cconf", "status"),
@@ -64,14 +78,26 @@ const LINES: [(&str, &str); 22] = [
 
 fn asks(alloc: Global, line: &str, wanted: &str) -> Result<bool, AllocError> {
     let words = asked(alloc, line)?;
-    Ok(name(&words) == wanted)
+    let is_wanted = name(&words) == wanted;
+    drop(words);
+    Ok(is_wanted)
+}
+
+/// The first of these that asks for something else.
+fn first_other(alloc: Global) -> Result<Option<&'static str>, AllocError> {
+    for place in 0..LINES.len() {
+        let (line, wanted) = LINES[place];
+        if !asks(alloc, line, wanted)? {
+            return Ok(Some(line));
+        }
+    }
+    Ok(None)
 }
 
 #[test]
 fn lines_ask_for_what_they_say(rt: HostRuntime) -> Result<(), AllocError> {
-    for (line, wanted) in LINES {
-        assert!(rt; asks(rt.alloc(), line, wanted)?, "{line}");
-    }
+    let line = first_other(rt.alloc())?;
+    assert!(rt; line.is_none(), "{line:?}");
     Ok(())
 }
 
@@ -89,24 +115,39 @@ fn is_download(words: &Words) -> bool {
     }
 }
 
+/// Whether a line asks for that.
+fn asks_for_download(alloc: Global, line: &str) -> Result<bool, AllocError> {
+    let words = asked(alloc, line)?;
+    let is_download = is_download(&words);
+    drop(words);
+    Ok(is_download)
+}
+
 #[test]
 fn a_download_has_its_job(rt: HostRuntime) -> Result<(), AllocError> {
-    let words = asked(rt.alloc(), DOWNLOAD)?;
-    assert!(rt; is_download(&words));
+    assert!(rt; asks_for_download(rt.alloc(), DOWNLOAD)?);
     Ok(())
 }
 
 /// Whether what is asked is printed with no digit of a secret of `a`.
-fn hides_the_secret(alloc: Global, words: &Words) -> Result<bool, Fail> {
+fn hides_the_secret(alloc: Global, words: &Words) -> Result<bool, AllocError> {
     let printed = format!(in alloc; "{words:?}")?;
-    Ok(!printed.as_str().contains("aaaa"))
+    let is_hidden = !printed.as_str().contains("aaaa");
+    drop(printed);
+    Ok(is_hidden)
+}
+
+/// The same of what a line asks for.
+fn is_hidden(alloc: Global, line: &str) -> Result<bool, AllocError> {
+    let words = asked(alloc, line)?;
+    let is_hidden = hides_the_secret(alloc, &words);
+    drop(words);
+    is_hidden
 }
 
 #[test]
-fn a_secret_of_a_job_is_not_printed(rt: HostRuntime) -> Result<(), Fail> {
-    let words = asked(rt.alloc(), DOWNLOAD)?;
-    let hidden = hides_the_secret(rt.alloc(), &words)?;
-    assert!(rt; hidden);
+fn a_secret_of_a_job_is_not_printed(rt: HostRuntime) -> Result<(), AllocError> {
+    assert!(rt; is_hidden(rt.alloc(), DOWNLOAD)?);
     Ok(())
 }
 
@@ -117,8 +158,12 @@ const JOBS: &str =
 fn is_written_back(alloc: Global, text: &str) -> Result<bool, AllocError> {
     match read_jobs(alloc, text.as_bytes())? {
         Some(jobs) => {
-            let written = write_jobs(alloc, jobs.slice())?;
-            Ok(written.slice() == text.as_bytes())
+            let written = write_jobs(alloc, jobs.slice());
+            drop(jobs);
+            let written = written?;
+            let is_same = written.slice() == text.as_bytes();
+            drop(written);
+            Ok(is_same)
         }
         None => Ok(false),
     }

@@ -10,7 +10,7 @@ fn want_of_memory_is_a_fault_of_its_own(rt: HostRuntime) {
 }
 
 // What is kept under the name "a", as it is written; an empty text where nothing is read.
-const KEPT: [(&[u8], &str); 11] = [
+const KEPT: &[(&[u8], &str)] = &[
     (b"{\"b\":1,\"a\":2,\"c\":[{}]}", "{\"a\":2}"),
     (b"{\"a\":1,\"a\":[2,[3]]}", "{\"a\":[]}"),
     (b"{\"\\u0061\":{\"a\":1},\"b\":null}", "{\"a\":{}}"),
@@ -26,15 +26,27 @@ const KEPT: [(&[u8], &str); 11] = [
 
 #[test]
 fn of_an_object_the_known_members_are_kept(rt: HostRuntime) -> Result<(), AllocError> {
-    for (text, wanted) in KEPT {
-        assert!(rt; is_kept_as(rt.alloc(), text, wanted)?);
-    }
+    assert!(rt; are_kept(rt.alloc())?);
     Ok(())
+}
+
+fn are_kept(alloc: Global) -> Result<bool, AllocError> {
+    for place in 0..KEPT.len() {
+        let (text, wanted) = KEPT[place];
+        if !is_kept_as(alloc, text, wanted)? {
+            return Ok(false);
+        }
+    }
+    Ok(true)
 }
 
 fn is_kept_as(alloc: Global, text: &[u8], wanted: &str) -> Result<bool, AllocError> {
     match parse_kept(alloc, text, &["a"])? {
-        Some(value) => is_written(alloc, &value, wanted),
+        Some(value) => {
+            let is_written = is_written(alloc, &value, wanted);
+            drop(value);
+            is_written
+        }
         None => Ok(wanted.is_empty()),
     }
 }

@@ -1,69 +1,13 @@
 //! One sync fails, the server goes on or starts anew, and then the power fails: what stands?
-use crate::library::{done, holds, is_fault, lib, slot_of, there};
+use crate::library::{done, is_fault, slot_of};
 use crate::lossy_files::LossyFiles;
 use crate::lossy_nodes::Also;
-use folder_storage::{FileSystem, FolderGround, FolderShelf, Ground};
+use crate::lossy_runs::{failing, has, made, opened, put_what_lacks, stands, with_text};
+use folder_storage::{FileSystem, FolderShelf};
 use ids::Kind;
 use object_store::{Shelf, ShelfFailed, Slot};
 use std::alloc::Global;
 use std::test::Fail;
-
-/// Objects of each kind, and in two folders of one. State texts from `2` on name them.
-const OBJECTS: [(Kind, &str); 4] = [
-    (Kind::Commit, "{}"),
-    (Kind::Fs, "fs"),
-    (Kind::Block, "abc"),
-    (Kind::Block, "other"),
-];
-
-/// A new run over these files.
-pub(crate) fn opened(files: LossyFiles) -> Result<FolderShelf<LossyFiles>, Fail> {
-    there(FolderGround::over(files).find("F", lib()))
-}
-
-/// The run that makes the library, in a folder that is durable.
-fn made(alloc: Global) -> Result<FolderShelf<LossyFiles>, Fail> {
-    let mut files = LossyFiles::new(alloc)?;
-    files.make_folder("F")?;
-    files.sync_folder("")?;
-    there(FolderGround::over(files).make("F", lib()))
-}
-
-/// The files of a shelf, once a state text is put.
-fn after_text(shelf: &mut FolderShelf<LossyFiles>) -> Result<LossyFiles, Fail> {
-    done(shelf.put(Slot::Status, b"1"))?;
-    Ok(shelf.files().another()?)
-}
-
-/// The files of a library whose state text is `1`.
-pub(crate) fn with_text(alloc: Global) -> Result<LossyFiles, Fail> {
-    after_text(&mut made(alloc)?)
-}
-
-/// Whether an object is there, whole.
-fn has(shelf: &mut FolderShelf<LossyFiles>, kind: Kind, text: &str) -> bool {
-    holds(shelf, &slot_of(kind, text), text.as_bytes())
-}
-
-/// Whether all objects are there, whole.
-fn has_all(shelf: &mut FolderShelf<LossyFiles>) -> bool {
-    for (kind, text) in OBJECTS {
-        if !has(shelf, kind, text) {
-            return false;
-        }
-    }
-    true
-}
-
-/// Puts each object that isn't there whole.
-fn put_what_lacks(shelf: &mut FolderShelf<LossyFiles>) -> Result<(), Fail> {
-    for (kind, text) in OBJECTS {
-        if !has(shelf, kind, text) {
-            done(shelf.put(slot_of(kind, text), text.as_bytes()))?;
-        }
-    }
-    Ok(())
-}
 
 /// Puts a text. The answer is the text that was answered last.
 fn put_text(shelf: &mut FolderShelf<LossyFiles>, text: u8, answered: u8) -> u8 {
@@ -71,28 +15,6 @@ fn put_text(shelf: &mut FolderShelf<LossyFiles>, text: u8, answered: u8) -> u8 {
         Ok(()) => text,
         Err(_) => answered,
     }
-}
-
-/// The state text, a digit.
-fn text_of(shelf: &mut FolderShelf<LossyFiles>) -> Result<u8, Fail> {
-    match there(shelf.fetch(Slot::Status))?.slice() {
-        [digit] => Ok(*digit),
-        _ => Err("no digit".into()),
-    }
-}
-
-/// Whether a text stands that is not before the one that was answered last, and all that it names.
-fn stands_on(shelf: &mut FolderShelf<LossyFiles>, answered: u8) -> Result<bool, Fail> {
-    let told = text_of(shelf)?;
-    Ok(told >= answered && (told == b'1' || has_all(shelf)))
-}
-
-/// The power fails now: whether that holds, be the names that the disk lacks taken over or not.
-fn stands(files: &LossyFiles, answered: u8) -> Result<bool, Fail> {
-    Ok(
-        stands_on(&mut opened(files.cut(false)?)?, answered)?
-            && stands_on(&mut opened(files.cut(true)?)?, answered)?,
-    )
 }
 
 /// An update in which the sync with this number fails, and another one in the same run: whether what is answered is so, and
@@ -115,15 +37,25 @@ fn ends(shelf: &mut FolderShelf<LossyFiles>, answered: u8) -> Result<bool, Fail>
 
 /// The same of a new run over these files.
 fn ends_anew(files: &LossyFiles, answered: u8) -> Result<bool, Fail> {
-    ends(&mut opened(files.failing(u64::MAX)?)?, answered)
+    let mut shelf = opened(files.failing(u64::MAX)?)?;
+    let ended = ends(&mut shelf, answered);
+    drop(shelf);
+    ended
+}
+
+/// Whether that holds in a run in which the sync with this number fails, and then in another.
+fn goes_on_anew(shelf: &mut FolderShelf<LossyFiles>, case: u64) -> Result<bool, Fail> {
+    let (is_right, answered) = goes_on(shelf, case)?;
+    Ok(is_right && ends_anew(shelf.files(), answered)?)
 }
 
 /// Whether that holds where the sync with this number fails in an update, which is tried again in the same run, and then in
 /// another.
 fn one_sync_fails(files: &LossyFiles, case: u64) -> Result<bool, Fail> {
     let mut shelf = opened(files.failing(case)?)?;
-    let (is_right, answered) = goes_on(&mut shelf, case)?;
-    Ok(is_right && ends_anew(shelf.files(), answered)?)
+    let is_right = goes_on_anew(&mut shelf, case);
+    drop(shelf);
+    is_right
 }
 
 /// The syncs of a run's first update: four objects, their four folders and the three of their kinds, the text, the
@@ -140,8 +72,7 @@ fn syncs_all(shelf: &mut FolderShelf<LossyFiles>) -> Result<bool, Fail> {
 
 #[test]
 fn an_update_syncs_each_object_and_each_folder(rt: HostRuntime) -> Result<(), Fail> {
-    let mut shelf = opened(with_text(rt.alloc())?)?;
-    assert!(rt; syncs_all(&mut shelf)?);
+    assert!(rt; shows(rt.alloc(), Row::SyncsAll)?);
     Ok(())
 }
 
@@ -154,8 +85,7 @@ fn waits_five_times(shelf: &mut FolderShelf<LossyFiles>) -> Result<bool, Fail> {
 
 #[test]
 fn what_is_synced_at_once_is_waited_for_once(rt: HostRuntime) -> Result<(), Fail> {
-    let mut shelf = opened(with_text(rt.alloc())?)?;
-    assert!(rt; waits_five_times(&mut shelf)?);
+    assert!(rt; shows(rt.alloc(), Row::WaitsFiveTimes)?);
     Ok(())
 }
 
@@ -163,7 +93,9 @@ fn what_is_synced_at_once_is_waited_for_once(rt: HostRuntime) -> Result<(), Fail
 fn put_numbers(alloc: Global, shelf: &mut FolderShelf<LossyFiles>, count: u32) -> Result<(), Fail> {
     for number in 0..count {
         let text = format!(in alloc; "{number}")?;
-        done(shelf.put(slot_of(Kind::Block, text.as_str()), text.as_bytes()))?;
+        let put = shelf.put(slot_of(Kind::Block, text.as_str()), text.as_bytes());
+        drop(text);
+        done(put)?;
     }
     Ok(())
 }
@@ -176,8 +108,7 @@ fn waits_once_more(alloc: Global, shelf: &mut FolderShelf<LossyFiles>) -> Result
 
 #[test]
 fn many_objects_are_asked_for_256_at_a_time(rt: HostRuntime) -> Result<(), Fail> {
-    let mut shelf = opened(with_text(rt.alloc())?)?;
-    assert!(rt; waits_once_more(rt.alloc(), &mut shelf)?);
+    assert!(rt; shows(rt.alloc(), Row::WaitsOnceMore)?);
     Ok(())
 }
 
@@ -185,7 +116,7 @@ fn many_objects_are_asked_for_256_at_a_time(rt: HostRuntime) -> Result<(), Fail>
 const CASES: u64 = 17;
 
 /// The first case that fails, or the number of all.
-fn first_failing(files: &LossyFiles) -> Result<u64, Fail> {
+fn first_failing_over(files: &LossyFiles) -> Result<u64, Fail> {
     for case in 0..CASES {
         if !one_sync_fails(files, case)? {
             return Ok(case);
@@ -194,9 +125,17 @@ fn first_failing(files: &LossyFiles) -> Result<u64, Fail> {
     Ok(CASES)
 }
 
+/// The same over the files of a library whose state text is `1`.
+fn first_failing(alloc: Global) -> Result<u64, Fail> {
+    let files = with_text(alloc)?;
+    let case = first_failing_over(&files);
+    drop(files);
+    case
+}
+
 #[test]
 fn no_text_stands_over_what_a_failed_sync_lost(rt: HostRuntime) -> Result<(), Fail> {
-    let case = first_failing(&with_text(rt.alloc())?)?;
+    let case = first_failing(rt.alloc())?;
     assert!(rt; case == CASES, "case {case}");
     Ok(())
 }
@@ -224,19 +163,31 @@ fn stands_with_text(shelf: &mut FolderShelf<LossyFiles>) -> Result<bool, Fail> {
     stands(shelf.files(), b'2')
 }
 
-/// Whether nothing was stored of what these files would have lost, and all that they have stands after a text.
-fn trusts_nothing(files: &LossyFiles) -> Result<bool, Fail> {
-    Ok(
-        takes_anew(&mut opened(files.cut(true)?)?)?
-            && stands_with_text(&mut opened(files.another()?)?)?,
-    )
+/// Whether nothing was stored of what these files would have lost.
+fn lost_is_taken_anew(files: &LossyFiles) -> Result<bool, Fail> {
+    let mut shelf = opened(files.cut(true)?)?;
+    let taken = takes_anew(&mut shelf);
+    drop(shelf);
+    taken
+}
+
+/// Whether all that these files have stands after a text.
+fn rest_stands(files: &LossyFiles) -> Result<bool, Fail> {
+    let mut shelf = opened(files.another()?)?;
+    let stood = stands_with_text(&mut shelf);
+    drop(shelf);
+    stood
+}
+
+/// Whether nothing was stored of what was put and is not durable, and all of it stands after a text.
+fn trusts_nothing(shelf: &mut FolderShelf<LossyFiles>) -> Result<bool, Fail> {
+    put_what_lacks(shelf)?;
+    Ok(lost_is_taken_anew(shelf.files())? && rest_stands(shelf.files())?)
 }
 
 #[test]
 fn a_new_run_trusts_nothing_that_was_not_synced(rt: HostRuntime) -> Result<(), Fail> {
-    let mut shelf = opened(with_text(rt.alloc())?)?;
-    put_what_lacks(&mut shelf)?;
-    assert!(rt; trusts_nothing(shelf.files())?);
+    assert!(rt; shows(rt.alloc(), Row::TrustsNothing)?);
     Ok(())
 }
 
@@ -252,11 +203,12 @@ fn text_is_fault(shelf: &mut FolderShelf<LossyFiles>) -> bool {
 }
 
 /// A library in which the block `abc` was put, and a text after it, as so many calls failed from the first sync on.
-fn failed(files: &LossyFiles, left: u64, also: Also) -> Result<FolderShelf<LossyFiles>, Fail> {
-    let mut shelf = opened(files.failing_from_the_first(left, also)?)?;
+fn failed(alloc: Global, left: u64, also: Also) -> Result<FolderShelf<LossyFiles>, Fail> {
+    let mut shelf = failing(alloc, left, also)?;
     if puts_block(&mut shelf) && text_is_fault(&mut shelf) {
         return Ok(shelf);
     }
+    drop(shelf);
     Err("no fault was counted".into())
 }
 
@@ -272,15 +224,13 @@ fn stays_lost(shelf: &mut FolderShelf<LossyFiles>) -> bool {
 
 #[test]
 fn an_object_that_was_lost_is_lost_until_it_is_put_again(rt: HostRuntime) -> Result<(), Fail> {
-    let mut shelf = failed(&with_text(rt.alloc())?, 3, Also::Move)?;
-    assert!(rt; stays_lost(&mut shelf));
+    assert!(rt; shows(rt.alloc(), Row::StaysLost)?);
     Ok(())
 }
 
 #[test]
 fn want_of_memory_after_a_failed_sync_is_a_fault(rt: HostRuntime) -> Result<(), Fail> {
-    let mut shelf = failed(&with_text(rt.alloc())?, 4, Also::Remove)?;
-    assert!(rt; text_is_fault(&mut shelf));
+    assert!(rt; shows(rt.alloc(), Row::TextIsFault)?);
     Ok(())
 }
 
@@ -290,11 +240,6 @@ fn wants_memory(shelf: &mut FolderShelf<LossyFiles>) -> bool {
     matches!(put, Err(ShelfFailed::NoMemory))
 }
 
-/// A run whose first sync fails, and its first look after that for want of memory.
-fn wanting(files: &LossyFiles) -> Result<FolderShelf<LossyFiles>, Fail> {
-    opened(files.failing_from_the_first(2, Also::Look)?)
-}
-
 /// Whether the put of the block that fails then can be made again.
 fn changes_nothing(shelf: &mut FolderShelf<LossyFiles>) -> bool {
     text_is_fault(shelf) && wants_memory(shelf) && puts_block(shelf)
@@ -302,8 +247,7 @@ fn changes_nothing(shelf: &mut FolderShelf<LossyFiles>) -> bool {
 
 #[test]
 fn want_of_memory_before_a_move_changes_nothing(rt: HostRuntime) -> Result<(), Fail> {
-    let mut shelf = wanting(&with_text(rt.alloc())?)?;
-    assert!(rt; changes_nothing(&mut shelf));
+    assert!(rt; shows(rt.alloc(), Row::ChangesNothing)?);
     Ok(())
 }
 
@@ -351,12 +295,68 @@ fn updates_so(shelf: &mut FolderShelf<LossyFiles>) -> bool {
 
 /// The same of a new run over these files.
 fn next_updates_so(files: &LossyFiles) -> Result<bool, Fail> {
-    Ok(updates_so(&mut opened(files.another()?)?))
+    let mut shelf = opened(files.another()?)?;
+    let updates = updates_so(&mut shelf);
+    drop(shelf);
+    Ok(updates)
+}
+
+/// What a run shows.
+#[derive(Clone, Copy)]
+enum Row {
+    /// How often a first update syncs.
+    SyncsAll,
+    /// How often it waits.
+    WaitsFiveTimes,
+    /// The same after many blocks.
+    WaitsOnceMore,
+    /// What a new run trusts.
+    TrustsNothing,
+    /// A block that was lost, whose next put fails in its move.
+    StaysLost,
+    /// A text for which memory is wanting after a failed sync.
+    TextIsFault,
+    /// A put whose look fails for want of memory, after a failed sync.
+    ChangesNothing,
+    /// All calls of a making, and of an update.
+    Calls,
+}
+
+/// The run of a row.
+fn run_of(alloc: Global, row: Row) -> Result<FolderShelf<LossyFiles>, Fail> {
+    match row {
+        Row::StaysLost => failed(alloc, 3, Also::Move),
+        Row::TextIsFault => failed(alloc, 4, Also::Remove),
+        Row::ChangesNothing => failing(alloc, 2, Also::Look),
+        Row::Calls => made(alloc),
+        _ => opened(with_text(alloc)?),
+    }
+}
+
+/// Whether a run shows what it should.
+fn goes(alloc: Global, shelf: &mut FolderShelf<LossyFiles>, row: Row) -> Result<bool, Fail> {
+    match row {
+        Row::SyncsAll => syncs_all(shelf),
+        Row::WaitsFiveTimes => waits_five_times(shelf),
+        Row::WaitsOnceMore => waits_once_more(alloc, shelf),
+        Row::TrustsNothing => trusts_nothing(shelf),
+        Row::StaysLost => Ok(stays_lost(shelf)),
+        Row::TextIsFault => Ok(text_is_fault(shelf)),
+        Row::ChangesNothing => Ok(changes_nothing(shelf)),
+        Row::Calls => Ok(makes_so(shelf) && next_updates_so(shelf.files())?),
+    }
+}
+
+/// The same of the run of a row.
+fn shows(alloc: Global, row: Row) -> Result<bool, Fail> {
+    let mut shelf = run_of(alloc, row)?;
+    let shown = goes(alloc, &mut shelf, row);
+    drop(shelf);
+    shown
 }
 
 #[test]
 fn the_calls_come_in_their_order(rt: HostRuntime) -> Result<(), Fail> {
-    let mut shelf = made(rt.alloc())?;
-    assert!(rt; makes_so(&mut shelf) && next_updates_so(shelf.files())?);
+    assert!(rt; shows(rt.alloc(), Row::Calls)?);
     Ok(())
 }

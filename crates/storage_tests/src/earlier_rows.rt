@@ -1,7 +1,7 @@
 //! What is to be made durable before a state text is written, over the runs that put it, by the times of files.
-use crate::durable_rows::{opened, with_text};
 use crate::library::{done, slot_of};
 use crate::lossy_files::LossyFiles;
+use crate::lossy_runs::{opened, with_text};
 use folder_storage::{FileSystem, FolderShelf};
 use ids::Kind;
 use object_store::{Shelf, Slot};
@@ -54,7 +54,10 @@ fn after_put(
 
 /// Puts an object in a run of its own, which writes no state text. The answer are the files as it left them.
 fn put_in_a_run(files: LossyFiles, kind: Kind, text: &str) -> Result<LossyFiles, Fail> {
-    after_put(&mut opened(files)?, kind, text)
+    let mut shelf = opened(files)?;
+    let files = after_put(&mut shelf, kind, text);
+    drop(shelf);
+    files
 }
 
 /// Whether all these calls were made.
@@ -94,13 +97,21 @@ fn set_times(files: &mut LossyFiles) -> Result<(), Fail> {
     Ok(())
 }
 
+/// Those files, with these times.
+fn timed(alloc: Global) -> Result<LossyFiles, Fail> {
+    let mut files = with_objects(alloc)?;
+    match set_times(&mut files) {
+        Ok(()) => Ok(files),
+        Err(why) => {
+            drop(files);
+            Err(why)
+        }
+    }
+}
+
 #[test]
 fn objects_of_an_earlier_run_are_made_durable(rt: HostRuntime) -> Result<(), Fail> {
-    let mut files = with_objects(rt.alloc())?;
-    set_times(&mut files)?;
-    let mut shelf = opened(files)?;
-    // Besides two folders of objects and the two of their kinds, the text, and the folders that name it and the library.
-    assert!(rt; texts_sync(&mut shelf, &SYNCED, 10));
+    assert!(rt; shows(rt.alloc(), Row::Earlier)?);
     Ok(())
 }
 
@@ -120,11 +131,21 @@ write F/11111111-2222-4333-8444-555555555555/tmp/spare
 rename to F/11111111-2222-4333-8444-555555555555/blocks/b7/4f5ee9461495ba5ca4c72a7108a23904c27a05
 ";
 
+/// Files in which what stands at a path was changed then.
+fn changed_at(files: LossyFiles, path: &str, changed: i64) -> Result<LossyFiles, Fail> {
+    let mut files = files;
+    match files.set_changed(path, changed) {
+        Ok(()) => Ok(files),
+        Err(why) => {
+            drop(files);
+            Err(Fail::from(why))
+        }
+    }
+}
+
 /// The files of a library whose state text was written before the clock was set back.
 fn set_back(alloc: Global) -> Result<LossyFiles, Fail> {
-    let mut files = with_text(alloc)?;
-    files.set_changed(STATUS, AHEAD)?;
-    Ok(files)
+    changed_at(with_text(alloc)?, STATUS, AHEAD)
 }
 
 /// Whether a put of a block makes these calls after those that were made.
@@ -149,15 +170,22 @@ fn syncs_both(shelf: &mut FolderShelf<LossyFiles>) -> bool {
     texts_sync(shelf, &BOTH, 7) && shelf.files().calls().contains(UNMARKED)
 }
 
-/// Whether that is so, and a later run syncs both.
+/// The same of a later run over these files.
+fn later_syncs_both(files: &LossyFiles) -> Result<bool, Fail> {
+    let mut shelf = opened(files.another()?)?;
+    let synced = syncs_both(&mut shelf);
+    drop(shelf);
+    Ok(synced)
+}
+
+/// Whether a mark is left once, and a later run syncs both.
 fn is_watched(shelf: &mut FolderShelf<LossyFiles>) -> Result<bool, Fail> {
-    Ok(leaves_a_mark_once(shelf) && syncs_both(&mut opened(shelf.files().another()?)?))
+    Ok(leaves_a_mark_once(shelf) && later_syncs_both(shelf.files())?)
 }
 
 #[test]
 fn what_is_put_after_the_clock_was_set_back_is_made_durable(rt: HostRuntime) -> Result<(), Fail> {
-    let mut shelf = opened(set_back(rt.alloc())?)?;
-    assert!(rt; is_watched(&mut shelf)?);
+    assert!(rt; shows(rt.alloc(), Row::SetBack)?);
     Ok(())
 }
 
@@ -167,12 +195,18 @@ fn after_removal(shelf: &mut FolderShelf<LossyFiles>) -> Result<LossyFiles, Fail
     Ok(shelf.files().another()?)
 }
 
-/// The files of a library whose state text was removed, and to which a block was put.
+/// The files of a library whose state text was removed.
+fn removed(alloc: Global) -> Result<LossyFiles, Fail> {
+    let mut shelf = opened(with_text(alloc)?)?;
+    let files = after_removal(&mut shelf);
+    drop(shelf);
+    files
+}
+
+/// The same of one to which a block was put then.
 fn without_text(alloc: Global) -> Result<LossyFiles, Fail> {
-    let files = after_removal(&mut opened(with_text(alloc)?)?)?;
-    let mut files = put_in_a_run(files, Kind::Block, OLD)?;
-    files.set_changed(OLD_FILE, WRITTEN)?;
-    Ok(files)
+    let files = put_in_a_run(removed(alloc)?, Kind::Block, OLD)?;
+    changed_at(files, OLD_FILE, WRITTEN)
 }
 
 /// The syncs of two blocks, of which one was put by an earlier run.
@@ -188,10 +222,47 @@ fn puts_later(shelf: &mut FolderShelf<LossyFiles>) -> bool {
         .is_ok()
 }
 
+/// What a run shows over what earlier ones put.
+#[derive(Clone, Copy)]
+enum Row {
+    /// Objects of four of them.
+    Earlier,
+    /// A state text that was written before the clock was set back.
+    SetBack,
+    /// No state text.
+    WithoutText,
+}
+
+/// The files of a row.
+fn files_of(alloc: Global, row: Row) -> Result<LossyFiles, Fail> {
+    match row {
+        Row::Earlier => timed(alloc),
+        Row::SetBack => set_back(alloc),
+        Row::WithoutText => without_text(alloc),
+    }
+}
+
+/// Whether a run shows what it should.
+fn goes(shelf: &mut FolderShelf<LossyFiles>, row: Row) -> Result<bool, Fail> {
+    match row {
+        // Besides two folders of objects and the two of their kinds, the text, and the folders that name it and the library.
+        Row::Earlier => Ok(texts_sync(shelf, &SYNCED, 10)),
+        Row::SetBack => is_watched(shelf),
+        // Besides the folder of both and that of their kind, the text, and the folders that name it and the library.
+        Row::WithoutText => Ok(puts_later(shelf) && texts_sync(shelf, &BOTH, 7)),
+    }
+}
+
+/// The same of a run over the files of a row.
+fn shows(alloc: Global, row: Row) -> Result<bool, Fail> {
+    let mut shelf = opened(files_of(alloc, row)?)?;
+    let shown = goes(&mut shelf, row);
+    drop(shelf);
+    shown
+}
+
 #[test]
 fn without_a_state_text_all_objects_are_made_durable_once(rt: HostRuntime) -> Result<(), Fail> {
-    let mut shelf = opened(without_text(rt.alloc())?)?;
-    // Besides the folder of both and that of their kind, the text, and the folders that name it and the library.
-    assert!(rt; puts_later(&mut shelf) && texts_sync(&mut shelf, &BOTH, 7));
+    assert!(rt; shows(rt.alloc(), Row::WithoutText)?);
     Ok(())
 }

@@ -1,7 +1,7 @@
 //! What a folder's shelf does on the disk.
 use crate::library::slot_of;
-use crate::scratch::{clear, ground, made, scratch};
-use folder_storage::{FileSystem, FolderShelf, SyncEnding, SyncPlace};
+use crate::scratch::{clear, ground, made, scratch, shelf_in};
+use folder_storage::{FileSystem, FolderShelf, Ground, SyncEnding, SyncPlace};
 use ids::{Kind, ObjId};
 use object_store::{Found, Shelf};
 use std::alloc::{AllocError, Global};
@@ -64,16 +64,8 @@ fn told_blocks<S: Shelf>(shelf: &mut S) -> (u64, u64) {
 }
 
 /// Whether all are told, with the 10,890 bytes of their texts.
-fn tells_each_once<S: Shelf>(alloc: Global, shelf: &mut S) -> Result<bool, AllocError> {
+fn tells_thousands<S: Shelf>(alloc: Global, shelf: &mut S) -> Result<bool, Fail> {
     Ok(put_blocks(alloc, shelf)? && told_blocks(shelf) == (BLOCKS, 10_890))
-}
-
-#[test]
-fn thousands_of_blocks_are_told_once_each(rt: HostRuntime) -> Result<(), Fail> {
-    let folder = scratch(&rt, "thousands")?;
-    let mut shelf = made(&mut ground(&rt)?, folder.as_str())?;
-    assert!(rt; tells_each_once(rt.alloc(), &mut shelf)?);
-    Ok(clear(&rt, folder.as_str())?)
 }
 
 /// What takes every write, and no sync.
@@ -101,15 +93,30 @@ fn are_told(places: &[SyncPlace]) -> bool {
     }
 }
 
+/// Adds three places that are to be synced at once.
+fn push_places(alloc: Global, places: &mut Vec<SyncPlace>, folder: &str) -> Result<(), AllocError> {
+    for path in [NEVER_DURABLE, folder, NOT_THERE] {
+        places.push(SyncPlace::new(String::from_str(alloc, path)?))?;
+    }
+    Ok(())
+}
+
 /// Whether what comes of three syncs at once is told of each.
 fn tells_each_sync<F: FileSystem>(files: &mut F, folder: &str) -> Result<bool, AllocError> {
     let alloc = files.alloc();
     let mut places = Vec::new(alloc);
-    for path in [NEVER_DURABLE, folder, NOT_THERE] {
-        places.push(SyncPlace::new(String::from_str(alloc, path)?))?;
+    match push_places(alloc, &mut places, folder) {
+        Ok(()) => {
+            files.sync_at_once(places.as_mut_slice());
+            let told = are_told(places.as_slice());
+            drop(places);
+            Ok(told)
+        }
+        Err(why) => {
+            drop(places);
+            Err(why)
+        }
     }
-    files.sync_at_once(places.as_mut_slice());
-    Ok(are_told(places.as_slice()))
 }
 
 /// The same of the files that a shelf stands on.
@@ -118,7 +125,55 @@ fn stands_on_syncs<F: FileSystem + Drop>(
     folder: &str,
 ) -> Result<bool, Fail> {
     let mut files = shelf.files().another()?;
-    Ok(asks_for_syncs(&mut files) && tells_each_sync(&mut files, folder)?)
+    let asks = asks_for_syncs(&mut files);
+    let tells = tells_each_sync(&mut files, folder);
+    drop(files);
+    Ok(tells? && asks)
+}
+
+/// Whether the shelf of a library that is made in a folder tells thousands.
+fn goes<G: Ground + Drop>(alloc: Global, libraries: G, folder: &str) -> Result<bool, Fail>
+where
+    G::S: Drop,
+{
+    let mut shelf = shelf_in(libraries, folder)?;
+    let shown = tells_thousands(alloc, &mut shelf);
+    drop(shelf);
+    shown
+}
+
+/// The same in a folder of this test's own, which is cleared then.
+fn shows_in<G: Ground + Drop>(rt: &HostRuntime, libraries: G, folder: &str) -> Result<bool, Fail>
+where
+    G::S: Drop,
+{
+    let shown = goes(rt.alloc(), libraries, folder)?;
+    clear(rt, folder)?;
+    Ok(shown)
+}
+
+/// The same in a folder of this name.
+fn shows<G: Ground + Drop>(rt: &HostRuntime, libraries: G, name: &str) -> Result<bool, Fail>
+where
+    G::S: Drop,
+{
+    match scratch(rt, name) {
+        Ok(folder) => {
+            let shown = shows_in(rt, libraries, folder.as_str());
+            drop(folder);
+            shown
+        }
+        Err(why) => {
+            drop(libraries);
+            Err(Fail::from(why))
+        }
+    }
+}
+
+#[test]
+fn thousands_of_blocks_are_told_once_each(rt: HostRuntime) -> Result<(), Fail> {
+    assert!(rt; shows(&rt, ground(&rt)?, "thousands")?);
+    Ok(())
 }
 
 #[test]

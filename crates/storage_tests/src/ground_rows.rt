@@ -4,8 +4,8 @@ use crate::scratch::{clear, ground, scratch, within};
 use folder_storage::{Ground, MemoryGround};
 use ids::LibId;
 use object_store::{Shelf, Slot};
-use std::fs;
 use std::test::Fail;
+use std::{fs, io};
 
 /// Whether a library that is out is not made, and not found either.
 fn is_out<G: Ground>(libraries: &mut G, folder: &str) -> bool
@@ -74,9 +74,8 @@ fn memory_keeps_libraries(rt: HostRuntime) -> Result<(), Fail> {
 
 #[test]
 fn a_folder_keeps_libraries(rt: HostRuntime) -> Result<(), Fail> {
-    let folder = scratch(&rt, "keeps")?;
-    assert!(rt; keeps_libraries(&mut ground(&rt)?, folder.as_str())?);
-    Ok(clear(&rt, folder.as_str())?)
+    assert!(rt; shows(&rt, ground(&rt)?, ground(&rt)?, "keeps", Row::Keeps)?);
+    Ok(())
 }
 
 /// Makes the library, puts its state text, and gives it back. The answer is whether that was done.
@@ -90,14 +89,34 @@ where
     Ok(is_put)
 }
 
-/// Whether a shelf fails as its library is moved away, and counts that once.
-fn fails_away(rt: &HostRuntime, shelf: &mut impl Shelf, folder: &str) -> Result<bool, Fail> {
-    let here = within(rt, folder, LIB)?;
-    let away = within(rt, folder, "away")?;
-    fs::rename(rt, here.as_str(), away.as_str())?;
+/// Whether a shelf fails as its library is moved away from here, and counts that once.
+fn fails_moved(
+    rt: &HostRuntime,
+    shelf: &mut impl Shelf,
+    here: &str,
+    away: &str,
+) -> io::Result<bool> {
+    fs::rename(rt, here, away)?;
     let is_failed = is_fault(shelf.fetch(Slot::Status));
-    fs::rename(rt, away.as_str(), here.as_str())?;
+    fs::rename(rt, away, here)?;
     Ok(is_failed && shelf.faults() == 1)
+}
+
+/// The same of a library in a folder.
+fn fails_away(rt: &HostRuntime, shelf: &mut impl Shelf, folder: &str) -> io::Result<bool> {
+    let here = within(rt, folder, LIB)?;
+    match within(rt, folder, "away") {
+        Ok(away) => {
+            let failed = fails_moved(rt, shelf, here.as_str(), away.as_str());
+            drop(here);
+            drop(away);
+            failed
+        }
+        Err(why) => {
+            drop(here);
+            Err(why)
+        }
+    }
 }
 
 /// A library is moved away for one call: whether that fails and is counted once, by the shelf and, once that is back, by
@@ -107,9 +126,9 @@ where
     G::S: Drop,
 {
     let mut shelf = there(libraries.find(folder, lib()))?;
-    let is_counted = fails_away(rt, &mut shelf, folder)?;
+    let is_counted = fails_away(rt, &mut shelf, folder);
     libraries.give_back(folder, lib(), shelf);
-    Ok(is_counted && libraries.faults() == 1)
+    Ok(is_counted? && libraries.faults() == 1)
 }
 
 /// Whether a shelf that is handed out has counted no fault, and adds none as it comes back.
@@ -137,9 +156,8 @@ where
 
 #[test]
 fn a_fault_is_counted_once(rt: HostRuntime) -> Result<(), Fail> {
-    let folder = scratch(&rt, "once")?;
-    assert!(rt; counts_once(&rt, &mut ground(&rt)?, folder.as_str())?);
-    Ok(clear(&rt, folder.as_str())?)
+    assert!(rt; shows(&rt, ground(&rt)?, ground(&rt)?, "once", Row::Once)?);
+    Ok(())
 }
 
 /// Whether no library is found or made in the folder of no name.
@@ -150,9 +168,20 @@ where
     is_fault(libraries.find("", lib())) && is_fault(libraries.make("", lib()))
 }
 
+/// The same of a ground that is let go.
+fn refuses_without_name<G: Ground + Drop>(libraries: G) -> bool
+where
+    G::S: Drop,
+{
+    let mut libraries = libraries;
+    let is_refused = refuses_no_name(&mut libraries);
+    drop(libraries);
+    is_refused
+}
+
 #[test]
 fn a_folder_without_a_name_is_a_fault(rt: HostRuntime) -> Result<(), Fail> {
-    assert!(rt; refuses_no_name(&mut ground(&rt)?));
+    assert!(rt; refuses_without_name(ground(&rt)?));
     Ok(())
 }
 
@@ -191,9 +220,79 @@ where
     )
 }
 
+/// Two grounds of one kind.
+#[derive(Drop)]
+struct Grounds<G> {
+    first: G,
+    second: G,
+}
+
+/// What they show in a folder.
+#[derive(Clone, Copy)]
+enum Row {
+    /// Libraries that are kept.
+    Keeps,
+    /// A fault that is counted once.
+    Once,
+    /// A library that another has.
+    Lock,
+}
+
+/// Whether they show it.
+fn goes<G: Ground>(
+    rt: &HostRuntime,
+    grounds: &mut Grounds<G>,
+    folder: &str,
+    row: Row,
+) -> Result<bool, Fail>
+where
+    G::S: Drop,
+{
+    match row {
+        Row::Keeps => keeps_libraries(&mut grounds.first, folder),
+        Row::Once => counts_once(rt, &mut grounds.first, folder),
+        Row::Lock => is_handed_on(&mut grounds.first, &mut grounds.second, folder),
+    }
+}
+
+/// The same in a folder of this test's own, which is cleared then.
+fn goes_in_scratch<G: Ground>(
+    rt: &HostRuntime,
+    grounds: &mut Grounds<G>,
+    name: &str,
+    row: Row,
+) -> Result<bool, Fail>
+where
+    G::S: Drop,
+{
+    let folder = scratch(rt, name)?;
+    let shown = goes(rt, grounds, folder.as_str(), row);
+    let cleared = clear(rt, folder.as_str());
+    drop(folder);
+    let shown = shown?;
+    cleared?;
+    Ok(shown)
+}
+
+/// The same of grounds that are let go.
+fn shows<G: Ground + Drop>(
+    rt: &HostRuntime,
+    first: G,
+    second: G,
+    name: &str,
+    row: Row,
+) -> Result<bool, Fail>
+where
+    G::S: Drop,
+{
+    let mut grounds = Grounds { first, second };
+    let shown = goes_in_scratch(rt, &mut grounds, name, row);
+    drop(grounds);
+    shown
+}
+
 #[test]
 fn a_library_that_another_has_is_a_fault_and_stays(rt: HostRuntime) -> Result<(), Fail> {
-    let folder = scratch(&rt, "lock")?;
-    assert!(rt; is_handed_on(&mut ground(&rt)?, &mut ground(&rt)?, folder.as_str())?);
-    Ok(clear(&rt, folder.as_str())?)
+    assert!(rt; shows(&rt, ground(&rt)?, ground(&rt)?, "lock", Row::Lock)?);
+    Ok(())
 }

@@ -21,6 +21,8 @@ mod lossy_files;
 #[cfg(test)]
 mod lossy_nodes;
 #[cfg(test)]
+mod lossy_runs;
+#[cfg(test)]
 mod scratch;
 #[cfg(test)]
 mod shelf_rows;

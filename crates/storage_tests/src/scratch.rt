@@ -4,13 +4,25 @@ use folder_storage::{FolderGround, Ground, SystemFiles};
 use std::test::Fail;
 use std::{env, fs, io, process};
 
-/// A folder of this test's own.
-pub(crate) fn scratch(rt: &HostRuntime, name: &str) -> io::Result<String> {
+/// The path of a folder of this test's own.
+fn path_of(rt: &HostRuntime, name: &str) -> io::Result<String> {
     let temporary = env::temp_dir(rt)?;
     let number = process::id(rt.process());
-    let folder = format!(in rt.alloc(); "{}/storage_tests-{number}-{name}", temporary.as_str())?;
-    fs::create_dir(rt, folder.as_str())?;
-    Ok(folder)
+    let path = format!(in rt.alloc(); "{}/storage_tests-{number}-{name}", temporary.as_str());
+    drop(temporary);
+    Ok(path?)
+}
+
+/// A folder of this test's own.
+pub(crate) fn scratch(rt: &HostRuntime, name: &str) -> io::Result<String> {
+    let folder = path_of(rt, name)?;
+    match fs::create_dir(rt, folder.as_str()) {
+        Ok(()) => Ok(folder),
+        Err(why) => {
+            drop(folder);
+            Err(why)
+        }
+    }
 }
 
 /// Takes the folder away once the test is done.
@@ -34,4 +46,15 @@ where
     G::S: Drop,
 {
     there(libraries.make(folder, lib()))
+}
+
+/// The shelf of that library, made by a ground that is let go.
+pub(crate) fn shelf_in<G: Ground + Drop>(libraries: G, folder: &str) -> Result<G::S, Fail>
+where
+    G::S: Drop,
+{
+    let mut libraries = libraries;
+    let shelf = made(&mut libraries, folder);
+    drop(libraries);
+    shelf
 }

@@ -1,7 +1,7 @@
 //! Rows that every shelf meets: those in memory, those over another shelf, and the one over a folder.
 use crate::library::{holds, is_fault, slot_of};
-use crate::scratch::{clear, ground, made, scratch};
-use folder_storage::{CountedShelf, SteadyShelf};
+use crate::scratch::{clear, ground, scratch, shelf_in};
+use folder_storage::{CountedShelf, Ground, SteadyShelf};
 use ids::{Bytes, Items, Key, Kind, ObjId};
 use object_store::{Found, FuseShelf, MemoryShelf, OddShelf, Shelf, ShelfFailed, Slot};
 use std::alloc::{AllocError, Global};
@@ -139,37 +139,120 @@ fn gives_and_tells<S: Shelf>(alloc: Global, shelf: &mut S) -> Result<bool, Alloc
 }
 
 fn memory_gives(alloc: Global) -> Result<bool, AllocError> {
-    gives_and_tells(alloc, &mut memory(alloc, &[])?)
+    let mut shelf = memory(alloc, &[])?;
+    let given = gives_and_tells(alloc, &mut shelf);
+    drop(shelf);
+    given
 }
 
 fn odd_gives(alloc: Global) -> Result<bool, AllocError> {
-    gives_and_tells(alloc, &mut odd(alloc, &[])?)
+    let mut shelf = odd(alloc, &[])?;
+    let given = gives_and_tells(alloc, &mut shelf);
+    drop(shelf);
+    given
 }
 
 fn fuse_gives(alloc: Global) -> Result<bool, AllocError> {
-    gives_and_tells(alloc, &mut fuse(alloc, 100)?)
+    let mut shelf = fuse(alloc, 100)?;
+    let given = gives_and_tells(alloc, &mut shelf);
+    drop(shelf);
+    given
 }
 
 fn counted_gives(alloc: Global) -> Result<bool, AllocError> {
-    gives_and_tells(alloc, &mut counted(alloc, &[])?)
+    let mut shelf = counted(alloc, &[])?;
+    let given = gives_and_tells(alloc, &mut shelf);
+    drop(shelf);
+    given
+}
+
+fn steady_gives(alloc: Global) -> Result<bool, AllocError> {
+    let mut shelf = SteadyShelf::new(alloc);
+    let given = gives_and_tells(alloc, &mut shelf);
+    drop(shelf);
+    given
+}
+
+/// What each of them gives, in this order.
+fn gives_each(alloc: Global) -> Result<(bool, bool), AllocError> {
+    let three = memory_gives(alloc)? && odd_gives(alloc)? && fuse_gives(alloc)?;
+    Ok((three, counted_gives(alloc)? && steady_gives(alloc)?))
 }
 
 #[test]
 fn every_shelf_gives_what_was_put_and_tells_names_in_order(
     rt: HostRuntime,
 ) -> Result<(), AllocError> {
-    let alloc = rt.alloc();
-    assert!(rt; memory_gives(alloc)? && odd_gives(alloc)? && fuse_gives(alloc)?);
-    assert!(rt; counted_gives(alloc)? && gives_and_tells(alloc, &mut SteadyShelf::new(alloc))?);
+    let (three, two) = gives_each(rt.alloc())?;
+    assert!(rt; three);
+    assert!(rt; two);
     Ok(())
+}
+
+/// What a shelf in a folder shows.
+#[derive(Clone, Copy)]
+enum Row {
+    /// What was put, and names in order.
+    Gives,
+    /// Calls over a folder that is lost.
+    Lost,
+}
+
+/// Whether it shows it, and the folder is cleared.
+fn goes<S: Shelf>(rt: &HostRuntime, shelf: &mut S, folder: &str, row: Row) -> io::Result<bool> {
+    match row {
+        Row::Gives => {
+            let given = gives_and_tells(rt.alloc(), shelf)?;
+            clear(rt, folder)?;
+            Ok(given)
+        }
+        Row::Lost => counts_without_folder(rt, shelf, folder),
+    }
+}
+
+/// The same of the shelf of a library that is made.
+fn goes_in<G: Ground + Drop>(
+    rt: &HostRuntime,
+    libraries: G,
+    folder: &str,
+    row: Row,
+) -> Result<bool, Fail>
+where
+    G::S: Drop,
+{
+    let mut shelf = shelf_in(libraries, folder)?;
+    let shown = goes(rt, &mut shelf, folder, row);
+    drop(shelf);
+    Ok(shown?)
+}
+
+/// The same in a folder of this test's own.
+fn shows<G: Ground + Drop>(
+    rt: &HostRuntime,
+    libraries: G,
+    name: &str,
+    row: Row,
+) -> Result<bool, Fail>
+where
+    G::S: Drop,
+{
+    match scratch(rt, name) {
+        Ok(folder) => {
+            let shown = goes_in(rt, libraries, folder.as_str(), row);
+            drop(folder);
+            shown
+        }
+        Err(why) => {
+            drop(libraries);
+            Err(Fail::from(why))
+        }
+    }
 }
 
 #[test]
 fn a_folder_gives_what_was_put_and_tells_names_in_order(rt: HostRuntime) -> Result<(), Fail> {
-    let folder = scratch(&rt, "gives")?;
-    let mut shelf = made(&mut ground(&rt)?, folder.as_str())?;
-    assert!(rt; gives_and_tells(rt.alloc(), &mut shelf)?);
-    Ok(clear(&rt, folder.as_str())?)
+    assert!(rt; shows(&rt, ground(&rt)?, "gives", Row::Gives)?);
+    Ok(())
 }
 
 /// Whether the second of two puts fails and is counted.
@@ -203,15 +286,24 @@ fn counts_all<S: Shelf>(shelf: &mut S) -> bool {
 const FAILING: [u64; 6] = [1, 3, 4, 5, 6, 7];
 
 fn memory_counts(alloc: Global) -> Result<bool, AllocError> {
-    Ok(counts_all(&mut memory(alloc, &FAILING)?))
+    let mut shelf = memory(alloc, &FAILING)?;
+    let counts = counts_all(&mut shelf);
+    drop(shelf);
+    Ok(counts)
 }
 
 fn odd_counts(alloc: Global) -> Result<bool, AllocError> {
-    Ok(counts_all(&mut odd(alloc, &FAILING)?))
+    let mut shelf = odd(alloc, &FAILING)?;
+    let counts = counts_all(&mut shelf);
+    drop(shelf);
+    Ok(counts)
 }
 
 fn counted_counts(alloc: Global) -> Result<bool, AllocError> {
-    Ok(counts_all(&mut counted(alloc, &FAILING)?))
+    let mut shelf = counted(alloc, &FAILING)?;
+    let counts = counts_all(&mut shelf);
+    drop(shelf);
+    Ok(counts)
 }
 
 #[test]
@@ -228,11 +320,21 @@ fn counts_until_the_end<S: Shelf>(shelf: &mut S) -> bool {
     counts_a_failing_put(shelf) && counts_each_call(shelf, 1)
 }
 
+/// Whether that is so of a fuse, and whether the shelf below it holds the old text.
+fn fuse_counts(alloc: Global) -> Result<(bool, bool), AllocError> {
+    let mut fuse = fuse(alloc, 1)?;
+    let counts = counts_until_the_end(&mut fuse);
+    let mut inner = fuse.into_inner();
+    let holds_old = holds(&mut inner, &Slot::Status, b"old");
+    drop(inner);
+    Ok((counts, holds_old))
+}
+
 #[test]
 fn a_fuse_that_is_spent_leaves_the_old(rt: HostRuntime) -> Result<(), AllocError> {
-    let mut fuse = fuse(rt.alloc(), 1)?;
-    assert!(rt; counts_until_the_end(&mut fuse));
-    assert!(rt; holds(&mut fuse.into_inner(), &Slot::Status, b"old"));
+    let (counts, holds_old) = fuse_counts(rt.alloc())?;
+    assert!(rt; counts);
+    assert!(rt; holds_old);
     Ok(())
 }
 
@@ -248,9 +350,7 @@ fn counts_without_folder<S: Shelf>(
 
 #[test]
 fn a_lost_folder_is_a_fault_and_no_empty_slot(rt: HostRuntime) -> Result<(), Fail> {
-    let folder = scratch(&rt, "lost")?;
-    let mut shelf = made(&mut ground(&rt)?, folder.as_str())?;
-    assert!(rt; counts_without_folder(&rt, &mut shelf, folder.as_str())?);
+    assert!(rt; shows(&rt, ground(&rt)?, "lost", Row::Lost)?);
     Ok(())
 }
 
@@ -265,8 +365,16 @@ fn gives_odd_bytes<S: Shelf>(shelf: &mut S) -> bool {
     holds(shelf, &Slot::Status, b"odd") && gives_back(shelf, &Slot::Status, b"abc")
 }
 
+/// The same of a shelf that gives odd bytes for the status text.
+fn odd_status_gives(alloc: Global) -> Result<bool, AllocError> {
+    let mut shelf = odd_status(alloc)?;
+    let given = gives_odd_bytes(&mut shelf);
+    drop(shelf);
+    Ok(given)
+}
+
 #[test]
 fn odd_bytes_are_given_until_the_slot_is_put(rt: HostRuntime) -> Result<(), AllocError> {
-    assert!(rt; gives_odd_bytes(&mut odd_status(rt.alloc())?));
+    assert!(rt; odd_status_gives(rt.alloc())?);
     Ok(())
 }
